@@ -1,0 +1,76 @@
+ghost use Rattle.std.specs.Prelude.{◌≡◌, List, length, IfOk, IsTrue, ◌↔◌};
+ghost use Rattle.std.specs.String.{string_bytes};
+
+use std::alloc::{AllocError, Global};
+use std::marker::Model;
+
+/// A text as part of a greater value. Contracts see it as its bytes, wherever they lie in memory.
+#[derive(Debug, Drop)]
+pub struct Text {
+    inner: String,
+}
+
+impl Model for Text {
+    ghost use Rattle.std.specs.Prelude.{List, ℕ};
+    ghost use Rattle.std.specs.String.{string_bytes};
+
+    ghost Value = { List ℕ };
+
+    ghost view = { λ t. string_bytes t.inner };
+}
+
+impl Text {
+    /// The text of a `String`, which it keeps as it is.
+    pub fn new(inner: String) -> Text
+        ensures { result ≡ string_bytes inner }
+    {
+        Text { inner }
+    }
+
+    /// A copy of a text.
+    pub fn from_str(alloc: Global, text: &str) -> Result<Text, AllocError>
+        ensures { IfOk result (λ copy. copy ≡ text.now) }
+    {
+        Ok(Text {
+            inner: String::from_str(alloc, text)?,
+        })
+    }
+
+    /// The characters.
+    pub fn as_str(&self) -> &str
+        ensures { result.now ≡ self.now }
+    {
+        self.inner.as_str()
+    }
+
+    /// The `String` that it was made of.
+    pub fn into_string(self) -> String
+        ensures { string_bytes result ≡ self }
+    {
+        let Text { inner } = self;
+        inner
+    }
+
+    /// The number of bytes.
+    pub fn len(&self) -> usize
+        ensures { result ≡ length self.now }
+    {
+        self.inner.len()
+    }
+
+    /// Whether it has no bytes.
+    pub fn is_empty(&self) -> bool
+        ensures { IsTrue result ↔ (length self.now ≡ 0) }
+    {
+        self.inner.is_empty()
+    }
+
+    /// A copy, on the same allocator.
+    pub fn try_clone(&self) -> Result<Text, AllocError>
+        ensures { IfOk result (λ copy. copy ≡ self.now) }
+    {
+        Ok(Text {
+            inner: self.inner.clone()?,
+        })
+    }
+}
