@@ -4,6 +4,9 @@ ghost use Rattle.std.specs.String.{string_bytes};
 use std::alloc::{AllocError, Global};
 use std::marker::Model;
 
+/// The error of a call that only memory can fail.
+pub type Memory = AllocError;
+
 /// A text as part of a greater value. Contracts see it as its bytes, wherever they lie in memory.
 #[derive(Debug, Drop)]
 pub struct Text {
@@ -17,6 +20,26 @@ impl Model for Text {
     ghost Value = { List ℕ };
 
     ghost view = { λ t. string_bytes t.inner };
+}
+
+impl PartialEq for Text {
+    ghost use Rattle.std.specs.Prelude.{nat_eq};
+    ghost use Rattle.std.specs.Cmp.{partial_equiv_from_equiv};
+    ghost use Rattle.std.specs.Cmp.Lexicographic.{pointwise, nat_list_eq_equiv};
+
+    ghost eq = { pointwise nat_eq };
+
+    ghost laws = { partial_equiv_from_equiv nat_list_eq_equiv };
+
+    fn eq(&self, other: &Self) -> bool {
+        self.as_str() == other.as_str()
+    }
+}
+
+impl Eq for Text {
+    ghost use Rattle.std.specs.Cmp.Lexicographic.{nat_list_eq_equiv};
+
+    ghost laws = { nat_list_eq_equiv };
 }
 
 impl Text {
