@@ -1,0 +1,186 @@
+//! A code from bytes.
+//!
+//! Each function that reads takes a field from the front, and gives its value and the bytes behind it.
+
+ghost use Rattle.std.specs.Prelude.{◌≡◌, ℕ, List, Ok, IfOk};
+ghost use Rattle.bb_code.specs.Code as code;
+ghost use Rattle.bb_code.specs.Spelling.{spelling};
+ghost use Rattle.bb_code.specs.Reading.{Answers, Gives, byte_at, number_at, count_at, text_at, op_at, operand_at, list_at, expected_at, head_at, locals_at, nothing_at, code_of};
+
+use crate::code::{Code, MOST_LOCALS, MOST_OPS, MOST_SAID, MOST_TEXTS};
+use crate::fault::CodeFault;
+use crate::op::Op;
+use bb_schema::Text;
+use std::alloc::Global;
+
+fn byte(bytes: &[u8]) -> Result<(u8, &[u8]), CodeFault>
+    ensures { Answers (λ x. (x.0, x.1.now)) result (byte_at bytes.now) }
+{
+    match bytes {
+        [] => Err(CodeFault::Short),
+        [first, rest @ ..] => Ok((*first, rest)),
+    }
+}
+
+fn number(bytes: &[u8]) -> Result<(u16, &[u8]), CodeFault>
+    ensures { Answers (λ x. (x.0, x.1.now)) result (number_at bytes.now) }
+{
+    match bytes {
+        [high, low, rest @ ..] => Ok((u16::from_be_bytes([*high, *low]), rest)),
+        _ => Err(CodeFault::Short),
+    }
+}
+
+#[tactic(auto, unfolding(crate::specs::Reading::count_at))]
+fn count(bytes: &[u8], low: u16, high: u16) -> Result<(u16, &[u8]), CodeFault>
+    ensures { Answers (λ x. (x.0, x.1.now)) result (count_at low high bytes.now) }
+{
+    let (count, rest) = number(bytes)?;
+    if count < low || high < count {
+        return Err(CodeFault::Limit);
+    }
+    Ok((count, rest))
+}
+
+fn expected(bytes: &[u8], wanted: u8, fault: CodeFault) -> Result<&[u8], CodeFault>
+    ensures { Answers (λ x. x.now) result (expected_at wanted fault bytes.now) }
+{
+    match bytes {
+        [] => Err(CodeFault::Short),
+        [first, rest @ ..] if *first == wanted => Ok(rest),
+        _ => Err(fault),
+    }
+}
+
+#[tactic(auto, unfolding(crate::specs::Reading::head_at))]
+fn head(bytes: &[u8]) -> Result<&[u8], CodeFault>
+    ensures { Answers (λ x. x.now) result (head_at bytes.now) }
+{
+    let rest = expected(bytes, b'B', CodeFault::Magic)?;
+    let rest = expected(rest, b'B', CodeFault::Magic)?;
+    let rest = expected(rest, b'C', CodeFault::Magic)?;
+    expected(rest, 1, CodeFault::Version)
+}
+
+#[tactic(auto, unfolding(crate::specs::Reading::locals_at))]
+fn locals(bytes: &[u8]) -> Result<(u8, &[u8]), CodeFault>
+    ensures { Answers (λ x. (x.0, x.1.now)) result (locals_at bytes.now) }
+{
+    let (locals, rest) = byte(bytes)?;
+    if locals < 1 || MOST_LOCALS < locals {
+        return Err(CodeFault::Limit);
+    }
+    Ok((locals, rest))
+}
+
+#[tactic(auto, unfolding(crate::specs::Reading::nothing_at))]
+fn nothing(bytes: &[u8]) -> Result<&[u8], CodeFault>
+    ensures { Answers (λ x. x.now) result (nothing_at bytes.now) }
+{
+    let (_queries, rest) = count(bytes, 0, 0)?;
+    let (_frames, rest) = count(rest, 0, 0)?;
+    let (_loops, rest) = count(rest, 0, 0)?;
+    Ok(rest)
+}
+
+#[tactic(auto, unfolding(crate::specs::Reading::text_at))]
+fn text(alloc: Global, bytes: &[u8]) -> Result<(Text, &[u8]), CodeFault>
+    ensures { Gives (λ x. (x.0, x.1.now)) result (text_at bytes.now) }
+{
+    let (len, rest) = number(bytes)?;
+    let len = len as usize;
+    if rest.len() < len {
+        return Err(CodeFault::Short);
+    }
+    let (text, rest) = rest.split_at(len);
+    let Ok(text) = str::from_utf8(text) else {
+        return Err(CodeFault::Operand);
+    };
+    Ok((Text::from_str(alloc, text)?, rest))
+}
+
+#[tactic(auto, unfolding(crate::specs::Reading::list_at))]
+fn texts(alloc: Global, bytes: &[u8]) -> Result<(Vec<Text>, &[u8]), CodeFault>
+    ensures { Gives (λ x. (x.0.items, x.1.now)) result (list_at 0 1024 text_at bytes.now) }
+{
+    let (count, mut rest) = count(bytes, 0, MOST_TEXTS)?;
+    let mut texts = Vec::new(alloc);
+    for _ in 0..count {
+        let (text, after) = text(alloc, rest)?;
+        texts.push(text)?;
+        rest = after;
+    }
+    Ok((texts, rest))
+}
+
+#[tactic(auto, unfolding(crate::specs::Reading::op_at, crate::specs::Reading::operand_at, crate::specs::Reading::push_text_at, crate::specs::Reading::say_at))]
+fn op(bytes: &[u8]) -> Result<(Op, &[u8]), CodeFault>
+    ensures { Answers (λ x. (x.0, x.1.now)) result (op_at bytes.now) }
+{
+    let (opcode, rest) = byte(bytes)?;
+    match opcode {
+        2 => {
+            let (text, rest) = number(rest)?;
+            Ok((Op::PushText(text), rest))
+        }
+        41 => {
+            let (count, rest) = byte(rest)?;
+            if count > MOST_SAID {
+                return Err(CodeFault::Operand);
+            }
+            Ok((Op::Say(count), rest))
+        }
+        46 => Ok((Op::Done, rest)),
+        _ => Err(CodeFault::Opcode),
+    }
+}
+
+#[tactic(auto, unfolding(crate::specs::Reading::list_at))]
+fn ops(alloc: Global, bytes: &[u8]) -> Result<(Vec<Op>, &[u8]), CodeFault>
+    ensures { Gives (λ x. (x.0.items, x.1.now)) result (list_at 1 4096 op_at bytes.now) }
+{
+    let (count, mut rest) = count(bytes, 1, MOST_OPS)?;
+    let mut ops = Vec::new(alloc);
+    for _ in 0..count {
+        let (op, after) = op(rest)?;
+        ops.push(op)?;
+        rest = after;
+    }
+    Ok((ops, rest))
+}
+
+#[tactic(auto, unfolding(crate::specs::Reading::code_at, crate::specs::Reading::code_of))]
+fn parts(alloc: Global, bytes: &[u8]) -> Result<(u8, Vec<Text>, Vec<Op>), CodeFault>
+    ensures { Gives (λ x. record { locals = x.0; texts = x.1.items; ops = x.2.items }) result (code_of bytes.now) }
+{
+    let rest = head(bytes)?;
+    let (locals, rest) = locals(rest)?;
+    let (texts, rest) = texts(alloc, rest)?;
+    let rest = nothing(rest)?;
+    let (ops, rest) = ops(alloc, rest)?;
+    if !rest.is_empty() {
+        return Err(CodeFault::Trailing);
+    }
+    Ok((locals, texts, ops))
+}
+
+fn whole(alloc: Global, bytes: &[u8]) -> Result<Code, CodeFault>
+    ensures { Gives (λ c. c) result (code_of bytes.now) }
+{
+    let (locals, texts, ops) = parts(alloc, bytes)?;
+    Ok(Code::from_parts(locals, texts, ops))
+}
+
+impl Code {
+    /// The code that the bytes spell, all of the bytes. A fault is the first one from the front.
+    pub fn decode(alloc: Global, bytes: &[u8]) -> Result<Code, CodeFault>
+        // What is read is a code, and these bytes spell it.
+        ensures found { IfOk result (λ c. code.IsCode c × (bytes.now ≡ spelling c)) }
+        // What is spelled so is read, unless memory runs out.
+        ensures only { (c : code.Code) → code.IsCode c → bytes.now ≡ spelling c → Gives (λ d. d) result (Ok c) }
+        // Which fault it is.
+        ensures exact { Gives (λ c. c) result (code_of bytes.now) }
+    {
+        whole(alloc, bytes)
+    }
+}
