@@ -14,7 +14,7 @@ pub const MOST_LOCALS: u8 = 32;
 pub const MOST_TEXTS: u16 = 1024;
 
 /// The most bytes of a text.
-pub const MOST_BYTES: u16 = 65535;
+pub const MOST_TEXT_BYTES: u16 = 65535;
 
 /// The most ops of a code.
 pub const MOST_OPS: u16 = 4096;
@@ -113,7 +113,7 @@ fn are_texts(texts: &[Text]) -> bool
 fn is_text(text: &Text) -> bool
     ensures { IsTrue result ↔ IsText text.now }
 {
-    text.as_str().len() <= MOST_BYTES as usize
+    text.as_str().len() <= MOST_TEXT_BYTES as usize
 }
 
 fn are_ops(ops: &[Op]) -> bool

@@ -13,7 +13,7 @@ use crate::op::Op;
 use bb_schema::Text;
 use std::alloc::Global;
 
-fn byte(bytes: &[u8]) -> Result<(u8, &[u8]), CodeFault>
+fn read_byte(bytes: &[u8]) -> Result<(u8, &[u8]), CodeFault>
     ensures { Answers (λ x. (x.0, x.1.now)) result (byte_at bytes.now) }
 {
     match bytes {
@@ -22,7 +22,7 @@ fn byte(bytes: &[u8]) -> Result<(u8, &[u8]), CodeFault>
     }
 }
 
-fn number(bytes: &[u8]) -> Result<(u16, &[u8]), CodeFault>
+fn read_number(bytes: &[u8]) -> Result<(u16, &[u8]), CodeFault>
     ensures { Answers (λ x. (x.0, x.1.now)) result (number_at bytes.now) }
 {
     match bytes {
@@ -32,17 +32,17 @@ fn number(bytes: &[u8]) -> Result<(u16, &[u8]), CodeFault>
 }
 
 #[tactic(auto, unfolding(crate::specs::Reading::count_at))]
-fn count(bytes: &[u8], low: u16, high: u16) -> Result<(u16, &[u8]), CodeFault>
+fn read_count(bytes: &[u8], low: u16, high: u16) -> Result<(u16, &[u8]), CodeFault>
     ensures { Answers (λ x. (x.0, x.1.now)) result (count_at low high bytes.now) }
 {
-    let (count, rest) = number(bytes)?;
+    let (count, rest) = read_number(bytes)?;
     if count < low || high < count {
         return Err(CodeFault::Limit);
     }
     Ok((count, rest))
 }
 
-fn expected(bytes: &[u8], wanted: u8, fault: CodeFault) -> Result<&[u8], CodeFault>
+fn expect_byte(bytes: &[u8], wanted: u8, fault: CodeFault) -> Result<&[u8], CodeFault>
     ensures { Answers (λ x. x.now) result (expected_at wanted fault bytes.now) }
 {
     match bytes {
@@ -53,20 +53,20 @@ fn expected(bytes: &[u8], wanted: u8, fault: CodeFault) -> Result<&[u8], CodeFau
 }
 
 #[tactic(auto, unfolding(crate::specs::Reading::head_at))]
-fn head(bytes: &[u8]) -> Result<&[u8], CodeFault>
+fn read_head(bytes: &[u8]) -> Result<&[u8], CodeFault>
     ensures { Answers (λ x. x.now) result (head_at bytes.now) }
 {
-    let rest = expected(bytes, b'B', CodeFault::Magic)?;
-    let rest = expected(rest, b'B', CodeFault::Magic)?;
-    let rest = expected(rest, b'C', CodeFault::Magic)?;
-    expected(rest, 1, CodeFault::Version)
+    let rest = expect_byte(bytes, b'B', CodeFault::Magic)?;
+    let rest = expect_byte(rest, b'B', CodeFault::Magic)?;
+    let rest = expect_byte(rest, b'C', CodeFault::Magic)?;
+    expect_byte(rest, 1, CodeFault::Version)
 }
 
 #[tactic(auto, unfolding(crate::specs::Reading::locals_at))]
-fn locals(bytes: &[u8]) -> Result<(u8, &[u8]), CodeFault>
+fn read_locals(bytes: &[u8]) -> Result<(u8, &[u8]), CodeFault>
     ensures { Answers (λ x. (x.0, x.1.now)) result (locals_at bytes.now) }
 {
-    let (locals, rest) = byte(bytes)?;
+    let (locals, rest) = read_byte(bytes)?;
     if locals < 1 || MOST_LOCALS < locals {
         return Err(CodeFault::Limit);
     }
@@ -74,20 +74,20 @@ fn locals(bytes: &[u8]) -> Result<(u8, &[u8]), CodeFault>
 }
 
 #[tactic(auto, unfolding(crate::specs::Reading::nothing_at))]
-fn nothing(bytes: &[u8]) -> Result<&[u8], CodeFault>
+fn read_nothing(bytes: &[u8]) -> Result<&[u8], CodeFault>
     ensures { Answers (λ x. x.now) result (nothing_at bytes.now) }
 {
-    let (_queries, rest) = count(bytes, 0, 0)?;
-    let (_frames, rest) = count(rest, 0, 0)?;
-    let (_loops, rest) = count(rest, 0, 0)?;
+    let (_queries, rest) = read_count(bytes, 0, 0)?;
+    let (_frames, rest) = read_count(rest, 0, 0)?;
+    let (_loops, rest) = read_count(rest, 0, 0)?;
     Ok(rest)
 }
 
 #[tactic(auto, unfolding(crate::specs::Reading::text_at))]
-fn text(alloc: Global, bytes: &[u8]) -> Result<(Text, &[u8]), CodeFault>
+fn read_text(alloc: Global, bytes: &[u8]) -> Result<(Text, &[u8]), CodeFault>
     ensures { Gives (λ x. (x.0, x.1.now)) result (text_at bytes.now) }
 {
-    let (len, rest) = number(bytes)?;
+    let (len, rest) = read_number(bytes)?;
     let len = len as usize;
     if rest.len() < len {
         return Err(CodeFault::Short);
@@ -100,13 +100,13 @@ fn text(alloc: Global, bytes: &[u8]) -> Result<(Text, &[u8]), CodeFault>
 }
 
 #[tactic(auto, unfolding(crate::specs::Reading::list_at))]
-fn texts(alloc: Global, bytes: &[u8]) -> Result<(Vec<Text>, &[u8]), CodeFault>
+fn read_texts(alloc: Global, bytes: &[u8]) -> Result<(Vec<Text>, &[u8]), CodeFault>
     ensures { Gives (λ x. (x.0.items, x.1.now)) result (list_at 0 1024 text_at bytes.now) }
 {
-    let (count, mut rest) = count(bytes, 0, MOST_TEXTS)?;
+    let (count, mut rest) = read_count(bytes, 0, MOST_TEXTS)?;
     let mut texts = Vec::new(alloc);
     for _ in 0..count {
-        let (text, after) = text(alloc, rest)?;
+        let (text, after) = read_text(alloc, rest)?;
         texts.push(text)?;
         rest = after;
     }
@@ -114,17 +114,17 @@ fn texts(alloc: Global, bytes: &[u8]) -> Result<(Vec<Text>, &[u8]), CodeFault>
 }
 
 #[tactic(auto, unfolding(crate::specs::Reading::op_at, crate::specs::Reading::operand_at, crate::specs::Reading::push_text_at, crate::specs::Reading::say_at))]
-fn op(bytes: &[u8]) -> Result<(Op, &[u8]), CodeFault>
+fn read_op(bytes: &[u8]) -> Result<(Op, &[u8]), CodeFault>
     ensures { Answers (λ x. (x.0, x.1.now)) result (op_at bytes.now) }
 {
-    let (opcode, rest) = byte(bytes)?;
+    let (opcode, rest) = read_byte(bytes)?;
     match opcode {
         2 => {
-            let (text, rest) = number(rest)?;
+            let (text, rest) = read_number(rest)?;
             Ok((Op::PushText(text), rest))
         }
         41 => {
-            let (count, rest) = byte(rest)?;
+            let (count, rest) = read_byte(rest)?;
             if count > MOST_SAID {
                 return Err(CodeFault::Operand);
             }
@@ -136,13 +136,13 @@ fn op(bytes: &[u8]) -> Result<(Op, &[u8]), CodeFault>
 }
 
 #[tactic(auto, unfolding(crate::specs::Reading::list_at))]
-fn ops(alloc: Global, bytes: &[u8]) -> Result<(Vec<Op>, &[u8]), CodeFault>
+fn read_ops(alloc: Global, bytes: &[u8]) -> Result<(Vec<Op>, &[u8]), CodeFault>
     ensures { Gives (λ x. (x.0.items, x.1.now)) result (list_at 1 4096 op_at bytes.now) }
 {
-    let (count, mut rest) = count(bytes, 1, MOST_OPS)?;
+    let (count, mut rest) = read_count(bytes, 1, MOST_OPS)?;
     let mut ops = Vec::new(alloc);
     for _ in 0..count {
-        let (op, after) = op(rest)?;
+        let (op, after) = read_op(rest)?;
         ops.push(op)?;
         rest = after;
     }
@@ -150,24 +150,24 @@ fn ops(alloc: Global, bytes: &[u8]) -> Result<(Vec<Op>, &[u8]), CodeFault>
 }
 
 #[tactic(auto, unfolding(crate::specs::Reading::code_at, crate::specs::Reading::code_of))]
-fn parts(alloc: Global, bytes: &[u8]) -> Result<(u8, Vec<Text>, Vec<Op>), CodeFault>
+fn read_parts(alloc: Global, bytes: &[u8]) -> Result<(u8, Vec<Text>, Vec<Op>), CodeFault>
     ensures { Gives (λ x. record { locals = x.0; texts = x.1.items; ops = x.2.items }) result (code_of bytes.now) }
 {
-    let rest = head(bytes)?;
-    let (locals, rest) = locals(rest)?;
-    let (texts, rest) = texts(alloc, rest)?;
-    let rest = nothing(rest)?;
-    let (ops, rest) = ops(alloc, rest)?;
+    let rest = read_head(bytes)?;
+    let (locals, rest) = read_locals(rest)?;
+    let (texts, rest) = read_texts(alloc, rest)?;
+    let rest = read_nothing(rest)?;
+    let (ops, rest) = read_ops(alloc, rest)?;
     if !rest.is_empty() {
         return Err(CodeFault::Trailing);
     }
     Ok((locals, texts, ops))
 }
 
-fn whole(alloc: Global, bytes: &[u8]) -> Result<Code, CodeFault>
+fn read_code(alloc: Global, bytes: &[u8]) -> Result<Code, CodeFault>
     ensures { Gives (λ c. c) result (code_of bytes.now) }
 {
-    let (locals, texts, ops) = parts(alloc, bytes)?;
+    let (locals, texts, ops) = read_parts(alloc, bytes)?;
     Ok(Code::from_parts(locals, texts, ops))
 }
 
@@ -181,6 +181,6 @@ impl Code {
         // Which fault it is.
         ensures exact { Gives (λ c. c) result (code_of bytes.now) }
     {
-        whole(alloc, bytes)
+        read_code(alloc, bytes)
     }
 }

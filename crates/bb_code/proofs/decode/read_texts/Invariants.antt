@@ -1,7 +1,7 @@
 use Rattle.std.proofs.Common.{◌≡◌, ◌-◌}
 use Rattle.bb_code.specs.Reading.{repeated, list_at, text_at}
 use Rattle.bb_code.proofs.Loop.{with_front}
-use Rattle.bb_code.proofs.decode.texts.Given as goal
+use Rattle.bb_code.proofs.decode.read_texts.Given as goal
 
 -- what was read and what is still to be read are the whole
 abbrev pub invariant-loop : goal.invariant-loop

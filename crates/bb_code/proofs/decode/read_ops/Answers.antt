@@ -3,7 +3,7 @@ use Rattle.std.proofs.lemmas.Result.{err_from_is_err_and}
 use Rattle.bb_code.specs.declared.op.Op.{Op}
 use Rattle.bb_code.specs.Reading.{list_at, op_at}
 use Rattle.bb_code.proofs.Loop.{goes_on, ends, is_done}
-use Rattle.bb_code.proofs.decode.ops.Goals as goal
+use Rattle.bb_code.proofs.decode.read_ops.Goals as goal
 
 pub returns-in_err-op : goal.returns-in_err-op
 returns-in_err-op c =

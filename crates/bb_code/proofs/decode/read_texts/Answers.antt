@@ -2,7 +2,7 @@ use Rattle.std.proofs.Common.{◌≡◌, ℕ, List, ◌++◌, ◌∷◌, []}
 use Rattle.std.proofs.lemmas.Result.{err_from_is_err_and}
 use Rattle.bb_code.specs.Reading.{list_at, text_at}
 use Rattle.bb_code.proofs.Loop.{goes_on, ends, is_done}
-use Rattle.bb_code.proofs.decode.texts.Goals as goal
+use Rattle.bb_code.proofs.decode.read_texts.Goals as goal
 
 pub returns-in_err-text : goal.returns-in_err-text
 returns-in_err-text c =

@@ -1,7 +1,7 @@
 use Rattle.std.proofs.Common.{◌≡◌, ◌-◌}
 use Rattle.bb_code.specs.Reading.{repeated, list_at, op_at}
 use Rattle.bb_code.proofs.Loop.{with_front}
-use Rattle.bb_code.proofs.decode.ops.Given as goal
+use Rattle.bb_code.proofs.decode.read_ops.Given as goal
 
 -- what was read and what is still to be read are the whole
 abbrev pub invariant-loop : goal.invariant-loop
