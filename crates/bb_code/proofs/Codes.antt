@@ -1,6 +1,6 @@
 -- The laws of whole codes: what is read was spelled so, and what is spelled so is read again.
-use Rattle.std.proofs.Common.{◌≡◌, ℕ, zero, suc, ◌+◌, ◌^◌, ◌<◌, ◌≤◌, Bool, cond, eqb, List, [], ◌∷◌, ◌++◌, length, All, Result, Ok, Err, refl, sym, ap, subst, ◌∙◌, append_assoc, arith}
-use Rattle.std.specs.Prelude.{IfOk, MatchResult}
+use Rattle.std.proofs.Common.{◌≡◌, ℕ, cond, eqb, List, [], ◌∷◌, ◌++◌, length, Result, Ok, Err, refl, sym, ap, subst, ◌∙◌, append_assoc, arith}
+use Rattle.std.specs.Prelude.{IfOk}
 use Rattle.std.proofs.lemmas.Bool.{eqb-true}
 use Rattle.std.proofs.lemmas.List.{append-nil, nil_from_length}
 use Rattle.std.proofs.lemmas.List.Elements.{All-from_recursion, recursion_from_All}
@@ -21,7 +21,7 @@ expected_takes wanted fault (b ∷ bytes) rest fits e =
     let is = met (eqb b wanted) fault (Ok bytes) rest e in
     let same : b ≡ wanted = eqb-true _ _ is.0 in
     subst (λ (r : List ℕ). Takes (b ∷ bytes) (wanted ∷ []) r) (ok_is bytes rest is.1)
-      (record { parts = ap (λ (n : ℕ). n ∷ bytes) same; rest_fits = IsBytes-rest b bytes fits })
+    (record { parts = ap (λ (n : ℕ). n ∷ bytes) same; rest_fits = IsBytes-rest b bytes fits })
 
 head_takes : (bytes rest : List ℕ) → IsBytes bytes → head_at bytes ≡ Ok rest → Takes bytes head rest
 unfolding head_at
@@ -34,7 +34,7 @@ head_takes bytes rest fits e =
     let t2 = expected_takes 67 Magic b.0 c.0 t1.rest_fits c.1 in
     let t3 = expected_takes 1 Version c.0 rest t2.rest_fits c.2 in
     Takes-then bytes (66 ∷ []) a.0 (66 ∷ 67 ∷ 1 ∷ []) rest t0
-      (Takes-then a.0 (66 ∷ []) b.0 (67 ∷ 1 ∷ []) rest t1 (Takes-then b.0 (67 ∷ []) c.0 (1 ∷ []) rest t2 t3))
+    (Takes-then a.0 (66 ∷ []) b.0 (67 ∷ 1 ∷ []) rest t1 (Takes-then b.0 (67 ∷ []) c.0 (1 ∷ []) rest t2 t3))
 
 head_again : (rest : List ℕ) → head_at (head ++ rest) ≡ Ok rest
 unfolding head_at
@@ -102,14 +102,14 @@ code_takes bytes x fits e =
     let to_ops = Takes-then bytes (head ++ (b.0.0 ∷ []) ++ listed text_bytes c.0.0 ++ middle) d.0 (listed op_bytes f.0.0) f.0.1 to_middle t4.0 in
     let front : List ℕ = head ++ (b.0.0 ∷ []) ++ listed text_bytes c.0.0 in
     let same : front ++ middle ++ listed op_bytes f.0.0 ≡ spelling made = ap (λ (t : List ℕ). t ++ listed op_bytes f.0.0) (sym (append_assoc (front ++ nothing) nothing nothing ∙ append_assoc front nothing (nothing ++ nothing))) in
-    let whole : Takes bytes (spelling made) f.0.1 = subst (λ (t : List ℕ). Takes bytes t f.0.1) same to_ops in
+    let whole : Takes bytes (spelling made) f.0.1 = subst (λ (t : List ℕ). Takes bytes t f.0.1) {x = front ++ middle ++ listed op_bytes f.0.0} {y = spelling made} same to_ops in
     let is : IsCode made = record {
       locals_low = t1.1.0;
       locals_high = t1.1.1;
       texts = record { few = t2.1.few; each = All-from_recursion IsText c.0.0 t2.1.each };
       ops = record { some = t4.1.enough; few = t4.1.few; each = All-from_recursion IsOp f.0.0 t4.1.each };
     } in
-    subst (λ (y : Code × List ℕ). Takes bytes (spelling y.0) y.1 × IsCode y.0) (ok_is (made, f.0.1) x f.2) (whole, is)
+    subst (λ (y : Code × List ℕ). Takes bytes (spelling y.0) y.1 × IsCode y.0) {x = (made, f.0.1)} {y = x} (ok_is (made, f.0.1) x f.2) (whole, is)
 
 pub code_again : (c : Code) (rest : List ℕ) → IsCode c → code_at (spelling c ++ rest) ≡ Ok (c, rest)
 unfolding code_at
@@ -122,11 +122,11 @@ code_again c rest fits =
     let after_head : List ℕ = c.locals ∷ after_locals in
     let to_texts : List ℕ = head ++ (c.locals ∷ []) ++ texts in
     let regrouped : spelling c ++ rest ≡ head ++ after_head =
-        append_assoc (to_texts ++ nothing ++ nothing ++ nothing) ops rest
-        ∙ append_assoc (to_texts ++ nothing ++ nothing) nothing after_middle
-        ∙ append_assoc (to_texts ++ nothing) nothing (nothing ++ after_middle)
-        ∙ append_assoc to_texts nothing (nothing ++ (nothing ++ after_middle))
-        ∙ append_assoc (head ++ c.locals ∷ []) texts after_texts in
+    append_assoc (to_texts ++ nothing ++ nothing ++ nothing) ops rest
+    ∙ append_assoc (to_texts ++ nothing ++ nothing) nothing after_middle
+    ∙ append_assoc (to_texts ++ nothing) nothing (nothing ++ after_middle)
+    ∙ append_assoc to_texts nothing (nothing ++ (nothing ++ after_middle))
+    ∙ append_assoc (head ++ c.locals ∷ []) texts after_texts in
     let texts_fit : AreListed (List ℕ) IsText 0 1024 c.texts = record { enough = omega arith; few = fits.texts.few; each = recursion_from_All IsText c.texts fits.texts.each } in
     let ops_fit : AreListed Op IsOp 1 4096 c.ops = record { enough = fits.ops.some; few = fits.ops.few; each = recursion_from_All IsOp c.ops fits.ops.each } in
     ap code_at regrouped

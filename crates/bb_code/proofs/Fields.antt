@@ -1,6 +1,6 @@
 -- The laws of one field: what is read was spelled so, and what is spelled so is read again.
-use Rattle.std.proofs.Common.{◌≡◌, ℕ, zero, suc, ◌+◌, ◌^◌, ◌<◌, ◌≤◌, Bool, true, false, cond, ltb, eqb, List, [], ◌∷◌, ◌++◌, length, get_or, take, drop, Result, Ok, Err, refl, sym, ap, subst, ◌∙◌, append_assoc, arith, inl, inr, ◌⊎◌}
-use Rattle.std.specs.Int.{w16, from_be_bytes, to_be_bytes}
+use Rattle.std.proofs.Common.{◌≡◌, ℕ, suc, ◌+◌, ◌^◌, ◌<◌, ◌≤◌, Bool, true, false, cond, ltb, eqb, List, [], ◌∷◌, ◌++◌, length, get_or, take, drop, Result, Ok, Err, refl, sym, ap, subst, ◌∙◌, append_assoc, arith, inl, inr, ◌⊎◌}
+use Rattle.std.specs.Int.{w16, from_be_bytes}
 use Rattle.std.specs.Str.{is_utf8}
 use Rattle.std.specs.Prelude.{IsUtf8}
 use Rattle.std.proofs.lemmas.Bool.{cases_lt, ltb-false, le-ltb, eqb-true, false_from_ne_true}
@@ -94,7 +94,7 @@ number_takes (high ∷ low ∷ rest) x fits e =
     let front : two_bytes n ≡ high ∷ low ∷ [] = be_bytes_2 (high ∷ low ∷ []) n refl both_fit refl in
     let rest_fits : IsBytes rest = IsBytes-rest low rest (IsBytes-rest high (low ∷ rest) fits) in
     subst (λ (y : ℕ × List ℕ). Takes (high ∷ low ∷ rest) (two_bytes y.0) y.1 × (y.0 < 2 ^ 16)) (ok_is (n, rest) x e)
-      (record { parts = ap (λ (t : List ℕ). t ++ rest) (sym front); rest_fits = rest_fits }, omega (arith, fits 0, fits 1))
+    (record { parts = ap (λ (t : List ℕ). t ++ rest) (sym front); rest_fits = rest_fits }, omega (arith, fits 0, fits 1))
 
 number_again : (n : ℕ) (rest : List ℕ) → n < 2 ^ 16 → number_at (two_bytes n ++ rest) ≡ Ok (n, rest)
 number_again n rest fits = ap (λ (k : ℕ). read (k, rest)) (from_be_bytes-to_be_bytes_2 n fits)
@@ -125,10 +125,10 @@ pub within_spelled : (field : List ℕ → Result (ℕ × List ℕ) CodeFault) (
     → IsSpelled ℕ (λ bytes. field bytes >>= within low high) bytes_of (IsWithin low high)
 within_spelled field bytes_of limit low high small spelled = record {
   takes = λ bytes x fits e.
-    let n = bind_ok (field bytes) (within low high) x e in
-    let is = within_is low high n.0 x n.2 in
-    let took = spelled.takes bytes n.0 fits n.1 in
-    subst (λ (y : ℕ × List ℕ). Takes bytes (bytes_of y.0) y.1 × IsWithin low high y.0) is.2 (took.0, (is.0, is.1));
+      let n = bind_ok (field bytes) (within low high) x e in
+      let is = within_is low high n.0 x n.2 in
+      let took = spelled.takes bytes n.0 fits n.1 in
+      subst (λ (y : ℕ × List ℕ). Takes bytes (bytes_of y.0) y.1 × IsWithin low high y.0) is.2 (took.0, (is.0, is.1));
   again = λ n rest fits. ap (λ (r : Result (ℕ × List ℕ) CodeFault). r >>= within low high) (spelled.again n rest (omega (arith, fits.1))) ∙ within_again low high (n, rest) fits.0 fits.1;
 }
 
@@ -153,7 +153,7 @@ text_takes bytes x fits e =
     let both = Takes-then bytes (two_bytes n.0.0) n.0.1 text rest took.0 second in
     let whole : Takes bytes (text_bytes text) rest = subst (λ (k : ℕ). Takes bytes (two_bytes k ++ text) rest) (sym len) both in
     subst (λ (y : List ℕ × List ℕ). Takes bytes (text_bytes y.0) y.1 × IsText y.0) (ok_is (text, rest) x valid.1)
-      (whole, record { len = omega (arith, took.1); utf8 = IsUtf8-from_is_utf8 text valid.0 })
+    (whole, record { len = omega (arith, took.1); utf8 = IsUtf8-from_is_utf8 text valid.0 })
 
 text_again : (text rest : List ℕ) → IsText text → text_at (text_bytes text ++ rest) ≡ Ok (text, rest)
 unfolding text_at
@@ -215,8 +215,8 @@ operand_takes opcode bytes x fits e =
       | inr c ↦ elim (chosen (eqb opcode 41) (say_at bytes) _ (Ok x) c.1) [
         | inl d ↦ subst at (sym (eqb-true _ _ d.0)) (say_takes bytes x fits d.1)
         | inr d ↦
-          let last = met (eqb opcode 46) Opcode (Ok (Done, bytes)) x d.1 in
-          subst at (sym (eqb-true _ _ last.0)) (done_takes bytes x fits last.1)
+            let last = met (eqb opcode 46) Opcode (Ok (Done, bytes)) x d.1 in
+            subst at (sym (eqb-true _ _ last.0)) (done_takes bytes x fits last.1)
       ]
     ]
 

@@ -1,11 +1,11 @@
 -- The laws of a list of fields.
-use Rattle.std.proofs.Common.{◌≡◌, ℕ, zero, suc, ◌^◌, ◌<◌, ◌≤◌, List, [], ◌∷◌, ◌++◌, length, Result, Ok, Err, refl, sym, ap, subst, ◌∙◌, append_assoc, arith}
+use Rattle.std.proofs.Common.{◌≡◌, ℕ, zero, suc, ◌^◌, ◌<◌, ◌≤◌, List, [], ◌∷◌, ◌++◌, length, Result, Ok, refl, sym, ap, subst, ◌∙◌, append_assoc, arith}
 use Rattle.std.specs.List.{flat_map, AllByRecursion}
 use Rattle.std.proofs.lemmas.List.Concat.{flat_map-cons}
 use Rattle.bb_code.specs.declared.fault.CodeFault.{CodeFault}
 use Rattle.bb_code.specs.Spelling.{two_bytes, listed}
 use Rattle.bb_code.specs.Reading.{◌>>=◌, count_at, repeated, list_at}
-use Rattle.bb_code.proofs.Fields.{IsBytes, bind_ok, ok_is, Takes, Takes-then, IsSpelled, IsWithin, count_spelled}
+use Rattle.bb_code.proofs.Fields.{IsBytes, bind_ok, ok_is, Takes, Takes-then, IsSpelled, count_spelled}
 
 -- n values that fit, and their bytes
 abbrev AreTaken : (A : Type 0) → (A → List ℕ) → (A → Type 0) → ℕ → List ℕ → List A × List ℕ → Type 0
@@ -47,9 +47,10 @@ list_takes A field bytes_of Fits spelled low high small bytes x fits e =
     let n = bind_ok (count_at low high bytes) (λ n. repeated field n.0 n.1) x e in
     let count = (count_spelled low high small).takes bytes n.0 fits n.1 in
     let items = repeated_takes A field bytes_of Fits spelled n.0.0 n.0.1 x count.0.rest_fits n.2 in
-    let both = Takes-then bytes (two_bytes n.0.0) n.0.1 (flat_map bytes_of x.0) x.1 count.0 items.0 in
-    (subst (λ (k : ℕ). Takes bytes (two_bytes k ++ flat_map bytes_of x.0) x.1) (sym items.1) both,
-     record { enough = omega (arith, items.1, count.1.0); few = omega (arith, items.1, count.1.1); each = items.2 })
+    let both = Takes-then bytes (two_bytes n.0.0) n.0.1 (flat_map bytes_of x.0) x.1 count.0 items.0 in (
+      subst (λ (k : ℕ). Takes bytes (two_bytes k ++ flat_map bytes_of x.0) x.1) (sym items.1) both,
+      record { enough = omega (arith, items.1, count.1.0); few = omega (arith, items.1, count.1.1); each = items.2 },
+    )
 
 list_again : (A : Type 0) (field : List ℕ → Result (A × List ℕ) CodeFault) (bytes_of : A → List ℕ) (Fits : A → Type 0) (spelled : IsSpelled A field bytes_of Fits) (low high : ℕ) → high < 2 ^ 16
     → (xs : List A) (rest : List ℕ) → AreListed A Fits low high xs → list_at low high field (listed bytes_of xs ++ rest) ≡ Ok (xs, rest)

@@ -62,7 +62,7 @@ unfoldable pub text_at : List ℕ → Result (List ℕ × List ℕ) CodeFault
 text_at bytes = do
   n ← number_at bytes
   if nat_lt (length n.1) n.0 then Err Short else
-    (if is_utf8 (take n.0 n.1) then Ok (take n.0 n.1, drop n.0 n.1) else Err Operand)
+      (if is_utf8 (take n.0 n.1) then Ok (take n.0 n.1, drop n.0 n.1) else Err Operand)
 
 -- the number of a text
 unfoldable pub push_text_at : List ℕ → Result (Op × List ℕ) CodeFault
@@ -79,9 +79,9 @@ say_at bytes = do
 -- what stands behind an opcode
 unfoldable pub operand_at : ℕ → List ℕ → Result (Op × List ℕ) CodeFault
 operand_at opcode bytes =
-  if opcode == 2 then push_text_at bytes else
-  (if opcode == 41 then say_at bytes else
-  (if opcode == 46 then Ok (Done, bytes) else Err Opcode))
+    if opcode == 2 then push_text_at bytes else
+    (if opcode == 41 then say_at bytes else
+    (if opcode == 46 then Ok (Done, bytes) else Err Opcode))
 
 -- an op: its opcode, and its operand
 unfoldable pub op_at : List ℕ → Result (Op × List ℕ) CodeFault

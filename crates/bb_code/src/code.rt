@@ -37,15 +37,18 @@ impl Model for Code {
 
     ghost view = { λ a. record { locals = a.locals; texts = a.texts.items; ops = a.ops.items } };
 
-    ghost invariant = { λ a. code.IsCode (record { locals = a.locals; texts = a.texts.items; ops = a.ops.items }) };
+    ghost invariant = { λ a.
+        code.IsCode (record { locals = a.locals; texts = a.texts.items; ops = a.ops.items }) };
 }
 
 impl Code {
     /// A code of these parts, where they are within their limits: 1 to 32 locals, at most 1,024 texts
     /// of at most 65,535 bytes, 1 to 4,096 ops, and at most 16 values that an op says.
     pub fn new(locals: u8, texts: Vec<Text>, ops: Vec<Op>) -> Option<Code>
-        ensures some { IsSome result ↔ IsCode (record { locals = locals; texts = texts.items; ops = ops.items }) }
-        ensures value { IfSome result (λ code. code ≡ record { locals = locals; texts = texts.items; ops = ops.items }) }
+        ensures some { IsSome result ↔
+            IsCode (record { locals = locals; texts = texts.items; ops = ops.items }) }
+        ensures value { IfSome result (λ code.
+            code ≡ record { locals = locals; texts = texts.items; ops = ops.items }) }
     {
         if are_parts(locals, &texts, &ops) {
             Some(Code::from_parts(locals, texts, ops))

@@ -5,7 +5,7 @@
 ghost use Rattle.std.specs.Prelude.{◌≡◌, ℕ, List, Ok, IfOk};
 ghost use Rattle.bb_code.specs.Code as code;
 ghost use Rattle.bb_code.specs.Spelling.{spelling};
-ghost use Rattle.bb_code.specs.Reading.{Answers, Gives, byte_at, number_at, count_at, text_at, op_at, operand_at, list_at, expected_at, head_at, locals_at, nothing_at, code_of};
+ghost use Rattle.bb_code.specs.Reading.{Answers, Gives, byte_at, number_at, count_at, text_at, push_text_at, say_at, operand_at, op_at, list_at, expected_at, head_at, locals_at, nothing_at, code_of};
 
 use crate::code::{Code, MOST_LOCALS, MOST_OPS, MOST_SAID, MOST_TEXTS};
 use crate::fault::CodeFault;
@@ -113,26 +113,43 @@ fn read_texts(alloc: Global, bytes: &[u8]) -> Result<(Vec<Text>, &[u8]), CodeFau
     Ok((texts, rest))
 }
 
-#[tactic(auto, unfolding(crate::specs::Reading::op_at, crate::specs::Reading::operand_at, crate::specs::Reading::push_text_at, crate::specs::Reading::say_at))]
+#[tactic(auto, unfolding(crate::specs::Reading::push_text_at))]
+fn read_push_text(bytes: &[u8]) -> Result<(Op, &[u8]), CodeFault>
+    ensures { Answers (λ x. (x.0, x.1.now)) result (push_text_at bytes.now) }
+{
+    let (text, rest) = read_number(bytes)?;
+    Ok((Op::PushText(text), rest))
+}
+
+#[tactic(auto, unfolding(crate::specs::Reading::say_at))]
+fn read_say(bytes: &[u8]) -> Result<(Op, &[u8]), CodeFault>
+    ensures { Answers (λ x. (x.0, x.1.now)) result (say_at bytes.now) }
+{
+    let (count, rest) = read_byte(bytes)?;
+    if count > MOST_SAID {
+        return Err(CodeFault::Operand);
+    }
+    Ok((Op::Say(count), rest))
+}
+
+#[tactic(auto, unfolding(crate::specs::Reading::operand_at))]
+fn read_operand(opcode: u8, bytes: &[u8]) -> Result<(Op, &[u8]), CodeFault>
+    ensures { Answers (λ x. (x.0, x.1.now)) result (operand_at opcode bytes.now) }
+{
+    match opcode {
+        2 => read_push_text(bytes),
+        41 => read_say(bytes),
+        46 => Ok((Op::Done, bytes)),
+        _ => Err(CodeFault::Opcode),
+    }
+}
+
+#[tactic(auto, unfolding(crate::specs::Reading::op_at))]
 fn read_op(bytes: &[u8]) -> Result<(Op, &[u8]), CodeFault>
     ensures { Answers (λ x. (x.0, x.1.now)) result (op_at bytes.now) }
 {
     let (opcode, rest) = read_byte(bytes)?;
-    match opcode {
-        2 => {
-            let (text, rest) = read_number(rest)?;
-            Ok((Op::PushText(text), rest))
-        }
-        41 => {
-            let (count, rest) = read_byte(rest)?;
-            if count > MOST_SAID {
-                return Err(CodeFault::Operand);
-            }
-            Ok((Op::Say(count), rest))
-        }
-        46 => Ok((Op::Done, rest)),
-        _ => Err(CodeFault::Opcode),
-    }
+    read_operand(opcode, rest)
 }
 
 #[tactic(auto, unfolding(crate::specs::Reading::list_at))]
@@ -151,7 +168,8 @@ fn read_ops(alloc: Global, bytes: &[u8]) -> Result<(Vec<Op>, &[u8]), CodeFault>
 
 #[tactic(auto, unfolding(crate::specs::Reading::code_at, crate::specs::Reading::code_of))]
 fn read_parts(alloc: Global, bytes: &[u8]) -> Result<(u8, Vec<Text>, Vec<Op>), CodeFault>
-    ensures { Gives (λ x. record { locals = x.0; texts = x.1.items; ops = x.2.items }) result (code_of bytes.now) }
+    ensures { Gives (λ x. record { locals = x.0; texts = x.1.items; ops = x.2.items })
+        result (code_of bytes.now) }
 {
     let rest = read_head(bytes)?;
     let (locals, rest) = read_locals(rest)?;
@@ -172,12 +190,14 @@ fn read_code(alloc: Global, bytes: &[u8]) -> Result<Code, CodeFault>
 }
 
 impl Code {
-    /// The code that the bytes spell, all of the bytes. A fault is the first one from the front.
+    /// The code that the bytes spell, all of the bytes. The fault is the first one from the front, and
+    /// `Memory` where there is no room for the code.
     pub fn decode(alloc: Global, bytes: &[u8]) -> Result<Code, CodeFault>
         // What is read is a code, and these bytes spell it.
         ensures found { IfOk result (λ c. code.IsCode c × (bytes.now ≡ spelling c)) }
         // What is spelled so is read, unless memory runs out.
-        ensures only { (c : code.Code) → code.IsCode c → bytes.now ≡ spelling c → Gives (λ d. d) result (Ok c) }
+        ensures only { (c : code.Code) → code.IsCode c → bytes.now ≡ spelling c →
+            Gives (λ d. d) result (Ok c) }
         // Which fault it is.
         ensures exact { Gives (λ c. c) result (code_of bytes.now) }
     {

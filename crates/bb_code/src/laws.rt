@@ -6,6 +6,6 @@ ghost use Rattle.bb_code.specs.Spelling.{spelling};
 
 /// A code has one spelling, and no spelling is the beginning of another one.
 pub fn one_spelling()
-    ensures { (a b : Code) (x y : List ℕ) → IsCode a → IsCode b → spelling a ++ x ≡ spelling b ++ y → (a ≡ b) × (x ≡ y) }
-{
-}
+    ensures { (a b : Code) (x y : List ℕ) → IsCode a → IsCode b →
+        spelling a ++ x ≡ spelling b ++ y → (a ≡ b) × (x ≡ y) }
+{}

@@ -8,7 +8,7 @@ mod fault;
 mod laws;
 mod op;
 
-pub use code::{Code, MOST_LOCALS, MOST_OPS, MOST_SAID, MOST_TEXTS, MOST_TEXT_BYTES};
+pub use code::{Code, MOST_LOCALS, MOST_OPS, MOST_SAID, MOST_TEXT_BYTES, MOST_TEXTS};
 pub use fault::CodeFault;
 pub use laws::one_spelling;
 pub use op::Op;

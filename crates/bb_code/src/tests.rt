@@ -17,7 +17,10 @@ fn first_code(rt: HostRuntime) -> Result<(), Fail> {
     for text in code.texts() {
         assert_eq!(rt; text.as_str(), "hello");
     }
-    assert_eq!(rt; code.ops(), [Op::PushText(0), Op::Say(1), Op::Done].as_slice());
+    assert_eq!(rt;
+        code.ops(),
+        [Op::PushText(0), Op::Say(1), Op::Done].as_slice()
+    );
     assert_eq!(rt; code.encode(rt.alloc())?.as_slice(), FIRST.as_slice());
     Ok(())
 }
@@ -29,7 +32,11 @@ fn fault_of(alloc: Global, bytes: &[u8]) -> Option<CodeFault> {
 #[test]
 fn damaged_code(rt: HostRuntime) -> Result<(), Fail> {
     for len in 0..FIRST.len() {
-        assert_eq!(rt; fault_of(rt.alloc(), &FIRST[..len]), Some(CodeFault::Short), "at {len}");
+        assert_eq!(rt;
+            fault_of(rt.alloc(), &FIRST[..len]),
+            Some(CodeFault::Short),
+            "at {len}"
+        );
     }
     let mut longer = FIRST.to_vec(rt.alloc())?;
     longer.push(0)?;
@@ -64,7 +71,11 @@ fn one_wrong_byte(rt: HostRuntime) {
         if place < bytes.len() {
             bytes[place] = byte;
         }
-        assert_eq!(rt; fault_of(rt.alloc(), &bytes), Some(fault), "{byte} at {place}");
+        assert_eq!(rt;
+            fault_of(rt.alloc(), &bytes),
+            Some(fault),
+            "{byte} at {place}"
+        );
     }
 }
 
