@@ -1,0 +1,4 @@
+pub mod Fields
+pub mod Lists
+pub mod Codes
+pub mod Loop

@@ -1,0 +1,4 @@
+pub mod CodeFault
+pub mod Code
+pub mod Spelling
+pub mod Reading

@@ -1,0 +1,71 @@
+//! Why bytes are no code.
+
+ghost use Rattle.std.specs.Prelude.{◌≡◌};
+ghost use Rattle.bb_code.specs.CodeFault.{number_of};
+ghost use Rattle.bb_code.specs.declared.fault.CodeFault.TheVariants.{Memory};
+
+use std::alloc::{AllocError, AllocFailed};
+use thiserror::Error;
+
+/// What is wrong with the bytes: the first fault from the front. Only `Memory` says nothing of them.
+#[derive(Clone, Copy, Debug, PartialEq, Eq, Error)]
+pub enum CodeFault {
+    /// One of the first three bytes is not that of every code.
+    #[error("this is no code")]
+    Magic,
+    /// The code is of another version than 1.
+    #[error("the code has another version")]
+    Version,
+    /// The bytes end where one more is due.
+    #[error("the code ends too early")]
+    Short,
+    /// No op has this number.
+    #[error("an op is unknown")]
+    Opcode,
+    /// A text is not UTF-8, or an op has an operand that it may not have.
+    #[error("an operand or a text is wrong")]
+    Operand,
+    /// There are too many of something, or too few.
+    #[error("a count is outside its limits")]
+    Limit,
+    /// Bytes stand behind the last op.
+    #[error("bytes stand behind the code")]
+    Trailing,
+    /// There was no memory for the code.
+    #[error("out of memory")]
+    Memory,
+}
+
+impl CodeFault {
+    /// The number by which programs tell the faults apart, from 1 for `Magic` to 8 for `Memory`.
+    pub fn number(self) -> u8
+        ensures { result ≡ number_of self }
+    {
+        match self {
+            CodeFault::Magic => 1,
+            CodeFault::Version => 2,
+            CodeFault::Short => 3,
+            CodeFault::Opcode => 4,
+            CodeFault::Operand => 5,
+            CodeFault::Limit => 6,
+            CodeFault::Trailing => 7,
+            CodeFault::Memory => 8,
+        }
+    }
+}
+
+impl From<AllocError> for CodeFault {
+    ghost from_gives = { λ _ fault. fault ≡ Memory };
+
+    fn from(_error: AllocError) -> CodeFault {
+        CodeFault::Memory
+    }
+}
+
+impl<T: Drop> From<AllocFailed<T>> for CodeFault {
+    ghost from_gives = { λ _ fault. fault ≡ Memory };
+
+    fn from(_error: AllocFailed<T>) -> CodeFault {
+        CodeFault::Memory
+    }
+}
