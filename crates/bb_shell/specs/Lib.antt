@@ -1,0 +1,17 @@
+pub mod World
+pub mod Source
+pub mod Match
+pub mod Agenda
+pub mod Rating
+pub mod Chosen
+pub mod Value
+pub mod Note
+pub mod Budget
+pub mod Step
+pub mod Activation
+pub mod Processing
+pub mod Run
+pub mod TraceText
+pub mod Flaws
+pub mod Effect
+pub mod Accepted
