@@ -78,22 +78,16 @@ descends_decides s earlier c d r is = (λ t. climbs_sound s d c c (sym is ∙ t)
 differs : (c d : ℕ) → (c ≡ d → ⊥) → (c == d) ≡ false
 differs c d other = false_from_ne_true (c == d) (λ e. other ((Decides-eqb c d).0 e))
 
--- the parent that stands with a class in the list
-pub parent_at : (classes : List Class) (c : ℕ) (k : Class) → c < length classes → parent_of (record { classes = classes }) c ≡ (get_or classes c k).parent
-parent_at classes c k lt = ap (option_and_then (λ j. j.parent)) (slice_get-get_or classes c k lt)
-
 -- one turn of the way up, from a class to the parent that stands with it
 pub record GoesUp (s : Schema) (c p d : ℕ) : Type 0 where
   pub lower : p < c
   pub same : descends s p d ≡ descends s c d
 
-pub goes_up : (classes : List Class) → ParentsAreEarlier (record { classes = classes }) → (c p d : ℕ) (k : Class) → c < length classes → (get_or classes c k).parent ≡ Some p → (c ≡ d → ⊥) → GoesUp (record { classes = classes }) c p d
-goes_up classes earlier c p d k lt has other =
-    let h = parent_at classes c k lt ∙ has in
-    record { lower = earlier c p h; same = sym (descends_parent (record { classes = classes }) c p d earlier h (differs c d other)) }
+pub goes_up : (s : Schema) → ParentsAreEarlier s → (c p d : ℕ) → parent_of s c ≡ Some p → (c ≡ d → ⊥) → GoesUp s c p d
+goes_up s earlier c p d h other = record { lower = earlier c p h; same = sym (descends_parent s c p d earlier h (differs c d other)) }
 
-pub ends_at_top : (classes : List Class) → ParentsAreEarlier (record { classes = classes }) → (c d : ℕ) (k : Class) → c < length classes → (get_or classes c k).parent ≡ None → (c ≡ d → ⊥) → descends (record { classes = classes }) c d ≡ false
-ends_at_top classes earlier c d k lt has other = descends_top (record { classes = classes }) c d earlier (parent_at classes c k lt ∙ has) (differs c d other)
+pub ends_at_top : (s : Schema) → ParentsAreEarlier s → (c d : ℕ) → parent_of s c ≡ None → (c ≡ d → ⊥) → descends s c d ≡ false
+ends_at_top s earlier c d h other = descends_top s c d earlier h (differs c d other)
 
 pub found_itself : (s : Schema) (c d : ℕ) → ParentsAreEarlier s → c ≡ d → descends s c d ≡ true
 found_itself s c d earlier e = descends_itself s c d earlier ((Decides-eqb c d).1 e)

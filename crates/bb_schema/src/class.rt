@@ -1,5 +1,5 @@
-ghost use Rattle.std.specs.Prelude.{◌≡◌, ◌<◌, length};
-ghost use Rattle.bb_schema.specs.Schema.{descends};
+ghost use Rattle.std.specs.Prelude.{◌≡◌};
+ghost use Rattle.bb_schema.specs.Schema.{descends, parent_of};
 ghost use Rattle.bb_schema.specs.WellFormed.{ParentsAreEarlier};
 
 use crate::text::Text;
@@ -14,18 +14,25 @@ pub struct Class {
     pub parent: Option<ClassId>,
 }
 
-/// Whether a class is another one or stands anywhere below it, by the parents.
+/// Whether a class is another one or stands anywhere below it, by the parents. A number without a class stands
+/// below itself alone.
 pub(crate) fn descends(classes: &[Class], class: ClassId, ancestor: ClassId) -> bool
-    requires there { class < length classes.now }
-    requires earlier { ParentsAreEarlier (record { classes = classes.now }) }
+    requires { ParentsAreEarlier (record { classes = classes.now }) }
     ensures { result ≡ descends (record { classes = classes.now }) class ancestor }
 {
     let mut at = class;
     while at != ancestor {
-        match classes[at as usize].parent {
+        match parent(classes, at) {
             None => return false,
             Some(parent) => at = parent,
         }
     }
     true
+}
+
+/// The parent of a class, `None` where there is none.
+pub(crate) fn parent(classes: &[Class], class: ClassId) -> Option<ClassId>
+    ensures { result ≡ parent_of (record { classes = classes.now }) class }
+{
+    classes.get(class as usize)?.parent
 }

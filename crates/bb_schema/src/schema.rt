@@ -51,9 +51,8 @@ impl Schema {
         self.classes[class as usize].parent
     }
 
-    /// Whether a class is another one or stands anywhere below it.
+    /// Whether a class is another one or stands anywhere below it. A number without a class stands below itself alone.
     pub fn descends(&self, class: ClassId, ancestor: ClassId) -> bool
-        requires { class < length self.now.classes }
         ensures computed { result ≡ descends self.now class ancestor }
         ensures least { IsTrue result ↔ Descends self.now class ancestor }
     {
