@@ -9,7 +9,8 @@ use Rattle.bb_shell.specs.declared.clause.Clause.TheVariants as clause
 use Rattle.bb_shell.specs.declared.event.Event.TheVariants.{Created, Quiescence}
 use Rattle.bb_shell.specs.declared.finish.Finish.TheVariants as finishes
 use Rattle.bb_shell.specs.Source.{Source}
-use Rattle.bb_shell.specs.Agenda.{Activation, Agenda}
+use Rattle.bb_shell.specs.declared.activation.Activation.{Activation}
+use Rattle.bb_shell.specs.Agenda.{Agenda}
 use Rattle.bb_shell.specs.Value.{text}
 use Rattle.bb_shell.specs.Note.{Note, happened, said, triggered, acts, ended, finished}
 use Rattle.bb_shell.specs.Activation.{steps_from}

@@ -1,14 +1,6 @@
 -- The agenda: the activations that wait, each under its number (GBBopen Agenda Shell).
 use Rattle.std.specs.Prelude.{ℕ, ◌+◌, ◌^◌, ℤ, Bool, ◌||◌, ◌==◌, not, nat_le, List, [], ◌∷◌, ◌++◌, filter, length}
-
-pub record Activation : Type 0 where
-  pub number : ℕ
-  -- the place of its source, from 0
-  pub source : ℕ
-  -- the unit of the event that triggered it
-  pub unit : ℕ
-  -- its rating before any focus counts
-  pub base : ℤ
+use Rattle.bb_shell.specs.declared.activation.Activation.{Activation}
 
 pub record Agenda : Type 0 where
   -- the number that the next activation gets, from 1
@@ -23,9 +15,13 @@ no_activations = record { next = 1; pending = [] }
 abbrev pub is_full : Agenda → Bool
 is_full a = nat_le 65536 (length a.pending) || nat_le (2 ^ 63) a.next
 
--- one more, last, under the next number
+-- what the next activation is
+abbrev pub new_activation : Agenda → ℕ → ℕ → ℤ → Activation
+new_activation a source unit base = record { number = a.next; source = source; unit = unit; base = base }
+
+-- it waits, last, and the number after it is next
 abbrev pub added : Agenda → ℕ → ℕ → ℤ → Agenda
-added a source unit base = record { next = a.next + 1; pending = a.pending ++ record { number = a.next; source = source; unit = unit; base = base } ∷ [] }
+added a source unit base = record { next = a.next + 1; pending = a.pending ++ new_activation a source unit base ∷ [] }
 
 -- what waits but for one number
 abbrev pub without : Agenda → ℕ → Agenda

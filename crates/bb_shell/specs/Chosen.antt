@@ -2,7 +2,8 @@
 use Rattle.std.specs.Prelude.{ℕ, ℤ, Bool, ◌&&◌, ◌||◌, not, nat_lt, int_lt, List, find, Option}
 use Rattle.std.specs.List.{list_all}
 use Rattle.std.specs.Ordering.{int_eq}
-use Rattle.bb_shell.specs.Agenda.{Activation, Agenda}
+use Rattle.bb_shell.specs.declared.activation.Activation.{Activation}
+use Rattle.bb_shell.specs.Agenda.{Agenda}
 use Rattle.bb_shell.specs.Rating.{rating}
 
 -- b stands before a: it is rated higher, or the same under a lower number

@@ -1,5 +1,5 @@
 -- What an op does to a frame: the kinds of the locals and of the stack at a place.
-use Rattle.std.specs.Prelude.{ℕ, nat_le, nat_lt, List, [], ◌∷◌, length, drop, Option, Some, None, Result, Ok, Err, if◌then◌else◌}
+use Rattle.std.specs.Prelude.{ℕ, ◌-◌, nat_le, nat_lt, List, [], ◌∷◌, ◌++◌, length, take, Option, Some, None, Result, Ok, Err, if◌then◌else◌}
 use Rattle.bb_code.specs.declared.op.Op.{Op}
 use Rattle.bb_code.specs.declared.op.Op.TheVariants.{PushText, Say, Done}
 use Rattle.bb_shell.specs.declared.flaw.Flaw.{Flaw}
@@ -14,11 +14,11 @@ pub data Kind : Type 0 where
 
 pub record Frame : Type 0 where
   pub locals : List Kind
-  -- the newest entry first
+  -- the deepest entry first
   pub stack : List Kind
 
 -- the frame for the op behind, None where the op can't go on, or what is wrong
 abbrev pub effect : Op → Frame → Result (Option Frame) Flaw
-effect (PushText t) f = if nat_le 64 (length f.stack) then Err Depth else Ok (Some (record f { stack = a_text ∷ f.stack }))
-effect (Say count) f = if nat_lt (length f.stack) count then Err Depth else Ok (Some (record f { stack = drop count f.stack }))
+effect (PushText t) f = if nat_le 64 (length f.stack) then Err Depth else Ok (Some (record f { stack = f.stack ++ a_text ∷ [] }))
+effect (Say count) f = if nat_lt (length f.stack) count then Err Depth else Ok (Some (record f { stack = take (length f.stack - count) f.stack }))
 effect Done f = Ok None

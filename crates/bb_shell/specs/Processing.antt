@@ -6,7 +6,8 @@ use Rattle.bb_shell.specs.declared.finish.Finish.{Finish}
 use Rattle.bb_shell.specs.declared.finish.Finish.TheVariants.{Full}
 use Rattle.bb_shell.specs.Source.{Source}
 use Rattle.bb_shell.specs.Match.{triggers, unit_of}
-use Rattle.bb_shell.specs.Agenda.{Activation, Agenda, is_full, added}
+use Rattle.bb_shell.specs.declared.activation.Activation.{Activation}
+use Rattle.bb_shell.specs.Agenda.{Agenda, is_full, new_activation, added}
 use Rattle.bb_shell.specs.Note.{Note, triggered}
 
 -- what a part of a run leaves: its notes, the agenda, and the finish if the run is over
@@ -18,10 +19,6 @@ pub record After : Type 0 where
 abbrev pub noted_first : Note → After → After
 noted_first note rest = record { notes = note ∷ rest.notes; agenda = rest.agenda; finish = rest.finish }
 
--- the activation that the source at this place gets from the event
-abbrev pub new_activation : Agenda → ℕ → Source → Event → Activation
-new_activation agenda place source event = record { number = agenda.next; source = place; unit = unit_of event; base = source.rate }
-
 -- the sources from this place on, in order; where the agenda is full the run is over
 unfoldable pub processed_by : Schema → Event → ℕ → List Source → Agenda → After
 processed_by s event place [] agenda = record { notes = []; agenda = agenda; finish = None }
@@ -29,7 +26,7 @@ processed_by s event place (source ∷ sources) agenda =
     if triggers s source event
     then (if is_full agenda
     then record { notes = []; agenda = agenda; finish = Some Full }
-    else noted_first (triggered (new_activation agenda place source event)) (processed_by s event (place + 1) sources (added agenda place (unit_of event) source.rate)))
+    else noted_first (triggered (new_activation agenda place (unit_of event) source.rate)) (processed_by s event (place + 1) sources (added agenda place (unit_of event) source.rate)))
     else processed_by s event (place + 1) sources agenda
 
 abbrev pub processed : Schema → List Source → Event → Agenda → After

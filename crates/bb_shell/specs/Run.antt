@@ -8,7 +8,8 @@ use Rattle.bb_shell.specs.declared.finish.Finish.TheVariants as finishes
 use Rattle.bb_shell.specs.declared.finish.Stuck.{Stuck}
 use Rattle.bb_shell.specs.declared.finish.Stuck.TheVariants as reasons
 use Rattle.bb_shell.specs.Source.{Source}
-use Rattle.bb_shell.specs.Agenda.{Activation, Agenda, no_activations, without}
+use Rattle.bb_shell.specs.declared.activation.Activation.{Activation}
+use Rattle.bb_shell.specs.Agenda.{Agenda, no_activations, without}
 use Rattle.bb_shell.specs.Rating.{rating}
 use Rattle.bb_shell.specs.Chosen.{chosen}
 use Rattle.bb_shell.specs.Note.{Note, happened, acts, ended, finished}
@@ -63,16 +64,17 @@ act_or_rest r agenda None act =
 abbrev pub turn : Rules → Agenda → (Agenda → Activation → Run) → Run
 turn r agenda act = act_or_rest r agenda (chosen r.floor agenda) act
 
--- the end of an execution of a code, and then the rest
-abbrev pub executed : Outcome → ℕ → Run → Run
-executed o allowed rest = told (o.notes ++ noted_end o.stuck) (ends_or (stuck_finish o.stuck) rest) where
-  noted_end : Option Stuck → List Note
-  noted_end None = ended o.steps o.found allowed ∷ []
-  noted_end (Some reason) = []
+abbrev pub noted_end : Outcome → ℕ → Option Stuck → List Note
+noted_end o allowed None = ended o.steps o.found allowed ∷ []
+noted_end o allowed (Some reason) = []
 
-  stuck_finish : Option Stuck → Option Finish
-  stuck_finish None = None
-  stuck_finish (Some reason) = Some (finishes.Stuck reason)
+abbrev pub stuck_finish : Option Stuck → Option Finish
+stuck_finish None = None
+stuck_finish (Some reason) = Some (finishes.Stuck reason)
+
+-- what an execution of a code notes, with its end, and then the rest
+abbrev pub executed : Outcome → ℕ → Run → Run
+executed o allowed rest = told (o.notes ++ noted_end o allowed o.stuck) (ends_or (stuck_finish o.stuck) rest)
 
 -- one cycle: the choice, the execution of its source's code, and then the rest
 abbrev pub cycle_of : ℕ → Agenda → Activation → Option Source → (Agenda → Run) → Run

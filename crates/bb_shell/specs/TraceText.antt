@@ -9,10 +9,9 @@ use Rattle.bb_shell.specs.declared.event.Event.{Event}
 use Rattle.bb_shell.specs.declared.event.Event.TheVariants as events
 use Rattle.bb_shell.specs.declared.finish.Finish.{Finish}
 use Rattle.bb_shell.specs.declared.finish.Finish.TheVariants as finishes
-use Rattle.bb_shell.specs.declared.finish.Stuck.{Stuck}
-use Rattle.bb_shell.specs.declared.finish.Stuck.TheVariants as reasons
+use Rattle.bb_shell.specs.Reasons.{reason_number}
 use Rattle.bb_shell.specs.Source.{Source}
-use Rattle.bb_shell.specs.Agenda.{Activation}
+use Rattle.bb_shell.specs.declared.activation.Activation.{Activation}
 use Rattle.bb_shell.specs.Rating.{rating}
 use Rattle.bb_shell.specs.Value.{Value, text, unit}
 use Rattle.bb_shell.specs.Note.{Note, happened, said, triggered, acts, ended, finished}
@@ -37,15 +36,6 @@ event_text s events.Quiescence = codes "quiescence"
 abbrev pub rated_text : List Source → Activation → ℤ → List ℕ
 rated_text sources a r = source_name sources a.source ++ codes " unit " ++ decimal a.unit ++ codes " rating " ++ signed_decimal r
 
-abbrev pub reason_number : Stuck → ℕ
-reason_number reasons.Missing = 1
-reason_number reasons.Kind = 2
-reason_number reasons.Deleted = 3
-reason_number reasons.LinkClass = 4
-reason_number reasons.Outside = 5
-reason_number reasons.Slot = 6
-reason_number reasons.Turns = 7
-
 abbrev pub finish_text : Finish → List ℕ
 finish_text finishes.Quiescence = codes "finish quiescence"
 finish_text finishes.Limit = codes "finish limit"
@@ -54,12 +44,24 @@ finish_text finishes.Memory = []
 finish_text finishes.Write = []
 finish_text (finishes.Stuck reason) = codes "finish stuck " ++ decimal (reason_number reason)
 
+abbrev pub said_text : List Value → List ℕ
+said_text values = codes "say" ++ flat_map (λ v. codes " " ++ value_text v) values
+
+abbrev pub triggered_text : List Source → Activation → List ℕ
+triggered_text sources a = codes "trigger " ++ decimal a.number ++ codes " " ++ rated_text sources a a.base
+
+abbrev pub acts_text : List Source → ℕ → Activation → List ℕ
+acts_text sources number a = codes "cycle " ++ decimal number ++ codes " act " ++ decimal a.number ++ codes " " ++ rated_text sources a (rating a)
+
+abbrev pub ended_text : (steps found budget : ℕ) → List ℕ
+ended_text steps found budget = codes "end steps " ++ decimal steps ++ codes " found " ++ decimal found ++ codes " budget " ++ decimal budget
+
 abbrev pub note_text : Rules → Note → List ℕ
 note_text r (happened event) = event_text r.schema event
-note_text r (said values) = codes "say" ++ flat_map (λ v. codes " " ++ value_text v) values
-note_text r (triggered a) = codes "trigger " ++ decimal a.number ++ codes " " ++ rated_text r.sources a a.base
-note_text r (acts number a) = codes "cycle " ++ decimal number ++ codes " act " ++ decimal a.number ++ codes " " ++ rated_text r.sources a (rating a)
-note_text r (ended steps found budget) = codes "end steps " ++ decimal steps ++ codes " found " ++ decimal found ++ codes " budget " ++ decimal budget
+note_text r (said values) = said_text values
+note_text r (triggered a) = triggered_text r.sources a
+note_text r (acts number a) = acts_text r.sources number a
+note_text r (ended steps found budget) = ended_text steps found budget
 note_text r (finished f) = finish_text f
 
 abbrev pub line : Rules → Note → List ℕ

@@ -1,3 +1,6 @@
+ghost use Rattle.std.specs.Prelude.{◌≡◌};
+ghost use Rattle.bb_shell.specs.Match.{unit_of};
+
 use bb_schema::ClassId;
 use bb_units::UnitId;
 
@@ -8,4 +11,16 @@ pub enum Event {
     Created { unit: UnitId, class: ClassId },
     /// No activation could be chosen.
     Quiescence,
+}
+
+impl Event {
+    /// The unit that it is about, 0 where it is about none.
+    pub fn unit(self) -> UnitId
+        ensures { result ≡ unit_of self }
+    {
+        match self {
+            Event::Created { unit, .. } => unit,
+            Event::Quiescence => 0,
+        }
+    }
 }

@@ -1,3 +1,6 @@
+ghost use Rattle.std.specs.Prelude.{◌≡◌};
+ghost use Rattle.bb_shell.specs.Reasons.{reason_number};
+
 /// Why an activation could not go on.
 #[derive(Clone, Copy, Debug, PartialEq, Eq)]
 pub enum Stuck {
@@ -15,6 +18,23 @@ pub enum Stuck {
     Slot,
     /// The steps ran out.
     Turns,
+}
+
+impl Stuck {
+    /// The number by which a trace names the reason, from 1 to 7.
+    pub fn number(self) -> u8
+        ensures { result ≡ reason_number self }
+    {
+        match self {
+            Stuck::Missing => 1,
+            Stuck::Kind => 2,
+            Stuck::Deleted => 3,
+            Stuck::LinkClass => 4,
+            Stuck::Outside => 5,
+            Stuck::Slot => 6,
+            Stuck::Turns => 7,
+        }
+    }
 }
 
 /// How a run ends.

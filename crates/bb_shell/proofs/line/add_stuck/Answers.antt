@@ -1,0 +1,5 @@
+use Rattle.std.proofs.Common.{◌≡◌}
+use Rattle.bb_shell.proofs.line.add_stuck.Goals as goal
+
+pub returns : goal.returns
+returns c = rw (← c.number-number.ensures) c.writeln.ensures.bytes

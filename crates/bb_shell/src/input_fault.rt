@@ -1,0 +1,123 @@
+ghost use Rattle.std.specs.Prelude.{◌≡◌, IfOk, string_bytes};
+ghost use Rattle.bb_shell.specs.declared.input_fault.InputFault.TheVariants.{Memory as OutOfMemory};
+ghost use Rattle.bb_shell.specs.Refusals.{refusal_text, bundle_text, part_word};
+
+use crate::bundle::BundleFault;
+use crate::flaw::VerifyFault;
+use crate::rule_fault::RuleFault;
+use crate::units_fault::UnitsFault;
+use bb_schema::{SchemaFault, Text};
+use std::alloc::{AllocError, AllocFailed, Global};
+use thiserror::Error;
+
+/// A part of a source.
+#[derive(Clone, Copy, Debug, PartialEq, Eq)]
+pub enum Part {
+    /// What an execution runs.
+    Do,
+}
+
+impl Part {
+    /// The word by which refusals name the part.
+    pub fn word(self) -> &'static str
+        ensures { result.now ≡ part_word self }
+    {
+        match self {
+            Part::Do => "do",
+        }
+    }
+}
+
+/// Why an input is refused: the first step that refuses it, and its fault.
+#[derive(Debug, Drop, Error)]
+pub enum InputFault {
+    /// The schema's document means none.
+    #[error("{0}")]
+    Schema(SchemaFault),
+    /// The first units can't be created.
+    #[error("{0}")]
+    Units(UnitsFault),
+    /// The bundle spells no sources.
+    #[error("{0}")]
+    Bundle(BundleFault),
+    /// A code of a source is not accepted.
+    #[error("a code is not accepted")]
+    Verify {
+        /// The name of the source.
+        name: Text,
+        part: Part,
+        fault: VerifyFault,
+    },
+    /// A source does not fit the schema or the other sources.
+    #[error("{fault}")]
+    Rule {
+        /// The name of the source.
+        name: Text,
+        fault: RuleFault,
+    },
+    /// Memory ran out.
+    #[error("out of memory")]
+    Memory,
+}
+
+impl From<AllocError> for InputFault {
+    ghost from_gives = { λ _ e. e ≡ OutOfMemory };
+
+    fn from(_refused: AllocError) -> InputFault {
+        InputFault::Memory
+    }
+}
+
+impl<T: Drop> From<AllocFailed<T>> for InputFault {
+    ghost from_gives = { λ _ e. e ≡ OutOfMemory };
+
+    fn from(_refused: AllocFailed<T>) -> InputFault {
+        InputFault::Memory
+    }
+}
+
+impl InputFault {
+    /// The line that tells the refusal, without its line feed; empty for `Memory`.
+    pub fn line(&self, alloc: Global) -> Result<String, AllocError>
+        ensures { IfOk result (λ line. string_bytes line ≡ refusal_text self.now) }
+    {
+        match self {
+            InputFault::Schema(fault) => {
+                let number = fault.number();
+                format!(in alloc; "refused schema {number}")
+            }
+            InputFault::Units(fault) => {
+                let number = fault.number();
+                format!(in alloc; "refused units {number}")
+            }
+            InputFault::Bundle(fault) => bundle_line(alloc, *fault),
+            InputFault::Verify { name, part, fault } => {
+                let name = name.as_str();
+                let part = part.word();
+                let place = fault.place;
+                let number = fault.flaw.number();
+                format!(in alloc; "refused verify {name} {part} {place} {number}")
+            }
+            InputFault::Rule { name, fault } => {
+                let name = name.as_str();
+                let number = fault.number();
+                format!(in alloc; "refused rule {name} {number}")
+            }
+            InputFault::Memory => Ok(String::new(alloc)),
+        }
+    }
+}
+
+fn bundle_line(alloc: Global, fault: BundleFault) -> Result<String, AllocError>
+    ensures { IfOk result (λ line. string_bytes line ≡ bundle_text fault) }
+{
+    match fault {
+        BundleFault::Line { line } => format!(in alloc; "refused bundle {line} 1"),
+        BundleFault::Hex { line } => format!(in alloc; "refused bundle {line} 2"),
+        BundleFault::Code { line, fault } => {
+            let number = fault.number();
+            format!(in alloc; "refused bundle {line} code {number}")
+        }
+        BundleFault::Memory => Ok(String::new(alloc)),
+    }
+}

@@ -1,0 +1,91 @@
+ghost use Rattle.std.specs.Prelude.{◌≡◌, ◌<◌, ◌≤◌, ◌==◌, ℕ, List, Option, Bool, false, not, length, take};
+ghost use Rattle.std.specs.Io.KnownBytes.{Appends};
+ghost use Rattle.std.specs.Bool.{OnTrue as WhenTrue};
+
+use std::io::Write;
+
+/// Where a trace is written. It tells the bytes that it took, and whether it has failed.
+pub trait Out {
+    /// The bytes that it took, where it tells them.
+    ghost taken: { Self → Option (List ℕ) };
+
+    /// Whether it has failed.
+    ghost has_failed: { Self → Bool };
+
+    /// Takes bytes from the front, at least one, and answers how many; or takes none, answers 0 and has failed.
+    fn put(&mut self, bytes: &[u8]) -> usize
+        requires some { 0 < length bytes.now }
+        requires open { has_failed self.old ≡ false }
+        ensures count { result ≤ length bytes.now }
+        ensures taken { Appends (taken self.old) (taken self.new) (take result bytes.now) }
+        ensures failed { has_failed self.new ≡ (result == 0) };
+
+    /// Whether it has failed.
+    fn failed(&self) -> bool
+        ensures { result ≡ has_failed self.now };
+}
+
+/// A writer as an `Out`: an error or a write of no bytes is its failure.
+#[derive(Drop)]
+pub struct Pipe<W: Write> {
+    writer: W,
+    failed: bool,
+}
+
+impl<W: Write> Pipe<W> {
+    /// Writes to a writer from now on.
+    pub fn new(writer: W) -> Pipe<W>
+        ensures writer { result.writer ≡ writer }
+        ensures open { result.failed ≡ false }
+    {
+        Pipe {
+            writer,
+            failed: false,
+        }
+    }
+
+    /// The writer.
+    pub fn into_inner(self) -> W
+        ensures { result ≡ self.writer }
+    {
+        let Pipe { writer, failed: _ } = self;
+        writer
+    }
+}
+
+impl<W: Write> Out for Pipe<W> {
+    ghost taken = { λ p. W.contents p.writer };
+
+    ghost has_failed = { λ p. p.failed };
+
+    fn put(&mut self, bytes: &[u8]) -> usize {
+        match self.writer.write(bytes) {
+            Ok(count) if count > 0 => count,
+            _ => {
+                self.failed = true;
+                0
+            }
+        }
+    }
+
+    fn failed(&self) -> bool {
+        self.failed
+    }
+}
+
+/// Writes all the bytes, or answers that the output has failed.
+pub fn put_all<O: Out>(out: &mut O, bytes: &[u8]) -> bool
+    requires { O.has_failed out.old ≡ false }
+    ensures ok { WhenTrue result (Appends (O.taken out.old) (O.taken out.new) bytes.now) }
+    ensures failed { O.has_failed out.new ≡ not result }
+{
+    let mut rest = bytes;
+    while !rest.is_empty() {
+        let count = out.put(rest);
+        if count == 0 {
+            return false;
+        }
+        rest = &rest[count..];
+    }
+    true
+}
