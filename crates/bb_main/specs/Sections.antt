@@ -1,0 +1,60 @@
+-- The sections of an input: the text between one header line and the next, byte for byte.
+use Rattle.std.specs.Prelude.{ℕ, Bool, ◌||◌, List, [], ◌∷◌, ◌++◌, Option, Some, None, Result, Ok, Err, codes, if◌then◌else◌}
+use Rattle.std.specs.Str.{bytes_eq}
+use Rattle.bb_main.specs.declared.sections.Header.{Header}
+use Rattle.bb_main.specs.declared.sections.Header.TheVariants.{Schema, Units, Sources, Bundle}
+use Rattle.bb_main.specs.declared.refusal.InputRefusal.{InputRefusal}
+use Rattle.bb_main.specs.declared.refusal.InputRefusal.TheVariants.{Sections as NotInOrder}
+use Rattle.bb_main.specs.Lines.{lines}
+
+-- a line that is the word alone, ended by LF, by CR LF or, without a CR, by the end of the input
+unfoldable pub is_alone : List ℕ → List ℕ → Bool
+is_alone word line = bytes_eq line word || bytes_eq line (word ++ 10 ∷ []) || bytes_eq line (word ++ 13 ∷ 10 ∷ [])
+
+-- what a line begins
+unfoldable pub header_of : List ℕ → Option Header
+header_of line =
+    if is_alone (codes "%schema") line then Some Schema
+    else if is_alone (codes "%units") line then Some Units
+    else if is_alone (codes "%sources") line then Some Sources
+    else if is_alone (codes "%bundle") line then Some Bundle
+    else None
+
+-- a header with the text after it, up to the next
+pub data Part : Type 0 where
+  part : Header → List ℕ → Part
+
+abbrev pub line_before : Option Header → List ℕ → List ℕ → List ℕ
+line_before (Some header) line rest = []
+line_before None line rest = line ++ rest
+
+-- the text before the first header
+abbrev pub before : List (List ℕ) → List ℕ
+before [] = []
+before (line ∷ others) = line_before (header_of line) line (before others)
+
+abbrev pub with_part : Option Header → List ℕ → List Part → List Part
+with_part (Some header) text found = part header text ∷ found
+with_part None text found = found
+
+-- the headers in order, each with its text
+abbrev pub parts : List (List ℕ) → List Part
+parts [] = []
+parts (line ∷ others) = with_part (header_of line) (before others) (parts others)
+
+pub record Texts : Type 0 where
+  pub schema : List ℕ
+  pub units : List ℕ
+  pub bundle : List ℕ
+
+-- the schema first, then units or none, then a bundle or none, and nothing more
+abbrev pub in_order : List Part → Result Texts InputRefusal
+in_order (part Schema s ∷ []) = Ok (record { schema = s; units = codes "{}"; bundle = [] })
+in_order (part Schema s ∷ part Units u ∷ []) = Ok (record { schema = s; units = u; bundle = [] })
+in_order (part Schema s ∷ part Bundle b ∷ []) = Ok (record { schema = s; units = codes "{}"; bundle = b })
+in_order (part Schema s ∷ part Units u ∷ part Bundle b ∷ []) = Ok (record { schema = s; units = u; bundle = b })
+in_order _ = Err NotInOrder
+
+-- the sections of a text, which begins with its first header
+unfoldable pub sections_of : List ℕ → Result Texts InputRefusal
+sections_of text = if bytes_eq (before (lines text)) [] then in_order (parts (lines text)) else Err NotInOrder

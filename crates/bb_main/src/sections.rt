@@ -1,0 +1,134 @@
+ghost use Rattle.std.specs.Prelude.{◌≡◌, ◌++◌, ◌∷◌, [], ◌<◌, MatchOption, length};
+ghost use Rattle.bb_main.specs.Lines.{lines};
+ghost use Rattle.bb_main.specs.Sections.{header_of, is_alone, before, parts, sections_of};
+ghost use Rattle.bb_main.specs.Cuts.{is_end, Begins, Takes};
+ghost use Rattle.bb_main.specs.Input.{input_of, seen};
+
+use crate::read::INPUT_LIMIT;
+use crate::refusal::InputRefusal;
+use std::str;
+
+/// What a header line begins.
+#[derive(Clone, Copy, Debug, PartialEq, Eq)]
+pub(crate) enum Header {
+    Schema,
+    Units,
+    /// No section is begun by it yet: it stands in no input that is taken.
+    Sources,
+    Bundle,
+}
+
+/// The sections of an input, each the text between its header line and the next.
+#[derive(Clone, Copy, Debug, PartialEq, Eq)]
+pub(crate) struct Sections<'a> {
+    pub(crate) schema: &'a str,
+    pub(crate) units: &'a str,
+    pub(crate) bundle: &'a str,
+}
+
+impl<'a> Sections<'a> {
+    /// The sections of an input's bytes, or why it is refused: `Limit` first, then `Utf8`, then `Sections`.
+    pub(crate) fn of_bytes(bytes: &'a [u8]) -> Result<Sections<'a>, InputRefusal>
+        ensures { seen result ≡ input_of bytes.now }
+    {
+        if bytes.len() > INPUT_LIMIT {
+            return Err(InputRefusal::Limit);
+        }
+        match str::from_utf8(bytes) {
+            Ok(text) => Sections::of(text),
+            Err(_) => Err(InputRefusal::Utf8),
+        }
+    }
+
+    /// The sections of a text.
+    pub(crate) fn of(text: &'a str) -> Result<Sections<'a>, InputRefusal>
+        ensures { seen result ≡ sections_of text.now }
+    {
+        let (schema, rest) = section(Header::Schema, text).ok_or(InputRefusal::Sections)?;
+        let (units, rest) = section(Header::Units, rest).unwrap_or(("{}", rest));
+        let (bundle, rest) = section(Header::Bundle, rest).unwrap_or(("", rest));
+        if !rest.is_empty() {
+            return Err(InputRefusal::Sections);
+        }
+        Ok(Sections {
+            schema,
+            units,
+            bundle,
+        })
+    }
+}
+
+/// The section that a text begins with, where its first line is that header, and the text from the next header on.
+fn section<'a>(header: Header, text: &'a str) -> Option<(&'a str, &'a str)>
+    ensures { Takes header text.now result }
+{
+    let (line, after) = first_line(text);
+    if header_of(line) != Some(header) {
+        return None;
+    }
+    Some(to_header(after))
+}
+
+/// The text before its first header line, and the text from that line on.
+fn to_header(text: &str) -> (&str, &str)
+    ensures before { result.0.now ≡ before (lines text.now) }
+    ensures parts { parts (lines text.now) ≡ parts (lines result.1.now) }
+    ensures begins { Begins result.1.now }
+{
+    let mut rest = text;
+    while !rest.is_empty() {
+        let (line, after) = first_line(rest);
+        if header_of(line).is_some() {
+            break;
+        }
+        rest = after;
+    }
+    (&text[..text.len() - rest.len()], rest)
+}
+
+/// What a line begins, if it is a header.
+#[tactic(auto, unfolding(crate::specs::Sections::header_of))]
+fn header_of(line: &str) -> Option<Header>
+    ensures { result ≡ header_of line.now }
+{
+    if is_alone("%schema", line) {
+        Some(Header::Schema)
+    } else if is_alone("%units", line) {
+        Some(Header::Units)
+    } else if is_alone("%sources", line) {
+        Some(Header::Sources)
+    } else if is_alone("%bundle", line) {
+        Some(Header::Bundle)
+    } else {
+        None
+    }
+}
+
+/// Whether a line is the word alone, ended by LF, by CR LF or, without a CR, by the end of the input.
+fn is_alone(word: &str, line: &str) -> bool
+    ensures { result ≡ is_alone word.now line.now }
+{
+    match line.strip_prefix(word) {
+        Some(end) => is_end(end),
+        None => false,
+    }
+}
+
+/// Whether a text is nothing, LF or CR LF.
+fn is_end(text: &str) -> bool
+    ensures { result ≡ is_end text.now }
+{
+    text.is_empty() || text == "\n" || text == "\r\n"
+}
+
+/// The first line with its end, and the text after it.
+fn first_line(text: &str) -> (&str, &str)
+    ensures joined { text.now ≡ result.0.now ++ result.1.now }
+    ensures first { 0 < length text.now → lines text.now ≡ result.0.now ∷ lines result.1.now }
+    ensures some { 0 < length text.now → 0 < length result.0.now }
+{
+    match text.find('\n') {
+        Some(at) => text.split_at(at + 1),
+        None => (text, ""),
+    }
+}
