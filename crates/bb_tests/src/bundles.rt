@@ -1,0 +1,40 @@
+//! Bundles that the tests make.
+
+use bb_code::{Code, Op};
+use bb_schema::Text;
+use std::alloc::Global;
+use std::fmt::Write;
+use std::test::Fail;
+
+/// A code that ends at once.
+pub(crate) const IDLE: &str = "4242430101000000000000000000012e";
+
+/// The name of a source, its class, which its clause speaks of too, and its rate.
+pub(crate) type Header<'a> = (&'a str, &'a str, &'a str);
+
+/// A bundle of sources that end at once.
+pub(crate) fn idle_bundle(alloc: Global, headers: &[Header<'_>]) -> Result<String, Fail> {
+    let mut bundle = String::new(alloc);
+    for (name, class, rate) in headers {
+        write!(
+            bundle,
+            "source {name} {class} {rate}\nwhen create {class}\ndo {IDLE}\n"
+        )?;
+    }
+    Ok(bundle)
+}
+
+/// The hex digits of a code of one local.
+pub(crate) fn code(alloc: Global, texts: &[&str], ops: &[Op]) -> Result<String, Fail> {
+    let mut kept = Vec::new(alloc);
+    for text in texts {
+        kept.push(Text::from_str(alloc, text)?)?;
+    }
+    let code = Code::new(1, kept, ops.to_vec(alloc)?).ok_or("the parts are within their limits")?;
+    Ok(hex::encode(alloc, code.encode(alloc)?)?)
+}
+
+/// A source `hail` on notes with a code.
+pub(crate) fn hailing(alloc: Global, code: &str) -> Result<String, Fail> {
+    Ok(format!(in alloc; "source hail note 100\nwhen create note\ndo {code}\n")?)
+}

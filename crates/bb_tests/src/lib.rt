@@ -1,0 +1,17 @@
+//! Tests of whole runs, from the texts of an input to the bytes of its trace.
+#![tactic(auto)]
+
+#[cfg(test)]
+mod bundles;
+#[cfg(test)]
+mod first_run;
+#[cfg(test)]
+mod input;
+#[cfg(test)]
+mod outputs;
+#[cfg(test)]
+mod refusals;
+#[cfg(test)]
+mod said;
+#[cfg(test)]
+mod traces;
