@@ -21,17 +21,15 @@ fn one_source(rt: HostRuntime) -> Result<(), Fail> {
     let sources = unbundle(rt.alloc(), &text)?;
     assert_eq!(rt; sources.len(), 1);
     for source in sources {
-        assert_eq!(rt; source.name(), "hail");
-        assert_eq!(rt; source.class(), "note");
-        assert_eq!(rt; source.rate(), 100);
-        assert_eq!(rt; source.triggers().len(), 1);
-        for EventText::Create(class) in source.triggers() {
+        assert_eq!(rt; source.name.as_str(), "hail");
+        assert_eq!(rt; source.class.as_str(), "note");
+        assert_eq!(rt; source.rate, 100);
+        assert_eq!(rt; source.triggers.len(), 1);
+        for EventText::Create(class) in &source.triggers {
             assert_eq!(rt; class.as_str(), "note");
         }
-        let (name, body) = source.into_parts();
-        assert_eq!(rt; name.as_str(), "hail");
         assert_eq!(rt;
-            body.ops(),
+            source.body.ops(),
             [Op::PushText(0), Op::Say(1), Op::Done].as_slice()
         );
     }
@@ -47,7 +45,7 @@ fn lines_of_all_kinds(rt: HostRuntime) -> Result<(), Fail> {
     let sources = unbundle(rt.alloc(), &text)?;
     let mut parts = Vec::new(rt.alloc());
     for source in &sources {
-        parts.push((source.rate(), source.triggers().len()))?;
+        parts.push((source.rate, source.triggers.len()))?;
     }
     assert_eq!(rt; parts.as_slice(), [(7, 2), (0, 1)].as_slice());
     assert_eq!(rt; unbundle(rt.alloc(), "")?.len(), 0);
@@ -78,7 +76,7 @@ fn rates(rt: HostRuntime) -> Result<(), Fail> {
         let text = hail(rt.alloc(), rate, HELLO)?;
         let read = match unbundle(rt.alloc(), &text) {
             Ok(sources) => match sources.as_slice() {
-                [source] => Some(source.rate()),
+                [source] => Some(source.rate),
                 _ => None,
             },
             Err(fault) => {
