@@ -1,5 +1,5 @@
 -- The first of the best of a list, kept while the list is gone through.
-use Rattle.std.proofs.Common.{◌≡◌, ℕ, ◌+◌, ◌<◌, ◌≤◌, ◌⊎◌, inl, inr, Bool, true, false, not, cond, ◌&&◌, ◌||◌, List, [], ◌∷◌, ◌++◌, length, take, get_or, Option, Some, None, refl, sym, ap, subst, ◌∙◌, arith, ℤ, ◌<ℤ◌, ◌≤ℤ◌, find, int_lt, add-one}
+use Rattle.std.proofs.Common.{◌≡◌, ℕ, ◌+◌, ◌<◌, ◌≤◌, ◌⊎◌, inl, inr, Bool, true, false, not, cond, ◌&&◌, ◌||◌, List, [], ◌∷◌, ◌++◌, length, take, get_or, Option, Some, None, refl, sym, ap, subst, ◌∙◌, arith, ℤ, ◌<ℤ◌, ◌≤ℤ◌, find, int_lt, add-one, append_assoc}
 use Rattle.std.specs.Prelude.{nat_lt}
 use Rattle.std.specs.Bool.{Decides}
 use Rattle.std.specs.List.{list_all, AllByRecursion}
@@ -8,7 +8,7 @@ use Rattle.std.specs.Ordering.{int_eq}
 use Rattle.std.proofs.Math.Seq.{take-suc}
 use Rattle.std.proofs.lemmas.Bool.{and_parts, and_left, and_right, not-true, not_from_false, false_from_ne_true, cases_lt}
 use Rattle.std.proofs.lemmas.Bool.Decides.{Decides-int_eq, Decides-ltb, Decides-or, Decides-and, not_from_Decides}
-use Rattle.std.proofs.lemmas.List.{take_all}
+use Rattle.std.proofs.lemmas.List.{take_all, append-nil}
 use Rattle.std.proofs.lemmas.Int.{ints, by_lt_z}
 use Rattle.std.proofs.lemmas.List.Folds.{find-append, list_all-append}
 use Rattle.bb_shell.specs.declared.activation.Activation.{Activation}
@@ -29,7 +29,7 @@ module _ {X : Type 0} where
   each_weaker P Q h [] all = tt
   each_weaker P Q h (x ∷ xs) all = (h x all.0, each_weaker P Q h xs all.1)
 
-  each_more : (P : X → Type 0) (xs : List X) (a : X) → AllByRecursion P xs → P a → AllByRecursion P (xs ++ a ∷ [])
+  pub each_more : (P : X → Type 0) (xs : List X) (a : X) → AllByRecursion P xs → P a → AllByRecursion P (xs ++ a ∷ [])
   each_more P [] a all here = (here, tt)
   each_more P (x ∷ xs) a all here = (all.0, each_more P xs a all.1 here)
 
@@ -48,7 +48,7 @@ module _ {X : Type 0} where
   passes_at p x xs b true is further h = let same : x ≡ b = cc in subst (λ y. p y ≡ true) same is
   passes_at p x xs b false is further h = further h
 
-  found_passes : (p : X → Bool) (xs : List X) (b : X) → find p xs ≡ Some b → p b ≡ true
+  pub found_passes : (p : X → Bool) (xs : List X) (b : X) → find p xs ≡ Some b → p b ≡ true
   found_passes p [] b h = absurd cc
   found_passes p (x ∷ xs) b h = passes_at p x xs b (p x) refl (found_passes p xs b) h
 
@@ -56,7 +56,7 @@ module _ {X : Type 0} where
   holds_at p P x xs b true here further h = let same : x ≡ b = cc in subst P same here
   holds_at p P x xs b false here further h = further h
 
-  found_holds : (p : X → Bool) (P : X → Type 0) (xs : List X) (b : X) → AllByRecursion P xs → find p xs ≡ Some b → P b
+  pub found_holds : (p : X → Bool) (P : X → Type 0) (xs : List X) (b : X) → AllByRecursion P xs → find p xs ≡ Some b → P b
   found_holds p P [] b all h = absurd cc
   found_holds p P (x ∷ xs) b all h = holds_at p P x xs b (p x) all.0 (found_holds p P xs b all.1) h
 
@@ -254,3 +254,20 @@ best_same floor xs i d rated r s lt is under new first =
 -- the end of the loop
 pub best_all : (floor f : ℤ) (xs : List Activation) (i : ℕ) (r : Option Activation) → f ≡ floor → length xs ≤ i → BestOf f (take i xs) r → r ≡ find (is_best floor xs) xs
 best_all floor f xs i r same le first = subst (λ g. r ≡ find (is_best g xs) xs) same (subst (λ ys. r ≡ find (is_best f ys) ys) (take_all i xs le) first.found)
+
+-- what the whole of a list brings
+whole : (floor : ℤ) (xs ys : List Activation) (r : Option Activation) → BestOf floor xs r → (s : Option Activation) × BestOf floor (xs ++ ys) s
+whole floor xs [] r first = (r, subst (λ l. BestOf floor l r) (sym (append-nil xs)) first)
+whole floor xs (y ∷ ys) r first =
+    let next = by (int_lt (rating y) floor) refl in
+    subst (λ l. (s : Option Activation) × BestOf floor l s) (append_assoc xs (y ∷ []) ys) (whole floor (xs ++ y ∷ []) ys next.0 next.1)
+  where
+    by : (t : Bool) → int_lt (rating y) floor ≡ t → (s : Option Activation) × BestOf floor (xs ++ y ∷ []) s
+    by true low = (r, below (λ a. int_lt (rating a) floor) is_before (ranked floor) xs y r first low)
+    by false over = let t = stood y r in (Some (better r y), one_more floor xs y r t.0 first over t.1)
+
+-- where nothing is best, all are too low
+pub all_low : (floor : ℤ) (xs : List Activation) → find (is_best floor xs) xs ≡ None → AllByRecursion (λ a. int_lt (rating a) floor ≡ true) xs
+all_low floor xs none =
+    let all = whole floor [] xs None (best_none floor) in
+    all.1.none (all.1.found ∙ none)

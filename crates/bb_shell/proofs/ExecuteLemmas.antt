@@ -1,5 +1,5 @@
 -- The steps that were made, and those to come, are those of the whole activation.
-use Rattle.std.proofs.Common.{◌≡◌, ℕ, zero, suc, ◌+◌, ◌-◌, ◌<◌, ◌≤◌, List, [], ◌∷◌, ◌++◌, Option, Some, None, refl, sym, ap, subst, ◌∙◌, arith, append_assoc, add_assoc, zero-add}
+use Rattle.std.proofs.Common.{◌≡◌, ℕ, zero, suc, ◌+◌, ◌-◌, ◌<◌, ◌≤◌, List, [], ◌++◌, Some, None, refl, sym, ap, subst, ◌∙◌, arith, append_assoc, zero-add}
 use Rattle.std.proofs.lemmas.List.{append-nil}
 use Rattle.std.proofs.lemmas.List.Concat.{flat_map-append}
 use Rattle.bb_code.specs.Code.{Code}
@@ -11,8 +11,7 @@ use Rattle.bb_shell.specs.Value.{Value}
 use Rattle.bb_shell.specs.Note.{Note}
 use Rattle.bb_shell.specs.Step.{Machine, Leads, on, ends, stuck, step}
 use Rattle.bb_shell.specs.Activation.{Outcome, after_step, steps_from, entered, activation}
-use Rattle.bb_shell.specs.Execution.{IsLed, Steps, Tells, Answers}
-use Rattle.bb_shell.specs.Run.{Rules}
+use Rattle.bb_shell.specs.Execution.{Steps, Tells, Answers}
 use Rattle.bb_shell.specs.TraceText.{line, segment_text}
 
 -- an outcome after so many steps, and these notes before it

@@ -14,3 +14,6 @@ pub mod ReadingLemmas
 pub mod ListedLemmas
 pub mod MeaningLemmas
 pub mod RefusalLemmas
+pub mod OrderLemmas
+pub mod WaitingLemmas
+pub mod OrderlyRuns

@@ -1,14 +1,11 @@
 -- What a step leads to, from what the code finds.
-use Rattle.std.proofs.Common.{◌≡◌, ℕ, zero, suc, ◌+◌, ◌-◌, ◌<◌, ◌≤◌, ltb, leb, Bool, true, false, cond, List, [], ◌∷◌, ◌++◌, length, take, drop, map, Option, Some, None, refl, sym, ap, subst, ◌∙◌, arith, append_assoc}
-use Rattle.std.specs.Prelude.{nat_lt, nat_le, slice_get, if◌then◌else◌, option_map}
-use Rattle.std.specs.List.{flat_map}
-use Rattle.std.proofs.lemmas.Bool.{ltb-true, lt-ltb, le-ltb, ltb-false, le-leb}
+use Rattle.std.proofs.Common.{◌≡◌, ℕ, ◌+◌, ◌-◌, ◌<◌, ◌≤◌, cond, List, [], ◌∷◌, ◌++◌, length, take, drop, Option, Some, None, refl, sym, ap, subst, ◌∙◌, arith}
+use Rattle.std.specs.Prelude.{slice_get}
+use Rattle.std.proofs.lemmas.Bool.{lt-ltb, le-ltb, le-leb}
 use Rattle.std.proofs.lemmas.List.{append-nil, drop-map, take-map, length-map, length-drop, take_all}
 use Rattle.std.proofs.lemmas.List.Concat.{flat_map-cons}
 use Rattle.bb_code.specs.Code.{Code}
 use Rattle.bb_code.specs.declared.op.Op.{Op}
-use Rattle.bb_code.specs.declared.op.Op.TheVariants as ops
-use Rattle.bb_shell.specs.declared.finish.Stuck.{Stuck}
 use Rattle.bb_shell.specs.declared.finish.Stuck.TheVariants as reasons
 use Rattle.bb_shell.specs.declared.machine.Next.TheVariants as moves
 use Rattle.bb_shell.specs.declared.machine.Next.{Next}
@@ -16,10 +13,10 @@ use Rattle.bb_shell.specs.declared.value.Value.{Value as Held}
 use Rattle.bb_shell.specs.Value.{Value, text}
 use Rattle.bb_shell.specs.ValueView.{value_of, values_of}
 use Rattle.bb_shell.specs.Note.{Note, said}
-use Rattle.bb_shell.specs.Step.{Machine, Leads, on, ends, stuck, step, step_at, pushed, pushed_text, said_of}
+use Rattle.bb_shell.specs.Step.{Machine, Leads, on, stuck, step, step_at, pushed_text, said_of}
 use Rattle.bb_shell.specs.Execution.{IsLed, Steps, Tells}
 use Rattle.bb_shell.specs.Run.{Rules}
-use Rattle.bb_shell.specs.TraceText.{line, segment_text, said_text}
+use Rattle.bb_shell.specs.TraceText.{line, said_text}
 
 pub tells_none : (page : List ℕ) → Tells page page []
 tells_none page r = sym (append-nil page)

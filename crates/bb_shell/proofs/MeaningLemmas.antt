@@ -1,5 +1,5 @@
 -- What an input means, after each of its steps.
-use Rattle.std.proofs.Common.{◌≡◌, ℕ, ℤ, ◌⊎◌, inl, inr, List, Result, Ok, Err, refl, sym, ap, ◌∙◌}
+use Rattle.std.proofs.Common.{◌≡◌, ℕ, ℤ, ◌⊎◌, inl, inr, List, Result, Ok, Err, refl, ap, ◌∙◌}
 use Rattle.bb_schema.specs.Answers.{◌>>=◌}
 use Rattle.bb_schema.specs.Schema.{Schema}
 use Rattle.bb_schema.specs.Reading.{schema_of}

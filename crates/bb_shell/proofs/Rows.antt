@@ -1,21 +1,18 @@
 -- Worked runs, computed on the definitions.
-use Rattle.std.proofs.Common.{◌≡◌, ℕ, List, [], ◌∷◌, Option, Some, None, refl, codes}
+use Rattle.std.proofs.Common.{◌≡◌, [], ◌∷◌, None, refl, codes}
 use Rattle.std.specs.Prelude.{pos, ℤ}
 use Rattle.bb_schema.specs.Schema.{Schema, climbs}
-use Rattle.bb_schema.specs.declared.class.Class.{Class}
-use Rattle.bb_code.specs.Code.{Code}
 use Rattle.bb_code.specs.declared.op.Op.TheVariants.{PushText, Say, Done}
 use Rattle.bb_shell.specs.declared.clause.Clause.TheVariants as clause
 use Rattle.bb_shell.specs.declared.event.Event.TheVariants.{Created, Quiescence}
 use Rattle.bb_shell.specs.declared.finish.Finish.TheVariants as finishes
 use Rattle.bb_shell.specs.Source.{Source}
 use Rattle.bb_shell.specs.declared.activation.Activation.{Activation}
-use Rattle.bb_shell.specs.Agenda.{Agenda}
 use Rattle.bb_shell.specs.Value.{text}
-use Rattle.bb_shell.specs.Note.{Note, happened, said, triggered, acts, ended, finished}
+use Rattle.bb_shell.specs.Note.{happened, said, triggered, acts, ended, finished}
 use Rattle.bb_shell.specs.Activation.{steps_from}
 use Rattle.bb_shell.specs.Processing.{processed_by}
-use Rattle.bb_shell.specs.Run.{Rules, Run, run, events_first, cycles}
+use Rattle.bb_shell.specs.Run.{Rules, run, events_first, cycles}
 
 note_schema : Schema
 note_schema = record { classes = record { name = codes "focus"; parent = None } ∷ record { name = codes "note"; parent = None } ∷ [] }

@@ -1,11 +1,8 @@
 -- The page grows by the segments of the run, one after another.
-use Rattle.std.proofs.Common.{◌≡◌, ℕ, suc, ℤ, ◌+◌, ◌-◌, ◌<◌, ◌≤◌, List, [], ◌∷◌, ◌++◌, map, Option, Some, None, refl, sym, ap, subst, ◌∙◌, arith, append_assoc}
-use Rattle.std.specs.Prelude.{slice_get}
-use Rattle.std.specs.Io.KnownBytes.{Appends}
+use Rattle.std.proofs.Common.{◌≡◌, ℕ, List, [], ◌∷◌, ◌++◌, Option, Some, None, refl, sym, ap, subst, ◌∙◌, append_assoc}
 use Rattle.std.proofs.lemmas.List.{append-nil}
 use Rattle.std.proofs.lemmas.List.Concat.{flat_map-cons, flat_map-append}
 use Rattle.bb_shell.specs.declared.activation.Activation.{Activation}
-use Rattle.bb_shell.specs.declared.event.Event.{Event}
 use Rattle.bb_shell.specs.declared.finish.Finish.{Finish}
 use Rattle.bb_shell.specs.declared.finish.Finish.TheVariants as finishes
 use Rattle.bb_shell.specs.declared.finish.Stuck.{Stuck}
@@ -13,16 +10,14 @@ use Rattle.bb_code.specs.Code.{Code}
 use Rattle.bb_shell.specs.Source.{Source}
 use Rattle.bb_shell.specs.Agenda.{Agenda, without}
 use Rattle.bb_shell.specs.Budget.{budget, most_found}
-use Rattle.bb_shell.specs.Note.{Note, happened, acts, ended, finished}
-use Rattle.bb_shell.specs.Activation.{Outcome, activation}
-use Rattle.bb_shell.specs.Execution.{Tells}
+use Rattle.bb_shell.specs.Note.{Note, happened, acts, ended}
+use Rattle.bb_shell.specs.Activation.{activation}
 use Rattle.bb_shell.specs.declared.event.Event.TheVariants as events
 use Rattle.bb_shell.specs.Chosen.{chosen}
-use Rattle.bb_shell.specs.Processing.{After, processed}
-use Rattle.bb_shell.specs.Run.{Rules, Run, told, over, ends_or, acted_or, act_or_rest, noted_end, stuck_finish, executed, cycle_of, cycles, turn, events_first, run}
-use Rattle.bb_shell.specs.TraceText.{line, segment_text, trace_text, event_text, acts_text, ended_text}
-use Rattle.bb_shell.specs.Ledger.{IsAfter, Pages, Writes}
-use Rattle.bb_shell.proofs.OutLemmas.{appends_none, appends_then}
+use Rattle.bb_shell.specs.Processing.{processed}
+use Rattle.bb_shell.specs.Run.{Rules, Run, told, over, ends_or, acted_or, act_or_rest, noted_end, stuck_finish, executed, cycle_of, turn}
+use Rattle.bb_shell.specs.TraceText.{line, segment_text, trace_text, event_text}
+use Rattle.bb_shell.specs.Ledger.{IsAfter, Pages}
 
 pub one_line : (r : Rules) (note : Note) → segment_text r (note ∷ []) ≡ line r note
 one_line r note = flat_map-cons (line r) note [] ∙ append-nil (line r note)

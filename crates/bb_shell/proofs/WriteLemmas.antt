@@ -1,12 +1,12 @@
 -- What was written and what waits on the page make up the run so far.
-use Rattle.std.proofs.Common.{◌≡◌, ℕ, zero, suc, ℤ, ◌+◌, ◌-◌, ◌<◌, ◌≤◌, List, [], ◌∷◌, ◌++◌, get_or, length, drop, map, Option, Some, None, refl, sym, ap, subst, ◌∙◌, arith, append_assoc, add-one}
+use Rattle.std.proofs.Common.{◌≡◌, ℕ, zero, suc, ◌+◌, ◌-◌, ◌<◌, ◌≤◌, List, [], ◌∷◌, ◌++◌, get_or, length, drop, map, Option, Some, refl, sym, ap, subst, ◌∙◌, arith, append_assoc, add-one}
 use Rattle.std.specs.Prelude.{slice_get}
 use Rattle.std.specs.Io.KnownBytes.{Appends}
 use Rattle.std.specs.List.{flat_map}
 use Rattle.std.proofs.Math.Seq.{drop-cons}
 use Rattle.std.proofs.lemmas.Option.{slice_get-get_or}
 use Rattle.std.proofs.lemmas.List.{append-nil, drop_all}
-use Rattle.std.proofs.lemmas.List.Concat.{flat_map-cons, flat_map-append}
+use Rattle.std.proofs.lemmas.List.Concat.{flat_map-cons}
 use Rattle.bb_shell.specs.declared.activation.Activation.{Activation}
 use Rattle.bb_shell.specs.declared.event.Event.{Event}
 use Rattle.bb_shell.specs.declared.finish.Finish.{Finish}
@@ -14,13 +14,13 @@ use Rattle.bb_shell.specs.declared.finish.Finish.TheVariants as finishes
 use Rattle.bb_shell.specs.declared.run.Turn.{Turn}
 use Rattle.bb_shell.specs.declared.run.Turn.TheVariants as turns
 use Rattle.bb_shell.specs.Agenda.{Agenda, no_activations}
-use Rattle.bb_shell.specs.Note.{Note, happened, finished}
-use Rattle.bb_shell.specs.Processing.{After, processed}
+use Rattle.bb_shell.specs.Note.{happened, finished}
+use Rattle.bb_shell.specs.Processing.{processed}
 use Rattle.bb_shell.specs.Run.{Rules, Run, told, over, ends_or, events_first, cycle_of, cycles, turn, run}
 use Rattle.bb_shell.specs.TraceText.{line, segment_text, trace_text, event_text, finish_text}
 use Rattle.bb_shell.specs.Ledger.{IsAfter, Pages, Sent, Writes, acts_or}
 use Rattle.bb_shell.proofs.OutLemmas.{appends_none, appends_then}
-use Rattle.bb_shell.proofs.RunLemmas.{pages_told, pages_of, text_told, one_line}
+use Rattle.bb_shell.proofs.RunLemmas.{pages_told, pages_of, one_line}
 
 pub writes_here : (r : Rules) (known : Option (List ℕ)) (page : List ℕ) (whole : Run) → Writes r known known page page whole whole
 writes_here r known page whole = record { sent = []; appended = appends_none known; same = refl; finish = refl }

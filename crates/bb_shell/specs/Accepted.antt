@@ -7,7 +7,7 @@ use Rattle.bb_code.specs.declared.op.Op.TheVariants.{PushText, Say, Done}
 use Rattle.bb_shell.specs.declared.flaw.Flaw.{Flaw}
 use Rattle.bb_shell.specs.declared.flaw.Flaw.TheVariants as flaws
 use Rattle.bb_shell.specs.declared.flaw.VerifyFault.{VerifyFault}
-use Rattle.bb_shell.specs.Effect.{Kind, any, old, Frame, effect}
+use Rattle.bb_shell.specs.Effect.{any, old, Frame, effect}
 
 abbrev pub flaw_at : {X : Type 0} → ℕ → Flaw → Result X VerifyFault
 flaw_at place flaw = Err (record { place = place; flaw = flaw })

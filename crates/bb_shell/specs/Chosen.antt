@@ -1,5 +1,5 @@
 -- The activation that a cycle runs.
-use Rattle.std.specs.Prelude.{ℕ, ℤ, Bool, ◌&&◌, ◌||◌, not, nat_lt, int_lt, List, find, Option}
+use Rattle.std.specs.Prelude.{ℤ, Bool, ◌&&◌, ◌||◌, not, nat_lt, int_lt, List, find, Option}
 use Rattle.std.specs.List.{list_all}
 use Rattle.std.specs.Ordering.{int_eq}
 use Rattle.bb_shell.specs.declared.activation.Activation.{Activation}

@@ -1,13 +1,12 @@
 -- What the code of an execution answers, against the activation that the definitions give.
 use Rattle.std.specs.Prelude.{◌≡◌, ℕ, ◌+◌, List, [], ◌++◌, Some, None}
-use Rattle.bb_code.specs.Code.{Code}
 use Rattle.bb_shell.specs.declared.machine.Ending.{Ending}
 use Rattle.bb_shell.specs.declared.machine.Ending.TheVariants as endings
 use Rattle.bb_shell.specs.declared.machine.Next.{Next}
 use Rattle.bb_shell.specs.declared.machine.Next.TheVariants as moves
 use Rattle.bb_shell.specs.Value.{Value}
 use Rattle.bb_shell.specs.Note.{Note}
-use Rattle.bb_shell.specs.Step.{Machine, Leads, on, ends, stuck, step}
+use Rattle.bb_shell.specs.Step.{Machine, Leads, on, ends, stuck}
 use Rattle.bb_shell.specs.Activation.{Outcome}
 use Rattle.bb_shell.specs.Run.{Rules}
 use Rattle.bb_shell.specs.TraceText.{segment_text}

@@ -13,6 +13,7 @@ pub mod Step
 pub mod Activation
 pub mod Processing
 pub mod Run
+pub mod Order
 pub mod TraceText
 pub mod Flaws
 pub mod Effect

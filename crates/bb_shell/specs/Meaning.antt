@@ -1,14 +1,10 @@
 -- What an input means: the rules and the events that its run begins with, or the first refusal.
 use Rattle.std.specs.Prelude.{ℕ, ℤ, List, Result, Ok, Err}
 use Rattle.bb_schema.specs.Answers.{◌>>=◌}
-use Rattle.bb_schema.specs.Schema.{Schema}
 use Rattle.bb_schema.specs.Reading.{schema_of}
-use Rattle.bb_schema.specs.declared.fault.SchemaFault.{SchemaFault}
-use Rattle.bb_shell.specs.declared.bundle.fault.BundleFault.{BundleFault}
 use Rattle.bb_shell.specs.declared.event.Event.{Event}
 use Rattle.bb_shell.specs.declared.input_fault.InputFault.{InputFault}
 use Rattle.bb_shell.specs.declared.input_fault.InputFault.TheVariants as inputs
-use Rattle.bb_shell.specs.declared.units_fault.UnitsFault.{UnitsFault}
 use Rattle.bb_shell.specs.Bundle.{sources_of}
 use Rattle.bb_shell.specs.Load.{load}
 use Rattle.bb_shell.specs.Run.{Rules}

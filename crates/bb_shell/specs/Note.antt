@@ -1,5 +1,5 @@
 -- What a run tells: one note for each line of its trace.
-use Rattle.std.specs.Prelude.{ℕ, ℤ, List}
+use Rattle.std.specs.Prelude.{ℕ, List}
 use Rattle.bb_shell.specs.declared.event.Event.{Event}
 use Rattle.bb_shell.specs.declared.finish.Finish.{Finish}
 use Rattle.bb_shell.specs.declared.activation.Activation.{Activation}

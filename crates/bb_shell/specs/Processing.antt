@@ -1,12 +1,11 @@
 -- What an event brings about: for each source in order, the activations that it triggers (GBBopen Agenda Shell).
-use Rattle.std.specs.Prelude.{ℕ, ◌+◌, List, [], ◌∷◌, ◌++◌, Bool, Option, Some, None, if◌then◌else◌}
+use Rattle.std.specs.Prelude.{ℕ, ◌+◌, List, [], ◌∷◌, Option, Some, None, if◌then◌else◌}
 use Rattle.bb_schema.specs.Schema.{Schema}
 use Rattle.bb_shell.specs.declared.event.Event.{Event}
 use Rattle.bb_shell.specs.declared.finish.Finish.{Finish}
 use Rattle.bb_shell.specs.declared.finish.Finish.TheVariants.{Full}
 use Rattle.bb_shell.specs.Source.{Source}
 use Rattle.bb_shell.specs.Match.{triggers, unit_of}
-use Rattle.bb_shell.specs.declared.activation.Activation.{Activation}
 use Rattle.bb_shell.specs.Agenda.{Agenda, is_full, new_activation, added}
 use Rattle.bb_shell.specs.Note.{Note, triggered}
 

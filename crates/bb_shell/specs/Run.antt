@@ -10,12 +10,11 @@ use Rattle.bb_shell.specs.declared.finish.Stuck.TheVariants as reasons
 use Rattle.bb_shell.specs.Source.{Source}
 use Rattle.bb_shell.specs.declared.activation.Activation.{Activation}
 use Rattle.bb_shell.specs.Agenda.{Agenda, no_activations, without}
-use Rattle.bb_shell.specs.Rating.{rating}
 use Rattle.bb_shell.specs.Chosen.{chosen}
 use Rattle.bb_shell.specs.Note.{Note, happened, acts, ended, finished}
 use Rattle.bb_shell.specs.Budget.{budget, most_found}
 use Rattle.bb_shell.specs.Activation.{Outcome, activation}
-use Rattle.bb_shell.specs.Processing.{After, processed}
+use Rattle.bb_shell.specs.Processing.{processed}
 
 -- what a run goes by
 pub record Rules : Type 0 where

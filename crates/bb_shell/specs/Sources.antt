@@ -9,7 +9,7 @@ use Rattle.bb_shell.specs.declared.clause.Clause.{Clause}
 use Rattle.bb_shell.specs.declared.clause.Clause.TheVariants as clauses
 use Rattle.bb_shell.specs.declared.flaw.VerifyFault.{VerifyFault}
 use Rattle.bb_shell.specs.declared.input_fault.InputFault.{InputFault}
-use Rattle.bb_shell.specs.declared.input_fault.InputFault.TheVariants.{Verify, Rule, Memory}
+use Rattle.bb_shell.specs.declared.input_fault.InputFault.TheVariants.{Verify, Rule}
 use Rattle.bb_shell.specs.declared.input_fault.Part.TheVariants.{Do}
 use Rattle.bb_shell.specs.declared.rule_fault.RuleFault.{RuleFault}
 use Rattle.bb_shell.specs.declared.rule_fault.RuleFault.TheVariants as rules

@@ -1,4 +1,4 @@
-use Rattle.std.proofs.Common.{◌≡◌, ◌++◌, take, codes, string_bytes}
+use Rattle.std.proofs.Common.{◌≡◌, ◌++◌, take, string_bytes}
 use Rattle.bb_shell.specs.ValueView.{values_of}
 use Rattle.bb_shell.specs.TraceText.{said_text}
 use Rattle.bb_shell.proofs.line.add_said.Given as goal

@@ -1,4 +1,3 @@
-use Rattle.std.proofs.Common.{◌≡◌}
 use Rattle.bb_shell.proofs.line.add_stuck.Goals as goal
 
 pub returns : goal.returns

@@ -1,6 +1,6 @@
-use Rattle.std.proofs.Common.{◌≡◌, ◌∙◌, subst, sym, ap, arith, List, ℕ, ◌+◌, string_bytes}
+use Rattle.std.proofs.Common.{subst, arith, string_bytes}
 use Rattle.bb_shell.specs.declared.machine.Next.{Next}
-use Rattle.bb_shell.specs.Step.{Machine, step}
+use Rattle.bb_shell.specs.Step.{step}
 use Rattle.bb_shell.specs.ValueView.{values_of}
 use Rattle.bb_shell.specs.Execution.{Steps}
 use Rattle.bb_shell.proofs.ExecuteLemmas.{goes_on, has_ended, is_stuck, ran_out}

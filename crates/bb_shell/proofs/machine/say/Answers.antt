@@ -1,8 +1,6 @@
-use Rattle.std.proofs.Common.{◌≡◌, ◌∙◌, ap, List, ℕ, [], ◌++◌, ◌∷◌, ◌-◌, arith, length, take, drop, string_bytes}
+use Rattle.std.proofs.Common.{[], ◌-◌, arith, length, take, drop, string_bytes}
 use Rattle.std.proofs.lemmas.List.{length-map}
-use Rattle.bb_shell.specs.declared.value.Value.{Value as Held}
 use Rattle.bb_shell.specs.ValueView.{value_of, values_of}
-use Rattle.bb_shell.specs.TraceText.{said_text}
 use Rattle.bb_shell.proofs.MachineLemmas.{say_missing, say_said, rest_of}
 use Rattle.bb_shell.proofs.machine.say.Goals as goal
 

@@ -1,8 +1,7 @@
-use Rattle.std.proofs.Common.{◌≡◌, ◌∙◌, ap, sym, List, ℕ, Some, string_bytes}
+use Rattle.std.proofs.Common.{◌∙◌, ap, sym, Some, string_bytes}
 use Rattle.bb_code.specs.declared.op.Op.{Op}
 use Rattle.std.proofs.lemmas.Result.{IfOk-weaker}
-use Rattle.bb_shell.specs.Step.{step_at, step, pushed_text, said_of}
-use Rattle.bb_shell.specs.ValueView.{values_of}
+use Rattle.bb_shell.specs.Step.{step_at, step, pushed_text}
 use Rattle.bb_shell.proofs.MachineLemmas.{step_is, steps_quietly, along}
 use Rattle.bb_shell.proofs.machine.step.Goals as goal
 

@@ -1,8 +1,7 @@
-use Rattle.std.proofs.Common.{◌≡◌, ◌∙◌, sym, ap, ℤ, List, ℕ, string_bytes, rules}
+use Rattle.std.proofs.Common.{◌∙◌, ap, ℤ, ℕ, string_bytes, rules}
 use mir.Val.{to_z, of_z}
 use Rattle.std.specs.Int.{w64}
 use Rattle.std.proofs.lemmas.Int.{to_z-of_z}
-use Rattle.bb_shell.specs.Run.{Rules}
 use Rattle.bb_shell.specs.Agenda.{new_activation, added}
 use Rattle.bb_shell.specs.Match.{unit_of}
 use Rattle.bb_shell.proofs.ProcessLemmas.{goes_by, is_over, goes_on, all_gone}

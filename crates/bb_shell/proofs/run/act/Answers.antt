@@ -1,15 +1,14 @@
-use Rattle.std.proofs.Common.{◌≡◌, ◌∙◌, ap, subst, sym, List, [], ◌∷◌, ℕ, ◌++◌, Option, string_bytes}
+use Rattle.std.proofs.Common.{◌∙◌, ap, subst, sym, List, [], ◌∷◌, ◌++◌, string_bytes}
 use Rattle.std.specs.Prelude.{option_map, slice_get}
 use denote.Ref.{Bor}
 use Rattle.bb_code.specs.Code.{Code}
-use Rattle.bb_shell.specs.declared.machine.Ending.{Ending}
 use Rattle.bb_shell.specs.declared.machine.Ending.TheVariants as endings
 use Rattle.bb_shell.specs.Source.{Source}
-use Rattle.bb_shell.specs.Agenda.{Agenda, without}
+use Rattle.bb_shell.specs.Agenda.{Agenda}
 use Rattle.bb_shell.specs.Budget.{budget, most_found}
 use Rattle.bb_shell.specs.Activation.{Outcome, activation}
-use Rattle.bb_shell.specs.Execution.{Answers, Tells}
-use Rattle.bb_shell.specs.Run.{Rules, Run, cycle_of}
+use Rattle.bb_shell.specs.Execution.{Answers}
+use Rattle.bb_shell.specs.Run.{cycle_of}
 use Rattle.bb_shell.specs.TraceText.{segment_text, acts_text}
 use Rattle.bb_shell.specs.Ledger.{Pages}
 use Rattle.bb_shell.proofs.RunLemmas.{acts_stuck, acts_ended, same_activation}

@@ -1,8 +1,8 @@
-use Rattle.std.proofs.Common.{◌≡◌, ap, None, string_bytes}
+use Rattle.std.proofs.Common.{ap, string_bytes}
 use Rattle.std.specs.Prelude.{Option}
 use Rattle.bb_shell.specs.declared.finish.Finish.{Finish}
 use Rattle.bb_shell.specs.Agenda.{Agenda}
-use Rattle.bb_shell.specs.Run.{Run, cycles, over, ends_or, events_first}
+use Rattle.bb_shell.specs.Run.{cycles, over, ends_or, events_first}
 use Rattle.bb_shell.proofs.WriteLemmas.{writes_as, writes_then}
 use Rattle.bb_shell.proofs.run.go.Goals as goal
 

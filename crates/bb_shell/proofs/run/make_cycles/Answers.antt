@@ -1,9 +1,9 @@
-use Rattle.std.proofs.Common.{◌≡◌, ap, ◌+◌, ◌-◌, string_bytes}
+use Rattle.std.proofs.Common.{ap, ◌+◌, ◌-◌, string_bytes}
 use Rattle.bb_shell.specs.declared.finish.Finish.{Finish}
 use Rattle.bb_shell.specs.declared.finish.Finish.TheVariants as finishes
 use Rattle.bb_shell.specs.declared.run.Turn.{Turn}
 use Rattle.std.specs.Prelude.{Option}
-use Rattle.bb_shell.specs.Run.{Run, cycles, over, ends_or}
+use Rattle.bb_shell.specs.Run.{cycles, over, ends_or}
 use Rattle.bb_shell.specs.Ledger.{acts_or}
 use Rattle.bb_shell.proofs.WriteLemmas.{writes_as, turn_over, cycle_written, last_over}
 use Rattle.bb_shell.proofs.run.make_cycles.Goals as goal

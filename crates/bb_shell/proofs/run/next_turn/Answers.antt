@@ -1,4 +1,4 @@
-use Rattle.std.proofs.Common.{◌≡◌, ◌∙◌, ap, sym, List, ℕ, ℤ, [], ◌∷◌, ◌++◌, string_bytes, rules}
+use Rattle.std.proofs.Common.{◌∙◌, ap, sym, ℤ, [], ◌∷◌, ◌++◌, string_bytes, rules}
 use Rattle.std.specs.Int.{w64}
 use Rattle.std.proofs.lemmas.Int.{to_z-of_z}
 use Rattle.bb_schema.specs.Schema.{Schema}

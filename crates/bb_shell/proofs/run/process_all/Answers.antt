@@ -1,8 +1,5 @@
-use Rattle.std.proofs.Common.{◌≡◌, ap, ◌∙◌, drop, ◌+◌, List, ℕ, Some, None, string_bytes}
-use Rattle.bb_shell.specs.declared.finish.Finish.{Finish}
-use Rattle.bb_shell.specs.Agenda.{Agenda}
-use Rattle.bb_shell.specs.Run.{Run, Rules, events_first, ends_or}
-use Rattle.bb_shell.specs.Ledger.{Writes, Pages}
+use Rattle.std.proofs.Common.{ap, drop, ◌+◌, string_bytes}
+use Rattle.bb_shell.specs.Run.{events_first, ends_or}
 use Rattle.bb_shell.proofs.WriteLemmas.{writes_page, writes_sent, writes_as, event_pages, no_event, item_is}
 use Rattle.bb_shell.proofs.run.process_all.Goals as goal
 

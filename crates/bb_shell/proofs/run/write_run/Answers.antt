@@ -1,9 +1,8 @@
-use Rattle.std.proofs.Common.{◌≡◌, ◌∙◌, ap, subst, List, ℕ, [], ◌∷◌, ◌++◌, string_bytes}
+use Rattle.std.proofs.Common.{◌∙◌, ap, subst, List, ℕ, [], ◌∷◌, ◌++◌, string_bytes}
 use Rattle.std.specs.List.{flat_map}
 use Rattle.bb_schema.specs.Schema.{Schema}
-use Rattle.bb_shell.specs.declared.event.Event.{Event}
 use Rattle.bb_shell.specs.Agenda.{Agenda, no_activations}
-use Rattle.bb_shell.specs.Run.{Run, cycles, over, events_first, run}
+use Rattle.bb_shell.specs.Run.{cycles, over, events_first, run}
 use Rattle.bb_shell.specs.TraceText.{event_text}
 use Rattle.bb_shell.specs.Ledger.{Writes}
 use Rattle.bb_shell.proofs.WriteLemmas.{writes_here, writes_page, writes_then, begun_pages, all_written}

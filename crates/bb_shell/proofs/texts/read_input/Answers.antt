@@ -1,8 +1,7 @@
 use Rattle.std.proofs.lemmas.Result.{err_from_is_err_and}
 use Rattle.std.proofs.lemmas.Int.{to_z-of_z}
-use Rattle.std.proofs.Common.{w64, ap, ◌∙◌}
+use Rattle.std.proofs.Common.{w64}
 use Rattle.bb_shell.specs.Load.{loaded}
-use Rattle.bb_shell.specs.Meaning.{Meaning}
 use Rattle.bb_shell.proofs.MeaningLemmas.{schema_fails, units_fail, bundle_fails, sources_fail, means}
 use Rattle.bb_shell.proofs.texts.read_input.Goals as goal
 

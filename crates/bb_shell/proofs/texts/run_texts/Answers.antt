@@ -1,4 +1,4 @@
-use Rattle.std.proofs.Common.{rules, w64, ◌≡◌, ◌∙◌, ap, sym, to_z, of_z, Result, Ok}
+use Rattle.std.proofs.Common.{rules, w64, ◌∙◌, ap, sym}
 use Rattle.std.proofs.lemmas.Int.{to_z-of_z}
 use Rattle.bb_shell.specs.Meaning.{meaning}
 use Rattle.bb_shell.proofs.texts.run_texts.Goals as goal
