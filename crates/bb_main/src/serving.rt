@@ -1,6 +1,6 @@
 //! The program: what it reads is cut into sections and run, and what comes of it is written.
 
-ghost use Rattle.std.specs.Prelude.{◌≡◌, false};
+ghost use Rattle.std.specs.Prelude.{◌≡◌, ◌==◌, false};
 ghost use Rattle.bb_shell.specs.Meaning.{meaning};
 ghost use Rattle.bb_shell.specs.Refusals.{refusal_text};
 ghost use Rattle.bb_main.specs.Refusals.{refusal_line};
@@ -33,7 +33,8 @@ pub fn serve<R: Read, O: Out>(
     writer: &mut O,
 ) -> u8
     requires { O.has_failed writer.old ≡ false }
-    ensures { Serves limit floor (R.remaining reader.old) (O.taken writer.old) (O.taken writer.new) result }
+    ensures answer { Serves limit floor (R.remaining reader.old) (O.taken writer.old) (O.taken writer.new) result }
+    ensures failed { O.has_failed writer.new ≡ (result == 6) }
 {
     match read_input(alloc, reader) {
         Ok(bytes) => serve_bytes(alloc, limit, floor, bytes.as_slice(), writer),
@@ -44,7 +45,8 @@ pub fn serve<R: Read, O: Out>(
 /// Serves an input of these bytes.
 fn serve_bytes<O: Out>(alloc: Global, limit: u32, floor: i64, bytes: &[u8], writer: &mut O) -> u8
     requires { O.has_failed writer.old ≡ false }
-    ensures { Delivers (answer bytes.now limit floor) (O.taken writer.old) (O.taken writer.new) result }
+    ensures answer { Delivers (answer bytes.now limit floor) (O.taken writer.old) (O.taken writer.new) result }
+    ensures failed { O.has_failed writer.new ≡ (result == 6) }
 {
     match Sections::of_bytes(bytes) {
         Ok(sections) => serve_sections(alloc, limit, floor, sections, writer),
@@ -61,7 +63,8 @@ fn serve_sections<O: Out>(
     writer: &mut O,
 ) -> u8
     requires { O.has_failed writer.old ≡ false }
-    ensures { Delivers (answer_to_meaning limit (meaning sections.entry.schema.now sections.entry.units.now sections.entry.bundle.now floor)) (O.taken writer.old) (O.taken writer.new) result }
+    ensures answer { Delivers (answer_to_meaning limit (meaning sections.entry.schema.now sections.entry.units.now sections.entry.bundle.now floor)) (O.taken writer.old) (O.taken writer.new) result }
+    ensures failed { O.has_failed writer.new ≡ (result == 6) }
 {
     let Sections {
         schema,
@@ -92,7 +95,8 @@ fn status(finish: Finish) -> u8
 fn refuse_input<O: Out>(refusal: InputRefusal, writer: &mut O) -> u8
     requires { O.has_failed writer.old ≡ false }
     ensures memory { refusal ≡ InputRefusal.Memory → result ≡ 5 }
-    ensures line { Delivers (refused (refusal_line refusal)) (O.taken writer.old) (O.taken writer.new) result }
+    ensures answer { Delivers (refused (refusal_line refusal)) (O.taken writer.old) (O.taken writer.new) result }
+    ensures failed { O.has_failed writer.new ≡ (result == 6) }
 {
     match refusal {
         InputRefusal::Memory => MEMORY,
@@ -104,7 +108,8 @@ fn refuse_input<O: Out>(refusal: InputRefusal, writer: &mut O) -> u8
 fn refuse<O: Out>(alloc: Global, fault: &InputFault, writer: &mut O) -> u8
     requires { O.has_failed writer.old ≡ false }
     ensures memory { fault.now ≡ InputFault.Memory → result ≡ 5 }
-    ensures line { Delivers (refused (refusal_text fault.now)) (O.taken writer.old) (O.taken writer.new) result }
+    ensures answer { Delivers (refused (refusal_text fault.now)) (O.taken writer.old) (O.taken writer.new) result }
+    ensures failed { O.has_failed writer.new ≡ (result == 6) }
 {
     if let InputFault::Memory = fault {
         return MEMORY;
@@ -118,7 +123,8 @@ fn refuse<O: Out>(alloc: Global, fault: &InputFault, writer: &mut O) -> u8
 /// Writes the line of a refusal.
 fn write_refusal<O: Out>(line: &str, writer: &mut O) -> u8
     requires { O.has_failed writer.old ≡ false }
-    ensures { Delivers (refused line.now) (O.taken writer.old) (O.taken writer.new) result }
+    ensures answer { Delivers (refused line.now) (O.taken writer.old) (O.taken writer.new) result }
+    ensures failed { O.has_failed writer.new ≡ (result == 6) }
 {
     if put_all(writer, line.as_bytes()) && put_all(writer, b"\n") {
         REFUSED

@@ -17,3 +17,4 @@ pub mod RefusalLemmas
 pub mod OrderLemmas
 pub mod WaitingLemmas
 pub mod OrderlyRuns
+pub mod FinishLemmas

@@ -1,8 +1,10 @@
 -- What a part of the code did, against what the definitions give: the page has the lines of its notes more.
-use Rattle.std.specs.Prelude.{◌≡◌, ℕ, List, ◌++◌, Option, ⊤}
+use Rattle.std.specs.Prelude.{◌≡◌, ℕ, Bool, true, false, List, ◌++◌, Option, Result, Ok, Err, ⊤}
 use Rattle.std.specs.Io.KnownBytes.{Appends}
 use Rattle.bb_shell.specs.declared.activation.Activation.{Activation}
 use Rattle.bb_shell.specs.declared.finish.Finish.TheVariants as finishes
+use Rattle.bb_shell.specs.declared.run.Halt.{Halt}
+use Rattle.bb_shell.specs.declared.run.Halt.TheVariants as halts
 use Rattle.bb_shell.specs.declared.run.Turn.{Turn}
 use Rattle.bb_shell.specs.declared.run.Turn.TheVariants as turns
 use Rattle.bb_shell.specs.declared.finish.Finish.{Finish}
@@ -51,3 +53,18 @@ OnEnd finishes.Full P = P
 OnEnd finishes.Memory P = ⊤
 OnEnd finishes.Write P = ⊤
 OnEnd (finishes.Stuck reason) P = P
+
+-- the finish is that of an output that failed
+abbrev pub is_write : Finish → Bool
+is_write finishes.Quiescence = false
+is_write finishes.Limit = false
+is_write finishes.Full = false
+is_write finishes.Memory = false
+is_write finishes.Write = true
+is_write (finishes.Stuck reason) = false
+
+-- a part of a run stopped short because the output failed
+abbrev pub stopped_by_write : {X : Type 0} → Result X Halt → Bool
+stopped_by_write (Ok x) = false
+stopped_by_write (Err halts.Memory) = false
+stopped_by_write (Err halts.Write) = true

@@ -2,10 +2,11 @@ ghost use Rattle.std.specs.Prelude.{◌≡◌, ◌∷◌, [], ◌++◌, IfOk, On
 ghost use Rattle.std.specs.List.{flat_map};
 ghost use Rattle.std.specs.Io.KnownBytes.{Appends};
 ghost use Rattle.bb_shell.specs.declared.activation.Activation.{Activation as Choice};
+ghost use Rattle.bb_shell.specs.declared.run.Halt.TheVariants.{Memory as Stopped};
 ghost use Rattle.bb_shell.specs.Agenda.{Agenda as Waiting};
 ghost use Rattle.bb_shell.specs.Run.{Run, turn, cycle_of, cycles, ends_or, events_first, over, run};
 ghost use Rattle.bb_shell.specs.TraceText.{event_text, trace_text};
-ghost use Rattle.bb_shell.specs.Ledger.{Pages, Sent, Writes, acts_or, OnEnd};
+ghost use Rattle.bb_shell.specs.Ledger.{Pages, Sent, Writes, acts_or, OnEnd, is_write, stopped_by_write};
 
 use crate::activation::Activation;
 use crate::agenda::Agenda;
@@ -32,6 +33,8 @@ pub(crate) enum Halt {
 }
 
 impl From<AllocError> for Halt {
+    ghost from_gives = { λ _ e. e ≡ Stopped };
+
     fn from(_refused: AllocError) -> Halt {
         Halt::Memory
     }
@@ -93,7 +96,7 @@ fn act(
 fn spill<O: Out>(out: &mut O, page: &mut String) -> Result<(), Halt>
     requires { O.has_failed out.old ≡ false }
     ensures sent { OnOk result (Sent (O.taken out.old) (O.taken out.new) (string_bytes page.new) (string_bytes page.old)) }
-    ensures still_open { OnOk result (O.has_failed out.new ≡ false) }
+    ensures failed { O.has_failed out.new ≡ stopped_by_write result }
 {
     if page.len() < PAGE_LEN {
         return Ok(());
@@ -106,7 +109,7 @@ fn flush<O: Out>(out: &mut O, page: &mut String) -> Result<(), Halt>
     requires { O.has_failed out.old ≡ false }
     ensures sent { OnOk result (Sent (O.taken out.old) (O.taken out.new) (string_bytes page.new) (string_bytes page.old)) }
     ensures empty { OnOk result (string_bytes page.new ≡ []) }
-    ensures still_open { OnOk result (O.has_failed out.new ≡ false) }
+    ensures failed { O.has_failed out.new ≡ stopped_by_write result }
 {
     if !put_all(out, page.as_bytes()) {
         return Err(Halt::Write);
@@ -125,7 +128,7 @@ fn process_all<O: Out>(
 ) -> Result<Option<Finish>, Halt>
     requires { O.has_failed out.old ≡ false }
     ensures run { IfOk result (λ f. (rest : Waiting → Run) → Writes shell.now (O.taken out.old) (O.taken out.new) (string_bytes page.old) (string_bytes page.new) (events_first shell.now events.now agenda.old rest) (ends_or f (rest agenda.new))) }
-    ensures still_open { OnOk result (O.has_failed out.new ≡ false) }
+    ensures failed { O.has_failed out.new ≡ stopped_by_write result }
 {
     for event in events {
         let over = shell.process(page, *event, agenda)?;
@@ -148,7 +151,7 @@ fn make_cycles<O: Out>(
 ) -> Result<Finish, Halt>
     requires { O.has_failed out.old ≡ false }
     ensures run { IfOk result (λ f. Writes shell.now (O.taken out.old) (O.taken out.new) (string_bytes page.old) (string_bytes page.new) (cycles shell.now 0 limit agenda.old) (over f)) }
-    ensures still_open { OnOk result (O.has_failed out.new ≡ false) }
+    ensures failed { O.has_failed out.new ≡ stopped_by_write result }
 {
     for made in 0..limit {
         let choice = match next_turn(page, shell, agenda)? {
@@ -179,7 +182,7 @@ fn go<O: Out>(
 ) -> Result<Finish, Halt>
     requires { O.has_failed out.old ≡ false }
     ensures run { IfOk result (λ f. Writes shell.now (O.taken out.old) (O.taken out.new) (string_bytes page.old) (string_bytes page.new) (events_first shell.now events.now agenda.old (λ after. cycles shell.now 0 limit after)) (over f)) }
-    ensures still_open { OnOk result (O.has_failed out.new ≡ false) }
+    ensures failed { O.has_failed out.new ≡ stopped_by_write result }
 {
     match process_all(page, shell, events, agenda, out)? {
         Some(finish) => Ok(finish),
@@ -201,6 +204,7 @@ fn write_run<O: Out>(
     requires { O.has_failed out.old ≡ false }
     ensures finish { IfOk result (λ f. f ≡ (run shell.now events.now limit).finish) }
     ensures text { OnOk result (Appends (O.taken out.old) (O.taken out.new) (trace_text shell.now (run shell.now events.now limit))) }
+    ensures failed { O.has_failed out.new ≡ stopped_by_write result }
 {
     let mut page = String::new(alloc);
     let mut agenda = Agenda::new(alloc);
@@ -232,6 +236,7 @@ pub(crate) fn run<O: Out>(
     requires { O.has_failed out.old ≡ false }
     ensures finish { OnEnd result (result ≡ (run shell.now events.now limit).finish) }
     ensures text { OnEnd result (Appends (O.taken out.old) (O.taken out.new) (trace_text shell.now (run shell.now events.now limit))) }
+    ensures failed { O.has_failed out.new ≡ is_write result }
 {
     match write_run(alloc, shell, events, u64::from(limit), out) {
         Ok(finish) => finish,

@@ -3,7 +3,7 @@
 ghost use Rattle.std.specs.Prelude.{◌≡◌, ◌⊎◌, false, IfOk, IfErr, OnErr, Ok, Err};
 ghost use Rattle.std.specs.Io.KnownBytes.{Appends};
 ghost use Rattle.bb_schema.specs.Answers.{Gives};
-ghost use Rattle.bb_shell.specs.Ledger.{OnEnd};
+ghost use Rattle.bb_shell.specs.Ledger.{OnEnd, is_write};
 ghost use Rattle.bb_schema.specs.Reading.{schema_of};
 ghost use Rattle.bb_shell.specs.Bundle.{sources_of};
 ghost use Rattle.bb_shell.specs.Load.{load, loaded};
@@ -42,6 +42,9 @@ pub fn run_texts<O: Out>(
     // At `Ok` the input has a meaning, the finish is that of its run, and the output took the text of its trace.
     ensures finish { IfOk result (λ f. (m : Meaning) × (meaning schema.now units.now bundle.now floor ≡ Ok m) × OnEnd f (f ≡ (run m.rules m.events limit).finish)) }
     ensures text { IfOk result (λ f. (m : Meaning) × (meaning schema.now units.now bundle.now floor ≡ Ok m) × OnEnd f (Appends (O.taken out.old) (O.taken out.new) (trace_text m.rules (run m.rules m.events limit)))) }
+
+    // `Write` tells that the output has failed, and no other finish does.
+    ensures failed { IfOk result (λ f. O.has_failed out.new ≡ is_write f) }
 
     // At `Err` it is the first refusal, and the output is as it was.
     ensures refused { IfErr result (λ e. (e ≡ InputFault.Memory) ⊎ (meaning schema.now units.now bundle.now floor ≡ Err e)) }

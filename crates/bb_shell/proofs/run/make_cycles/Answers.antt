@@ -27,7 +27,7 @@ loop-made-preserved g c = record {
       writes_as c.args.shell.now (g.O.Out.taken c.args.out.now) (g.O.Out.taken c.spill.new.out) (string_bytes c.args.page.now) (string_bytes c.spill.new.page) (cycles c.args.shell.now 0 c.args.limit c.args.agenda.now) (ends_or c.in_ok-over.over rest) rest (ap (λ (f : Option Finish). ends_or f rest) c.in_default.is)
       (cycle_written c.args.shell.now c.args.limit c.loop-made.made c.loop-made.agenda c.next_turn.new.agenda c.act.new.agenda (g.O.Out.taken c.args.out.now) (g.O.Out.taken c.loop-made.out) (g.O.Out.taken c.spill.new.out) (string_bytes c.args.page.now) (string_bytes c.loop-made.page) (string_bytes c.next_turn.new.page) (string_bytes c.act.new.page) (string_bytes c.spill.new.page) (cycles c.args.shell.now 0 c.args.limit c.args.agenda.now) c.in_ok-finish.field-0 c.in-Act.choice c.in_ok-over.over
       c.loop-made-test.true c.loop-made.invariant.written c.in_ok-finish.ensures c.in-Act.is c.in_ok-over.ensures c.in_ok-spill.ensures.sent);
-  still_open = c.in_ok-spill.ensures.still_open;
+  still_open = c.in_ok-spill.ensures.failed;
 }
 
 pub returns-in-Over-2-clause-run : goal.returns-in-Over-2-clause-run

@@ -23,7 +23,7 @@ loop-event-preserved g c = record {
       (c.loop-event.invariant.written rest)
       (event_pages c.args.shell.now c.args.events.now c.loop-event.event-index _ c.loop-event.agenda c.process.new.agenda c.in_ok-over.over rest (string_bytes c.loop-event.page) (string_bytes c.process.new.page) c.loop-event-test.true (item_is c.args.events.now c.loop-event.event-index _ c.loop-event-test.true) c.in_ok-over.ensures))
       c.in_ok-spill.ensures.sent);
-  still_open = c.in_ok-spill.ensures.still_open;
+  still_open = c.in_ok-spill.ensures.failed;
 }
 
 pub returns-clause-run : goal.returns-clause-run
