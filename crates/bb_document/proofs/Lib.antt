@@ -1,0 +1,4 @@
+pub mod ListLemmas
+pub mod ShapeLemmas
+pub mod EachLemmas
+pub mod ThroughLemmas

@@ -1,0 +1,4 @@
+pub mod Answers
+pub mod Shapes
+pub mod Document
+pub mod Form

@@ -1,0 +1,69 @@
+/// What a document declares, in its order. The form alone has been looked at: a name may be any text, and stand twice
+/// or nowhere.
+#[derive(Debug, Drop)]
+pub struct Document {
+    pub label_sets: Vec<LabelSetEntry>,
+    pub classes: Vec<ClassEntry>,
+    pub spaces: Vec<SpaceEntry>,
+}
+
+/// A set of labels.
+#[derive(Debug, Drop)]
+pub struct LabelSetEntry {
+    pub name: String,
+    /// The labels, one at least.
+    pub values: Vec<String>,
+}
+
+/// A class, with the slots that it adds to those of its parent.
+#[derive(Debug, Drop)]
+pub struct ClassEntry {
+    pub name: String,
+    pub parent: Option<String>,
+    pub slots: Vec<SlotEntry>,
+    pub links: Vec<LinkEntry>,
+}
+
+/// An ordinary slot of a class.
+#[derive(Debug, Drop)]
+pub struct SlotEntry {
+    pub name: String,
+    pub default: DefaultEntry,
+}
+
+/// The default of a slot, which tells the slot's kind too. A document that gives none means 0, the empty text, `false`
+/// and the interval from 0 to 0.
+#[derive(Debug, Drop)]
+pub enum DefaultEntry {
+    Int(i64),
+    Text(String),
+    Bool(bool),
+    /// A label of a set, or the set's first where the document gives none.
+    Label { of: String, default: Option<String> },
+    /// From the first number to the second, which is no less.
+    Interval(i64, i64),
+}
+
+/// A link slot of a class: the class that it leads to, whether it holds many units, and the slot that leads back.
+#[derive(Debug, Drop)]
+pub struct LinkEntry {
+    pub name: String,
+    pub to: String,
+    pub many: bool,
+    pub inverse: String,
+}
+
+/// A space, with the classes that it admits.
+#[derive(Debug, Drop)]
+pub struct SpaceEntry {
+    pub name: String,
+    pub classes: Vec<String>,
+    pub dims: Vec<DimEntry>,
+}
+
+/// A dimension of a space: an enumerated one is of a label set, an ordered one of none.
+#[derive(Debug, Drop)]
+pub struct DimEntry {
+    pub name: String,
+    pub of: Option<String>,
+}

@@ -1,0 +1,38 @@
+ghost use Rattle.std.specs.Prelude.{◌≡◌, List, Result, map};
+ghost use Rattle.bb_document.specs.declared.fault.DocumentFault.TheVariants.{Memory as OutOfMemory};
+ghost use Rattle.serde_json.specs.Data.{Data};
+ghost use Rattle.serde_json.specs.View.{view};
+ghost use Rattle.bb_document.specs.Answers.{Gives, each};
+
+use crate::fault::DocumentFault;
+use serde_json::Value;
+use std::alloc::Global;
+
+/// What stands in the lists of a document.
+pub(crate) trait Entry: Sized {
+    /// What an entry means.
+    ghost use Rattle.bb_document.specs.declared.fault.DocumentFault.{DocumentFault};
+
+    ghost Declared: { Type 0 };
+
+    ghost declared: { Self → Declared };
+
+    /// What a JSON value declares as an entry, or its fault.
+    ghost form: { Data → Result Declared DocumentFault };
+
+    fn of(alloc: Global, value: &Value) -> Result<Self, DocumentFault>
+        ensures { Gives OutOfMemory declared result (form (view value.now)) };
+}
+
+/// What the values of a list declare, in their order, or the first fault.
+pub(crate) fn entries<E: Entry>(alloc: Global, values: &[Value]) -> Result<Vec<E>, DocumentFault>
+where
+    E: Drop,
+    ensures { Gives OutOfMemory (λ es. map E.declared es.items) result (each E.form (map view values.now)) }
+{
+    let mut entries = Vec::new(alloc);
+    for value in values {
+        entries.push(E::of(alloc, value)?)?;
+    }
+    Ok(entries)
+}
