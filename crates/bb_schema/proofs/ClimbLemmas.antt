@@ -1,23 +1,21 @@
 -- Going up from a class, where parents have lower numbers.
-use Rattle.std.proofs.Common.{◌≡◌, ℕ, zero, suc, ◌+◌, ◌<◌, ◌≤◌, ◌||◌, ◌⊎◌, inl, inr, Bool, true, false, Option, Some, None, refl, sym, ap, subst, ◌∙◌, arith}
+use Rattle.std.proofs.Common.{◌≡◌, ℕ, zero, suc, ◌<◌, ◌≤◌, ◌||◌, Bool, true, false, Option, Some, None, refl, sym, ap, subst, ◌∙◌, arith}
 use Rattle.std.specs.Prelude.{◌==◌}
 use Rattle.std.specs.Option.{option_map_or}
-use Rattle.std.proofs.lemmas.Bool.{eqb-true, false_from_ne_true}
+use Rattle.std.proofs.lemmas.Bool.{eqb-true, false_from_ne_true, or_parts, or_right}
 use Rattle.std.proofs.lemmas.Bool.Decides.{Decides-eqb}
 use Rattle.std.specs.Prelude.{IsTrue, ◌↔◌}
-use Rattle.std.specs.Prelude.{List, length, slice_get, option_and_then}
-use Rattle.std.proofs.Common.{get_or}
-use Rattle.std.proofs.lemmas.Option.{slice_get-get_or}
+use Rattle.std.specs.Prelude.{List, [], ◌∷◌}
+use Rattle.std.specs.List.{list_any}
 use Rattle.bb_schema.specs.declared.class.Class.{Class}
-use Rattle.bb_schema.specs.WellFormed.{ParentsAreEarlier}
-use Rattle.bb_schema.specs.Schema.{Schema, parent_of, Descends, itself, through_parent, climbs, descends}
+use Rattle.bb_schema.specs.Standing.{ParentsAreEarlier, parent_of, Descends, itself, through_parent, climbs, stands_below}
 
 -- one more step: at the class itself, or from its parent
-above : (s : Schema) (d n m : ℕ) (parent : Option ℕ) → ((p : ℕ) → parent ≡ Some p → climbs n s p d ≡ climbs m s p d) → option_map_or (λ p. climbs n s p d) parent false ≡ option_map_or (λ p. climbs m s p d) parent false
+above : (s : List Class) (d n m : ℕ) (parent : Option ℕ) → ((p : ℕ) → parent ≡ Some p → climbs n s p d ≡ climbs m s p d) → option_map_or (λ p. climbs n s p d) parent false ≡ option_map_or (λ p. climbs m s p d) parent false
 above s d n m None same = refl
 above s d n m (Some p) same = same p refl
 
-none_above : (s : Schema) (d n : ℕ) (c : ℕ) → ParentsAreEarlier s → c ≡ 0 → (parent : Option ℕ) → parent_of s c ≡ parent → option_map_or (λ p. climbs n s p d) parent false ≡ false
+none_above : (s : List Class) (d n : ℕ) (c : ℕ) → ParentsAreEarlier s → c ≡ 0 → (parent : Option ℕ) → parent_of s c ≡ parent → option_map_or (λ p. climbs n s p d) parent false ≡ false
 none_above s d n c earlier is None h = refl
 none_above s d n c earlier is (Some p) h = absurd (omega (arith, earlier c p h))
 
@@ -26,7 +24,7 @@ or_false true = refl
 or_false false = refl
 
 -- more steps than the number of the class change nothing
-pub climbs_enough : (s : Schema) (d : ℕ) → ParentsAreEarlier s → (n m c : ℕ) → c ≤ n → c ≤ m → climbs n s c d ≡ climbs m s c d
+pub climbs_enough : (s : List Class) (d : ℕ) → ParentsAreEarlier s → (n m c : ℕ) → c ≤ n → c ≤ m → climbs n s c d ≡ climbs m s c d
 unfolding climbs
 climbs_enough s d earlier zero zero c a b = refl
 climbs_enough s d earlier zero (suc m) c a b = sym (ap (λ r. (c == d) || r) (none_above s d m c earlier (omega arith) (parent_of s c) refl) ∙ or_false (c == d))
@@ -35,59 +33,95 @@ climbs_enough s d earlier (suc n) (suc m) c a b =
     ap (λ r. (c == d) || r) (above s d n m (parent_of s c) (λ p h. climbs_enough s d earlier n m p (omega (arith, earlier c p h)) (omega (arith, earlier c p h))))
 
 -- a class that is not the one sought: what its parent says
-pub descends_parent : (s : Schema) (c p d : ℕ) → ParentsAreEarlier s → parent_of s c ≡ Some p → (c == d) ≡ false → descends s c d ≡ descends s p d
+pub descends_parent : (s : List Class) (c p d : ℕ) → ParentsAreEarlier s → parent_of s c ≡ Some p → (c == d) ≡ false → stands_below s c d ≡ stands_below s p d
 unfolding climbs
 descends_parent s c p d earlier h other =
     let lower = earlier c p h in
-    let one : descends s c d ≡ climbs (suc c) s c d = climbs_enough s d earlier c (suc c) c (omega arith) (omega arith) in
+    let one : stands_below s c d ≡ climbs (suc c) s c d = climbs_enough s d earlier c (suc c) c (omega arith) (omega arith) in
     let two : climbs (suc c) s c d ≡ climbs c s p d = rw (other, h) refl in
     one ∙ two ∙ climbs_enough s d earlier c p p (omega arith) (omega arith)
 
-pub descends_top : (s : Schema) (c d : ℕ) → ParentsAreEarlier s → parent_of s c ≡ None → (c == d) ≡ false → descends s c d ≡ false
+pub descends_top : (s : List Class) (c d : ℕ) → ParentsAreEarlier s → parent_of s c ≡ None → (c == d) ≡ false → stands_below s c d ≡ false
 unfolding climbs
 descends_top s c d earlier h other = climbs_enough s d earlier c (suc c) c (omega arith) (omega arith) ∙ rw (other, h) refl
 
-pub descends_itself : (s : Schema) (c d : ℕ) → ParentsAreEarlier s → (c == d) ≡ true → descends s c d ≡ true
+pub descends_itself : (s : List Class) (c d : ℕ) → ParentsAreEarlier s → (c == d) ≡ true → stands_below s c d ≡ true
 unfolding climbs
 descends_itself s c d earlier same = climbs_enough s d earlier c (suc c) c (omega arith) (omega arith) ∙ rw same refl
 
 -- what the steps find descends
-sound_at : (s : Schema) (d n c : ℕ) (b : Bool) → (c == d) ≡ b → (parent : Option ℕ) → parent_of s c ≡ parent → ((p : ℕ) → climbs n s p d ≡ true → Descends s p d) → (b || option_map_or (λ p. climbs n s p d) parent false) ≡ true → Descends s c d
+sound_at : (s : List Class) (d n c : ℕ) (b : Bool) → (c == d) ≡ b → (parent : Option ℕ) → parent_of s c ≡ parent → ((p : ℕ) → climbs n s p d ≡ true → Descends s p d) → (b || option_map_or (λ p. climbs n s p d) parent false) ≡ true → Descends s c d
 sound_at s d n c true same parent h further found = subst (Descends s c) (eqb-true c d same) (itself c)
 sound_at s d n c false same None h further found = absurd cc
 sound_at s d n c false same (Some p) h further found = through_parent c p d h (further p found)
 
-pub climbs_sound : (s : Schema) (d n c : ℕ) → climbs n s c d ≡ true → Descends s c d
+pub climbs_sound : (s : List Class) (d n c : ℕ) → climbs n s c d ≡ true → Descends s c d
 unfolding climbs
 climbs_sound s d zero c found = subst (Descends s c) (eqb-true c d found) (itself c)
 climbs_sound s d (suc n) c found = sound_at s d n c (c == d) refl (parent_of s c) refl (climbs_sound s d n) found
 
 -- what descends is found
-found_at : (s : Schema) (c p d : ℕ) → ParentsAreEarlier s → parent_of s c ≡ Some p → descends s p d ≡ true → (b : Bool) → (c == d) ≡ b → descends s c d ≡ true
+found_at : (s : List Class) (c p d : ℕ) → ParentsAreEarlier s → parent_of s c ≡ Some p → stands_below s p d ≡ true → (b : Bool) → (c == d) ≡ b → stands_below s c d ≡ true
 found_at s c p d earlier h rest true same = descends_itself s c d earlier same
 found_at s c p d earlier h rest false other = descends_parent s c p d earlier h other ∙ rest
 
-pub descends_complete : (s : Schema) → ParentsAreEarlier s → (c d : ℕ) → Descends s c d → descends s c d ≡ true
+pub descends_complete : (s : List Class) → ParentsAreEarlier s → (c d : ℕ) → Descends s c d → stands_below s c d ≡ true
 descends_complete s earlier c _ (itself _) = descends_itself s c c earlier ((Decides-eqb c c).1 refl)
 descends_complete s earlier c d (through_parent _ p _ h rest) = found_at s c p d earlier h (descends_complete s earlier p d rest) (c == d) refl
 
 -- the test decides the relation
-pub descends_decides : (s : Schema) → ParentsAreEarlier s → (c d : ℕ) (r : Bool) → r ≡ descends s c d → IsTrue r ↔ Descends s c d
+pub descends_decides : (s : List Class) → ParentsAreEarlier s → (c d : ℕ) (r : Bool) → r ≡ stands_below s c d → IsTrue r ↔ Descends s c d
 descends_decides s earlier c d r is = (λ t. climbs_sound s d c c (sym is ∙ t), λ h. is ∙ descends_complete s earlier c d h)
 
 differs : (c d : ℕ) → (c ≡ d → ⊥) → (c == d) ≡ false
 differs c d other = false_from_ne_true (c == d) (λ e. other ((Decides-eqb c d).0 e))
 
 -- one turn of the way up, from a class to the parent that stands with it
-pub record GoesUp (s : Schema) (c p d : ℕ) : Type 0 where
+pub record GoesUp (s : List Class) (c p d : ℕ) : Type 0 where
   pub lower : p < c
-  pub same : descends s p d ≡ descends s c d
+  pub same : stands_below s p d ≡ stands_below s c d
 
-pub goes_up : (s : Schema) → ParentsAreEarlier s → (c p d : ℕ) → parent_of s c ≡ Some p → (c ≡ d → ⊥) → GoesUp s c p d
+pub goes_up : (s : List Class) → ParentsAreEarlier s → (c p d : ℕ) → parent_of s c ≡ Some p → (c ≡ d → ⊥) → GoesUp s c p d
 goes_up s earlier c p d h other = record { lower = earlier c p h; same = sym (descends_parent s c p d earlier h (differs c d other)) }
 
-pub ends_at_top : (s : Schema) → ParentsAreEarlier s → (c d : ℕ) → parent_of s c ≡ None → (c ≡ d → ⊥) → descends s c d ≡ false
+pub ends_at_top : (s : List Class) → ParentsAreEarlier s → (c d : ℕ) → parent_of s c ≡ None → (c ≡ d → ⊥) → stands_below s c d ≡ false
 ends_at_top s earlier c d h other = descends_top s c d earlier h (differs c d other)
 
-pub found_itself : (s : Schema) (c d : ℕ) → ParentsAreEarlier s → c ≡ d → descends s c d ≡ true
+pub found_itself : (s : List Class) (c d : ℕ) → ParentsAreEarlier s → c ≡ d → stands_below s c d ≡ true
 found_itself s c d earlier e = descends_itself s c d earlier ((Decides-eqb c d).1 e)
+
+-- the same for one of some others
+none_same : (c : ℕ) (ds : List ℕ) (p q : ℕ → Bool) → list_any (λ d. d == c) ds ≡ false → ((d : ℕ) → (d == c) ≡ false → p d ≡ q d) → list_any p ds ≡ list_any q ds
+none_same c [] p q no_one same = refl
+none_same c (d ∷ ds) p q no_one same =
+    let parts = or_parts (d == c) (list_any (λ e. e == c) ds) no_one in
+    ap (λ b. b || list_any p ds) (same d parts.0) ∙ ap (λ b. q d || b) (none_same c ds p q parts.1 same)
+
+none_any : (ds : List ℕ) → list_any (λ _. false) ds ≡ false
+none_any [] = refl
+none_any (d ∷ ds) = none_any ds
+
+pub turned : (c d : ℕ) → (d == c) ≡ false → (c == d) ≡ false
+turned c d other = differs c d (λ e. let same : (d == c) ≡ true = (Decides-eqb d c).1 (sym e) in cc)
+
+-- a turn of the way up to one of some others
+pub record AllGoUp (s : List Class) (c p : ℕ) (ds : List ℕ) : Type 0 where
+  pub lower : p < c
+  pub same : list_any (λ d. stands_below s p d) ds ≡ list_any (λ d. stands_below s c d) ds
+
+pub all_go_up : (s : List Class) → ParentsAreEarlier s → (c p : ℕ) (ds : List ℕ) → parent_of s c ≡ Some p → list_any (λ d. d == c) ds ≡ false → AllGoUp s c p ds
+all_go_up s earlier c p ds h apart = record {
+  lower = earlier c p h;
+  same = none_same c ds (λ d. stands_below s p d) (λ d. stands_below s c d) apart (λ d other. sym (descends_parent s c p d earlier h (turned c d other)));
+}
+
+pub all_end_at_top : (s : List Class) → ParentsAreEarlier s → (c : ℕ) (ds : List ℕ) → parent_of s c ≡ None → list_any (λ d. d == c) ds ≡ false → list_any (λ d. stands_below s c d) ds ≡ false
+all_end_at_top s earlier c ds h apart = none_same c ds (λ d. stands_below s c d) (λ _. false) apart (λ d other. descends_top s c d earlier h (turned c d other)) ∙ none_any ds
+
+one_at : (s : List Class) (c d : ℕ) (rest : Bool) (t : Bool) → ParentsAreEarlier s → (d == c) ≡ t → (t ≡ false → rest ≡ true) → (stands_below s c d || rest) ≡ true
+one_at s c d rest true earlier is further = ap (λ b. b || rest) (found_itself s c d earlier (sym ((Decides-eqb d c).0 is)))
+one_at s c d rest false earlier is further = or_right (stands_below s c d) rest (further refl)
+
+pub all_found : (s : List Class) → ParentsAreEarlier s → (c : ℕ) (ds : List ℕ) → list_any (λ d. d == c) ds ≡ true → list_any (λ d. stands_below s c d) ds ≡ true
+all_found s earlier c [] h = absurd cc
+all_found s earlier c (d ∷ ds) h = one_at s c d (list_any (λ e. stands_below s c e) ds) (d == c) earlier refl (λ other. all_found s earlier c ds (sym (ap (λ b. b || list_any (λ e. e == c) ds) other) ∙ h))

@@ -1,5 +1,5 @@
 -- What a name is.
-use Rattle.std.specs.Prelude.{ℕ, Bool, true, false, ◌&&◌, ◌||◌, ◌==◌, nat_le, List, [], ◌∷◌, length}
+use Rattle.std.specs.Prelude.{ℕ, Bool, false, ◌&&◌, ◌||◌, ◌==◌, nat_le, List, [], ◌∷◌, length}
 use Rattle.std.specs.List.{list_all}
 
 abbrev pub is_small_letter : ℕ → Bool
@@ -17,5 +17,5 @@ starts_with_letter [] = false
 starts_with_letter (b ∷ bs) = is_small_letter b
 
 -- a letter from a to z, then letters, digits and `_`: at most 31 bytes in all
-abbrev pub is_name : List ℕ → Bool
+unfoldable pub is_name : List ℕ → Bool
 is_name bs = starts_with_letter bs && list_all is_name_byte bs && nat_le (length bs) 31

@@ -1,32 +1,53 @@
 -- The schema that a text means, or its first fault: the JSON, its form, then one walk over the entries.
-use Rattle.std.specs.Prelude.{ℕ, Bool, not, ◌∷◌, [], ◌++◌, nat_le, List, length, Option, Some, None, Result, Ok, Err, codes, if◌then◌else◌}
-use Rattle.std.specs.List.{list_any}
-use Rattle.std.specs.Str.{bytes_eq}
-use Rattle.serde_json.specs.Read.{read}
+use Rattle.std.specs.Prelude.{◌≡◌, ℕ, ◌∷◌, [], List, Result, Ok, Err}
+use Rattle.bb_document.specs.Answers.{◌>>=◌, each, through}
+use Rattle.bb_document.specs.Document.{Declarations, ClassDeclaration, SpaceDeclaration}
+use Rattle.bb_document.specs.Form.{document_of}
+use Rattle.bb_document.specs.declared.fault.DocumentFault.{DocumentFault}
+use Rattle.bb_document.specs.declared.fault.DocumentFault.TheVariants.{Json, Shape, Memory}
 use Rattle.bb_schema.specs.declared.fault.SchemaFault.{SchemaFault}
-use Rattle.bb_schema.specs.declared.fault.SchemaFault.TheVariants.{Json, Name, Twice, Limit}
-use Rattle.bb_schema.specs.declared.document.ClassEntry.{ClassEntry}
-use Rattle.bb_schema.specs.declared.class.Class.{Class}
-use Rattle.bb_schema.specs.Answers.{◌>>=◌, expected, through}
-use Rattle.bb_schema.specs.Document.{document}
-use Rattle.bb_schema.specs.Names.{is_name}
-use Rattle.bb_schema.specs.Schema.{Schema, names}
+use Rattle.bb_schema.specs.declared.fault.SchemaFault.TheVariants as faults
+use Rattle.bb_schema.specs.declared.label_set.LabelSet.{LabelSet}
+use Rattle.bb_schema.specs.Schema.{Schema}
+use Rattle.bb_schema.specs.Drafts.{Drafted}
+use Rattle.bb_schema.specs.LabelReading.{label_set_after}
+use Rattle.bb_schema.specs.ClassReading.{focus, class_after}
+use Rattle.bb_schema.specs.Linking.{linked}
+use Rattle.bb_schema.specs.SpaceReading.{space_after}
 
--- the built-in class, number 0
-abbrev pub focus : Class
-focus = record { name = codes "focus"; parent = None }
+-- a fault of the document as one of the schema
+abbrev pub fault_of : DocumentFault → SchemaFault
+fault_of Json = faults.Json
+fault_of Shape = faults.Shape
+fault_of Memory = faults.Memory
 
--- the classes with one more, or what is wrong with it
-unfoldable pub class_after : List Class → ClassEntry → Result (List Class) SchemaFault
-class_after classes entry =
-    if not (is_name entry.name) then Err Name
-    else if list_any (bytes_eq entry.name) (names classes) then Err Twice
-    else if nat_le 256 (length classes) then Err Limit
-    else Ok (classes ++ record { name = entry.name; parent = None } ∷ [])
+-- what the document declares, with its fault as one of the schema
+abbrev pub declared_by : Result Declarations DocumentFault → Result Declarations SchemaFault
+declared_by (Ok declared) = Ok declared
+declared_by (Err fault) = Err (fault_of fault)
 
+-- the walk over the entries of all classes leaves these
+abbrev pub IsWalked : List LabelSet → Drafted → Type 0
+IsWalked sets drafted = (all : List ClassDeclaration) × (through (class_after sets all) (record { classes = []; slots = [] }) all ≡ Ok drafted)
+
+-- the schema of the classes, with numbers for names, and without spaces
+unfoldable pub bare_schema : List LabelSet → Drafted → Result Schema SchemaFault
+bare_schema sets drafted = do
+  slots ← each (linked drafted.classes drafted.slots) drafted.slots
+  Ok (record { label_sets = sets; classes = drafted.classes; slots = slots; spaces = [] })
+
+-- the schema with the spaces of the entries
+unfoldable pub spaced : Schema → List SpaceDeclaration → Result Schema SchemaFault
+spaced bare entries = through (space_after bare) [] entries >>= λ spaces. Ok (record bare { spaces = spaces })
+
+-- the walk: label sets with their labels, classes with their slots and links, spaces with their classes and dimensions
+unfoldable pub walked : Declarations → Result Schema SchemaFault
+walked declared = do
+  sets ← through label_set_after [] declared.label_sets
+  drafted ← through (class_after sets (focus ∷ declared.classes)) (record { classes = []; slots = [] }) (focus ∷ declared.classes)
+  bare ← bare_schema sets drafted
+  spaced bare declared.spaces
+
+-- the schema that a text means
 unfoldable pub schema_of : List ℕ → Result Schema SchemaFault
-schema_of text = do
-  json ← expected Json (read text)
-  declared ← document json
-  classes ← through class_after (focus ∷ []) declared.classes
-  Ok (record { classes = classes })
+schema_of text = declared_by (document_of text) >>= walked

@@ -1,37 +1,100 @@
--- What a schema is, and how its classes stand to each other (GBBopen Reference Manual, unit classes).
-use Rattle.std.specs.Prelude.{◌≡◌, ℕ, zero, suc, Bool, false, ◌||◌, ◌==◌, List, map, length, slice_get, Option, Some, None, option_and_then, option_map, position}
+-- What a schema is, and how its parts are found (GBBopen Reference Manual, unit classes and slots).
+use Rattle.std.specs.Prelude.{ℕ, Bool, false, List, [], map, slice_get, Option, Some, None, option_and_then, option_map, position, find}
 use Rattle.std.specs.Option.{option_map_or}
 use Rattle.std.specs.Str.{bytes_eq}
+use Rattle.bb_schema.specs.declared.label_set.LabelSet.{LabelSet}
 use Rattle.bb_schema.specs.declared.class.Class.{Class}
+use Rattle.bb_schema.specs.declared.value.Value.{Value}
+use Rattle.bb_schema.specs.declared.slot.Slot.{Slot}
+use Rattle.bb_schema.specs.declared.slot.Link.{Link}
+use Rattle.bb_schema.specs.declared.slot.Kind.{Kind}
+use Rattle.bb_schema.specs.declared.slot.Content.{Content}
+use Rattle.bb_schema.specs.declared.slot.Content.TheVariants as contents
+use Rattle.bb_schema.specs.declared.space.Space.{Space}
+use Rattle.bb_schema.specs.declared.space.Dim.{Dim}
+use Rattle.bb_schema.specs.Kinds.{kind_of}
+use Rattle.bb_schema.specs.Standing.{stands_below}
 
--- the classes by their numbers: 0 is `focus`
+-- all parts by their numbers: class 0 is `focus`
 pub record Schema : Type 0 where
+  pub label_sets : List LabelSet
   pub classes : List Class
+  pub slots : List Slot
+  pub spaces : List Space
 
-abbrev pub names : List Class → List (List ℕ)
-names classes = map (λ c. c.name) classes
-
--- the number of the class of a name
+-- the numbers of names
 abbrev pub class_named : Schema → List ℕ → Option ℕ
-class_named s name = position (bytes_eq name) (names s.classes)
+class_named s name = position (bytes_eq name) (map (λ k. k.name) s.classes)
 
+abbrev pub space_named : Schema → List ℕ → Option ℕ
+space_named s name = position (bytes_eq name) (map (λ p. p.name) s.spaces)
+
+abbrev pub label_set_named : Schema → List ℕ → Option ℕ
+label_set_named s name = position (bytes_eq name) (map (λ l. l.name) s.label_sets)
+
+-- the number of a label in its set
+abbrev pub label_named : Schema → ℕ → List ℕ → Option ℕ
+label_named s set name = option_and_then (λ l. position (bytes_eq name) l.values) (slice_get s.label_sets set)
+
+-- all slots of a class, in class order
+abbrev pub slots_in : List Class → ℕ → List ℕ
+slots_in classes c = option_map_or (λ k. k.slots) (slice_get classes c) []
+
+abbrev pub slots_of : Schema → ℕ → List ℕ
+slots_of s c = slots_in s.classes c
+
+-- the slot of the number is there and has the name
+unfoldable pub has_name : List Slot → List ℕ → ℕ → Bool
+has_name slots name n = option_map_or (λ t. bytes_eq name t.name) (slice_get slots n) false
+
+-- the slot that a name means in a class
+abbrev pub slot_named : Schema → ℕ → List ℕ → Option ℕ
+slot_named s c name = find (has_name s.slots name) (slots_of s c)
+
+-- the names of numbers
 abbrev pub name_of_class : Schema → ℕ → Option (List ℕ)
 name_of_class s c = option_map (λ k. k.name) (slice_get s.classes c)
 
--- the class that a class stands right below
-abbrev pub parent_of : Schema → ℕ → Option ℕ
-parent_of s c = option_and_then (λ k. k.parent) (slice_get s.classes c)
+abbrev pub name_of_slot : Schema → ℕ → Option (List ℕ)
+name_of_slot s n = option_map (λ t. t.name) (slice_get s.slots n)
 
--- c descends from d: it is d, or its parent descends from d
-pub data Descends (s : Schema) : ℕ → ℕ → Type 0 where
-  itself : (c : ℕ) → Descends s c c
-  through_parent : (c p d : ℕ) → parent_of s c ≡ Some p → Descends s p d → Descends s c d
+abbrev pub name_of_space : Schema → ℕ → Option (List ℕ)
+name_of_space s w = option_map (λ p. p.name) (slice_get s.spaces w)
 
--- whether d is met in n steps up from c
-unfoldable pub climbs : ℕ → Schema → ℕ → ℕ → Bool
-climbs zero s c d = c == d
-climbs (suc n) s c d = (c == d) || option_map_or (λ p. climbs n s p d) (parent_of s c) false
+abbrev pub label_at : List LabelSet → ℕ → ℕ → Option (List ℕ)
+label_at sets set label = option_and_then (λ l. slice_get l.values label) (slice_get sets set)
 
--- whether c descends from d: parents have lower numbers, so c steps are enough
+abbrev pub name_of_label : Schema → ℕ → ℕ → Option (List ℕ)
+name_of_label s set label = label_at s.label_sets set label
+
+-- what a slot is
+abbrev pub owner_of : Schema → ℕ → Option ℕ
+owner_of s n = option_map (λ t. t.owner) (slice_get s.slots n)
+
+abbrev pub kind_of_slot : Schema → ℕ → Option Kind
+kind_of_slot s n = option_map (λ t. kind_of t.content) (slice_get s.slots n)
+
+-- the default, and the link, that a slot holds
+abbrev pub default_in : Content → Option Value
+default_in (contents.Default v) = Some v
+default_in (contents.Link l) = None
+
+abbrev pub link_in : Content → Option Link
+link_in (contents.Default v) = None
+link_in (contents.Link l) = Some l
+
+-- the default of an ordinary slot
+abbrev pub default_of : Schema → ℕ → Option Value
+default_of s n = option_and_then (λ t. default_in t.content) (slice_get s.slots n)
+
+-- the link of a link slot
+abbrev pub link_of : List Slot → ℕ → Option Link
+link_of slots n = option_and_then (λ t. link_in t.content) (slice_get slots n)
+
+-- the dimensions of a space
+abbrev pub dims_of : Schema → ℕ → List Dim
+dims_of s w = option_map_or (λ p. p.dims) (slice_get s.spaces w) []
+
+-- whether c descends from d
 abbrev pub descends : Schema → ℕ → ℕ → Bool
-descends s c d = climbs c s c d
+descends s c d = stands_below s.classes c d

@@ -27,6 +27,7 @@ fn are_name_bytes(bytes: &[u8]) -> bool
 }
 
 /// Whether a text is a name: a letter from a to z, then letters, digits and `_`, at most 31 bytes in all.
+#[tactic(auto, unfolding(crate::specs::Names::is_name))]
 pub fn is_name(text: &str) -> bool
     ensures { result ≡ is_name text.now }
 {

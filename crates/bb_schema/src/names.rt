@@ -7,9 +7,15 @@ use std::alloc::{AllocError, Global};
 use std::marker::Model;
 
 /// Names in the order in which they came, each found by its text without a scan.
-#[derive(Drop)]
 pub struct Names {
     set: IndexSet<String>,
+}
+
+// By hand, so that a proof meets one call where names are dropped, and not the parts of an index.
+impl Drop for Names {
+    fn drop(self) {
+        let Names { set: _ } = self;
+    }
 }
 
 impl Model for Names {

@@ -1,87 +1,98 @@
-ghost use Rattle.std.specs.Prelude.{◌≡◌, ◌∷◌, [], IfOk};
-ghost use Rattle.serde_json.specs.Read.{read};
-ghost use Rattle.serde_json.specs.View.{view};
-ghost use Rattle.bb_schema.specs.declared.fault.SchemaFault.TheVariants.{Memory as OutOfMemory, Json};
-ghost use Rattle.bb_schema.specs.Answers.{Gives, expected, through};
-ghost use Rattle.bb_schema.specs.Reading.{schema_of, class_after, focus};
-ghost use Rattle.bb_schema.specs.Schema.{Schema as Classes};
+ghost use Rattle.std.specs.Prelude.{◌≡◌, IfErr, map};
+ghost use Rattle.bb_document.specs.Answers.{Gives};
+ghost use Rattle.bb_document.specs.Document.{declarations, space_declaration};
+ghost use Rattle.bb_document.specs.Form.{document_of};
+ghost use Rattle.bb_schema.specs.declared.fault.SchemaFault.TheVariants.{Memory as OutOfMemory};
+ghost use Rattle.bb_schema.specs.Reading.{IsWalked, declared_by, bare_schema, spaced, walked, schema_of};
 
-use crate::class::Class;
-use crate::document::{ClassEntry, document_of};
+mod classes;
+mod entries;
+mod focus;
+mod labels;
+mod linking;
+mod links;
+mod slots;
+mod spaces;
+
+use crate::couple::count_couples;
 use crate::fault::SchemaFault;
-use crate::name::is_name;
-use crate::names::Names;
-use crate::schema::{CLASS_LIMIT, Schema};
-use crate::text::Text;
-use serde_json::Value;
-use std::alloc::{AllocError, Global};
+use crate::label_set::LabelSet;
+use crate::schema::Schema;
+use crate::table::Table;
+use bb_document::{Document, DocumentFault, SpaceEntry};
+use classes::{Drafted, classes_of};
+use focus::with_focus;
+use labels::label_sets_of;
+use linking::linked_slots;
+use spaces::spaces_of;
+use std::alloc::Global;
 
-fn json(alloc: Global, text: &str) -> Result<Value, SchemaFault>
-    ensures { Gives OutOfMemory view result (expected Json (read text.now)) }
+fn document(alloc: Global, text: &str) -> Result<Document, SchemaFault>
+    ensures { Gives OutOfMemory declarations result (declared_by (document_of text.now)) }
 {
-    match Value::from_str(alloc, text) {
-        Ok(value) => Ok(value),
-        Err(error) if error.is_memory() => Err(SchemaFault::Memory),
-        Err(_) => Err(SchemaFault::Json),
+    match Document::read(alloc, text) {
+        Ok(document) => Ok(document),
+        Err(DocumentFault::Json) => Err(SchemaFault::Json),
+        Err(DocumentFault::Shape) => Err(SchemaFault::Shape),
+        Err(DocumentFault::Memory) => Err(SchemaFault::Memory),
     }
+}
+
+/// The schema of the classes, with numbers for the names of their links, and without spaces.
+#[tactic(auto, unfolding(crate::specs::Reading::bare_schema))]
+fn bare_schema(
+    alloc: Global,
+    label_sets: Table<LabelSet>,
+    drafted: Drafted,
+) -> Result<Schema, SchemaFault>
+    requires { IsWalked label_sets (record { classes = drafted.classes; slots = drafted.slots.items }) }
+    ensures gives { Gives OutOfMemory (λ s. s) result (bare_schema label_sets (record { classes = drafted.classes; slots = drafted.slots.items })) }
+    // The walk has refused whatever linking could refuse.
+    ensures only { IfErr result (λ e. e ≡ OutOfMemory) }
+{
+    let slots = linked_slots(alloc, &drafted.classes, &drafted.slots)?;
+    let (befores, couple_count) = count_couples(alloc, &slots)?;
+    Ok(Schema {
+        label_sets,
+        classes: drafted.classes,
+        slots,
+        spaces: Table::new(alloc),
+        befores,
+        couple_count,
+    })
+}
+
+/// The schema with the spaces of the entries.
+#[tactic(auto, unfolding(crate::specs::Reading::spaced))]
+fn spaced(alloc: Global, bare: Schema, entries: &[SpaceEntry]) -> Result<Schema, SchemaFault>
+    ensures { Gives OutOfMemory (λ s. s) result (spaced bare (map space_declaration entries.now)) }
+{
+    let spaces = spaces_of(alloc, &bare, entries)?;
+    Ok(bare.with_spaces(spaces))
+}
+
+/// The schema that the entries of a document mean.
+#[tactic(auto, unfolding(crate::specs::Reading::walked))]
+fn walked(alloc: Global, document: Document) -> Result<Schema, SchemaFault>
+    ensures { Gives OutOfMemory (λ s. s) result (walked (declarations document)) }
+{
+    let label_sets = label_sets_of(alloc, &document.label_sets)?;
+    let classes = with_focus(alloc, document.classes)?;
+    let drafted = classes_of(alloc, &label_sets, &classes)?;
+    let bare = bare_schema(alloc, label_sets, drafted)?;
+    spaced(alloc, bare, &document.spaces)
 }
 
 impl Schema {
     /// The schema that a JSON document means, or its first fault: `Json` where the text is not JSON, then `Shape`
-    /// where the JSON has another form, then the first fault of the entries in their order. At each entry the
+    /// where the JSON has another form, then the first fault of a walk over the entries: label sets with their labels,
+    /// classes with their slots and then links, spaces with their classes and then dimensions. At each entry the
     /// checks come in the order of the faults' numbers. `Memory` may come at any point.
     #[tactic(auto, unfolding(crate::specs::Reading::schema_of))]
     pub fn read(alloc: Global, text: &str) -> Result<Schema, SchemaFault>
         ensures { Gives OutOfMemory (λ s. s) result (schema_of text.now) }
     {
-        let value = json(alloc, text)?;
-        let document = document_of(alloc, &value)?;
-        let mut schema = Schema::with_focus(alloc)?;
-        schema.declare_all(alloc, document.classes)?;
-        Ok(schema)
-    }
-
-    fn with_focus(alloc: Global) -> Result<Schema, AllocError>
-        ensures { IfOk result (λ s. s.classes ≡ focus ∷ []) }
-    {
-        let mut names = Names::new(alloc);
-        names.insert(alloc, "focus")?;
-        let mut classes = Vec::new(alloc);
-        classes.push(Class {
-            name: Text::from_str(alloc, "focus")?,
-            parent: None,
-        })?;
-        Ok(Schema { classes, names })
-    }
-
-    /// Adds a class, after the checks of its entry.
-    #[tactic(auto, unfolding(crate::specs::Reading::class_after))]
-    fn declare(&mut self, alloc: Global, entry: ClassEntry) -> Result<(), SchemaFault>
-        ensures { Gives OutOfMemory (λ _. self.new.classes) result (class_after self.old.classes entry) }
-    {
-        let name = entry.name.as_str();
-        if !is_name(name) {
-            return Err(SchemaFault::Name);
-        }
-        if self.names.contains(name) {
-            return Err(SchemaFault::Twice);
-        }
-        if self.classes.len() >= CLASS_LIMIT {
-            return Err(SchemaFault::Limit);
-        }
-        self.classes.reserve(1)?;
-        self.names.insert(alloc, name)?;
-        let ClassEntry { name } = entry;
-        self.classes.push_reserved(Class { name, parent: None });
-        Ok(())
-    }
-
-    fn declare_all(&mut self, alloc: Global, entries: Vec<ClassEntry>) -> Result<(), SchemaFault>
-        ensures { Gives OutOfMemory (λ _. self.new.classes) result (through class_after self.old.classes entries.items) }
-    {
-        for entry in entries {
-            self.declare(alloc, entry)?;
-        }
-        Ok(())
+        let document = document(alloc, text)?;
+        walked(alloc, document)
     }
 }

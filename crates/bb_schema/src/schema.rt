@@ -1,30 +1,54 @@
-ghost use Rattle.std.specs.Prelude.{◌≡◌, ◌<◌, ◌≤◌, ◌↔◌, IsTrue, IfOk, length, option_map};
-ghost use Rattle.bb_schema.specs.Schema.{class_named, name_of_class, parent_of, Descends, descends};
+ghost use Rattle.std.specs.Prelude.{All, ◌≡◌, ◌<◌, ◌≤◌, ◌↔◌, Some, IsSome, is_some, IsTrue, length, min, slice_get, option_map, ◌⊎◌};
+ghost use Rattle.bb_schema.specs.Schema.{class_named, space_named, label_set_named, label_named, slot_named, name_of_class, name_of_slot, name_of_space, name_of_label, slots_of, owner_of, kind_of_slot, default_of, link_of, dims_of, descends};
+ghost use Rattle.bb_schema.specs.Standing.{parent_of, Descends};
+ghost use Rattle.bb_schema.specs.Couples.{couples, couple_of};
+ghost use Rattle.bb_schema.specs.Fits.{Fits, IsSpace};
+ghost use Rattle.bb_schema.specs.Spaces.{allowed, IsAllowed};
 
-use crate::class::{Class, ClassId, descends};
-use crate::names::Names;
+use crate::class::{Class, ClassId, parent, stands_below, stands_below_any};
+use crate::couple::{CoupleId, Side, couple_end};
+use crate::label_set::{LabelId, LabelSet, LabelSetId};
+use crate::slot::{Content, Kind, Slot, SlotId, find_slot, link_at};
+use crate::space::{Dim, Space, SpaceId};
+use crate::table::Table;
+use crate::value::Value;
 use std::marker::Model;
 
-/// The greatest number of classes, with `focus`.
-pub const CLASS_LIMIT: usize = 256;
-
-/// The classes that units can have.
-#[derive(Drop)]
+/// The classes of units, their slots, the label sets of these, and the spaces.
 pub struct Schema {
-    pub(crate) classes: Vec<Class>,
-    pub(crate) names: Names,
+    pub(crate) label_sets: Table<LabelSet>,
+    pub(crate) classes: Table<Class>,
+    pub(crate) slots: Vec<Slot>,
+    pub(crate) spaces: Table<Space>,
+    // For each slot, how many couples come before it.
+    pub(crate) befores: Vec<CoupleId>,
+    pub(crate) couple_count: usize,
 }
 
 impl Model for Schema {
-    ghost use Rattle.bb_schema.specs.Schema.{Schema as Classes};
+    ghost use Rattle.bb_schema.specs.Schema.{Schema as Parts};
 
-    ghost Value = { Classes };
+    ghost Value = { Parts };
 
     ghost use Rattle.bb_schema.specs.WellFormed.{IsWellFormed};
 
-    ghost view = { λ s. record { classes = s.classes.items } };
+    ghost view = { λ s. record { label_sets = s.label_sets; classes = s.classes; slots = s.slots.items; spaces = s.spaces } };
 
-    ghost invariant = { λ s. IsWellFormed s.classes.items s.names };
+    ghost invariant = { λ s. IsWellFormed (record { label_sets = s.label_sets; classes = s.classes; slots = s.slots.items; spaces = s.spaces }) s.befores.items s.couple_count };
+}
+
+// By hand, so that a proof meets one call where a schema is dropped, and not all its parts.
+impl Drop for Schema {
+    fn drop(self) {
+        let Schema {
+            label_sets: _,
+            classes: _,
+            slots: _,
+            spaces: _,
+            befores: _,
+            couple_count: _,
+        } = self;
+    }
 }
 
 impl Schema {
@@ -32,8 +56,37 @@ impl Schema {
     pub fn class(&self, name: &str) -> Option<ClassId>
         ensures { result ≡ class_named self.now name.now }
     {
-        let number = self.names.number(name)?;
-        Some(number as ClassId)
+        self.classes.place(name)
+    }
+
+    /// The number of the space of a name.
+    pub fn space(&self, name: &str) -> Option<SpaceId>
+        ensures { result ≡ space_named self.now name.now }
+    {
+        self.spaces.place(name)
+    }
+
+    /// The number of the label set of a name.
+    pub fn label_set(&self, name: &str) -> Option<LabelSetId>
+        ensures { result ≡ label_set_named self.now name.now }
+    {
+        self.label_sets.place(name)
+    }
+
+    /// The number of a label in a set, or `None` where the set isn't there or has no such label.
+    pub fn label(&self, set: LabelSetId, name: &str) -> Option<LabelId>
+        ensures { result ≡ label_named self.now set name.now }
+    {
+        self.label_sets.get(set as usize)?.values.number(name)
+    }
+
+    /// The number of the slot that a name means in a class, inherited ones too, or `None` where the class isn't there
+    /// or has no such slot.
+    pub fn slot(&self, class: ClassId, name: &str) -> Option<SlotId>
+        ensures { result ≡ slot_named self.now class name.now }
+    {
+        let found = self.classes.get(class as usize)?;
+        find_slot(&self.slots, found.slots.as_slice(), name)
     }
 
     /// The name of a class, or `None` where no class has the number.
@@ -43,26 +96,208 @@ impl Schema {
         Some(self.classes.get(class as usize)?.name.as_str())
     }
 
+    /// The name of a slot, or `None` where no slot has the number.
+    pub fn slot_name(&self, slot: SlotId) -> Option<&str>
+        ensures { option_map (λ n. n.now) result ≡ name_of_slot self.now slot }
+    {
+        Some(self.slots.get(slot as usize)?.name.as_str())
+    }
+
+    /// The name of a space, or `None` where no space has the number.
+    pub fn space_name(&self, space: SpaceId) -> Option<&str>
+        ensures { option_map (λ n. n.now) result ≡ name_of_space self.now space }
+    {
+        Some(self.spaces.get(space as usize)?.name.as_str())
+    }
+
+    /// The name of a label of a set, or `None` where there is none.
+    pub fn label_name(&self, set: LabelSetId, label: LabelId) -> Option<&str>
+        ensures { option_map (λ n. n.now) result ≡ name_of_label self.now set label }
+    {
+        self.label_sets.get(set as usize)?.values.get(label)
+    }
+
+    /// How many label sets there are.
+    pub fn label_set_count(&self) -> usize
+        ensures { result ≡ length self.now.label_sets }
+    {
+        self.label_sets.len()
+    }
+
+    /// How many classes there are, with `focus`.
+    pub fn class_count(&self) -> usize
+        ensures { result ≡ length self.now.classes }
+    {
+        self.classes.len()
+    }
+
+    /// How many slots all classes declare.
+    pub fn slot_count(&self) -> usize
+        ensures { result ≡ length self.now.slots }
+    {
+        self.slots.len()
+    }
+
+    /// How many spaces there are.
+    pub fn space_count(&self) -> usize
+        ensures { result ≡ length self.now.spaces }
+    {
+        self.spaces.len()
+    }
+
+    /// How many couples of link slots there are.
+    pub fn couple_count(&self) -> usize
+        ensures { result ≡ length (couples self.now) }
+    {
+        self.couple_count
+    }
+
     /// The class right above a class. `focus` has none.
     pub fn parent(&self, class: ClassId) -> Option<ClassId>
         requires { class < length self.now.classes }
-        ensures { result ≡ parent_of self.now class }
+        ensures { result ≡ parent_of self.now.classes class }
     {
-        self.classes[class as usize].parent
+        parent(self.classes.as_slice(), class)
     }
 
     /// Whether a class is another one or stands anywhere below it. A number without a class stands below itself alone.
     pub fn descends(&self, class: ClassId, ancestor: ClassId) -> bool
         ensures computed { result ≡ descends self.now class ancestor }
-        ensures least { IsTrue result ↔ Descends self.now class ancestor }
+        ensures least { IsTrue result ↔ Descends self.now.classes class ancestor }
     {
-        descends(&self.classes, class, ancestor)
+        stands_below(self.classes.as_slice(), class, ancestor)
+    }
+
+    /// Whether one of two classes descends from the other.
+    pub fn related(&self, class: ClassId, other: ClassId) -> bool
+        ensures { IsTrue result ↔ (Descends self.now.classes class other ⊎ Descends self.now.classes other class) }
+    {
+        self.descends(class, other) || self.descends(other, class)
+    }
+
+    /// What the slot of a number can hold, or `None` where no slot has the number.
+    pub(crate) fn kind_at(&self, slot: SlotId) -> Option<Kind>
+        ensures { result ≡ kind_of_slot self.now slot }
+    {
+        Some(self.slots.get(slot as usize)?.content.kind())
+    }
+
+    /// What a slot can hold.
+    pub fn kind(&self, slot: SlotId) -> Kind
+        requires { slot < length self.now.slots }
+        ensures { kind_of_slot self.now slot ≡ Some result }
+    {
+        self.slots[slot as usize].content.kind()
+    }
+
+    /// Whether the slot of a number is there and an ordinary one.
+    pub fn is_ordinary(&self, slot: SlotId) -> bool
+        ensures { result ≡ is_some (default_of self.now slot) }
+    {
+        match self.slots.get(slot as usize) {
+            None => false,
+            Some(found) => matches!(&found.content, Content::Default(_)),
+        }
+    }
+
+    /// Whether the slot of a number is there and a link slot.
+    pub fn is_link(&self, slot: SlotId) -> bool
+        ensures { result ≡ is_some (link_of self.now.slots slot) }
+    {
+        link_at(&self.slots, slot).is_some()
+    }
+
+    /// The class that declares a slot.
+    pub fn owner(&self, slot: SlotId) -> ClassId
+        requires { slot < length self.now.slots }
+        ensures { owner_of self.now slot ≡ Some result }
+    {
+        self.slots[slot as usize].owner
+    }
+
+    /// What an ordinary slot holds in a new unit.
+    pub fn default(&self, slot: SlotId) -> &Value
+        requires { IsSome (default_of self.now slot) }
+        ensures { default_of self.now slot ≡ Some result.now }
+    {
+        match &self.slots[slot as usize].content {
+            Content::Default(value) => value,
+            Content::Link(_) => unreachable!(),
+        }
+    }
+
+    /// All slots of a class: the inherited ones, then its own ordinary ones, then its own link slots.
+    pub fn slots(&self, class: ClassId) -> &[SlotId]
+        requires { class < length self.now.classes }
+        ensures { result.now ≡ slots_of self.now class }
+    {
+        self.classes.as_slice()[class as usize].slots.as_slice()
+    }
+
+    /// The couple of a link slot, and which side of it the slot is.
+    pub fn couple(&self, slot: SlotId) -> (CoupleId, Side)
+        requires { IsSome (link_of self.now.slots slot) }
+        ensures computed { couple_of self.now slot ≡ Some result }
+        // It is the number of the couple's first slot in the list of couples.
+        ensures listed { slice_get (couples self.now) result.0 ≡ option_map (λ l. min slot l.inverse) (link_of self.now.slots slot) }
+    {
+        match link_at(&self.slots, slot) {
+            None => unreachable!(),
+            Some(link) => couple_end(&self.slots, &self.befores, slot, link),
+        }
+    }
+
+    /// The dimensions of a space, in the order of the document.
+    pub fn dims(&self, space: SpaceId) -> &[Dim]
+        requires { space < length self.now.spaces }
+        ensures { result.now ≡ dims_of self.now space }
+    {
+        self.spaces.as_slice()[space as usize].dims.as_slice()
+    }
+
+    /// Whether a space admits units of a class: it descends from one of the classes that the space lists. A number
+    /// without a space admits none.
+    pub fn allowed(&self, space: SpaceId, class: ClassId) -> bool
+        ensures computed { result ≡ allowed self.now space class }
+        ensures listed { IsTrue result ↔ IsAllowed self.now space class }
+    {
+        match self.spaces.get(space as usize) {
+            None => false,
+            Some(found) => stands_below_any(self.classes.as_slice(), class, &found.classes),
+        }
+    }
+
+    /// The schema with these spaces in place of its own.
+    pub(crate) fn with_spaces(self, spaces: Table<Space>) -> Schema
+        requires { All (IsSpace (length self.label_sets) (length self.classes)) spaces }
+        ensures { result ≡ record self { spaces = spaces } }
+    {
+        let mut schema = self;
+        schema.spaces = spaces;
+        schema
+    }
+
+    /// What holds of every schema: its numbers are in range, parents are earlier, a class's slots begin with its
+    /// parent's, labels in defaults are there, and inverses lead back. It does nothing.
+    pub fn fits(&self)
+        ensures { Fits self.now }
+    {
+        let _ = &self.slots;
     }
 
     /// Whether another schema is the same one.
     pub fn same(&self, other: &Schema) -> bool
         ensures { IsTrue result ↔ (self.now ≡ other.now) }
     {
-        self.classes == other.classes
+        if self.label_sets != other.label_sets {
+            return false;
+        }
+        if self.classes != other.classes {
+            return false;
+        }
+        if self.slots != other.slots {
+            return false;
+        }
+        self.spaces == other.spaces
     }
 }

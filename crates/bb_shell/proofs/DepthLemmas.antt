@@ -7,7 +7,7 @@ use Rattle.std.proofs.lemmas.Bool.{eqb-true}
 use Rattle.std.proofs.lemmas.Bool.Decides.{nat_tests}
 use Rattle.std.proofs.lemmas.List.Sums.{sum_by-cons}
 use Rattle.std.proofs.Math.Nat.{pow-zero}
-use Rattle.bb_schema.specs.Answers.{◌>>=◌}
+use Rattle.bb_document.specs.Answers.{◌>>=◌}
 use Rattle.bb_code.specs.Code.{Code}
 use Rattle.bb_code.specs.declared.op.Op.{Op}
 use Rattle.bb_code.specs.declared.op.Op.TheVariants.{PushText, Say, Done}

@@ -2,8 +2,8 @@
 use Rattle.std.proofs.Common.{◌≡◌, ℕ, ◌+◌, ◌<◌, ◌≤◌, ◌⊎◌, inl, inr, List, [], ◌∷◌, ◌++◌, length, get_or, drop, Result, Ok, Err, refl, sym, ap, ◌∙◌, append_assoc, add-one}
 use Rattle.std.proofs.Math.Seq.{drop-cons}
 use Rattle.std.proofs.lemmas.List.{append-nil, drop_all, nil_from_length}
-use Rattle.bb_schema.specs.Answers.{◌>>=◌, each}
-use Rattle.bb_schema.proofs.EachLemmas.{joined}
+use Rattle.bb_document.specs.Answers.{◌>>=◌, each}
+use Rattle.bb_document.proofs.EachLemmas.{joined}
 
 regrouped : {X E : Type 0} (front : List X) (x : X) (r : Result (List X) E) → joined front (r >>= λ xs. Ok (x ∷ xs)) ≡ joined (front ++ x ∷ []) r
 regrouped front x (Ok xs) = ap (λ ys. Ok ys) (sym (append_assoc front (x ∷ []) xs))

@@ -1,6 +1,6 @@
 -- What an input means, after each of its steps.
 use Rattle.std.proofs.Common.{◌≡◌, ℕ, ℤ, ◌⊎◌, inl, inr, List, Result, Ok, Err, refl, ap, ◌∙◌}
-use Rattle.bb_schema.specs.Answers.{◌>>=◌}
+use Rattle.bb_document.specs.Answers.{◌>>=◌}
 use Rattle.bb_schema.specs.Schema.{Schema}
 use Rattle.bb_schema.specs.Reading.{schema_of}
 use Rattle.bb_shell.specs.declared.input_fault.InputFault.{InputFault}

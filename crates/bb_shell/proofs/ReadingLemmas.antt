@@ -1,8 +1,8 @@
 -- One line after another, each of which counts as one.
 use Rattle.std.proofs.Common.{◌≡◌, ◌⊎◌, inl, inr, ◌<◌, get_or, drop, add-one, ℕ, ◌+◌, Bool, true, false, cond, List, [], ◌∷◌, ◌++◌, length, Option, Some, None, Result, Ok, Err, refl, sym, ap, ◌∙◌, arith}
 use Rattle.std.specs.Prelude.{◌==◌}
-use Rattle.bb_schema.specs.Answers.{◌>>=◌, expected, through}
-use Rattle.bb_schema.proofs.ThroughLemmas.{through_goes_on, through_exits, through_ends}
+use Rattle.bb_document.specs.Answers.{◌>>=◌, expected, through}
+use Rattle.bb_document.proofs.ThroughLemmas.{through_goes_on, through_exits, through_ends}
 use Rattle.std.proofs.Math.Seq.{drop-cons}
 use Rattle.std.proofs.lemmas.List.{drop_all}
 use Rattle.std.specs.Str.Lines.{lines}

@@ -1,7 +1,10 @@
 -- Worked runs, computed on the definitions.
-use Rattle.std.proofs.Common.{◌≡◌, [], ◌∷◌, None, refl, codes}
+use Rattle.std.proofs.Common.{◌≡◌, [], ◌∷◌, None, refl, codes, true}
 use Rattle.std.specs.Prelude.{pos, ℤ}
-use Rattle.bb_schema.specs.Schema.{Schema, climbs}
+use Rattle.bb_schema.specs.Schema.{Schema}
+use Rattle.bb_schema.specs.Standing.{climbs}
+use Rattle.bb_schema.specs.declared.slot.Content.TheVariants.{Default}
+use Rattle.bb_schema.specs.declared.value.Value.TheVariants.{Int, Text, Bool}
 use Rattle.bb_code.specs.declared.op.Op.TheVariants.{PushText, Say, Done}
 use Rattle.bb_shell.specs.declared.clause.Clause.TheVariants as clause
 use Rattle.bb_shell.specs.declared.event.Event.TheVariants.{Created, Quiescence}
@@ -15,7 +18,13 @@ use Rattle.bb_shell.specs.Processing.{processed_by}
 use Rattle.bb_shell.specs.Run.{Rules, run, events_first, cycles}
 
 note_schema : Schema
-note_schema = record { classes = record { name = codes "focus"; parent = None } ∷ record { name = codes "note"; parent = None } ∷ [] }
+note_schema = record {
+  label_sets = [];
+  classes = record { name = codes "focus"; parent = None; slots = 0 ∷ 1 ∷ 2 ∷ 3 ∷ [] } ∷ record { name = codes "note"; parent = None; slots = [] } ∷ [];
+  slots = record { name = codes "source"; owner = 0; content = Default (Text []) } ∷ record { name = codes "area"; owner = 0; content = Default (Text []) }
+      ∷ record { name = codes "weight"; owner = 0; content = Default (Int (pos 0)) } ∷ record { name = codes "active"; owner = 0; content = Default (Bool true) } ∷ [];
+  spaces = [];
+}
 
 hail : Source
 hail = record { name = codes "hail"; class = 1; triggers = clause.Created 1 ∷ []; rate = pos 100; body = record { locals = 1; texts = codes "hello" ∷ []; ops = PushText 0 ∷ Say 1 ∷ Done ∷ [] } }

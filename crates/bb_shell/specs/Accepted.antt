@@ -1,6 +1,6 @@
 -- Which codes are accepted for the executions of a class: all operands name what is there, and each op meets its frame.
 use Rattle.std.specs.Prelude.{ℕ, ◌+◌, ◌-◌, nat_le, List, [], ◌∷◌, length, replicate, Option, Some, None, Result, Ok, Err, if◌then◌else◌}
-use Rattle.bb_schema.specs.Answers.{◌>>=◌}
+use Rattle.bb_document.specs.Answers.{◌>>=◌}
 use Rattle.bb_code.specs.Code.{Code}
 use Rattle.bb_code.specs.declared.op.Op.{Op}
 use Rattle.bb_code.specs.declared.op.Op.TheVariants.{PushText, Say, Done}

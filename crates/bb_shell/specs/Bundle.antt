@@ -4,7 +4,7 @@ use Rattle.std.specs.List.{list_all, slice_split}
 use Rattle.std.specs.Str.{bytes_eq}
 use Rattle.std.specs.Str.Lines.{lines}
 use Rattle.hex.specs.Hex.{decode_of}
-use Rattle.bb_schema.specs.Answers.{◌>>=◌, expected, through}
+use Rattle.bb_document.specs.Answers.{◌>>=◌, expected, through}
 use Rattle.bb_schema.specs.Names.{is_digit, is_name}
 use Rattle.bb_code.specs.Code.{Code}
 use Rattle.bb_code.specs.Reading.{code_of}

@@ -1,6 +1,6 @@
 -- How deep the stack is at each place, where all its entries are of one kind.
 use Rattle.std.specs.Prelude.{ℕ, Bool, true, ◌+◌, ◌-◌, nat_le, nat_lt, List, [], ◌∷◌, Option, Some, None, Result, Ok, Err, if◌then◌else◌}
-use Rattle.bb_schema.specs.Answers.{◌>>=◌}
+use Rattle.bb_document.specs.Answers.{◌>>=◌}
 use Rattle.bb_code.specs.declared.op.Op.{Op}
 use Rattle.bb_code.specs.declared.op.Op.TheVariants.{PushText, Say, Done}
 use Rattle.bb_shell.specs.declared.flaw.Flaw.{Flaw}

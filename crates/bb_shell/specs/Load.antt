@@ -4,7 +4,7 @@ use Rattle.std.specs.List.{list_any}
 use Rattle.std.specs.Str.{bytes_eq}
 use Rattle.serde_json.specs.Read.{read}
 use Rattle.bb_schema.specs.Schema.{Schema, class_named}
-use Rattle.bb_schema.specs.Answers.{◌>>=◌, expected, through}
+use Rattle.bb_document.specs.Answers.{◌>>=◌, expected, through}
 use Rattle.bb_units.specs.Units.{is_full, created}
 use Rattle.bb_shell.specs.declared.event.Event.{Event}
 use Rattle.bb_shell.specs.declared.event.Event.TheVariants.{Created}
@@ -25,8 +25,8 @@ abbrev pub loaded : LoadedUnits → Loaded
 loaded l = record { world = record { units = l.units }; events = l.events.items }
 
 -- an empty blackboard, before anything happened
-abbrev pub nothing_loaded : Loaded
-nothing_loaded = record { world = no_world; events = [] }
+abbrev pub nothing_loaded : Schema → Loaded
+nothing_loaded s = record { world = no_world s; events = [] }
 
 -- how far a walk over the entries has come: the names that stand, and what was made
 pub record Progress : Type 0 where
@@ -37,8 +37,8 @@ abbrev pub progress : Loader → Progress
 progress l = record { names = l.names; made = loaded l.made }
 
 -- nothing is named, and nothing was made
-abbrev pub no_progress : Progress
-no_progress = record { names = []; made = nothing_loaded }
+abbrev pub no_progress : Schema → Progress
+no_progress s = record { names = []; made = nothing_loaded s }
 
 -- a unit of a class is created, and that it was is noted
 unfoldable pub with_unit : Loaded → ℕ → Result Loaded UnitsFault
@@ -58,5 +58,5 @@ unfoldable pub load : Schema → List ℕ → Result Loaded UnitsFault
 load schema text = do
   json ← expected Json (read text)
   entries ← units_document json
-  last ← through (unit_after schema) no_progress entries
+  last ← through (unit_after schema) (no_progress schema) entries
   Ok last.made

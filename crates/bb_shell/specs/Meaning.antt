@@ -1,6 +1,6 @@
 -- What an input means: the rules and the events that its run begins with, or the first refusal.
 use Rattle.std.specs.Prelude.{ℕ, ℤ, List, Result, Ok, Err}
-use Rattle.bb_schema.specs.Answers.{◌>>=◌}
+use Rattle.bb_document.specs.Answers.{◌>>=◌}
 use Rattle.bb_schema.specs.Reading.{schema_of}
 use Rattle.bb_shell.specs.declared.event.Event.{Event}
 use Rattle.bb_shell.specs.declared.input_fault.InputFault.{InputFault}

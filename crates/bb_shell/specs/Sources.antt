@@ -3,7 +3,7 @@ use Rattle.std.specs.Prelude.{ℕ, ℤ, nat_le, List, [], ◌∷◌, ◌++◌, l
 use Rattle.std.specs.List.{list_any}
 use Rattle.std.specs.Str.{bytes_eq}
 use Rattle.bb_code.specs.Code.{Code}
-use Rattle.bb_schema.specs.Answers.{◌>>=◌, each, through}
+use Rattle.bb_document.specs.Answers.{◌>>=◌, each, through}
 use Rattle.bb_schema.specs.Schema.{Schema, class_named, descends}
 use Rattle.bb_shell.specs.declared.clause.Clause.{Clause}
 use Rattle.bb_shell.specs.declared.clause.Clause.TheVariants as clauses

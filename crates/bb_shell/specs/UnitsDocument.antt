@@ -1,8 +1,8 @@
 -- The form of the document of first units: which JSON it is, before any name in it is looked at.
 use Rattle.std.specs.Prelude.{List, [], ◌∷◌, Result, Ok, Err, codes, if◌then◌else◌}
 use Rattle.serde_json.specs.Data.{Data}
-use Rattle.bb_schema.specs.Answers.{◌>>=◌, expected, each}
-use Rattle.bb_schema.specs.Shapes.{is_object_with, text_at, list_at}
+use Rattle.bb_document.specs.Answers.{◌>>=◌, expected, each}
+use Rattle.bb_document.specs.Shapes.{is_object_with, text_at, list_at}
 use Rattle.bb_shell.specs.declared.units_fault.UnitsFault.{UnitsFault}
 use Rattle.bb_shell.specs.declared.units_fault.UnitsFault.TheVariants.{Shape}
 use Rattle.bb_shell.specs.declared.units_document.UnitEntry.{UnitEntry}

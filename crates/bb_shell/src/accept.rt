@@ -1,7 +1,7 @@
 //! Sources from what a bundle spells: their names are looked up, and their codes verified.
 
 ghost use Rattle.std.specs.Prelude.{◌≡◌, ◌≤◌, [], length, IfOk, OnOk};
-ghost use Rattle.bb_schema.specs.Answers.{Gives, each, through};
+ghost use Rattle.bb_document.specs.Answers.{Gives, each, through};
 ghost use Rattle.bb_shell.specs.Sources.{accepted_source, clause_of, linked_source, names_of, source_after, sources_for};
 
 use crate::clause::Clause;

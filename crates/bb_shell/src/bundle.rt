@@ -5,7 +5,7 @@
 //! HEX spells the bytes of a code.
 
 ghost use Rattle.std.specs.Prelude.{◌≡◌, ◌+◌, ◌<◌, ◌^◌, map};
-ghost use Rattle.bb_schema.specs.Answers.{Gives};
+ghost use Rattle.bb_document.specs.Answers.{Gives};
 ghost use Rattle.hex.specs.Hex.{decode_of};
 ghost use Rattle.bb_code.specs.Reading.{code_of};
 ghost use Rattle.bb_shell.specs.declared.bundle.fault.BundleFault.TheVariants.{Hex as NoHex, Code as NoCode, Memory as OutOfMemory};

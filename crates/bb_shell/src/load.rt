@@ -3,7 +3,7 @@
 ghost use Rattle.std.specs.Prelude.{◌≡◌, IfOk};
 ghost use Rattle.serde_json.specs.Read.{read};
 ghost use Rattle.serde_json.specs.View.{view};
-ghost use Rattle.bb_schema.specs.Answers.{Gives, expected, through};
+ghost use Rattle.bb_document.specs.Answers.{Gives, expected, through};
 ghost use Rattle.bb_shell.specs.declared.units_fault.UnitsFault.TheVariants.{Memory as OutOfMemory, Json};
 ghost use Rattle.bb_shell.specs.Load.{load, loaded, nothing_loaded, progress, no_progress, with_unit, unit_after};
 
@@ -27,7 +27,7 @@ pub(crate) struct Loaded {
 
 impl Loaded {
     fn new(alloc: Global, schema: &Schema) -> Result<Loaded, Memory>
-        ensures { IfOk result (λ made. loaded made ≡ nothing_loaded) }
+        ensures { IfOk result (λ made. loaded made ≡ nothing_loaded schema.now) }
     {
         Ok(Loaded {
             units: Units::new(alloc, schema)?,
@@ -55,7 +55,7 @@ struct Loader {
 
 impl Loader {
     fn new(alloc: Global, schema: &Schema) -> Result<Loader, Memory>
-        ensures { IfOk result (λ l. progress l ≡ no_progress) }
+        ensures { IfOk result (λ l. progress l ≡ no_progress schema.now) }
     {
         Ok(Loader {
             names: Names::new(alloc),

@@ -2,7 +2,7 @@
 
 ghost use Rattle.std.specs.Prelude.{◌≡◌, ◌⊎◌, false, IfOk, IfErr, OnErr, Ok, Err};
 ghost use Rattle.std.specs.Io.KnownBytes.{Appends};
-ghost use Rattle.bb_schema.specs.Answers.{Gives};
+ghost use Rattle.bb_document.specs.Answers.{Gives};
 ghost use Rattle.bb_shell.specs.Ledger.{OnEnd, is_write};
 ghost use Rattle.bb_schema.specs.Reading.{schema_of};
 ghost use Rattle.bb_shell.specs.Bundle.{sources_of};

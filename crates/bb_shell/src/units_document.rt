@@ -1,12 +1,12 @@
 ghost use Rattle.std.specs.Prelude.{map};
 ghost use Rattle.serde_json.specs.View.{view};
-ghost use Rattle.bb_schema.specs.Answers.{Gives, each};
+ghost use Rattle.bb_document.specs.Answers.{Gives, each};
 ghost use Rattle.bb_shell.specs.declared.units_fault.UnitsFault.TheVariants.{Memory as OutOfMemory};
 ghost use Rattle.bb_shell.specs.UnitsDocument.{unit_entry, units_document};
 
 use crate::units_fault::UnitsFault;
+use bb_document::shape::{is_object_with, list_at, text_at};
 use bb_schema::Text;
-use bb_schema::shape::{is_object_with, list_at, text_at};
 use serde_json::Value;
 use std::alloc::Global;
 

@@ -1,1 +1,6 @@
 pub mod MapLemmas
+pub mod PlaceLemmas
+pub mod LayoutLemmas
+pub mod KindLemmas
+pub mod FitsLemmas
+pub mod KeptLemmas

@@ -1,2 +1,5 @@
+pub mod Values
+pub mod Layout
 pub mod Units
-pub mod Numbers
+pub mod Codes
+pub mod Fits

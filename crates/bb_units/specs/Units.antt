@@ -1,37 +1,71 @@
--- The units: which numbers are live, and of which class (GBBopen Reference Manual, unit instances).
-use Rattle.std.specs.Prelude.{◌≡◌, ℕ, ◌+◌, ◌^◌, Bool, ◌||◌, nat_le, Option, Result, Ok, Err, if◌then◌else◌, refl}
-use Rattle.bb_units.specs.declared.fault.CreateFault.{CreateFault}
-use Rattle.bb_units.specs.declared.fault.CreateFault.TheVariants.{Full}
+-- The units: which numbers are live, of which class, and with which values (GBBopen Reference Manual, unit instances).
+use Rattle.std.specs.Prelude.{ℕ, ◌+◌, ◌^◌, Bool, ◌||◌, nat_le, List, Option, option_and_then, option_map, Result, Ok, Err, if◌then◌else◌}
+use Rattle.std.specs.Option.{option_map_or}
 use Rattle.std.specs.Ordering.{nat_cmp}
 use Rattle.std.specs.FinMap as map
-use Rattle.std.specs.Coded.{Coded, code_by, coded×, coded_ℕ}
+use Rattle.bb_schema.specs.declared.value.Value.{Value}
+use Rattle.bb_units.specs.declared.fault.CreateFault.{CreateFault}
+use Rattle.bb_units.specs.declared.fault.CreateFault.TheVariants.{Full}
+use Rattle.bb_units.specs.declared.unit.Unit.{Unit}
+use Rattle.bb_units.specs.Values.{value_at, with_value}
+use Rattle.bb_units.specs.Layout.{Layout, blank}
 
 pub record Units : Type 0 where
   -- the number that the next unit gets; numbers begin at 1
   pub next : ℕ
-  -- the class of each live unit
-  pub classes : map.FinMap nat_cmp ℕ
+  -- each live unit under its number: its class and the values of its slots
+  pub units : map.FinMap nat_cmp Unit
+  -- which slots the units of each class have
+  pub layout : Layout
 
-abbrev pub units_code : Coded Units
-units_code = code_by (ℕ × map.FinMap nat_cmp ℕ) (coded× coded_ℕ (map.code coded_ℕ coded_ℕ)) (λ u. (u.next, u.classes)) (λ p. record { next = p.0; classes = p.1 }) (λ _. refl)
+-- the units of some entries
+abbrev pub units_of : List (ℕ × Unit) → map.FinMap nat_cmp Unit
+units_of entries = map.from_entries entries
 
-abbrev pub no_units : Units
-no_units = record { next = 1; classes = map.empty }
+abbrev pub no_units : Layout → Units
+no_units l = record { next = 1; units = map.empty; layout = l }
 
 abbrev pub is_live : Units → ℕ → Bool
-is_live u n = map.contains_key u.classes n
+is_live u n = map.contains_key u.units n
 
 abbrev pub class_of : Units → ℕ → Option ℕ
-class_of u n = map.get u.classes n
+class_of u n = option_map (λ x. x.class) (map.get u.units n)
+
+-- the value of a slot of a unit, if the unit is live and has the slot
+abbrev pub value_among : map.FinMap nat_cmp Unit → ℕ → ℕ → Option Value
+value_among m n slot = option_and_then (λ x. value_at x.values slot) (map.get m n)
+
+abbrev pub value_of : Units → ℕ → ℕ → Option Value
+value_of u n slot = value_among u.units n slot
 
 -- no unit can be created: 65,536 are live, or the last number was given out
 abbrev pub is_full : Units → Bool
-is_full u = nat_le 65536 (map.len u.classes) || nat_le (2 ^ 63) u.next
+is_full u = nat_le 65536 (map.len u.units) || nat_le (2 ^ 63) u.next
 
 -- the number that a new unit gets, if there can be one
 abbrev pub next_number : Units → Result ℕ CreateFault
 next_number u = if is_full u then Err Full else Ok u.next
 
--- a unit more, of this class, under the next number
+-- a unit of a class, with each slot at its default
+abbrev pub new_unit : Layout → ℕ → Unit
+new_unit l class = record { class = class; values = blank l class }
+
+-- a unit more, under the next number
 abbrev pub created : Units → ℕ → Units
-created u class = record { next = u.next + 1; classes = map.insert u.classes u.next class }
+created u class = record { next = u.next + 1; units = map.insert u.units u.next (new_unit u.layout class); layout = u.layout }
+
+-- the same units without one
+abbrev pub deleted : Units → ℕ → Units
+deleted u n = record { next = u.next; units = map.remove u.units n; layout = u.layout }
+
+-- a unit with another value in a slot
+abbrev pub with_slot : Unit → ℕ → Value → Unit
+with_slot x slot value = record { class = x.class; values = with_value x.values slot value }
+
+-- units with another value in a slot of one
+abbrev pub with_value_of : map.FinMap nat_cmp Unit → ℕ → ℕ → Value → map.FinMap nat_cmp Unit
+with_value_of m n slot value = option_map_or (λ x. map.insert m n (with_slot x slot value)) (map.get m n) m
+
+-- the same units, but for one value of one
+abbrev pub updated : Units → ℕ → ℕ → Value → Units
+updated u n slot value = record { next = u.next; units = with_value_of u.units n slot value; layout = u.layout }

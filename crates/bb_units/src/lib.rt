@@ -1,10 +1,13 @@
-//! The units of a blackboard: which numbers are live, and of which class.
+//! The units of a blackboard: which numbers are live, of which class, and with which values.
 #![tactic(auto)]
 
 mod fault;
+mod layout;
 #[cfg(test)]
 mod tests;
+mod unit;
 mod units;
+mod values;
 
 pub use fault::CreateFault;
 pub use units::{UNIT_LIMIT, UnitId, Units};

@@ -1,10 +1,16 @@
-ghost use Rattle.std.specs.Prelude.{◌≡◌, IsTrue, IfOk, OnOk, OnErr, Some};
+ghost use Rattle.std.specs.Prelude.{◌≡◌, ◌↔◌, IsTrue, IsSome, IsSomeAnd, IfOk, OnOk, OnErr, Some, length, option_map};
 ghost use Rattle.std.specs.FinMap as map;
-ghost use Rattle.bb_schema.specs.Answers.{Gives};
-ghost use Rattle.bb_units.specs.Units.{no_units, is_live, class_of, next_number, created};
+ghost use Rattle.bb_document.specs.Answers.{Gives};
+ghost use Rattle.bb_units.specs.Fits.{Fits};
+ghost use Rattle.bb_units.specs.Layout.{layout_of};
+ghost use Rattle.bb_units.specs.Values.{kind_of_value};
+ghost use Rattle.bb_units.specs.Units.{no_units, is_live, class_of, value_of, next_number, created, deleted, updated, units_of, value_among, with_value_of};
 
 use crate::fault::CreateFault;
-use bb_schema::{ClassId, Memory, Schema};
+use crate::layout::Layout;
+use crate::unit::Unit;
+use crate::values::are_of_one_kind;
+use bb_schema::{ClassId, Memory, Schema, SlotId, Value};
 use std::alloc::Global;
 use std::collections::BTreeMap;
 use std::marker::Model;
@@ -21,39 +27,68 @@ const NUMBER_LIMIT: u64 = 1 << 63;
 /// The units of a blackboard, each under its number.
 #[derive(Drop)]
 pub struct Units {
+    alloc: Global,
     next: UnitId,
-    units: BTreeMap<UnitId, ClassId>,
+    units: BTreeMap<UnitId, Unit>,
+    layout: Layout,
 }
 
 impl Model for Units {
-    ghost use Rattle.bb_units.specs.Units.{Units as Numbered, units_code};
-    ghost use Rattle.std.specs.FinMap.{from_entries};
+    ghost use Rattle.bb_units.specs.Units.{Units as Numbered, units_of};
+    ghost use Rattle.bb_units.specs.Codes.{units_code};
 
     ghost Value = { Numbered };
 
     ghost coded = { units_code };
 
-    ghost view = { λ u. record { next = u.next; classes = from_entries u.units.entries } };
+    ghost view = { λ u. record { next = u.next; units = units_of u.units.entries; layout = u.layout } };
 
-    ghost use Rattle.bb_units.specs.Numbers.{AreNumbered};
+    ghost use Rattle.bb_units.specs.Fits.{AreKept};
 
-    ghost invariant = { λ u. AreNumbered u.next u.units.entries };
+    ghost invariant = { λ u. AreKept u.next u.units.entries u.layout };
+}
+
+/// The unit of a number, if it is live.
+fn found(units: &BTreeMap<UnitId, Unit>, unit: UnitId) -> Option<&Unit>
+    ensures { option_map (λ x. x.now) result ≡ map.get (units_of units.now.entries) unit }
+{
+    units.get(&unit)
+}
+
+/// The value of a slot of a unit, if the unit is live and has the slot.
+fn value_in(units: &BTreeMap<UnitId, Unit>, unit: UnitId, slot: SlotId) -> Option<&Value>
+    ensures { option_map (λ v. v.now) result ≡ value_among (units_of units.now.entries) unit slot }
+{
+    found(units, unit)?.values.get(slot)
+}
+
+/// Gives a slot of a live unit another value.
+fn update(units: &mut BTreeMap<UnitId, Unit>, unit: UnitId, slot: SlotId, value: Value)
+    ensures updated { units_of units.new.entries ≡ with_value_of (units_of units.old.entries) unit slot value }
+    ensures len { length units.new.entries ≡ length units.old.entries }
+{
+    match units.get_mut(&unit) {
+        None => drop(value),
+        Some(found) => found.values.set(slot, value),
+    }
 }
 
 impl Units {
     /// No units, of a blackboard with this schema.
-    pub fn new(alloc: Global, _schema: &Schema) -> Result<Units, Memory>
-        ensures { IfOk result (λ units. units ≡ no_units) }
+    pub fn new(alloc: Global, schema: &Schema) -> Result<Units, Memory>
+        ensures { IfOk result (λ units. units ≡ no_units (layout_of schema.now)) }
     {
         Ok(Units {
+            alloc,
             next: 1,
             units: BTreeMap::new(alloc),
+            layout: Layout::of(alloc, schema)?,
         })
     }
 
     /// How many units are live, at most 65,536.
     pub fn count(&self) -> usize
-        ensures { result ≡ map.len self.now.classes }
+        ensures { result ≡ map.len self.now.units }
     {
         self.units.len()
     }
@@ -77,11 +112,36 @@ impl Units {
         requires { IsTrue (is_live self.now unit) }
         ensures { class_of self.now unit ≡ Some result }
     {
-        *self.units.get(&unit).unwrap()
+        found(&self.units, unit).unwrap().class
     }
 
-    /// Creates a unit and answers its number, the next one. `Full`: 65,536 units are live, or each number below 2^63
-    /// was given out. An error changes nothing.
+    /// The value of an ordinary slot of a live unit, one that its class has.
+    pub fn get(&self, unit: UnitId, slot: SlotId) -> &Value
+        requires { IsSome (value_of self.now unit slot) }
+        ensures { value_of self.now unit slot ≡ Some result.now }
+    {
+        value_in(&self.units, unit, slot).unwrap()
+    }
+
+    /// Whether a number names a unit whose class has the ordinary slot.
+    pub fn has(&self, unit: UnitId, slot: SlotId) -> bool
+        ensures { IsTrue result ↔ IsSome (value_of self.now unit slot) }
+    {
+        value_in(&self.units, unit, slot).is_some()
+    }
+
+    /// Whether a number names a unit whose class has the ordinary slot, and a value is of the slot's kind.
+    pub fn takes(&self, unit: UnitId, slot: SlotId, value: &Value) -> bool
+        ensures { IsTrue result ↔ IsSomeAnd (value_of self.now unit slot) (λ before. kind_of_value value.now ≡ kind_of_value before) }
+    {
+        match value_in(&self.units, unit, slot) {
+            None => false,
+            Some(before) => are_of_one_kind(value, before),
+        }
+    }
+
+    /// Creates a unit, each of its slots at its default, and answers its number, the next one. `Full`: 65,536 units are
+    /// live, or each number below 2^63 was given out. An error changes nothing.
     pub fn create(&mut self, class: ClassId) -> Result<UnitId, CreateFault>
         ensures number { Gives CreateFault.Memory (λ number. number) result (next_number self.old) }
         ensures created { OnOk result (self.new ≡ created self.old class) }
@@ -91,8 +151,34 @@ impl Units {
             return Err(CreateFault::Full);
         }
         let number = self.next;
-        self.units.insert(number, class)?;
+        let values = self.layout.blank(self.alloc, class)?;
+        self.units.insert(number, Unit { class, values })?;
         self.next += 1;
         Ok(number)
+    }
+
+    /// Gives an ordinary slot of a live unit another value, of the kind of the one that it has.
+    pub fn set(&mut self, unit: UnitId, slot: SlotId, value: Value)
+        requires { IsSomeAnd (value_of self.old unit slot) (λ before. kind_of_value value ≡ kind_of_value before) }
+        ensures { self.new ≡ updated self.old unit slot value }
+    {
+        update(&mut self.units, unit, slot, value);
+    }
+
+    /// Takes a live unit away. Its number is never used again.
+    pub fn delete(&mut self, unit: UnitId)
+        requires { IsTrue (is_live self.old unit) }
+        ensures { self.new ≡ deleted self.old unit }
+    {
+        self.units.remove(&unit);
+    }
+
+    /// Does nothing, and says what holds of the units at any time: numbers of units were given out, and 0 never is; at
+    /// most 65,536 units are live; and each has exactly the ordinary slots of its class, in class order, with a value
+    /// of the slot's kind.
+    pub fn fits(&self)
+        ensures { Fits self.now }
+    {
+        let _next = self.next;
     }
 }

@@ -1,6 +1,6 @@
 use Rattle.std.proofs.Common.{◌≡◌, drop}
-use Rattle.bb_schema.specs.Answers.{each}
-use Rattle.bb_schema.proofs.EachLemmas.{joined}
+use Rattle.bb_document.specs.Answers.{each}
+use Rattle.bb_document.proofs.EachLemmas.{joined}
 use Rattle.bb_shell.specs.Sources.{clause_of}
 use Rattle.bb_shell.proofs.accept.clauses.Given as goal
 

@@ -1,7 +1,7 @@
 use Rattle.std.proofs.Common.{◌∙◌, sym}
 use Rattle.std.proofs.lemmas.Result.{err_from_is_err_and}
 use Rattle.std.specs.Vec.Iter.{into_iter_items}
-use Rattle.bb_schema.proofs.ThroughLemmas.{through_goes_on, through_exits, through_ends}
+use Rattle.bb_document.proofs.ThroughLemmas.{through_goes_on, through_exits, through_ends}
 use Rattle.bb_shell.specs.Sources.{source_after}
 use Rattle.bb_shell.specs.declared.input_fault.InputFault.TheVariants.{Memory}
 use Rattle.bb_shell.proofs.accept.fit_all.Goals as goal

@@ -1,6 +1,6 @@
 use Rattle.std.proofs.Common.{◌≡◌, ◌≤◌, [], length}
 use Rattle.std.specs.Vec.Iter.{into_iter_items}
-use Rattle.bb_schema.specs.Answers.{through}
+use Rattle.bb_document.specs.Answers.{through}
 use Rattle.bb_shell.specs.Sources.{names_of, source_after}
 use Rattle.bb_shell.proofs.accept.fit_all.Given as goal
 

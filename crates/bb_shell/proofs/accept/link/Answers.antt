@@ -1,5 +1,5 @@
 use Rattle.std.proofs.Common.{rules, ◌≡◌, sym, inl, inr, ap, ◌∙◌, Err}
-use Rattle.bb_schema.specs.Answers.{each}
+use Rattle.bb_document.specs.Answers.{each}
 use Rattle.bb_shell.specs.declared.input_fault.InputFault.TheVariants.{Rule}
 use Rattle.bb_shell.specs.Sources.{Accepted, clause_of, if_linked, linked_source}
 use Rattle.bb_shell.proofs.accept.link.Goals as goal

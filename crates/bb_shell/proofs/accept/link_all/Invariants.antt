@@ -1,7 +1,7 @@
 use Rattle.std.proofs.Common.{◌≡◌}
 use Rattle.std.specs.Vec.Iter.{into_iter_items}
-use Rattle.bb_schema.specs.Answers.{each}
-use Rattle.bb_schema.proofs.EachLemmas.{joined}
+use Rattle.bb_document.specs.Answers.{each}
+use Rattle.bb_document.proofs.EachLemmas.{joined}
 use Rattle.bb_shell.specs.Sources.{linked_source}
 use Rattle.bb_shell.proofs.accept.link_all.Given as goal
 

@@ -3,7 +3,7 @@ use Rattle.std.specs.Str.Lines.{lines}
 use Rattle.std.proofs.lemmas.Result.{err_from_is_err_and}
 use Rattle.std.proofs.lemmas.Iterator.Consumers.{YieldsList-turn, YieldsList-end}
 use Rattle.std.proofs.lemmas.Iterator.Splits.{YieldsList-from_lines}
-use Rattle.bb_schema.specs.Answers.{Gives}
+use Rattle.bb_document.specs.Answers.{Gives}
 use Rattle.bb_shell.specs.declared.bundle.fault.BundleFault.{BundleFault}
 use Rattle.bb_shell.specs.declared.bundle.fault.BundleFault.TheVariants.{Memory}
 use Rattle.bb_shell.specs.SourceCode.{SourceCode}

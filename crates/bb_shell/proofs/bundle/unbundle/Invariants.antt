@@ -1,6 +1,6 @@
 use Rattle.std.proofs.Common.{◌≡◌, length, drop}
 use Rattle.std.specs.Str.Lines.{lines}
-use Rattle.bb_schema.specs.Answers.{through}
+use Rattle.bb_document.specs.Answers.{through}
 use Rattle.bb_shell.specs.Bundle.{start, line_after, reading_of}
 use Rattle.bb_shell.proofs.bundle.unbundle.Given as goal
 

@@ -2,7 +2,7 @@ use Rattle.std.proofs.lemmas.Result.{err_from_is_err_and}
 use Rattle.serde_json.specs.View.{view}
 use Rattle.bb_shell.specs.UnitsDocument.{unit_entry}
 use Rattle.bb_shell.specs.declared.units_fault.UnitsFault.TheVariants.{Memory}
-use Rattle.bb_schema.proofs.EachLemmas.{each_exits, each_goes_on, each_ends}
+use Rattle.bb_document.proofs.EachLemmas.{each_exits, each_goes_on, each_ends}
 use Rattle.bb_shell.proofs.units_document.unit_entries.Goals as goal
 
 pub returns-in_err-unit_entry : goal.returns-in_err-unit_entry

@@ -1,7 +1,7 @@
 use Rattle.std.proofs.Common.{◌≡◌, drop, map}
 use Rattle.serde_json.specs.View.{view}
-use Rattle.bb_schema.specs.Answers.{each}
-use Rattle.bb_schema.proofs.EachLemmas.{joined}
+use Rattle.bb_document.specs.Answers.{each}
+use Rattle.bb_document.proofs.EachLemmas.{joined}
 use Rattle.bb_shell.specs.UnitsDocument.{unit_entry}
 use Rattle.bb_shell.proofs.units_document.unit_entries.Given as goal
 

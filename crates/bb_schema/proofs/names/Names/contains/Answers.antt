@@ -1,4 +1,4 @@
-use Rattle.std.proofs.Common.{◌≡◌, ◌∙◌, sym, string_bytes}
+use Rattle.std.proofs.Common.{◌∙◌, sym, string_bytes}
 use Rattle.std.specs.Str.{bytes_eq}
 use Rattle.bb_schema.proofs.ListLemmas.{list_any-map}
 use Rattle.bb_schema.proofs.names.Names.contains.Goals as goal

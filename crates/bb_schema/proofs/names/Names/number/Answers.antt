@@ -1,4 +1,4 @@
-use Rattle.std.proofs.Common.{◌≡◌, ◌∙◌, sym, string_bytes}
+use Rattle.std.proofs.Common.{◌∙◌, sym, string_bytes}
 use Rattle.std.specs.Str.{bytes_eq}
 use Rattle.bb_schema.proofs.ListLemmas.{position-map}
 use Rattle.bb_schema.proofs.names.Names.number.Goals as goal

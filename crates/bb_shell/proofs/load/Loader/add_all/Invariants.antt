@@ -1,6 +1,6 @@
 use Rattle.std.proofs.Common.{◌≡◌}
 use Rattle.std.specs.Vec.Iter.{into_iter_items}
-use Rattle.bb_schema.specs.Answers.{through}
+use Rattle.bb_document.specs.Answers.{through}
 use Rattle.bb_shell.specs.Load.{progress, unit_after}
 use Rattle.bb_shell.proofs.load.Loader.add_all.Given as goal
 

@@ -1,4 +1,4 @@
-use Rattle.std.proofs.Common.{◌≡◌, ◌∙◌, sym, ap}
+use Rattle.std.proofs.Common.{◌∙◌, sym, ap}
 use Rattle.std.specs.Prelude.{is_some}
 use Rattle.bb_units.proofs.MapLemmas.{get_is_lookup}
 use Rattle.bb_units.proofs.units.Units.live.Goals as goal

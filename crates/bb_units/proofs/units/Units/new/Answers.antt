@@ -1,5 +1,5 @@
-use Rattle.bb_units.proofs.MapLemmas.{numbered_none}
+use Rattle.bb_units.proofs.KeptLemmas.{kept_none}
 use Rattle.bb_units.proofs.units.Units.new.Goals as goal
 
 pub invariant_of-result : goal.invariant_of-result
-invariant_of-result c = numbered_none c.new.result.entries c.new.ensures.empty
+invariant_of-result c = kept_none c.in_ok-of.field-0 c.new.result.entries c.new.ensures.empty

@@ -1,9 +1,0 @@
-use Rattle.std.proofs.Common.{◌≡◌, drop, map}
-use Rattle.serde_json.specs.View.{view}
-use Rattle.bb_schema.specs.Answers.{each}
-use Rattle.bb_schema.specs.Document.{class_entry}
-use Rattle.bb_schema.proofs.EachLemmas.{joined}
-use Rattle.bb_schema.proofs.document.class_entries.Given as goal
-
-abbrev pub invariant-loop-value : goal.invariant-loop-value
-invariant-loop-value l = joined l.entries.items (each class_entry (drop l.value-index (map view l.values))) ≡ each class_entry (map view l.values)

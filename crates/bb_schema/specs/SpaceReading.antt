@@ -1,0 +1,60 @@
+-- The spaces that a document's entries mean, one after another, over a schema that has no spaces yet.
+use Rattle.std.specs.Prelude.{ℕ, Bool, true, false, not, ◌==◌, ◌∷◌, [], ◌++◌, nat_le, List, map, length, Option, Some, None, Result, Ok, Err, if◌then◌else◌}
+use Rattle.std.specs.List.{list_any, list_all}
+use Rattle.std.specs.Option.{option_map_or}
+use Rattle.std.specs.Str.{bytes_eq}
+use Rattle.bb_document.specs.Answers.{◌>>=◌, expected, through}
+use Rattle.bb_document.specs.Document.{SpaceDeclaration, DimDeclaration}
+use Rattle.bb_schema.specs.declared.fault.SchemaFault.{SchemaFault}
+use Rattle.bb_schema.specs.declared.fault.SchemaFault.TheVariants as faults
+use Rattle.bb_schema.specs.declared.slot.Kind.{Kind}
+use Rattle.bb_schema.specs.declared.slot.Kind.TheVariants.{Int, Label, Interval}
+use Rattle.bb_schema.specs.declared.space.Space.{Space}
+use Rattle.bb_schema.specs.declared.space.Dim.{Dim}
+use Rattle.bb_schema.specs.Names.{is_name}
+use Rattle.bb_schema.specs.Schema.{Schema, class_named, label_set_named, slot_named, kind_of_slot}
+
+-- the class stands among these
+unfoldable pub is_among : List ℕ → ℕ → Bool
+is_among listed c = list_any (λ d. d == c) listed
+
+-- the classes of a space with one more, or what is wrong with it
+unfoldable pub listed_after : Schema → List ℕ → List ℕ → Result (List ℕ) SchemaFault
+listed_after s listed name = expected faults.Unknown (class_named s name) >>= λ c.
+    if is_among listed c then Err faults.Twice else Ok (listed ++ c ∷ [])
+
+-- an ordered dimension reads numbers and intervals, an enumerated one labels of its set
+abbrev pub suits : Option ℕ → Kind → Bool
+suits None Int = true
+suits None Interval = true
+suits (Some set) (Label other) = other == set
+suits _ _ = false
+
+-- the class has a slot for the dimension of the name
+unfoldable pub has_slot_for : Schema → List ℕ → Option ℕ → ℕ → Bool
+has_slot_for s name set c = option_map_or (λ n. option_map_or (suits set) (kind_of_slot s n) false) (slot_named s c name) false
+
+-- the label set of a dimension
+abbrev pub set_number : Schema → Option (List ℕ) → Result (Option ℕ) SchemaFault
+set_number s None = Ok None
+set_number s (Some name) = expected faults.Unknown (label_set_named s name) >>= λ set. Ok (Some set)
+
+-- the dimensions with one more, of a space that lists these classes
+unfoldable pub dim_after : Schema → List ℕ → List Dim → DimDeclaration → Result (List Dim) SchemaFault
+dim_after s listed dims entry =
+    if not (is_name entry.name) then Err faults.Name
+    else if list_any (bytes_eq entry.name) (map (λ d. d.name) dims) then Err faults.Twice
+    else set_number s entry.of >>= λ set.
+    if not (list_all (has_slot_for s entry.name set) listed) then Err faults.Dimension
+    else if nat_le 16 (length dims) then Err faults.Limit
+    else Ok (dims ++ record { name = entry.name; set = set } ∷ [])
+
+-- the spaces with one more
+unfoldable pub space_after : Schema → List Space → SpaceDeclaration → Result (List Space) SchemaFault
+space_after s spaces entry =
+    if not (is_name entry.name) then Err faults.Name
+    else if list_any (bytes_eq entry.name) (map (λ p. p.name) spaces) then Err faults.Twice
+    else if nat_le 256 (length spaces) then Err faults.Limit
+    else through (listed_after s) [] entry.classes >>= λ listed.
+    through (dim_after s listed) [] entry.dims >>= λ dims.
+    Ok (spaces ++ record { name = entry.name; classes = listed; dims = dims } ∷ [])

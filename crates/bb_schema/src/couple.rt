@@ -1,0 +1,64 @@
+ghost use Rattle.std.specs.Prelude.{◌≡◌, ◌≤◌, ◌<◌, length, IfOk};
+ghost use Rattle.bb_schema.specs.Couples.{comes_first, firsts, counts, couple_end};
+
+use crate::slot::{Content, Link, Slot, SlotId};
+use std::alloc::{AllocError, Global};
+
+/// The number of a couple of link slots that are each other's inverse, by the order of their first slots.
+pub type CoupleId = u16;
+
+/// One of the two slots of a couple.
+#[derive(Clone, Copy, Debug, PartialEq, Eq, Drop)]
+pub enum Side {
+    /// The slot of the lower number.
+    A,
+    /// The slot of the higher number.
+    B,
+}
+
+/// Whether a slot is a link slot and comes before its inverse.
+fn comes_first(number: usize, slot: &Slot) -> bool
+    ensures { result ≡ comes_first number slot.now }
+{
+    match &slot.content {
+        Content::Default(_) => false,
+        Content::Link(link) => number < link.inverse as usize,
+    }
+}
+
+/// For each slot, how many couples come before it, and how many there are.
+pub(crate) fn count_couples(
+    alloc: Global,
+    slots: &[Slot],
+) -> Result<(Vec<CoupleId>, usize), AllocError>
+    requires { length slots.now ≤ 65536 }
+    ensures { IfOk result (λ counted. (counted.0.items ≡ counts 0 0 slots.now) × (counted.1 ≡ length (firsts 0 slots.now))) }
+{
+    let mut befores = Vec::new(alloc);
+    let mut count = 0usize;
+    for (number, slot) in slots.iter().enumerate() {
+        befores.push(count as u16)?;
+        if comes_first(number, slot) {
+            count += 1;
+        }
+    }
+    Ok((befores, count))
+}
+
+/// The couple of a link slot, and which side the slot is. `befores` has for each slot how many couples come before it.
+pub(crate) fn couple_end(
+    slots: &[Slot],
+    befores: &[CoupleId],
+    slot: SlotId,
+    link: Link,
+) -> (CoupleId, Side)
+    requires counted { befores.now ≡ counts 0 0 slots.now }
+    requires slot { slot < length slots.now }
+    requires inverse { link.inverse < length slots.now }
+    ensures { result ≡ couple_end slots.now slot link }
+{
+    if slot < link.inverse {
+        return (befores[slot as usize], Side::A);
+    }
+    (befores[link.inverse as usize], Side::B)
+}

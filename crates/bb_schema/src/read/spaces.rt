@@ -1,0 +1,185 @@
+ghost use Rattle.std.specs.Prelude.{◌≡◌, [], map, option_map, string_bytes};
+ghost use Rattle.std.specs.List.{list_all};
+ghost use Rattle.bb_document.specs.Answers.{Gives, through};
+ghost use Rattle.bb_document.specs.Document.{dim_declaration, space_declaration};
+ghost use Rattle.bb_schema.specs.declared.fault.SchemaFault.TheVariants.{Memory as OutOfMemory};
+ghost use Rattle.bb_schema.specs.SpaceReading.{listed_after, suits, has_slot_for, set_number, dim_after, space_after};
+
+use crate::class::ClassId;
+use crate::class_set::ClassSet;
+use crate::fault::SchemaFault;
+use crate::label_set::LabelSetId;
+use crate::name::is_name;
+use crate::schema::Schema;
+use crate::slot::Kind;
+use crate::space::{Dim, Space};
+use crate::table::Table;
+use crate::text::Text;
+use bb_document::{DimEntry, SpaceEntry};
+use std::alloc::Global;
+
+/// The greatest number of spaces.
+pub const SPACE_LIMIT: usize = 256;
+
+/// The greatest number of dimensions of a space.
+pub const DIM_LIMIT: usize = 16;
+
+#[tactic(auto, unfolding(crate::specs::SpaceReading::listed_after, crate::specs::SpaceReading::is_among))]
+fn add_listed(schema: &Schema, listed: &mut ClassSet, name: &str) -> Result<(), SchemaFault>
+    ensures { Gives OutOfMemory (λ _. listed.new) result (listed_after schema.now listed.old name.now) }
+{
+    let class = schema.class(name).ok_or(SchemaFault::Unknown)?;
+    if listed.contains(class) {
+        return Err(SchemaFault::Twice);
+    }
+    listed.push(class)?;
+    Ok(())
+}
+
+fn listed_of(alloc: Global, schema: &Schema, names: &[String]) -> Result<ClassSet, SchemaFault>
+    ensures { Gives OutOfMemory (λ listed. listed) result (through (listed_after schema.now) [] (map string_bytes names.now)) }
+{
+    let mut listed = ClassSet::new(alloc);
+    for name in names {
+        add_listed(schema, &mut listed, name.as_str())?;
+    }
+    Ok(listed)
+}
+
+/// Whether a dimension can read a slot of the kind: an ordered one numbers and intervals, an enumerated one labels of
+/// its set.
+fn suits(set: Option<LabelSetId>, kind: Kind) -> bool
+    ensures { result ≡ suits set kind }
+{
+    match (set, kind) {
+        (None, Kind::Int) => true,
+        (None, Kind::Interval) => true,
+        (Some(set), Kind::Label(other)) => other == set,
+        _ => false,
+    }
+}
+
+#[tactic(auto, unfolding(crate::specs::SpaceReading::has_slot_for))]
+fn has_slot_for(schema: &Schema, name: &str, set: Option<LabelSetId>, class: ClassId) -> bool
+    ensures { result ≡ has_slot_for schema.now name.now set class }
+{
+    match schema.slot(class, name) {
+        None => false,
+        Some(slot) => match schema.kind_at(slot) {
+            None => false,
+            Some(kind) => suits(set, kind),
+        },
+    }
+}
+
+fn have_slots_for(schema: &Schema, name: &str, set: Option<LabelSetId>, listed: &[ClassId]) -> bool
+    ensures { result ≡ list_all (has_slot_for schema.now name.now set) listed.now }
+{
+    listed
+        .iter()
+        .all(|class| has_slot_for(schema, name, set, *class))
+}
+
+fn set_number(schema: &Schema, of: &Option<String>) -> Result<Option<LabelSetId>, SchemaFault>
+    ensures { Gives OutOfMemory (λ set. set) result (set_number schema.now (option_map string_bytes of.now)) }
+{
+    match of {
+        None => Ok(None),
+        Some(name) => {
+            let set = schema.label_set(name.as_str()).ok_or(SchemaFault::Unknown)?;
+            Ok(Some(set))
+        }
+    }
+}
+
+#[tactic(auto, unfolding(crate::specs::SpaceReading::dim_after))]
+fn add_dim(
+    alloc: Global,
+    schema: &Schema,
+    listed: &[ClassId],
+    dims: &mut Table<Dim>,
+    entry: &DimEntry,
+) -> Result<(), SchemaFault>
+    ensures { Gives OutOfMemory (λ _. dims.new) result (dim_after schema.now listed.now dims.old (dim_declaration entry.now)) }
+{
+    let name = entry.name.as_str();
+    if !is_name(name) {
+        return Err(SchemaFault::Name);
+    }
+    if dims.contains(name) {
+        return Err(SchemaFault::Twice);
+    }
+    let set = set_number(schema, &entry.of)?;
+    if !have_slots_for(schema, name, set, listed) {
+        return Err(SchemaFault::Dimension);
+    }
+    if dims.len() >= DIM_LIMIT {
+        return Err(SchemaFault::Limit);
+    }
+    let name = Text::from_str(alloc, name)?;
+    dims.push(alloc, Dim { name, set })?;
+    Ok(())
+}
+
+fn dims_of(
+    alloc: Global,
+    schema: &Schema,
+    listed: &[ClassId],
+    entries: &[DimEntry],
+) -> Result<Table<Dim>, SchemaFault>
+    ensures { Gives OutOfMemory (λ dims. dims) result (through (dim_after schema.now listed.now) [] (map dim_declaration entries.now)) }
+{
+    let mut dims = Table::new(alloc);
+    for entry in entries {
+        add_dim(alloc, schema, listed, &mut dims, entry)?;
+    }
+    Ok(dims)
+}
+
+#[tactic(auto, unfolding(crate::specs::SpaceReading::space_after))]
+fn add_space(
+    alloc: Global,
+    schema: &Schema,
+    spaces: &mut Table<Space>,
+    entry: &SpaceEntry,
+) -> Result<(), SchemaFault>
+    ensures { Gives OutOfMemory (λ _. spaces.new) result (space_after schema.now spaces.old (space_declaration entry.now)) }
+{
+    let name = entry.name.as_str();
+    if !is_name(name) {
+        return Err(SchemaFault::Name);
+    }
+    if spaces.contains(name) {
+        return Err(SchemaFault::Twice);
+    }
+    if spaces.len() >= SPACE_LIMIT {
+        return Err(SchemaFault::Limit);
+    }
+    let classes = listed_of(alloc, schema, &entry.classes)?;
+    let dims = dims_of(alloc, schema, classes.as_slice(), &entry.dims)?;
+    let name = Text::from_str(alloc, name)?;
+    spaces.push(
+        alloc,
+        Space {
+            name,
+            classes,
+            dims,
+        },
+    )?;
+    Ok(())
+}
+
+/// The spaces of all entries, over a schema that has none yet.
+pub(crate) fn spaces_of(
+    alloc: Global,
+    schema: &Schema,
+    entries: &[SpaceEntry],
+) -> Result<Table<Space>, SchemaFault>
+    ensures { Gives OutOfMemory (λ spaces. spaces) result (through (space_after schema.now) [] (map space_declaration entries.now)) }
+{
+    let mut spaces = Table::new(alloc);
+    for entry in entries {
+        add_space(alloc, schema, &mut spaces, entry)?;
+    }
+    Ok(spaces)
+}

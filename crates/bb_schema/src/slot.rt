@@ -1,0 +1,104 @@
+ghost use Rattle.std.specs.Prelude.{◌≡◌};
+ghost use Rattle.std.specs.List.{find};
+ghost use Rattle.bb_schema.specs.Kinds.{kind_of};
+ghost use Rattle.bb_schema.specs.Schema.{has_name, link_in, link_of};
+
+use crate::class::ClassId;
+use crate::label_set::LabelSetId;
+use crate::text::Text;
+use crate::value::Value;
+
+/// The number of a slot: 0 to 3 are those of `focus`, then class by class the own ordinary slots and the own link
+/// slots. An inherited slot keeps its number.
+pub type SlotId = u16;
+
+/// What a slot can hold.
+#[derive(Clone, Copy, Debug, PartialEq, Drop)]
+pub enum Kind {
+    Int,
+    Text,
+    Bool,
+    /// A label of a set.
+    Label(LabelSetId),
+    Interval,
+    Link(Link),
+}
+
+/// A link slot leads to units of a class. Its inverse is a slot of that class, and leads back.
+#[derive(Clone, Copy, Debug, PartialEq, Drop)]
+pub struct Link {
+    pub to: ClassId,
+    /// Whether it may hold more than one unit.
+    pub many: bool,
+    pub inverse: SlotId,
+}
+
+/// What a slot holds in a new unit: an ordinary one its default, a link slot no unit.
+#[derive(Debug, PartialEq, Drop)]
+pub enum Content {
+    Default(Value),
+    Link(Link),
+}
+
+impl Content {
+    /// The kind, which the default tells.
+    pub fn kind(&self) -> Kind
+        ensures { result ≡ kind_of self.now }
+    {
+        match self {
+            Content::Default(Value::Int(_)) => Kind::Int,
+            Content::Default(Value::Text(_)) => Kind::Text,
+            Content::Default(Value::Bool(_)) => Kind::Bool,
+            Content::Default(Value::Label(set, _)) => Kind::Label(*set),
+            Content::Default(Value::Interval(_, _)) => Kind::Interval,
+            Content::Link(link) => Kind::Link(*link),
+        }
+    }
+
+    /// The link of a link slot.
+    pub fn link(&self) -> Option<Link>
+        ensures { result ≡ link_in self.now }
+    {
+        match self {
+            Content::Default(_) => None,
+            Content::Link(link) => Some(*link),
+        }
+    }
+}
+
+/// A slot of a class.
+#[derive(Debug, PartialEq, Drop)]
+pub struct Slot {
+    pub name: Text,
+    /// The class that declares it.
+    pub owner: ClassId,
+    pub content: Content,
+}
+
+/// Whether the slot of a number has the name.
+#[tactic(auto, unfolding(crate::specs::Schema::has_name))]
+fn has_name(slots: &[Slot], slot: SlotId, name: &str) -> bool
+    ensures { result ≡ has_name slots.now name.now slot }
+{
+    match slots.get(slot as usize) {
+        None => false,
+        Some(found) => name == found.name.as_str(),
+    }
+}
+
+/// The first of some slots that has the name.
+pub(crate) fn find_slot(slots: &[Slot], numbers: &[SlotId], name: &str) -> Option<SlotId>
+    ensures { result ≡ find (has_name slots.now name.now) numbers.now }
+{
+    numbers
+        .iter()
+        .copied()
+        .find(|number| has_name(slots, *number, name))
+}
+
+/// The link of the slot of a number, if it is there and a link slot.
+pub(crate) fn link_at(slots: &[Slot], slot: SlotId) -> Option<Link>
+    ensures { result ≡ link_of slots.now slot }
+{
+    slots.get(slot as usize)?.content.link()
+}

@@ -1,0 +1,40 @@
+use crate::class_set::ClassSet;
+use crate::label_set::LabelSetId;
+use crate::table::{Named, Table};
+use crate::text::Text;
+
+/// The number of a space, in the order of the document.
+pub type SpaceId = u16;
+
+/// A dimension of a space, which reads the slot of its name: an enumerated one a label of a set, an ordered one a
+/// number or an interval.
+#[derive(Debug, PartialEq, Drop)]
+pub struct Dim {
+    pub name: Text,
+    /// The label set of an enumerated one.
+    pub set: Option<LabelSetId>,
+}
+
+impl Named for Dim {
+    ghost name_of = { λ d. d.name };
+
+    fn name(&self) -> &str {
+        self.name.as_str()
+    }
+}
+
+/// A space, which admits units of its classes and of all classes below them.
+#[derive(PartialEq, Drop)]
+pub struct Space {
+    pub name: Text,
+    pub classes: ClassSet,
+    pub dims: Table<Dim>,
+}
+
+impl Named for Space {
+    ghost name_of = { λ p. p.name };
+
+    fn name(&self) -> &str {
+        self.name.as_str()
+    }
+}

@@ -1,0 +1,28 @@
+-- Which slots the units of a class have, and what a new unit has in them.
+use Rattle.std.specs.Prelude.{ℕ, List, [], map, Option, slice_get, option_map, option_and_then}
+use Rattle.std.specs.List.{filter_map}
+use Rattle.std.specs.Option.{option_map_or}
+use Rattle.bb_schema.specs.declared.value.Value.{Value}
+use Rattle.bb_schema.specs.Schema.{Schema, default_in}
+
+pub record Layout : Type 0 where
+  -- by class, all its slots in class order
+  pub slots : List (List ℕ)
+  -- by slot, the default of an ordinary one
+  pub defaults : List (Option Value)
+
+-- the layout of the units of a schema
+abbrev pub layout_of : Schema → Layout
+layout_of s = record { slots = map (λ k. k.slots) s.classes; defaults = map (λ t. default_in t.content) s.slots }
+
+-- the default of an ordinary slot
+abbrev pub default_at : List (Option Value) → ℕ → Option Value
+default_at defaults slot = option_and_then (λ default. default) (slice_get defaults slot)
+
+-- the ordinary ones of some slots, each with its default
+abbrev pub defaults_of : List (Option Value) → List ℕ → List (ℕ × Value)
+defaults_of defaults slots = filter_map (λ slot. option_map (λ value. (slot, value)) (default_at defaults slot)) slots
+
+-- the values of a new unit of a class
+abbrev pub blank : Layout → ℕ → List (ℕ × Value)
+blank l class = option_map_or (defaults_of l.defaults) (slice_get l.slots class) []

@@ -1,0 +1,113 @@
+ghost use Rattle.std.specs.Prelude.{◌≡◌, ◌<◌, IfOk, length, map, option_map};
+ghost use Rattle.bb_schema.specs.Schema.{default_in, default_of};
+ghost use Rattle.bb_units.specs.Layout.{layout_of, default_at, defaults_of, blank};
+
+use crate::values::Values;
+use bb_schema::{ClassId, Kind, Memory, Schema, SlotId, Value};
+use std::alloc::Global;
+use std::marker::Model;
+
+/// What the units keep of their schema: which slots each class has, and what a new unit has in them.
+#[derive(Drop)]
+pub(crate) struct Layout {
+    // By class, all its slots in class order.
+    slots: Vec<Vec<SlotId>>,
+    // By slot, the default of an ordinary one.
+    defaults: Vec<Option<Value>>,
+}
+
+impl Model for Layout {
+    ghost use Rattle.std.specs.Prelude.{map};
+    ghost use Rattle.bb_units.specs.Layout.{Layout as Known};
+
+    ghost Value = { Known };
+
+    ghost view = { λ l. record { slots = map (λ v. v.items) l.slots.items; defaults = l.defaults.items } };
+}
+
+/// The default of an ordinary slot.
+fn default_at(defaults: &[Option<Value>], slot: SlotId) -> Option<&Value>
+    ensures { option_map (λ v. v.now) result ≡ default_at defaults.now slot }
+{
+    match defaults.get(slot as usize) {
+        Some(Some(value)) => Some(value),
+        _ => None,
+    }
+}
+
+/// The slots that have a default, each with it, in their order.
+fn defaults_of(
+    alloc: Global,
+    defaults: &[Option<Value>],
+    slots: &[SlotId],
+) -> Result<Values, Memory>
+    ensures { IfOk result (λ values. values ≡ defaults_of defaults.now slots.now) }
+{
+    let mut values = Values::new(alloc);
+    for slot in slots {
+        let Some(value) = default_at(defaults, *slot) else {
+            continue;
+        };
+        values.push(*slot, value.try_clone()?)?;
+    }
+    Ok(values)
+}
+
+/// By class, all its slots in class order.
+fn slots_by_class(alloc: Global, schema: &Schema) -> Result<Vec<Vec<SlotId>>, Memory>
+    ensures { IfOk result (λ lists. map (λ v. v.items) lists.items ≡ map (λ k. k.slots) schema.now.classes) }
+{
+    // At most 256 classes.
+    schema.fits();
+    let mut lists = Vec::new(alloc);
+    for class in 0..schema.class_count() {
+        lists.push(schema.slots(class as ClassId).to_vec(alloc)?)?;
+    }
+    Ok(lists)
+}
+
+/// What a new unit has in a slot. A link slot is `None`.
+fn default_of(schema: &Schema, slot: SlotId) -> Result<Option<Value>, Memory>
+    requires { slot < length schema.now.slots }
+    ensures { IfOk result (λ default. default ≡ default_of schema.now slot) }
+{
+    match schema.kind(slot) {
+        Kind::Link(_) => Ok(None),
+        _ => Ok(Some(schema.default(slot).try_clone()?)),
+    }
+}
+
+/// By slot, the default of an ordinary one.
+fn defaults_by_slot(alloc: Global, schema: &Schema) -> Result<Vec<Option<Value>>, Memory>
+    ensures { IfOk result (λ defaults. defaults.items ≡ map (λ t. default_in t.content) schema.now.slots) }
+{
+    // At most 65,536 slots.
+    schema.fits();
+    let mut defaults = Vec::new(alloc);
+    for slot in 0..schema.slot_count() {
+        defaults.push(default_of(schema, slot as SlotId)?)?;
+    }
+    Ok(defaults)
+}
+
+impl Layout {
+    /// What the units of a schema keep of it.
+    pub(crate) fn of(alloc: Global, schema: &Schema) -> Result<Layout, Memory>
+        ensures { IfOk result (λ layout. layout ≡ layout_of schema.now) }
+    {
+        Ok(Layout {
+            slots: slots_by_class(alloc, schema)?,
+            defaults: defaults_by_slot(alloc, schema)?,
+        })
+    }
+
+    /// The values of a new unit: each ordinary slot of its class with its default. A class that isn't there has none.
+    pub(crate) fn blank(&self, alloc: Global, class: ClassId) -> Result<Values, Memory>
+        ensures { IfOk result (λ values. values ≡ blank self.now class) }
+    {
+        match self.slots.get(class as usize) {
+            None => Ok(Values::new(alloc)),
+            Some(slots) => defaults_of(alloc, &self.defaults, slots),
+        }
+    }
+}
