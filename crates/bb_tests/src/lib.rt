@@ -14,4 +14,6 @@ mod refusals;
 #[cfg(test)]
 mod said;
 #[cfg(test)]
+mod schemas;
+#[cfg(test)]
 mod traces;
