@@ -9,11 +9,15 @@ use Rattle.std.proofs.lemmas.Nat.{be_bytes_2, from_be_bytes-to_be_bytes_2}
 use Rattle.std.proofs.lemmas.Str.{IsUtf8-from_is_utf8, is_utf8-from_IsUtf8}
 use Rattle.bb_code.specs.declared.fault.CodeFault.{CodeFault}
 use Rattle.bb_code.specs.declared.fault.CodeFault.TheVariants.{Short, Limit, Operand, Opcode}
+use Rattle.bb_code.specs.declared.code.TheConstants.{SAID_LIMIT}
+use Rattle.bb_code.specs.declared.opcode.TheConstants.{PUSH_TEXT, SAY, DONE}
 use Rattle.bb_code.specs.declared.op.Op.{Op}
 use Rattle.bb_code.specs.declared.op.Op.TheVariants.{PushText, Say, Done}
 use Rattle.bb_code.specs.Code.{IsText, IsOp}
 use Rattle.bb_code.specs.Spelling.{two_bytes, text_bytes, op_bytes}
-use Rattle.bb_code.specs.Reading.{◌>>=◌, byte_at, number_at, within, count_at, text_at, push_text_at, say_at, operand_at, op_at}
+use Rattle.bb_basis.specs.Results.{◌>>=◌}
+use Rattle.bb_basis.proofs.ResultLemmas.{bind_ok, guard_ok, same_ok}
+use Rattle.bb_code.specs.Reading.{byte_at, number_at, within, count_at, text_at, push_text_at, say_at, operand_at, op_at}
 
 -- ---- tools
 
@@ -34,16 +38,6 @@ IsBytes-take n bytes fits i =
 pub IsBytes-rest : (b : ℕ) (bytes : List ℕ) → IsBytes (b ∷ bytes) → IsBytes bytes
 IsBytes-rest b bytes fits i = fits (suc i)
 
--- a step that did not fail has a value, and the next one went on from there
-pub bind_ok : {A B : Type 0} (r : Result A CodeFault) (next : A → Result B CodeFault) (y : B) → (r >>= next) ≡ Ok y → (x : A) × (r ≡ Ok x) × (next x ≡ Ok y)
-bind_ok (Ok x) next y e = (x, refl, e)
-bind_ok (Err fault) next y e = absurd cc
-
--- a test for a fault that found none
-pub past : {A : Type 0} (b : Bool) (fault : CodeFault) (r : Result A CodeFault) (y : A) → cond b (Err fault) r ≡ Ok y → (b ≡ false) × (r ≡ Ok y)
-past true fault r y e = absurd cc
-past false fault r y e = (refl, e)
-
 -- a test that was met, since otherwise there is a fault
 pub met : {A : Type 0} (b : Bool) (fault : CodeFault) (r : Result A CodeFault) (y : A) → cond b r (Err fault) ≡ Ok y → (b ≡ true) × (r ≡ Ok y)
 met true fault r y e = (refl, e)
@@ -56,9 +50,6 @@ chosen false x y z e = inr (refl, e)
 
 abbrev read : {A : Type 0} → A → Result A CodeFault
 read x = Ok x
-
-pub ok_is : {A : Type 0} (x y : A) → read x ≡ read y → x ≡ y
-ok_is x y e = cc
 
 -- what was taken from the front, and what is left
 pub record Takes (bytes front rest : List ℕ) : Type 0 where
@@ -78,7 +69,7 @@ pub record IsSpelled (A : Type 0) (field : List ℕ → Result (A × List ℕ) C
 byte_takes : (bytes : List ℕ) (x : ℕ × List ℕ) → IsBytes bytes → byte_at bytes ≡ Ok x → Takes bytes (x.0 ∷ []) x.1 × (x.0 < 256)
 byte_takes [] x fits e = absurd cc
 byte_takes (b ∷ bytes) x fits e =
-    subst (λ (y : ℕ × List ℕ). Takes (b ∷ bytes) (y.0 ∷ []) y.1 × (y.0 < 256)) (ok_is (b, bytes) x e) (record { parts = refl; rest_fits = IsBytes-rest b bytes fits }, fits 0)
+    subst (λ (y : ℕ × List ℕ). Takes (b ∷ bytes) (y.0 ∷ []) y.1 × (y.0 < 256)) (same_ok (b, bytes) x e) (record { parts = refl; rest_fits = IsBytes-rest b bytes fits }, fits 0)
 
 pub byte_spelled : IsSpelled ℕ byte_at (λ n. n ∷ []) (λ n. n < 256)
 byte_spelled = record { takes = byte_takes; again = λ n rest fits. refl }
@@ -93,7 +84,7 @@ number_takes (high ∷ low ∷ rest) x fits e =
     let both_fit : IsBytes (high ∷ low ∷ []) = IsBytes-take 2 (high ∷ low ∷ rest) fits in
     let front : two_bytes n ≡ high ∷ low ∷ [] = be_bytes_2 (high ∷ low ∷ []) n refl both_fit refl in
     let rest_fits : IsBytes rest = IsBytes-rest low rest (IsBytes-rest high (low ∷ rest) fits) in
-    subst (λ (y : ℕ × List ℕ). Takes (high ∷ low ∷ rest) (two_bytes y.0) y.1 × (y.0 < 2 ^ 16)) (ok_is (n, rest) x e)
+    subst (λ (y : ℕ × List ℕ). Takes (high ∷ low ∷ rest) (two_bytes y.0) y.1 × (y.0 < 2 ^ 16)) (same_ok (n, rest) x e)
     (record { parts = ap (λ (t : List ℕ). t ++ rest) (sym front); rest_fits = rest_fits }, omega (arith, fits 0, fits 1))
 
 number_again : (n : ℕ) (rest : List ℕ) → n < 2 ^ 16 → number_at (two_bytes n ++ rest) ≡ Ok (n, rest)
@@ -106,9 +97,9 @@ number_spelled = record { takes = number_takes; again = number_again }
 
 pub within_is : (low high : ℕ) (n x : ℕ × List ℕ) → within low high n ≡ Ok x → (low ≤ n.0) × (n.0 ≤ high) × (n ≡ x)
 within_is low high n x e =
-    let above = past (ltb n.0 low) Limit (cond (ltb high n.0) (Err Limit) (Ok n)) x e in
-    let below = past (ltb high n.0) Limit (Ok n) x above.1 in
-    (ltb-false _ _ above.0, ltb-false _ _ below.0, ok_is n x below.1)
+    let above = guard_ok (ltb n.0 low) Limit (cond (ltb high n.0) (Err Limit) (Ok n)) x e in
+    let below = guard_ok (ltb high n.0) Limit (Ok n) x above.1 in
+    (ltb-false _ _ above.0, ltb-false _ _ below.0, same_ok n x below.1)
 
 pub within_again : (low high : ℕ) (n : ℕ × List ℕ) → low ≤ n.0 → n.0 ≤ high → within low high n ≡ Ok n
 within_again low high n above below =
@@ -143,7 +134,7 @@ unfolding text_at
 text_takes bytes x fits e =
     let n = bind_ok (number_at bytes) (λ n. cond (ltb (length n.1) n.0) (Err Short) (cond (is_utf8 (take n.0 n.1)) (Ok (take n.0 n.1, drop n.0 n.1)) (Err Operand))) x e in
     let took = number_takes bytes n.0 fits n.1 in
-    let long = past (ltb (length n.0.1) n.0.0) Short (cond (is_utf8 (take n.0.0 n.0.1)) (Ok (take n.0.0 n.0.1, drop n.0.0 n.0.1)) (Err Operand)) x n.2 in
+    let long = guard_ok (ltb (length n.0.1) n.0.0) Short (cond (is_utf8 (take n.0.0 n.0.1)) (Ok (take n.0.0 n.0.1, drop n.0.0 n.0.1)) (Err Operand)) x n.2 in
     let text : List ℕ = take n.0.0 n.0.1 in
     let rest : List ℕ = drop n.0.0 n.0.1 in
     let valid = met (is_utf8 text) Operand (Ok (text, rest)) x long.1 in
@@ -152,7 +143,7 @@ text_takes bytes x fits e =
     let second : Takes n.0.1 text rest = record { parts = sym (take-append-drop n.0.0 n.0.1); rest_fits = IsBytes-drop n.0.0 n.0.1 took.0.rest_fits } in
     let both = Takes-then bytes (two_bytes n.0.0) n.0.1 text rest took.0 second in
     let whole : Takes bytes (text_bytes text) rest = subst (λ (k : ℕ). Takes bytes (two_bytes k ++ text) rest) (sym len) both in
-    subst (λ (y : List ℕ × List ℕ). Takes bytes (text_bytes y.0) y.1 × IsText y.0) (ok_is (text, rest) x valid.1)
+    subst (λ (y : List ℕ × List ℕ). Takes bytes (text_bytes y.0) y.1 × IsText y.0) (same_ok (text, rest) x valid.1)
     (whole, record { len = omega (arith, took.1); utf8 = IsUtf8-from_is_utf8 text valid.0 })
 
 text_again : (text rest : List ℕ) → IsText text → text_at (text_bytes text ++ rest) ≡ Ok (text, rest)
@@ -160,7 +151,7 @@ unfolding text_at
 text_again text rest fits =
     let long : ltb (length (text ++ rest)) (length text) ≡ false = le-ltb _ _ (omega (arith, length-append text rest)) in
     let valid : is_utf8 text ≡ true = is_utf8-from_IsUtf8 text fits.utf8 in
-    ap (λ (r : Result (ℕ × List ℕ) CodeFault). r >>= λ n. cond (ltb (length n.1) n.0) (Err Short) (cond (is_utf8 (take n.0 n.1)) (Ok (take n.0 n.1, drop n.0 n.1)) (Err Operand))) (number_again (length text) (text ++ rest) fits.len)
+    ap (λ (r : Result (ℕ × List ℕ) CodeFault). r >>= λ n. cond (ltb (length n.1) n.0) (Err Short) (cond (is_utf8 (take n.0 n.1)) (Ok (take n.0 n.1, drop n.0 n.1)) (Err Operand))) (number_again (length text) (text ++ rest) (let small : length text < 2 ^ 16 = omega (arith, fits.len) in small))
     ∙ rw (long, take_at text rest (length text) refl, drop_at text rest (length text) refl, valid) refl
 
 pub text_spelled : IsSpelled (List ℕ) text_at text_bytes IsText
@@ -184,38 +175,38 @@ text_read bytes n rest front counted enough is text =
 
 -- ---- an op
 
--- what stands behind an opcode spells an op together with it
+-- an opcode and what follows it spell an op
 abbrev IsOperand : ℕ → List ℕ → Op × List ℕ → Type 0
 IsOperand opcode bytes x = Takes (opcode ∷ bytes) (op_bytes x.0) x.1 × IsOp x.0
 
-push_text_takes : (bytes : List ℕ) (x : Op × List ℕ) → IsBytes bytes → push_text_at bytes ≡ Ok x → IsOperand 2 bytes x
+push_text_takes : (bytes : List ℕ) (x : Op × List ℕ) → IsBytes bytes → push_text_at bytes ≡ Ok x → IsOperand PUSH_TEXT bytes x
 unfolding push_text_at
 push_text_takes bytes x fits e =
     let n = bind_ok (number_at bytes) (λ n. Ok (PushText n.0, n.1)) x e in
     let took = number_takes bytes n.0 fits n.1 in
-    subst (IsOperand 2 bytes) (ok_is (PushText n.0.0, n.0.1) x n.2) (record { parts = ap (λ (t : List ℕ). 2 ∷ t) took.0.parts; rest_fits = took.0.rest_fits }, took.1)
+    subst (IsOperand PUSH_TEXT bytes) (same_ok (PushText n.0.0, n.0.1) x n.2) (record { parts = ap (λ (t : List ℕ). PUSH_TEXT ∷ t) took.0.parts; rest_fits = took.0.rest_fits }, took.1)
 
-say_takes : (bytes : List ℕ) (x : Op × List ℕ) → IsBytes bytes → say_at bytes ≡ Ok x → IsOperand 41 bytes x
+say_takes : (bytes : List ℕ) (x : Op × List ℕ) → IsBytes bytes → say_at bytes ≡ Ok x → IsOperand SAY bytes x
 unfolding say_at
 say_takes bytes x fits e =
-    let n = bind_ok (byte_at bytes) (λ n. cond (ltb 16 n.0) (Err Operand) (Ok (Say n.0, n.1))) x e in
+    let n = bind_ok (byte_at bytes) (λ n. cond (ltb SAID_LIMIT n.0) (Err Operand) (Ok (Say n.0, n.1))) x e in
     let took = byte_takes bytes n.0 fits n.1 in
-    let few = past (ltb 16 n.0.0) Operand (Ok (Say n.0.0, n.0.1)) x n.2 in
-    subst (IsOperand 41 bytes) (ok_is (Say n.0.0, n.0.1) x few.1) (record { parts = ap (λ (t : List ℕ). 41 ∷ t) took.0.parts; rest_fits = took.0.rest_fits }, ltb-false _ _ few.0)
+    let few = guard_ok (ltb SAID_LIMIT n.0.0) Operand (Ok (Say n.0.0, n.0.1)) x n.2 in
+    subst (IsOperand SAY bytes) (same_ok (Say n.0.0, n.0.1) x few.1) (record { parts = ap (λ (t : List ℕ). SAY ∷ t) took.0.parts; rest_fits = took.0.rest_fits }, ltb-false _ _ few.0)
 
-done_takes : (bytes : List ℕ) (x : Op × List ℕ) → IsBytes bytes → read (Done, bytes) ≡ Ok x → IsOperand 46 bytes x
-done_takes bytes x fits e = subst (IsOperand 46 bytes) (ok_is (Done, bytes) x e) (record { parts = refl; rest_fits = fits }, tt)
+done_takes : (bytes : List ℕ) (x : Op × List ℕ) → IsBytes bytes → read (Done, bytes) ≡ Ok x → IsOperand DONE bytes x
+done_takes bytes x fits e = subst (IsOperand DONE bytes) (same_ok (Done, bytes) x e) (record { parts = refl; rest_fits = fits }, tt)
 
 operand_takes : (opcode : ℕ) (bytes : List ℕ) (x : Op × List ℕ) → IsBytes bytes → operand_at opcode bytes ≡ Ok x → IsOperand opcode bytes x
 unfolding operand_at
 operand_takes opcode bytes x fits e =
     let at = λ (n : ℕ). IsOperand n bytes x in
-    elim (chosen (eqb opcode 2) (push_text_at bytes) _ (Ok x) e) [
+    elim (chosen (eqb opcode PUSH_TEXT) (push_text_at bytes) _ (Ok x) e) [
       | inl c ↦ subst at (sym (eqb-true _ _ c.0)) (push_text_takes bytes x fits c.1)
-      | inr c ↦ elim (chosen (eqb opcode 41) (say_at bytes) _ (Ok x) c.1) [
+      | inr c ↦ elim (chosen (eqb opcode SAY) (say_at bytes) _ (Ok x) c.1) [
         | inl d ↦ subst at (sym (eqb-true _ _ d.0)) (say_takes bytes x fits d.1)
         | inr d ↦
-            let last = met (eqb opcode 46) Opcode (Ok (Done, bytes)) x d.1 in
+            let last = met (eqb opcode DONE) Opcode (Ok (Done, bytes)) x d.1 in
             subst at (sym (eqb-true _ _ last.0)) (done_takes bytes x fits last.1)
       ]
     ]
@@ -229,7 +220,7 @@ op_again : (op : Op) (rest : List ℕ) → IsOp op → op_at (op_bytes op ++ res
 unfolding op_at operand_at push_text_at say_at
 op_again (PushText text) rest fits = ap (λ (r : Result (ℕ × List ℕ) CodeFault). r >>= λ n. Ok (PushText n.0, n.1)) (number_again text rest fits)
 op_again (Say count) rest fits =
-    let few : ltb 16 count ≡ false = le-ltb _ _ fits in
+    let few : ltb SAID_LIMIT count ≡ false = le-ltb _ _ fits in
     rw few refl
 op_again Done rest fits = refl
 

@@ -4,8 +4,10 @@ use Rattle.std.specs.List.{flat_map, AllByRecursion}
 use Rattle.std.proofs.lemmas.List.Concat.{flat_map-cons}
 use Rattle.bb_code.specs.declared.fault.CodeFault.{CodeFault}
 use Rattle.bb_code.specs.Spelling.{two_bytes, listed}
-use Rattle.bb_code.specs.Reading.{◌>>=◌, count_at, repeated, list_at}
-use Rattle.bb_code.proofs.Fields.{IsBytes, bind_ok, ok_is, Takes, Takes-then, IsSpelled, count_spelled}
+use Rattle.bb_basis.specs.Results.{◌>>=◌}
+use Rattle.bb_code.specs.Reading.{count_at, repeated, list_at}
+use Rattle.bb_basis.proofs.ResultLemmas.{bind_ok, same_ok}
+use Rattle.bb_code.proofs.Fields.{IsBytes, Takes, Takes-then, IsSpelled, count_spelled}
 
 -- n values that fit, and their bytes
 abbrev AreTaken : (A : Type 0) → (A → List ℕ) → (A → Type 0) → ℕ → List ℕ → List A × List ℕ → Type 0
@@ -15,7 +17,7 @@ repeated_takes : (A : Type 0) (field : List ℕ → Result (A × List ℕ) CodeF
     (n : ℕ) (bytes : List ℕ) (x : List A × List ℕ) → IsBytes bytes → repeated field n bytes ≡ Ok x → AreTaken A bytes_of Fits n bytes x
 unfolding repeated
 repeated_takes A field bytes_of Fits spelled zero bytes x fits e =
-    subst (AreTaken A bytes_of Fits 0 bytes) (ok_is ([], bytes) x e) (record { parts = refl; rest_fits = fits }, refl, tt)
+    subst (AreTaken A bytes_of Fits 0 bytes) (same_ok ([], bytes) x e) (record { parts = refl; rest_fits = fits }, refl, tt)
 repeated_takes A field bytes_of Fits spelled (suc n) bytes x fits e =
     let a = bind_ok (field bytes) (λ first. repeated field n first.1 >>= λ others. Ok (first.0 ∷ others.0, others.1)) x e in
     let b = bind_ok (repeated field n a.0.1) (λ others. Ok (a.0.0 ∷ others.0, others.1)) x a.2 in
@@ -23,7 +25,7 @@ repeated_takes A field bytes_of Fits spelled (suc n) bytes x fits e =
     let others = repeated_takes A field bytes_of Fits spelled n a.0.1 b.0 first.0.rest_fits b.1 in
     let both = Takes-then bytes (bytes_of a.0.0) a.0.1 (flat_map bytes_of b.0.0) b.0.1 first.0 others.0 in
     let made : List A × List ℕ = (a.0.0 ∷ b.0.0, b.0.1) in
-    subst (AreTaken A bytes_of Fits (suc n) bytes) (ok_is made x b.2) (rw flat_map-cons both, ap suc others.1, (first.1, others.2))
+    subst (AreTaken A bytes_of Fits (suc n) bytes) (same_ok made x b.2) (rw flat_map-cons both, ap suc others.1, (first.1, others.2))
 
 repeated_again : (A : Type 0) (field : List ℕ → Result (A × List ℕ) CodeFault) (bytes_of : A → List ℕ) (Fits : A → Type 0) (spelled : IsSpelled A field bytes_of Fits)
     (xs : List A) (rest : List ℕ) → AllByRecursion Fits xs → repeated field (length xs) (flat_map bytes_of xs ++ rest) ≡ Ok (xs, rest)

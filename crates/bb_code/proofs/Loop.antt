@@ -1,9 +1,10 @@
--- Reading fields one behind the other, as a loop does.
-use Rattle.std.proofs.Common.{◌≡◌, ◌≢◌, ℕ, suc, ◌-◌, ◌+◌, ◌≤◌, ◌<◌, List, [], ◌∷◌, ◌++◌, Result, Ok, Err, refl, sym, ap, ◌∙◌, append_assoc, arith}
+-- Reading fields one after another, as a loop does.
+use Rattle.std.proofs.Common.{◌≡◌, ◌⊎◌, inl, inr, ℕ, suc, ◌-◌, ◌+◌, ◌≤◌, ◌<◌, List, [], ◌∷◌, ◌++◌, Result, Ok, Err, refl, sym, ap, ◌∙◌, append_assoc, arith}
 use Rattle.std.proofs.lemmas.List.{append-nil}
 use Rattle.bb_code.specs.declared.fault.CodeFault.{CodeFault}
 use Rattle.bb_code.specs.declared.fault.CodeFault.TheVariants.{Memory}
-use Rattle.bb_code.specs.Reading.{◌>>=◌, count_at, repeated, list_at}
+use Rattle.bb_basis.specs.Results.{◌>>=◌}
+use Rattle.bb_code.specs.Reading.{count_at, repeated, list_at}
 
 -- what was read before, and what is still read
 abbrev pub with_front : {A : Type 0} → List A → Result (List A × List ℕ) CodeFault → Result (List A × List ℕ) CodeFault
@@ -22,13 +23,13 @@ goes_on A field front count i bytes a after total below one so_far =
     sym moved ∙ so_far
 
 pub ends : (A : Type 0) (field : List ℕ → Result (A × List ℕ) CodeFault) (front : List A) (count i : ℕ) (bytes : List ℕ) (fault : CodeFault) (total : Result (List A × List ℕ) CodeFault)
-    → i < count → (fault ≢ Memory → field bytes ≡ Err fault) → with_front front (repeated field (count - i) bytes) ≡ total → fault ≢ Memory → total ≡ Err fault
+    → i < count → (fault ≡ Memory) ⊎ (field bytes ≡ Err fault) → with_front front (repeated field (count - i) bytes) ≡ total → (fault ≡ Memory) ⊎ (total ≡ Err fault)
 unfolding repeated
-ends A field front count i bytes fault total below fails so_far other =
+ends A field front count i bytes fault total below (inl memory) so_far = inl memory
+ends A field front count i bytes fault total below (inr failed) so_far =
     let left : count - i ≡ suc (count - (i + 1)) = omega arith in
-    let one : field bytes ≡ Err fault = fails other in
-    let stopped : with_front front (repeated field (count - i) bytes) ≡ Err fault = rw (left, one) refl in
-    sym so_far ∙ stopped
+    let stopped : with_front front (repeated field (count - i) bytes) ≡ Err fault = rw (left, failed) refl in
+    inr (sym so_far ∙ stopped)
 
 pub is_done : (A : Type 0) (field : List ℕ → Result (A × List ℕ) CodeFault) (front : List A) (count i : ℕ) (bytes : List ℕ) (total : Result (List A × List ℕ) CodeFault)
     → count ≤ i → with_front front (repeated field (count - i) bytes) ≡ total → total ≡ Ok (front, bytes)

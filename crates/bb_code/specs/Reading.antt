@@ -1,28 +1,22 @@
 -- Reading a code from the front, with the first fault that is met.
-use Rattle.std.specs.Prelude.{◌≡◌, ◌≢◌, ℕ, zero, suc, List, [], ◌∷◌, length, take, drop, Result, Ok, Err, nat_lt, ◌==◌, if◌then◌else◌, MatchResult}
+use Rattle.std.specs.Prelude.{ℕ, zero, suc, List, [], ◌∷◌, length, take, drop, Result, Ok, Err, nat_lt, ◌==◌, if◌then◌else◌}
 use Rattle.std.specs.Int.{w16, from_be_bytes}
 use Rattle.std.specs.Str.{is_utf8}
+use Rattle.bb_basis.specs.Results.{◌>>=◌}
+use Rattle.bb_code.specs.declared.code.TheConstants.{LOCAL_LIMIT, TEXT_LIMIT, OP_LIMIT, SAID_LIMIT}
 use Rattle.bb_code.specs.declared.fault.CodeFault.{CodeFault}
-use Rattle.bb_code.specs.declared.fault.CodeFault.TheVariants.{Magic, Version, Short, Opcode, Operand, Limit, Trailing, Memory}
+use Rattle.bb_code.specs.declared.fault.CodeFault.TheVariants.{Magic, Version, Short, Opcode, Operand, Limit, Trailing}
+use Rattle.bb_code.specs.declared.opcode.TheConstants.{PUSH_TEXT, SAY, DONE}
 use Rattle.bb_code.specs.declared.op.Op.{Op}
 use Rattle.bb_code.specs.declared.op.Op.TheVariants.{PushText, Say, Done}
 use Rattle.bb_code.specs.Code.{Code}
 
--- one step of reading and then the next, unless the first is at fault
-infixl 10 ◌>>=◌
-abbrev pub ◌>>=◌ : {A B : Type 0} → Result A CodeFault → (A → Result B CodeFault) → Result B CodeFault
-(Ok x) >>= next = next x
-(Err fault) >>= next = Err fault
+-- the same answer, with what f makes of its value
+abbrev pub map_ok : {X Y E : Type 0} → (X → Y) → Result X E → Result Y E
+map_ok f (Ok x) = Ok (f x)
+map_ok f (Err e) = Err e
 
--- what a function returned, seen by view, is what reading gives
-abbrev pub Answers : {X Y : Type 0} → (X → Y) → Result X CodeFault → Result Y CodeFault → Type 0
-Answers view returned read = MatchResult returned (λ x. read ≡ Ok (view x)) (λ fault. read ≡ Err fault)
-
--- the same, unless memory ran out
-abbrev pub Gives : {X Y : Type 0} → (X → Y) → Result X CodeFault → Result Y CodeFault → Type 0
-Gives view returned read = MatchResult returned (λ x. read ≡ Ok (view x)) (λ fault. fault ≢ Memory → read ≡ Err fault)
-
--- ---- fields: each gives a value and the bytes behind it
+-- ---- fields: each gives a value and the bytes after it
 
 -- one byte
 abbrev pub byte_at : List ℕ → Result (ℕ × List ℕ) CodeFault
@@ -43,7 +37,7 @@ within low high n = if nat_lt n.0 low then Err Limit else (if nat_lt high n.0 th
 unfoldable pub count_at : ℕ → ℕ → List ℕ → Result (ℕ × List ℕ) CodeFault
 count_at low high bytes = number_at bytes >>= within low high
 
--- as many fields as the number says, one behind the other
+-- as many fields as the number says, one after another
 unfoldable pub repeated : {A : Type 0} → (List ℕ → Result (A × List ℕ) CodeFault) → ℕ → List ℕ → Result (List A × List ℕ) CodeFault
 repeated field zero bytes = Ok ([], bytes)
 repeated field (suc n) bytes = do
@@ -70,18 +64,18 @@ push_text_at bytes = do
   text ← number_at bytes
   Ok (PushText text.0, text.1)
 
--- how many values are said
+-- the number of values that are said
 unfoldable pub say_at : List ℕ → Result (Op × List ℕ) CodeFault
 say_at bytes = do
   count ← byte_at bytes
-  if nat_lt 16 count.0 then Err Operand else Ok (Say count.0, count.1)
+  if nat_lt SAID_LIMIT count.0 then Err Operand else Ok (Say count.0, count.1)
 
--- what stands behind an opcode
+-- the operand after an opcode, and so the op
 unfoldable pub operand_at : ℕ → List ℕ → Result (Op × List ℕ) CodeFault
 operand_at opcode bytes =
-    if opcode == 2 then push_text_at bytes else
-    (if opcode == 41 then say_at bytes else
-    (if opcode == 46 then Ok (Done, bytes) else Err Opcode))
+    if opcode == PUSH_TEXT then push_text_at bytes else
+    (if opcode == SAY then say_at bytes else
+    (if opcode == DONE then Ok (Done, bytes) else Err Opcode))
 
 -- an op: its opcode, and its operand
 unfoldable pub op_at : List ℕ → Result (Op × List ℕ) CodeFault
@@ -104,9 +98,9 @@ head_at bytes = do
   third ← expected_at 67 Magic second
   expected_at 1 Version third
 
--- the number of locals, from 1 to 32
+-- the number of locals, of which there is one or more
 unfoldable pub locals_at : List ℕ → Result (ℕ × List ℕ) CodeFault
-locals_at bytes = byte_at bytes >>= within 1 32
+locals_at bytes = byte_at bytes >>= within 1 LOCAL_LIMIT
 
 -- three lists of which there may be none: queries, frames, loops
 unfoldable pub nothing_at : List ℕ → Result (List ℕ) CodeFault
@@ -116,14 +110,14 @@ nothing_at bytes = do
   loops ← count_at 0 0 frames.1
   Ok loops.1
 
--- a code, and the bytes behind it
+-- a code, and the bytes after it
 unfoldable pub code_at : List ℕ → Result (Code × List ℕ) CodeFault
 code_at bytes = do
   start ← head_at bytes
   locals ← locals_at start
-  texts ← list_at 0 1024 text_at locals.1
+  texts ← list_at 0 TEXT_LIMIT text_at locals.1
   middle ← nothing_at texts.1
-  ops ← list_at 1 4096 op_at middle
+  ops ← list_at 1 OP_LIMIT op_at middle
   Ok (record { locals = locals.0; texts = texts.0; ops = ops.0 }, ops.1)
 
 -- a code that takes all of the bytes

@@ -2,6 +2,7 @@
 use Rattle.std.specs.Prelude.{ℕ, List, [], ◌∷◌, ◌++◌, length}
 use Rattle.std.specs.List.{flat_map}
 use Rattle.std.specs.Int.{w16, to_be_bytes}
+use Rattle.bb_code.specs.declared.opcode.TheConstants.{PUSH_TEXT, SAY, DONE}
 use Rattle.bb_code.specs.declared.op.Op.{Op}
 use Rattle.bb_code.specs.declared.op.Op.TheVariants.{PushText, Say, Done}
 use Rattle.bb_code.specs.Code.{Code}
@@ -16,11 +17,11 @@ text_bytes text = two_bytes (length text) ++ text
 
 -- an op: its opcode, and its operand
 abbrev pub op_bytes : Op → List ℕ
-op_bytes (PushText text) = 2 ∷ two_bytes text
-op_bytes (Say count) = 41 ∷ count ∷ []
-op_bytes Done = 46 ∷ []
+op_bytes (PushText text) = PUSH_TEXT ∷ two_bytes text
+op_bytes (Say count) = SAY ∷ count ∷ []
+op_bytes Done = DONE ∷ []
 
--- how many there are, and each one
+-- a list: the number of its items, and each item
 abbrev pub listed : {A : Type 0} → (A → List ℕ) → List A → List ℕ
 listed bytes_of xs = two_bytes (length xs) ++ flat_map bytes_of xs
 
@@ -28,7 +29,7 @@ listed bytes_of xs = two_bytes (length xs) ++ flat_map bytes_of xs
 abbrev pub head : List ℕ
 head = 66 ∷ 66 ∷ 67 ∷ 1 ∷ []
 
--- a list of which there are none
+-- an empty list
 abbrev pub nothing : List ℕ
 nothing = two_bytes 0
 

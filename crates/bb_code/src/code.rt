@@ -1,26 +1,29 @@
-//! A code in memory.
+//! A code in memory. Whoever makes or executes codes (bb_compile, bb_verify) calls it.
 
 ghost use Rattle.std.specs.Prelude.{◌≡◌, ◌↔◌, IsTrue, IsSome, IfSome};
 ghost use Rattle.bb_code.specs.Code.{IsText, AreTexts, IsOp, AreOps, IsCode};
 
 use crate::op::Op;
-use bb_schema::Text;
+use bb_basis::Text;
 use std::marker::Model;
 
-/// The most locals of a code.
-pub const MOST_LOCALS: u8 = 32;
+/// The greatest number of locals of a code.
+pub const LOCAL_LIMIT: u8 = 32;
 
-/// The most texts of a code.
-pub const MOST_TEXTS: u16 = 1024;
+/// The greatest number of texts of a code.
+pub const TEXT_LIMIT: u16 = 1024;
 
-/// The most bytes of a text.
-pub const MOST_TEXT_BYTES: u16 = 65535;
+/// The greatest number of bytes of a text.
+pub const TEXT_BYTES_LIMIT: u16 = 65535;
 
-/// The most ops of a code.
-pub const MOST_OPS: u16 = 4096;
+/// The greatest number of ops of a code.
+pub const OP_LIMIT: u16 = 4096;
 
-/// The most values that one op says.
-pub const MOST_SAID: u8 = 16;
+/// The greatest number of values that one op says.
+pub const SAID_LIMIT: u8 = 16;
+
+/// The greatest number of entries of the stack of an activation.
+pub const STACK_LIMIT: usize = 64;
 
 /// A code that bytes can spell: contracts see its locals, the bytes of its texts, and its ops.
 #[derive(Debug, Drop)]
@@ -42,8 +45,8 @@ impl Model for Code {
 }
 
 impl Code {
-    /// A code of these parts, where they are within their limits: 1 to 32 locals, at most 1,024 texts
-    /// of at most 65,535 bytes, 1 to 4,096 ops, and at most 16 values that an op says.
+    /// A code of these parts, where they are within the limits above: there are 1 local and 1 op or more, and no more
+    /// of anything than its limit.
     pub fn new(locals: u8, texts: Vec<Text>, ops: Vec<Op>) -> Option<Code>
         ensures some { IsSome result ↔
             IsCode (record { locals = locals; texts = texts.items; ops = ops.items }) }
@@ -65,7 +68,7 @@ impl Code {
         Code { locals, texts, ops }
     }
 
-    /// The number of locals, from 1 to 32.
+    /// The number of locals, from 1 to `LOCAL_LIMIT`.
     pub fn locals(&self) -> u8
         ensures value { result ≡ self.now.locals }
         ensures fits { IsCode self.now }
@@ -73,7 +76,7 @@ impl Code {
         self.locals
     }
 
-    /// The texts, at most 1,024 of at most 65,535 bytes each.
+    /// The texts, at most `TEXT_LIMIT` of at most `TEXT_BYTES_LIMIT` bytes each.
     pub fn texts(&self) -> &[Text]
         ensures value { result.now ≡ self.now.texts }
         ensures fits { IsCode self.now }
@@ -81,7 +84,7 @@ impl Code {
         &self.texts
     }
 
-    /// The ops, from 1 to 4,096.
+    /// The ops, from 1 to `OP_LIMIT`.
     pub fn ops(&self) -> &[Op]
         ensures value { result.now ≡ self.now.ops }
         ensures fits { IsCode self.now }
@@ -93,7 +96,7 @@ impl Code {
 fn are_parts(locals: u8, texts: &[Text], ops: &[Op]) -> bool
     ensures { IsTrue result ↔ IsCode (record { locals = locals; texts = texts.now; ops = ops.now }) }
 {
-    if locals < 1 || MOST_LOCALS < locals {
+    if locals < 1 || LOCAL_LIMIT < locals {
         return false;
     }
     are_texts(texts) && are_ops(ops)
@@ -102,7 +105,7 @@ fn are_parts(locals: u8, texts: &[Text], ops: &[Op]) -> bool
 fn are_texts(texts: &[Text]) -> bool
     ensures { IsTrue result ↔ AreTexts texts.now }
 {
-    if texts.len() > MOST_TEXTS as usize {
+    if texts.len() > TEXT_LIMIT as usize {
         return false;
     }
     for text in texts {
@@ -116,13 +119,13 @@ fn are_texts(texts: &[Text]) -> bool
 fn is_text(text: &Text) -> bool
     ensures { IsTrue result ↔ IsText text.now }
 {
-    text.as_str().len() <= MOST_TEXT_BYTES as usize
+    text.as_str().len() <= TEXT_BYTES_LIMIT as usize
 }
 
 fn are_ops(ops: &[Op]) -> bool
     ensures { IsTrue result ↔ AreOps ops.now }
 {
-    if ops.is_empty() || ops.len() > MOST_OPS as usize {
+    if ops.is_empty() || ops.len() > OP_LIMIT as usize {
         return false;
     }
     for op in ops {
@@ -138,7 +141,7 @@ fn is_op(op: Op) -> bool
 {
     match op {
         Op::PushText(_text) => true,
-        Op::Say(count) => count <= MOST_SAID,
+        Op::Say(count) => count <= SAID_LIMIT,
         Op::Done => true,
     }
 }

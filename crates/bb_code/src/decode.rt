@@ -1,20 +1,22 @@
-//! A code from bytes.
+//! A code from bytes. Whoever reads bundles (bb_compile) calls `decode`.
 //!
-//! Each function that reads takes a field from the front, and gives its value and the bytes behind it.
+//! Each function reads a field at the front, and returns its value and the bytes after it.
 
-ghost use Rattle.std.specs.Prelude.{◌≡◌, ℕ, List, Ok, IfOk};
+ghost use Rattle.std.specs.Prelude.{◌≡◌, Ok, IfOk};
+ghost use Rattle.bb_basis.specs.Results.{Gives};
 ghost use Rattle.bb_code.specs.Code as code;
 ghost use Rattle.bb_code.specs.Spelling.{spelling};
-ghost use Rattle.bb_code.specs.Reading.{Answers, Gives, byte_at, number_at, count_at, text_at, push_text_at, say_at, operand_at, op_at, list_at, expected_at, head_at, locals_at, nothing_at, code_of};
+ghost use Rattle.bb_code.specs.Reading.{map_ok, byte_at, number_at, count_at, text_at, push_text_at, say_at, operand_at, op_at, list_at, expected_at, head_at, locals_at, nothing_at, code_of};
 
-use crate::code::{Code, MOST_LOCALS, MOST_OPS, MOST_SAID, MOST_TEXTS};
+use crate::code::{Code, LOCAL_LIMIT, OP_LIMIT, SAID_LIMIT, TEXT_LIMIT};
 use crate::fault::CodeFault;
 use crate::op::Op;
-use bb_schema::Text;
+use crate::opcode::{DONE, PUSH_TEXT, SAY};
+use bb_basis::Text;
 use std::alloc::Global;
 
 fn read_byte(bytes: &[u8]) -> Result<(u8, &[u8]), CodeFault>
-    ensures { Answers (λ x. (x.0, x.1.now)) result (byte_at bytes.now) }
+    ensures { map_ok (λ x. (x.0, x.1.now)) result ≡ byte_at bytes.now }
 {
     match bytes {
         [] => Err(CodeFault::Short),
@@ -23,7 +25,7 @@ fn read_byte(bytes: &[u8]) -> Result<(u8, &[u8]), CodeFault>
 }
 
 fn read_number(bytes: &[u8]) -> Result<(u16, &[u8]), CodeFault>
-    ensures { Answers (λ x. (x.0, x.1.now)) result (number_at bytes.now) }
+    ensures { map_ok (λ x. (x.0, x.1.now)) result ≡ number_at bytes.now }
 {
     match bytes {
         [high, low, rest @ ..] => Ok((u16::from_be_bytes([*high, *low]), rest)),
@@ -33,7 +35,7 @@ fn read_number(bytes: &[u8]) -> Result<(u16, &[u8]), CodeFault>
 
 #[tactic(auto, unfolding(crate::specs::Reading::count_at))]
 fn read_count(bytes: &[u8], low: u16, high: u16) -> Result<(u16, &[u8]), CodeFault>
-    ensures { Answers (λ x. (x.0, x.1.now)) result (count_at low high bytes.now) }
+    ensures { map_ok (λ x. (x.0, x.1.now)) result ≡ count_at low high bytes.now }
 {
     let (count, rest) = read_number(bytes)?;
     if count < low || high < count {
@@ -43,7 +45,7 @@ fn read_count(bytes: &[u8], low: u16, high: u16) -> Result<(u16, &[u8]), CodeFau
 }
 
 fn expect_byte(bytes: &[u8], wanted: u8, fault: CodeFault) -> Result<&[u8], CodeFault>
-    ensures { Answers (λ x. x.now) result (expected_at wanted fault bytes.now) }
+    ensures { map_ok (λ x. x.now) result ≡ expected_at wanted fault bytes.now }
 {
     match bytes {
         [] => Err(CodeFault::Short),
@@ -54,7 +56,7 @@ fn expect_byte(bytes: &[u8], wanted: u8, fault: CodeFault) -> Result<&[u8], Code
 
 #[tactic(auto, unfolding(crate::specs::Reading::head_at))]
 fn read_head(bytes: &[u8]) -> Result<&[u8], CodeFault>
-    ensures { Answers (λ x. x.now) result (head_at bytes.now) }
+    ensures { map_ok (λ x. x.now) result ≡ head_at bytes.now }
 {
     let rest = expect_byte(bytes, b'B', CodeFault::Magic)?;
     let rest = expect_byte(rest, b'B', CodeFault::Magic)?;
@@ -64,10 +66,10 @@ fn read_head(bytes: &[u8]) -> Result<&[u8], CodeFault>
 
 #[tactic(auto, unfolding(crate::specs::Reading::locals_at))]
 fn read_locals(bytes: &[u8]) -> Result<(u8, &[u8]), CodeFault>
-    ensures { Answers (λ x. (x.0, x.1.now)) result (locals_at bytes.now) }
+    ensures { map_ok (λ x. (x.0, x.1.now)) result ≡ locals_at bytes.now }
 {
     let (locals, rest) = read_byte(bytes)?;
-    if locals < 1 || MOST_LOCALS < locals {
+    if locals < 1 || LOCAL_LIMIT < locals {
         return Err(CodeFault::Limit);
     }
     Ok((locals, rest))
@@ -75,7 +77,7 @@ fn read_locals(bytes: &[u8]) -> Result<(u8, &[u8]), CodeFault>
 
 #[tactic(auto, unfolding(crate::specs::Reading::nothing_at))]
 fn read_nothing(bytes: &[u8]) -> Result<&[u8], CodeFault>
-    ensures { Answers (λ x. x.now) result (nothing_at bytes.now) }
+    ensures { map_ok (λ x. x.now) result ≡ nothing_at bytes.now }
 {
     let (_queries, rest) = read_count(bytes, 0, 0)?;
     let (_frames, rest) = read_count(rest, 0, 0)?;
@@ -85,7 +87,7 @@ fn read_nothing(bytes: &[u8]) -> Result<&[u8], CodeFault>
 
 #[tactic(auto, unfolding(crate::specs::Reading::text_at))]
 fn read_text(alloc: Global, bytes: &[u8]) -> Result<(Text, &[u8]), CodeFault>
-    ensures { Gives (λ x. (x.0, x.1.now)) result (text_at bytes.now) }
+    ensures { Gives CodeFault.Memory (λ x. (x.0, x.1.now)) result (text_at bytes.now) }
 {
     let (len, rest) = read_number(bytes)?;
     let len = len as usize;
@@ -101,9 +103,9 @@ fn read_text(alloc: Global, bytes: &[u8]) -> Result<(Text, &[u8]), CodeFault>
 
 #[tactic(auto, unfolding(crate::specs::Reading::list_at))]
 fn read_texts(alloc: Global, bytes: &[u8]) -> Result<(Vec<Text>, &[u8]), CodeFault>
-    ensures { Gives (λ x. (x.0.items, x.1.now)) result (list_at 0 1024 text_at bytes.now) }
+    ensures { Gives CodeFault.Memory (λ x. (x.0.items, x.1.now)) result (list_at 0 TEXT_LIMIT text_at bytes.now) }
 {
-    let (count, mut rest) = read_count(bytes, 0, MOST_TEXTS)?;
+    let (count, mut rest) = read_count(bytes, 0, TEXT_LIMIT)?;
     let mut texts = Vec::new(alloc);
     for _ in 0..count {
         let (text, after) = read_text(alloc, rest)?;
@@ -115,7 +117,7 @@ fn read_texts(alloc: Global, bytes: &[u8]) -> Result<(Vec<Text>, &[u8]), CodeFau
 
 #[tactic(auto, unfolding(crate::specs::Reading::push_text_at))]
 fn read_push_text(bytes: &[u8]) -> Result<(Op, &[u8]), CodeFault>
-    ensures { Answers (λ x. (x.0, x.1.now)) result (push_text_at bytes.now) }
+    ensures { map_ok (λ x. (x.0, x.1.now)) result ≡ push_text_at bytes.now }
 {
     let (text, rest) = read_number(bytes)?;
     Ok((Op::PushText(text), rest))
@@ -123,10 +125,10 @@ fn read_push_text(bytes: &[u8]) -> Result<(Op, &[u8]), CodeFault>
 
 #[tactic(auto, unfolding(crate::specs::Reading::say_at))]
 fn read_say(bytes: &[u8]) -> Result<(Op, &[u8]), CodeFault>
-    ensures { Answers (λ x. (x.0, x.1.now)) result (say_at bytes.now) }
+    ensures { map_ok (λ x. (x.0, x.1.now)) result ≡ say_at bytes.now }
 {
     let (count, rest) = read_byte(bytes)?;
-    if count > MOST_SAID {
+    if count > SAID_LIMIT {
         return Err(CodeFault::Operand);
     }
     Ok((Op::Say(count), rest))
@@ -134,19 +136,19 @@ fn read_say(bytes: &[u8]) -> Result<(Op, &[u8]), CodeFault>
 
 #[tactic(auto, unfolding(crate::specs::Reading::operand_at))]
 fn read_operand(opcode: u8, bytes: &[u8]) -> Result<(Op, &[u8]), CodeFault>
-    ensures { Answers (λ x. (x.0, x.1.now)) result (operand_at opcode bytes.now) }
+    ensures { map_ok (λ x. (x.0, x.1.now)) result ≡ operand_at opcode bytes.now }
 {
     match opcode {
-        2 => read_push_text(bytes),
-        41 => read_say(bytes),
-        46 => Ok((Op::Done, bytes)),
+        PUSH_TEXT => read_push_text(bytes),
+        SAY => read_say(bytes),
+        DONE => Ok((Op::Done, bytes)),
         _ => Err(CodeFault::Opcode),
     }
 }
 
 #[tactic(auto, unfolding(crate::specs::Reading::op_at))]
 fn read_op(bytes: &[u8]) -> Result<(Op, &[u8]), CodeFault>
-    ensures { Answers (λ x. (x.0, x.1.now)) result (op_at bytes.now) }
+    ensures { map_ok (λ x. (x.0, x.1.now)) result ≡ op_at bytes.now }
 {
     let (opcode, rest) = read_byte(bytes)?;
     read_operand(opcode, rest)
@@ -154,9 +156,9 @@ fn read_op(bytes: &[u8]) -> Result<(Op, &[u8]), CodeFault>
 
 #[tactic(auto, unfolding(crate::specs::Reading::list_at))]
 fn read_ops(alloc: Global, bytes: &[u8]) -> Result<(Vec<Op>, &[u8]), CodeFault>
-    ensures { Gives (λ x. (x.0.items, x.1.now)) result (list_at 1 4096 op_at bytes.now) }
+    ensures { Gives CodeFault.Memory (λ x. (x.0.items, x.1.now)) result (list_at 1 OP_LIMIT op_at bytes.now) }
 {
-    let (count, mut rest) = read_count(bytes, 1, MOST_OPS)?;
+    let (count, mut rest) = read_count(bytes, 1, OP_LIMIT)?;
     let mut ops = Vec::new(alloc);
     for _ in 0..count {
         let (op, after) = read_op(rest)?;
@@ -168,7 +170,7 @@ fn read_ops(alloc: Global, bytes: &[u8]) -> Result<(Vec<Op>, &[u8]), CodeFault>
 
 #[tactic(auto, unfolding(crate::specs::Reading::code_at, crate::specs::Reading::code_of))]
 fn read_parts(alloc: Global, bytes: &[u8]) -> Result<(u8, Vec<Text>, Vec<Op>), CodeFault>
-    ensures { Gives (λ x. record { locals = x.0; texts = x.1.items; ops = x.2.items })
+    ensures { Gives CodeFault.Memory (λ x. record { locals = x.0; texts = x.1.items; ops = x.2.items })
         result (code_of bytes.now) }
 {
     let rest = read_head(bytes)?;
@@ -183,23 +185,22 @@ fn read_parts(alloc: Global, bytes: &[u8]) -> Result<(u8, Vec<Text>, Vec<Op>), C
 }
 
 fn read_code(alloc: Global, bytes: &[u8]) -> Result<Code, CodeFault>
-    ensures { Gives (λ c. c) result (code_of bytes.now) }
+    ensures { Gives CodeFault.Memory (λ c. c) result (code_of bytes.now) }
 {
     let (locals, texts, ops) = read_parts(alloc, bytes)?;
     Ok(Code::from_parts(locals, texts, ops))
 }
 
 impl Code {
-    /// The code that the bytes spell, all of the bytes. The fault is the first one from the front, and
-    /// `Memory` where there is no room for the code.
+    /// The code that all of the bytes spell. The fault is the first from the front, or `Memory` where memory ran out.
     pub fn decode(alloc: Global, bytes: &[u8]) -> Result<Code, CodeFault>
-        // What is read is a code, and these bytes spell it.
+        // What is decoded is a code, and these bytes spell it.
         ensures found { IfOk result (λ c. code.IsCode c × (bytes.now ≡ spelling c)) }
-        // What is spelled so is read, unless memory runs out.
+        // What the bytes spell is decoded, unless memory runs out.
         ensures only { (c : code.Code) → code.IsCode c → bytes.now ≡ spelling c →
-            Gives (λ d. d) result (Ok c) }
+            Gives CodeFault.Memory (λ d. d) result (Ok c) }
         // Which fault it is.
-        ensures exact { Gives (λ c. c) result (code_of bytes.now) }
+        ensures exact { Gives CodeFault.Memory (λ c. c) result (code_of bytes.now) }
     {
         read_code(alloc, bytes)
     }

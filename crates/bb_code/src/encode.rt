@@ -6,7 +6,8 @@ ghost use Rattle.bb_code.specs.Spelling.{two_bytes, text_bytes, op_bytes, listed
 
 use crate::code::Code;
 use crate::op::Op;
-use bb_schema::Text;
+use crate::opcode::{DONE, PUSH_TEXT, SAY};
+use bb_basis::Text;
 use std::alloc::{AllocError, Global};
 
 fn put_number(out: &mut Vec<u8>, number: u16) -> Result<(), AllocError>
@@ -41,11 +42,11 @@ fn put_op(out: &mut Vec<u8>, op: Op) -> Result<(), AllocError>
 {
     match op {
         Op::PushText(text) => {
-            out.push(2)?;
+            out.push(PUSH_TEXT)?;
             put_number(out, text)
         }
-        Op::Say(count) => out.extend_from_slice(&[41, count]),
-        Op::Done => Ok(out.push(46)?),
+        Op::Say(count) => out.extend_from_slice(&[SAY, count]),
+        Op::Done => Ok(out.push(DONE)?),
     }
 }
 

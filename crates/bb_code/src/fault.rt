@@ -1,7 +1,7 @@
-//! Why bytes are no code.
+//! Why bytes are no code. Refusal lines name it by its number.
 
 ghost use Rattle.std.specs.Prelude.{◌≡◌};
-ghost use Rattle.bb_code.specs.CodeFault.{number_of};
+ghost use Rattle.bb_code.specs.CodeFault.{fault_number};
 ghost use Rattle.bb_code.specs.declared.fault.CodeFault.TheVariants.{Memory};
 
 use std::alloc::{AllocError, AllocFailed};
@@ -13,10 +13,10 @@ pub enum CodeFault {
     /// One of the first three bytes is not that of every code.
     #[error("this is no code")]
     Magic,
-    /// The code is of another version than 1.
+    /// The version is not 1.
     #[error("the code has another version")]
     Version,
-    /// The bytes end where one more is due.
+    /// The bytes end where more are due.
     #[error("the code ends too early")]
     Short,
     /// No op has this number.
@@ -28,18 +28,18 @@ pub enum CodeFault {
     /// There are too many of something, or too few.
     #[error("a count is outside its limits")]
     Limit,
-    /// Bytes stand behind the last op.
-    #[error("bytes stand behind the code")]
+    /// Bytes follow the last op.
+    #[error("bytes follow the code")]
     Trailing,
-    /// There was no memory for the code.
+    /// Memory ran out.
     #[error("out of memory")]
     Memory,
 }
 
 impl CodeFault {
-    /// The number by which programs tell the faults apart, from 1 for `Magic` to 8 for `Memory`.
+    /// The number by which a refusal line names the fault, from 1 to 8.
     pub fn number(self) -> u8
-        ensures { result ≡ number_of self }
+        ensures { result ≡ fault_number self }
     {
         match self {
             CodeFault::Magic => 1,

@@ -1,4 +1,5 @@
-//! The code of a blackboard's rules, and the bytes that it is kept as.
+//! The code that sources execute, and the bytes that spell it. bb_compile decodes it, bb_verify checks it and the
+//! machine executes it.
 #![tactic(auto)]
 
 mod code;
@@ -7,8 +8,11 @@ mod encode;
 mod fault;
 mod laws;
 mod op;
+mod opcode;
 
-pub use code::{Code, MOST_LOCALS, MOST_OPS, MOST_SAID, MOST_TEXT_BYTES, MOST_TEXTS};
+pub use code::{
+    Code, LOCAL_LIMIT, OP_LIMIT, SAID_LIMIT, STACK_LIMIT, TEXT_BYTES_LIMIT, TEXT_LIMIT,
+};
 pub use fault::CodeFault;
 pub use laws::one_spelling;
 pub use op::Op;

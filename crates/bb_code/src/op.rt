@@ -1,12 +1,12 @@
-//! What a code is made of.
+//! The ops of a code. The verifier checks them and the machine executes them.
 
 /// One step of a code.
 #[derive(Clone, Copy, Debug, PartialEq, Eq)]
 pub enum Op {
-    /// Gives the text of this number, counted from 0 in the code's texts.
+    /// Pushes the text of this index.
     PushText(u16),
-    /// Takes this many values, at most 16, and says them, the deepest first.
+    /// Pops this many values, at most `SAID_LIMIT`, and says them, the deepest first.
     Say(u8),
-    /// Ends.
+    /// Ends the activation.
     Done,
 }

@@ -1,5 +1,5 @@
 use super::*;
-use bb_schema::Text;
+use bb_basis::Text;
 use std::alloc::Global;
 use std::test::Fail;
 

@@ -1,4 +1,2 @@
-pub mod ListLemmas
 pub mod ShapeLemmas
-pub mod EachLemmas
-pub mod ThroughLemmas
+pub mod IntervalLemmas

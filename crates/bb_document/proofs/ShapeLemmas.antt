@@ -5,7 +5,7 @@ use Rattle.std.specs.List.{list_any, list_all}
 use Rattle.std.specs.Str.{bytes_eq}
 use Rattle.std.specs.declared.alloc.Global.{Global}
 use Rattle.std.proofs.lemmas.List.Folds.{list_all-map}
-use Rattle.bb_document.proofs.ListLemmas.{list_any-map, list_all_same}
+use Rattle.bb_basis.proofs.ListLemmas.{list_any-map, list_all_same}
 use denote.Ref.{Bor}
 use Rattle.serde_json.specs.declared.value.Value.{Value}
 use Rattle.serde_json.specs.Data.{Data}

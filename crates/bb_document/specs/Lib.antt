@@ -1,4 +1,10 @@
-pub mod Answers
+-- the form of JSON, piece by piece
 pub mod Shapes
+-- what a schema's document declares
 pub mod Document
+-- which JSON has the form of a schema's document, and what it declares
 pub mod Form
+-- intervals in order, which the form asks for
+pub mod Intervals
+-- what the document of first units declares, and which JSON has its form
+pub mod UnitsDocument

@@ -1,5 +1,7 @@
-/// What a document declares, in its order. The form alone has been looked at: a name may be any text, and stand twice
-/// or nowhere.
+//! What the documents declare: the entries of a schema, and of first units. `bb_schema` and `bb_board` read them.
+
+/// What a schema's document declares, in its order. Only the form has been tested: a name may be any text, and may be
+/// declared twice or not at all.
 #[derive(Debug, Drop)]
 pub struct Document {
     pub label_sets: Vec<LabelSetEntry>,
@@ -11,7 +13,7 @@ pub struct Document {
 #[derive(Debug, Drop)]
 pub struct LabelSetEntry {
     pub name: String,
-    /// The labels, one at least.
+    /// The labels, at least one.
     pub values: Vec<String>,
 }
 
@@ -31,8 +33,8 @@ pub struct SlotEntry {
     pub default: DefaultEntry,
 }
 
-/// The default of a slot, which tells the slot's kind too. A document that gives none means 0, the empty text, `false`
-/// and the interval from 0 to 0.
+/// The default of a slot, which implies its kind. A document that gives none means 0, the empty text, `false` and
+/// the interval from 0 to 0.
 #[derive(Debug, Drop)]
 pub enum DefaultEntry {
     Int(i64),
@@ -66,4 +68,17 @@ pub struct SpaceEntry {
 pub struct DimEntry {
     pub name: String,
     pub of: Option<String>,
+}
+
+/// What the document of the first units declares, in its order. Only the form has been tested.
+#[derive(Debug, Drop)]
+pub struct UnitsDocument {
+    pub units: Vec<UnitEntry>,
+}
+
+/// A first unit, with the name by which its document refers to it.
+#[derive(Debug, Drop)]
+pub struct UnitEntry {
+    pub name: String,
+    pub class: String,
 }

@@ -1,18 +1,20 @@
+//! The entries of the lists of a document: one trait for each kind of entry, and the one loop that reads a list.
+
 ghost use Rattle.std.specs.Prelude.{◌≡◌, List, Result, map};
 ghost use Rattle.bb_document.specs.declared.fault.DocumentFault.TheVariants.{Memory as OutOfMemory};
 ghost use Rattle.serde_json.specs.Data.{Data};
 ghost use Rattle.serde_json.specs.View.{view};
-ghost use Rattle.bb_document.specs.Answers.{Gives, each};
+ghost use Rattle.bb_basis.specs.Results.{Gives, try_map};
 
 use crate::fault::DocumentFault;
 use serde_json::Value;
 use std::alloc::Global;
 
-/// What stands in the lists of a document.
+/// An entry of a list of a document.
 pub(crate) trait Entry: Sized {
-    /// What an entry means.
     ghost use Rattle.bb_document.specs.declared.fault.DocumentFault.{DocumentFault};
 
+    /// What an entry means.
     ghost Declared: { Type 0 };
 
     ghost declared: { Self → Declared };
@@ -24,11 +26,11 @@ pub(crate) trait Entry: Sized {
         ensures { Gives OutOfMemory declared result (form (view value.now)) };
 }
 
-/// What the values of a list declare, in their order, or the first fault.
+/// The entries that the values of a list declare, in their order, or the first fault.
 pub(crate) fn entries<E: Entry>(alloc: Global, values: &[Value]) -> Result<Vec<E>, DocumentFault>
 where
     E: Drop,
-    ensures { Gives OutOfMemory (λ es. map E.declared es.items) result (each E.form (map view values.now)) }
+    ensures { Gives OutOfMemory (λ es. map E.declared es.items) result (try_map E.form (map view values.now)) }
 {
     let mut entries = Vec::new(alloc);
     for value in values {

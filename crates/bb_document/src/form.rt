@@ -1,13 +1,15 @@
+//! The form of a schema's document: `Document::read`, and what each kind of its entries declares.
+
 ghost use Rattle.std.specs.Prelude.{◌≡◌, map, pos, false, [], Some, IfOk, option_map};
 ghost use Rattle.std.specs.Option.{option_map_or};
 ghost use Rattle.std.specs.String.{string_bytes};
-ghost use Rattle.bb_document.specs.declared.fault.DocumentFault.TheVariants.{Memory as OutOfMemory, Json};
+ghost use Rattle.bb_document.specs.declared.fault.DocumentFault.TheVariants.{Memory as OutOfMemory};
 ghost use Rattle.serde_json.specs.Find.{as_str, as_bool};
-ghost use Rattle.serde_json.specs.Read.{read};
 ghost use Rattle.serde_json.specs.View.{view};
-ghost use Rattle.bb_document.specs.Answers.{Gives, expected};
+ghost use Rattle.bb_basis.specs.Results.{Gives};
 ghost use Rattle.bb_document.specs.Shapes.{as_whole};
 ghost use Rattle.bb_document.specs.Document.{default_declaration, declarations};
+ghost use Rattle.bb_document.specs.Intervals.{HasOrderedIntervals};
 ghost use Rattle.bb_document.specs.Form.{ends_of, as_interval, plain_default_of, label_default_of, default_of, is_dim_kind, declarations_of, document_of};
 
 use crate::document::{
@@ -15,29 +17,21 @@ use crate::document::{
 };
 use crate::entry::{Entry, entries};
 use crate::fault::DocumentFault;
+use crate::json::json;
 use crate::shape::{
     as_list, bool_at, is_object_with, list_at, optional_text_at, required_list_at, text_at,
 };
 use serde_json::Value;
 use std::alloc::{AllocError, Global};
 
-fn json(alloc: Global, text: &str) -> Result<Value, DocumentFault>
-    ensures { Gives OutOfMemory view result (expected Json (read text.now)) }
-{
-    match Value::from_str(alloc, text) {
-        Ok(value) => Ok(value),
-        Err(error) if error.is_memory() => Err(DocumentFault::Memory),
-        Err(_) => Err(DocumentFault::Json),
-    }
-}
-
 impl Document {
-    /// What a JSON document declares. `Json` where the text is not JSON, then `Shape` where the JSON has not the form of
-    /// a schema: a key that no such object has, a key that is missing, or a value of another form, `null` included.
-    /// `Memory` may come at any point.
+    /// What a schema's document declares. `Json` where the text is not JSON, then `Shape` where the JSON does not have
+    /// the form of a schema: a key that no such object has, a missing key, or a value of another form, `null`
+    /// included. `Memory` may come at any point.
     #[tactic(auto, unfolding(crate::specs::Form::document_of))]
     pub fn read(alloc: Global, text: &str) -> Result<Document, DocumentFault>
-        ensures { Gives OutOfMemory declarations result (document_of text.now) }
+        ensures gives { Gives OutOfMemory declarations result (document_of text.now) }
+        ensures ordered { IfOk result (λ document. HasOrderedIntervals (declarations document)) }
     {
         let value = json(alloc, text)?;
         document(alloc, &value)
@@ -292,7 +286,8 @@ fn label_default(
     set: &str,
     given: Option<&Value>,
 ) -> Result<DefaultEntry, DocumentFault>
-    ensures { Gives OutOfMemory default_declaration result (label_default_of set.now (option_map (λ v. view v.now) given.entry)) }
+    ensures { Gives OutOfMemory default_declaration result
+        (label_default_of set.now (option_map (λ v. view v.now) given.entry)) }
 {
     let default = match given {
         None => None,
@@ -311,7 +306,8 @@ fn plain_default(
     kind: &str,
     given: Option<&Value>,
 ) -> Result<DefaultEntry, DocumentFault>
-    ensures { Gives OutOfMemory default_declaration result (plain_default_of kind.now (option_map (λ v. view v.now) given.entry)) }
+    ensures { Gives OutOfMemory default_declaration result
+        (plain_default_of kind.now (option_map (λ v. view v.now) given.entry)) }
 {
     if kind == "int" {
         return Ok(DefaultEntry::Int(int_or_zero(given).ok_or(DocumentFault::Shape)?));

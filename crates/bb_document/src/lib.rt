@@ -1,15 +1,19 @@
-//! The form of a schema's document: which JSON it is and what its entries declare, before any name in it is looked at.
+//! The form of the two JSON documents, a schema's and the first units': which JSON they are and what their entries
+//! declare, before any name in them is looked up. JSON ends here.
 #![tactic(auto)]
 
 mod document;
 mod entry;
 mod fault;
 mod form;
+mod json;
 pub mod shape;
 #[cfg(test)]
 mod tests;
+mod units_form;
 
 pub use document::{
     ClassEntry, DefaultEntry, DimEntry, Document, LabelSetEntry, LinkEntry, SlotEntry, SpaceEntry,
+    UnitEntry, UnitsDocument,
 };
 pub use fault::DocumentFault;

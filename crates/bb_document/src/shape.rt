@@ -1,4 +1,4 @@
-//! The form of a JSON document, piece by piece.
+//! The form of a JSON document, piece by piece. The forms of both documents are made of these tests.
 
 ghost use Rattle.std.specs.Prelude.{◌≡◌, map, option_map};
 ghost use Rattle.std.specs.List.{list_any, list_all};
@@ -60,7 +60,7 @@ pub fn required_list_at<'a>(value: &'a Value, key: &str) -> Option<&'a [Value]>
     as_list(value.get(key)?)
 }
 
-/// The list under a key of an object. An absent one is empty; what is there and is no list gives `None`.
+/// The list under a key of an object. An absent one is empty; a value that is no list gives `None`.
 pub fn list_at<'a>(value: &'a Value, key: &str) -> Option<&'a [Value]>
     ensures { option_map (λ vs. map view vs.now) result ≡ list_at key.now (view value.now) }
 {
@@ -70,7 +70,7 @@ pub fn list_at<'a>(value: &'a Value, key: &str) -> Option<&'a [Value]>
     }
 }
 
-/// The text under a key of an object, `Some(None)` where the key is absent. What is there and is no text gives `None`.
+/// The text under a key of an object, `Some(None)` where the key is absent. A value that is no text gives `None`.
 pub fn optional_text_at<'a>(value: &'a Value, key: &str) -> Option<Option<&'a str>>
     ensures { option_map (λ o. option_map (λ t. t.now) o) result ≡ optional_text_at key.now (view value.now) }
 {

@@ -109,9 +109,9 @@ fn no_json(rt: HostRuntime) {
 }
 
 /// Whether each of the lines, between two texts, is JSON without the form of a document.
-fn are_shapeless(alloc: Global, before: &str, lines: &str, behind: &str) -> Result<(), Fail> {
+fn are_shapeless(alloc: Global, before: &str, lines: &str, after: &str) -> Result<(), Fail> {
     for line in lines.lines() {
-        let text = format!(in alloc; "{before}{line}{behind}")?;
+        let text = format!(in alloc; "{before}{line}{after}")?;
         match Document::read(alloc, &text) {
             Err(DocumentFault::Shape) => {}
             _ => return Err(Fail::from(text)),
@@ -257,4 +257,37 @@ fn shapeless_dimensions(rt: HostRuntime) -> Result<(), Fail> {
         DIMENSIONS,
         "]}]}",
     )
+}
+
+#[test]
+fn first_units(rt: HostRuntime) -> Result<(), Fail> {
+    let document = UnitsDocument::read(
+        rt.alloc(),
+        r#"{"units":[{"name":"a","class":"thing"},{"class":"box","name":"a"}]}"#,
+    )?;
+    let units = format!(in rt.alloc(); "{:?}", document.units)?;
+    assert_eq!(rt;
+        units.as_str(),
+        r#"[UnitEntry { name: "a", class: "thing" }, UnitEntry { name: "a", class: "box" }]"#
+    );
+    let empty = UnitsDocument::read(rt.alloc(), "{}")?;
+    assert!(rt; empty.units.is_empty());
+    Ok(())
+}
+
+#[test]
+fn shapeless_units(rt: HostRuntime) {
+    for text in [
+        "[]",
+        r#"{"classes":[]}"#,
+        r#"{"units":null}"#,
+        r#"{"units":[{"name":"a"}]}"#,
+        r#"{"units":[{"name":"a","class":null}]}"#,
+        r#"{"units":[{"name":"a","class":"b","slots":[]}]}"#,
+    ] {
+        match UnitsDocument::read(rt.alloc(), text) {
+            Ok(_) => assert!(rt; false, "{text} is read"),
+            Err(fault) => assert_eq!(rt; fault, DocumentFault::Shape, "{text}"),
+        }
+    }
 }

@@ -12,7 +12,7 @@ use Rattle.std.proofs.lemmas.Slice.Eq.{bytes_eq-Decides}
 use Rattle.std.specs.Str.{bytes_eq}
 use Rattle.bb_main.specs.Lines.{lines}
 use Rattle.bb_main.specs.Sections.{is_alone, header_of, before, parts, line_before, with_part}
-use Rattle.bb_main.specs.Cuts.{is_end, Begins}
+use Rattle.bb_main.specs.proving.Cuts.{is_end, Begins}
 
 same_end : (word a b : List ℕ) → bytes_eq (word ++ a) (word ++ b) ≡ bytes_eq a b
 same_end [] a b = refl

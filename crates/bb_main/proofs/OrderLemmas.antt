@@ -7,11 +7,11 @@ use Rattle.std.specs.Str.{bytes_eq}
 use Rattle.std.proofs.lemmas.List.{nil_from_length}
 use Rattle.bb_main.specs.declared.sections.Header.{Header}
 use Rattle.bb_main.specs.declared.sections.Header.TheVariants.{Schema, Units, Sources, Bundle}
-use Rattle.bb_main.specs.declared.refusal.InputRefusal.{InputRefusal}
-use Rattle.bb_main.specs.declared.refusal.InputRefusal.TheVariants.{Sections as NotInOrder}
+use Rattle.bb_main.specs.declared.section_fault.SectionFault.{SectionFault}
+use Rattle.bb_main.specs.declared.section_fault.SectionFault.TheVariants.{Sections as NotInOrder}
 use Rattle.bb_main.specs.Lines.{lines, onto_first}
 use Rattle.bb_main.specs.Sections.{header_of, before, parts, line_before, with_part, Part, part, Texts, in_order, sections_of}
-use Rattle.bb_main.specs.Cuts.{Begins, Takes}
+use Rattle.bb_main.specs.proving.Cuts.{Begins, Takes}
 
 -- the text of the units section, or the default, and the parts after it
 abbrev pub units_first : List Part → List ℕ × List Part
@@ -22,7 +22,7 @@ abbrev pub bundle_first : List Part → List ℕ × List Part
 bundle_first (part Bundle b ∷ others) = (b, others)
 bundle_first others = ([], others)
 
-abbrev pub finish : List ℕ → List ℕ → List ℕ → List Part → Result Texts InputRefusal
+abbrev pub finish : List ℕ → List ℕ → List ℕ → List Part → Result Texts SectionFault
 finish s u b [] = Ok (record { schema = s; units = u; bundle = b })
 finish s u b (p ∷ others) = Err NotInOrder
 

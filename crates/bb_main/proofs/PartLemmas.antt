@@ -3,7 +3,7 @@ use Rattle.std.proofs.Common.{◌≡◌, ◌≢◌, ℕ, ◌<◌, List, [], ◌�
 use Rattle.bb_main.specs.declared.sections.Header.{Header}
 use Rattle.bb_main.specs.Lines.{lines}
 use Rattle.bb_main.specs.Sections.{header_of, is_alone, before, parts, line_before, with_part, Part, part}
-use Rattle.bb_main.specs.Cuts.{Begins}
+use Rattle.bb_main.specs.proving.Cuts.{Begins}
 
 header_of-nil : header_of [] ≡ None
 unfolding header_of is_alone

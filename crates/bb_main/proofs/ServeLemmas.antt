@@ -1,36 +1,117 @@
--- The answer to an input, by what the calls of the program gave.
-use Rattle.std.proofs.Common.{◌≡◌, ◌<◌, inl, inr, ℕ, suc, zero, ℤ, List, [], ◌∷◌, length, Option, None, Some, IfSome, Result, Ok, Err, refl, subst, arith}
-use Rattle.std.specs.Prelude.{Vec}
-use Rattle.std.specs.declared.alloc.Global.{Global}
-use Rattle.bb_main.specs.declared.refusal.InputRefusal.{InputRefusal}
-use Rattle.bb_main.specs.declared.refusal.InputRefusal.TheVariants.{Read, Limit, Utf8, Sections, Memory}
+-- The answer to an input: by its sections, to one that is too long, and to one whose run was cut short.
+use Rattle.std.proofs.Common.{◌≡◌, ◌⊎◌, ◌<◌, ◌≤◌, ◌+◌, ◌++◌, inl, inr, ℕ, ℤ, List, [], ◌∷◌, length, length-append, map, take, Option, None, Some, IfSome, Result, Ok, Err, refl, sym, subst, ap, ◌∙◌, arith, append-nil}
+use Rattle.std.specs.List.{flat_map}
+use Rattle.std.proofs.lemmas.Bool.{cases_lt}
+use Rattle.std.proofs.lemmas.List.Concat.{flat_map-cons}
+use Rattle.std.proofs.lemmas.List.{take-map, take-append-le, length-take-le, take_all}
+use Rattle.std.proofs.Math.Seq.{take-append-add, take-length}
+use Rattle.std.specs.Io.KnownBytes.{Appends, Consumes}
+use Rattle.std.proofs.KnownBytes.{Appends-nil, Appends-trans}
+use Rattle.bb_shell.specs.declared.finish.Finish.{Finish}
+use Rattle.bb_shell.specs.declared.finish.Finish.TheVariants as finishes
+use Rattle.bb_shell.specs.declared.input_fault.InputFault.{InputFault}
+use Rattle.bb_shell.specs.Finish.{WritesFront, end_of}
+use Rattle.bb_shell.specs.Meaning.{Meaning}
+use Rattle.bb_shell.specs.Run.{run}
+use Rattle.bb_shell.specs.TraceText.{segment_text, trace_text}
+use Rattle.bb_main.specs.declared.read.TheConstants.{INPUT_LIMIT}
+use Rattle.bb_main.specs.declared.section_fault.SectionFault.{SectionFault}
+use Rattle.bb_main.specs.declared.section_fault.SectionFault.TheVariants.{Limit}
 use Rattle.bb_main.specs.Input.{input_of}
-use Rattle.bb_main.specs.Reading.{IsReading, Reads}
-use Rattle.bb_main.specs.Refusals.{refusal_line}
 use Rattle.bb_main.specs.Sections.{Texts}
-use Rattle.bb_main.specs.Serve.{Delivers, Serves, answer, answer_to_sections, refused}
+use Rattle.bb_main.specs.Serve.{Answer, CutShort, Delivers, Serves, answer, answer_to_meaning, answer_to_run, answer_to_sections, limit_refusal, refusal, status_of, text_of}
 use Rattle.bb_main.proofs.InputLemmas.{is_long}
 
-pub answer_from : (bytes : List ℕ) (limit : ℕ) (floor : ℤ) (cut : Result Texts InputRefusal) (taken given : Option (List ℕ)) (status : ℕ) → cut ≡ input_of bytes → Delivers (answer_to_sections limit floor cut) taken given status → Delivers (answer bytes limit floor) taken given status
+pub answer-from : (bytes : List ℕ) (limit : ℕ) (floor : ℤ) (cut : Result Texts SectionFault) (P : Answer → Type 0) → cut ≡ input_of bytes → P (answer_to_sections limit floor cut) → P (answer bytes limit floor)
 unfolding answer
-answer_from bytes limit floor cut taken given status is delivers = subst (λ (c : Result Texts InputRefusal). Delivers (answer_to_sections limit floor c) taken given status) is delivers
+answer-from bytes limit floor cut P is holds = subst (λ (c : Result Texts SectionFault). P (answer_to_sections limit floor c)) is holds
 
-pub answer_to_run : (bytes : List ℕ) (limit : ℕ) (floor passed : ℤ) (texts : Texts) (taken given : Option (List ℕ)) (status : ℕ) → passed ≡ floor → Ok texts ≡ input_of bytes → Delivers (answer_to_sections limit passed (Ok texts)) taken given status → Delivers (answer bytes limit floor) taken given status
-answer_to_run bytes limit floor passed texts taken given status same is delivers =
-    answer_from bytes limit floor (Ok texts) taken given status is (subst (λ (z : ℤ). Delivers (answer_to_sections limit z (Ok texts)) taken given status) same delivers)
+answer-long : (bytes : List ℕ) (limit : ℕ) (floor : ℤ) (taken given : Option (List ℕ)) (status : ℕ) → INPUT_LIMIT < length bytes → Delivers limit_refusal taken given status → Delivers (answer bytes limit floor) taken given status
+answer-long bytes limit floor taken given status long delivers = answer-from bytes limit floor (Err Limit) (λ a. Delivers a taken given status) (is_long bytes long) delivers
 
--- bytes that are too many for an input
-pub longer : (n : ℕ) → (xs : List ℕ) × (n < length xs)
-longer zero = (0 ∷ [], omega arith)
-longer (suc n) = let shorter = longer n in (0 ∷ shorter.0, let more = shorter.1 in omega arith)
+-- a reader that gave too many bytes has too many
+pub serves-long : (limit : ℕ) (floor : ℤ) (read left taken given : Option (List ℕ)) (status : ℕ) (bytes : List ℕ) → Consumes read left bytes → length bytes ≡ INPUT_LIMIT + 1 → Delivers limit_refusal taken given status → Serves limit floor read taken given status
+serves-long limit floor None left taken given status bytes p long delivers = (bytes, tt, inl (answer-long bytes limit floor taken given status (omega arith) delivers))
+serves-long limit floor (Some xs) None taken given status bytes p long delivers = absurd p
+serves-long limit floor (Some xs) (Some ys) taken given status bytes p long delivers =
+    (xs, refl, inl (answer-long xs limit floor taken given status (omega (arith, length-append bytes ys, ap length p)) delivers))
 
-too_long : (bytes : List ℕ) (limit : ℕ) (floor : ℤ) (taken given : Option (List ℕ)) (status : ℕ) → 16777216 < length bytes → Delivers (refused (refusal_line Limit)) taken given status → Delivers (answer bytes limit floor) taken given status
-too_long bytes limit floor taken given status long delivers = answer_from bytes limit floor (Err Limit) taken given status (is_long bytes long) delivers
+-- where memory ran out before anything was written
+pub cut-nothing : (a : Answer) (taken : Option (List ℕ)) (status : ℕ) → status ≡ 5 → CutShort a taken taken status
+cut-nothing a taken status is = (is, (0, Appends-nil taken))
 
-pub serves-unread : (e : InputRefusal) (limit : ℕ) (floor : ℤ) (read taken given : Option (List ℕ)) (status : ℕ) → IsReading {X = Vec ℕ Global} (Err e) → IfSome read (λ xs. Reads xs (Err e)) → (e ≡ Memory → status ≡ 5) → Delivers (refused (refusal_line e)) taken given status → Serves limit floor read taken given status
-serves-unread Read limit floor read taken given status is bytes memory delivers = inr delivers
-serves-unread Memory limit floor read taken given status is bytes memory delivers = inr (inr (inl (memory refl)))
-serves-unread Limit limit floor None taken given status is bytes memory delivers = let some = longer 16777216 in inl (some.0, tt, too_long some.0 limit floor taken given status some.1 delivers)
-serves-unread Limit limit floor (Some xs) taken given status is bytes memory delivers = inl (xs, refl, too_long xs limit floor taken given status bytes delivers)
-serves-unread Utf8 limit floor read taken given status is bytes memory delivers = absurd is
-serves-unread Sections limit floor read taken given status is bytes memory delivers = absurd is
+pub serves-nothing : (limit : ℕ) (floor : ℤ) (read taken : Option (List ℕ)) (status : ℕ) → status ≡ 5 → Serves limit floor read taken taken status
+serves-nothing limit floor None taken status is = ([], tt, inr (cut-nothing (answer [] limit floor) taken status is))
+serves-nothing limit floor (Some xs) taken status is = (xs, refl, inr (cut-nothing (answer xs limit floor) taken status is))
+
+-- the text of pieces
+pub text_of-map : {X : Type 0} (f : X → List ℕ) (xs : List X) → text_of (map f xs) ≡ flat_map f xs
+text_of-map f [] = refl
+text_of-map f (x ∷ xs) = flat_map-cons (λ piece. piece) (f x) (map f xs) ∙ (ap (λ t. f x ++ t) (text_of-map f xs) ∙ sym (flat_map-cons f x xs))
+
+pub text_of-one : (piece : List ℕ) → text_of (piece ∷ []) ≡ piece
+text_of-one piece = flat_map-cons (λ p. p) piece [] ∙ append-nil piece
+
+-- a run's answer, by how the run came out
+pub served_run : (limit : ℕ) (m : Meaning) (f : Finish) (status : ℕ) (old new : Option (List ℕ)) → status ≡ status_of f
+    → IfSome (end_of f) (λ end. (run m.shell m.world limit).end ≡ Some end)
+    → IfSome (end_of f) (λ _. Appends old new (trace_text m.shell (run m.shell m.world limit).segments))
+    → WritesFront m.shell (run m.shell m.world limit) f old new
+    → Delivers (answer_to_run limit m) old new status ⊎ CutShort (answer_to_run limit m) old new status
+served_run limit m f status old new = by f
+  where
+    whole : trace_text m.shell (run m.shell m.world limit).segments ≡ text_of (answer_to_run limit m).pieces
+    whole = sym (text_of-map (segment_text m.shell) (run m.shell m.world limit).segments)
+
+    all : Appends old new (trace_text m.shell (run m.shell m.world limit).segments) → Appends old new (text_of (answer_to_run limit m).pieces)
+    all p = subst (Appends old new) whole p
+
+    by : (f : Finish) → status ≡ status_of f
+        → IfSome (end_of f) (λ end. (run m.shell m.world limit).end ≡ Some end)
+        → IfSome (end_of f) (λ _. Appends old new (trace_text m.shell (run m.shell m.world limit).segments))
+        → WritesFront m.shell (run m.shell m.world limit) f old new
+        → Delivers (answer_to_run limit m) old new status ⊎ CutShort (answer_to_run limit m) old new status
+    by finishes.Quiescence is ends wrote front = inl (inl (rw ends is, all wrote))
+    by finishes.Limit is ends wrote front = inl (inl (rw ends is, all wrote))
+    by finishes.Full is ends wrote front = inl (inl (rw ends is, all wrote))
+    by (finishes.Stuck reason) is ends wrote front = inl (inl (rw ends is, all wrote))
+    by finishes.Memory is ends wrote front =
+        inr (is, (front.0, subst (Appends old new) (sym (text_of-map (segment_text m.shell) (take front.0 (run m.shell m.world limit).segments)) ∙ ap text_of (sym (take-map (segment_text m.shell) front.0 (run m.shell m.world limit).segments))) front.1))
+    by finishes.Write is ends wrote front = inl (inr (is, (front.0, subst (λ t. Appends old new (take front.0 t)) whole front.1)))
+
+same_meaning : (given : Result Meaning InputFault) (m n : Meaning) → given ≡ Ok m → given ≡ Ok n → n ≡ m
+same_meaning given m n p q = let e : ◌≡◌ {A = Result Meaning InputFault} (Ok n) (Ok m) = sym q ∙ p in cc
+
+-- the answer to what sections mean, by what a run of them is known to have told
+pub served_meaning : (limit : ℕ) (given : Result Meaning InputFault) (f : Finish) (status : ℕ) (old new : Option (List ℕ)) → status ≡ status_of f
+    → (m : Meaning) × (given ≡ Ok m) × IfSome (end_of f) (λ end. (run m.shell m.world limit).end ≡ Some end)
+    → (m : Meaning) × (given ≡ Ok m) × IfSome (end_of f) (λ _. Appends old new (trace_text m.shell (run m.shell m.world limit).segments))
+    → (m : Meaning) × (given ≡ Ok m) × WritesFront m.shell (run m.shell m.world limit) f old new
+    → Delivers (answer_to_meaning limit given) old new status ⊎ CutShort (answer_to_meaning limit given) old new status
+served_meaning limit given f status old new is ends wrote front =
+    let m = ends.0 in
+    let text = subst (λ (n : Meaning). IfSome (end_of f) (λ _. Appends old new (trace_text n.shell (run n.shell n.world limit).segments))) (same_meaning given m wrote.0 ends.1 wrote.1) wrote.2 in
+    let first = subst (λ (n : Meaning). WritesFront n.shell (run n.shell n.world limit) f old new) (same_meaning given m front.0 ends.1 front.1) front.2 in
+    subst (λ (r : Result Meaning InputFault). Delivers (answer_to_meaning limit r) old new status ⊎ CutShort (answer_to_meaning limit r) old new status) (sym ends.1) (served_run limit m f status old new is ends.2 text first)
+
+-- the line of a refusal, written in two parts
+pub wrote_line : (line : List ℕ) (old mid new : Option (List ℕ)) → Appends old mid line → Appends mid new (10 ∷ []) → Appends old new (text_of (refusal line).pieces)
+wrote_line line old mid new a b = subst (Appends old new) (sym (text_of-one (line ++ 10 ∷ []))) (Appends-trans old mid new line (10 ∷ []) a b)
+
+front_within : (count : ℕ) (line more : List ℕ) → (n : ℕ) × (take count line ≡ take n (line ++ more))
+front_within count line more = by (cases_lt (length line) count)
+  where
+    by : (length line < count) ⊎ (count ≤ length line) → (n : ℕ) × (take count line ≡ take n (line ++ more))
+    by (inr le) = (count, sym (take-append-le count line more le))
+    by (inl lt) = (length line, take_all count line (omega arith) ∙ sym (take-append-le (length line) line more (omega arith) ∙ take-length line))
+
+-- the output failed in the line
+pub failed_in_line : (line : List ℕ) (old new : Option (List ℕ)) (count : ℕ) → Appends old new (take count line) → (n : ℕ) × Appends old new (take n (text_of (refusal line).pieces))
+failed_in_line line old new count a =
+    let f = front_within count line (10 ∷ []) in
+    (f.0, subst (Appends old new) (f.1 ∙ ap (take f.0) (sym (text_of-one (line ++ 10 ∷ [])))) a)
+
+-- the output failed at its end
+pub failed_at_end : (line : List ℕ) (old mid new : Option (List ℕ)) (count : ℕ) → Appends old mid line → Appends mid new (take count (10 ∷ [])) → (n : ℕ) × Appends old new (take n (text_of (refusal line).pieces))
+failed_at_end line old mid new count a b =
+    (length line + count, subst (Appends old new) (sym (take-append-add line (10 ∷ []) count) ∙ ap (take (length line + count)) (sym (text_of-one (line ++ 10 ∷ [])))) (Appends-trans old mid new line (take count (10 ∷ [])) a b))

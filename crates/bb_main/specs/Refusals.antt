@@ -1,11 +1,14 @@
--- The line by which an input is refused.
-use Rattle.std.specs.Prelude.{ℕ, List, [], codes}
-use Rattle.bb_main.specs.declared.refusal.InputRefusal.{InputRefusal}
-use Rattle.bb_main.specs.declared.refusal.InputRefusal.TheVariants.{Read, Limit, Utf8, Sections, Memory}
+-- The lines by which an input without sections is refused.
+use Rattle.std.specs.Prelude.{ℕ, List, codes}
+use Rattle.bb_main.specs.declared.section_fault.SectionFault.{SectionFault}
+use Rattle.bb_main.specs.declared.section_fault.SectionFault.TheVariants.{Limit, Utf8, Sections}
 
-abbrev pub refusal_line : InputRefusal → List ℕ
-refusal_line Read = codes "refused input read"
-refusal_line Limit = codes "refused input limit"
-refusal_line Utf8 = codes "refused input utf8"
-refusal_line Sections = codes "refused input sections"
-refusal_line Memory = []
+-- the reader failed, which refuses the input whatever its bytes are
+abbrev pub read_line : List ℕ
+read_line = codes "refused input read"
+
+-- the bytes have no sections
+abbrev pub section_line : SectionFault → List ℕ
+section_line Limit = codes "refused input limit"
+section_line Utf8 = codes "refused input utf8"
+section_line Sections = codes "refused input sections"

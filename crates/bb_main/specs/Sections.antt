@@ -3,8 +3,8 @@ use Rattle.std.specs.Prelude.{ℕ, Bool, ◌||◌, List, [], ◌∷◌, ◌++◌
 use Rattle.std.specs.Str.{bytes_eq}
 use Rattle.bb_main.specs.declared.sections.Header.{Header}
 use Rattle.bb_main.specs.declared.sections.Header.TheVariants.{Schema, Units, Sources, Bundle}
-use Rattle.bb_main.specs.declared.refusal.InputRefusal.{InputRefusal}
-use Rattle.bb_main.specs.declared.refusal.InputRefusal.TheVariants.{Sections as NotInOrder}
+use Rattle.bb_main.specs.declared.section_fault.SectionFault.{SectionFault}
+use Rattle.bb_main.specs.declared.section_fault.SectionFault.TheVariants.{Sections as NotInOrder}
 use Rattle.bb_main.specs.Lines.{lines}
 
 -- a line that is the word alone, ended by LF, by CR LF or, without a CR, by the end of the input
@@ -24,6 +24,7 @@ header_of line =
 pub data Part : Type 0 where
   part : Header → List ℕ → Part
 
+-- a line before the rest, unless it is a header
 abbrev pub line_before : Option Header → List ℕ → List ℕ → List ℕ
 line_before (Some header) line rest = []
 line_before None line rest = line ++ rest
@@ -33,22 +34,24 @@ abbrev pub before : List (List ℕ) → List ℕ
 before [] = []
 before (line ∷ others) = line_before (header_of line) line (before others)
 
+-- a header's part before the others
 abbrev pub with_part : Option Header → List ℕ → List Part → List Part
-with_part (Some header) text found = part header text ∷ found
-with_part None text found = found
+with_part (Some header) text others = part header text ∷ others
+with_part None text others = others
 
 -- the headers in order, each with its text
 abbrev pub parts : List (List ℕ) → List Part
 parts [] = []
 parts (line ∷ others) = with_part (header_of line) (before others) (parts others)
 
+-- the text of each section
 pub record Texts : Type 0 where
   pub schema : List ℕ
   pub units : List ℕ
   pub bundle : List ℕ
 
 -- the schema first, then units or none, then a bundle or none, and nothing more
-abbrev pub in_order : List Part → Result Texts InputRefusal
+abbrev pub in_order : List Part → Result Texts SectionFault
 in_order (part Schema s ∷ []) = Ok (record { schema = s; units = codes "{}"; bundle = [] })
 in_order (part Schema s ∷ part Units u ∷ []) = Ok (record { schema = s; units = u; bundle = [] })
 in_order (part Schema s ∷ part Bundle b ∷ []) = Ok (record { schema = s; units = codes "{}"; bundle = b })
@@ -56,5 +59,5 @@ in_order (part Schema s ∷ part Units u ∷ part Bundle b ∷ []) = Ok (record 
 in_order _ = Err NotInOrder
 
 -- the sections of a text, which begins with its first header
-unfoldable pub sections_of : List ℕ → Result Texts InputRefusal
+unfoldable pub sections_of : List ℕ → Result Texts SectionFault
 sections_of text = if bytes_eq (before (lines text)) [] then in_order (parts (lines text)) else Err NotInOrder

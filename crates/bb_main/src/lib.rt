@@ -1,13 +1,14 @@
 //! The program of the shell: what its input is, and what it writes for it.
 #![tactic(auto)]
 
+mod input;
 mod read;
-mod refusal;
+mod section_fault;
 mod sections;
 mod serving;
 #[cfg(test)]
 mod tests;
 
+pub use input::{In, Intake};
 pub use read::INPUT_LIMIT;
-pub use refusal::InputRefusal;
-pub use serving::serve;
+pub use serving::{program, serve};

@@ -1,68 +1,61 @@
-ghost use Rattle.std.specs.Prelude.{◌≡◌, ◌≤◌, ◌<◌, ◌+◌, ◌++◌, ℕ, List, IfOk, IfErr, OnErr, IfSome, length};
-ghost use Rattle.std.specs.Io.{ReadsAtMost};
-ghost use Rattle.std.specs.Io.KnownBytes.{Consumes, ReadConsumes};
-ghost use Rattle.bb_main.specs.Reading.{Reads, IsReading, IsFailure, TakesAtMost, GrowsByRead};
+//! All bytes of an input, as `serve` reads them.
 
-use crate::refusal::InputRefusal;
-use std::alloc::Global;
-use std::io::{ErrorKind, Read};
+ghost use Rattle.std.specs.Prelude.{◌≡◌, false};
+ghost use Rattle.bb_main.specs.declared.read.ReadFault.TheVariants.{Memory as OutOfMemory};
+ghost use Rattle.bb_main.specs.proving.Reads.{Reads, is_failure};
+
+use crate::input::In;
+use std::alloc::{AllocError, Global};
+use thiserror::Error;
 
 /// The most bytes that an input may have.
 pub const INPUT_LIMIT: usize = 16_777_216;
 
 /// The most bytes that one read asks for.
-const CHUNK: usize = 8_192;
+const CHUNK_LIMIT: usize = 8_192;
 
-/// How often a read that was interrupted is tried.
-const TRIES: usize = 64;
+/// Why the bytes of an input were not all read.
+#[derive(Clone, Copy, Debug, PartialEq, Eq, Error)]
+pub(crate) enum ReadFault {
+    /// The reader failed.
+    #[error("the input cannot be read")]
+    Read,
+    /// The input has more bytes than are taken.
+    #[error("the input is too long")]
+    Limit,
+    /// Memory ran out.
+    #[error("out of memory")]
+    Memory,
+}
 
-/// All bytes of a reader. It is `Limit` where there are more than `INPUT_LIMIT`, and at most one more is taken.
-pub(crate) fn read_input<R: Read>(alloc: Global, reader: &mut R) -> Result<Vec<u8>, InputRefusal>
-    ensures within { IfOk result (λ read. length read.items ≤ 16777216) }
-    ensures reading { IsReading result }
-    ensures bytes { IfSome (R.remaining reader.old) (λ xs. Reads xs result) }
-    ensures taken { TakesAtMost 16777217 (R.remaining reader.old) (R.remaining reader.new) }
+impl From<AllocError> for ReadFault {
+    ghost from_gives = { λ _ e. e ≡ OutOfMemory };
+
+    fn from(_refused: AllocError) -> ReadFault {
+        ReadFault::Memory
+    }
+}
+
+/// All bytes of an input, which are at most `INPUT_LIMIT`. `Limit`: one byte more was there, and was taken. No other
+/// answer has taken it.
+pub(crate) fn read_input<R: In>(alloc: Global, reader: &mut R) -> Result<Vec<u8>, ReadFault>
+    requires { R.has_failed reader.old ≡ false }
+    ensures read { Reads (R.remaining reader.old) (R.remaining reader.new) result }
+    ensures failed { R.has_failed reader.new ≡ is_failure result }
 {
     let mut input = Vec::new(alloc);
-    while input.len() <= INPUT_LIMIT {
-        let room = INPUT_LIMIT + 1 - input.len();
-        if read_more(reader, &mut input, room)? == 0 {
+    let mut chunk = [0; CHUNK_LIMIT];
+    while input.len() < INPUT_LIMIT {
+        let room = CHUNK_LIMIT.min(INPUT_LIMIT - input.len());
+        let count = reader.read(&mut chunk[..room]).ok_or(ReadFault::Read)?;
+        if count == 0 {
             return Ok(input);
         }
+        input.extend_from_slice(&chunk[..count])?;
     }
-    Err(InputRefusal::Limit)
-}
-
-/// Appends what one read gives, at most `room` bytes, and answers how many. They are none at the end alone.
-fn read_more<R: Read>(
-    reader: &mut R,
-    input: &mut Vec<u8>,
-    room: usize,
-) -> Result<usize, InputRefusal>
-    requires { 0 < room }
-    ensures ok { IfOk result (λ n. GrowsByRead input.old.items input.new.items n room (R.remaining reader.old) (R.remaining reader.new)) }
-    ensures err { OnErr result (TakesAtMost room (R.remaining reader.old) (R.remaining reader.new)) }
-    ensures failure { IfErr result (λ e. IsFailure e) }
-{
-    let mut chunk = [0u8; CHUNK];
-    let most = room.min(CHUNK);
-    let taken = read_some(reader, &mut chunk[..most])?;
-    input.extend_from_slice(&chunk[..taken])?;
-    Ok(taken)
-}
-
-/// One read. One that was interrupted is tried again, and fails like any other after some tries.
-fn read_some<R: Read>(reader: &mut R, buffer: &mut [u8]) -> Result<usize, InputRefusal>
-    ensures bound { ReadsAtMost result buffer.new }
-    ensures bytes { ReadConsumes (R.remaining reader.old) (R.remaining reader.new) result buffer.new }
-    ensures failure { IfErr result (λ e. e ≡ InputRefusal.Read) }
-{
-    for _ in 0..TRIES {
-        match reader.read(buffer) {
-            Ok(taken) => return Ok(taken),
-            Err(error) if error.kind() == ErrorKind::Interrupted => {}
-            Err(_) => break,
-        }
+    match reader.read(&mut chunk[..1]) {
+        Some(0) => Ok(input),
+        Some(_) => Err(ReadFault::Limit),
+        None => Err(ReadFault::Read),
     }
-    Err(InputRefusal::Read)
 }

@@ -1,11 +1,13 @@
+//! An input is cut into its sections, each the text after its header line. `serve` cuts it.
+
 ghost use Rattle.std.specs.Prelude.{◌≡◌, ◌++◌, ◌∷◌, [], ◌<◌, MatchOption, length};
 ghost use Rattle.bb_main.specs.Lines.{lines};
 ghost use Rattle.bb_main.specs.Sections.{header_of, is_alone, before, parts, sections_of};
-ghost use Rattle.bb_main.specs.Cuts.{is_end, Begins, Takes};
-ghost use Rattle.bb_main.specs.Input.{input_of, seen};
+ghost use Rattle.bb_main.specs.proving.Cuts.{is_end, Begins, Takes};
+ghost use Rattle.bb_main.specs.Input.{input_of, texts_of};
 
 use crate::read::INPUT_LIMIT;
-use crate::refusal::InputRefusal;
+use crate::section_fault::SectionFault;
 use std::str;
 
 /// What a header line begins.
@@ -13,7 +15,7 @@ use std::str;
 pub(crate) enum Header {
     Schema,
     Units,
-    /// No section is begun by it yet: it stands in no input that is taken.
+    /// Begins no section yet: an input that has it is refused.
     Sources,
     Bundle,
 }
@@ -28,27 +30,27 @@ pub(crate) struct Sections<'a> {
 
 impl<'a> Sections<'a> {
     /// The sections of an input's bytes, or why it is refused: `Limit` first, then `Utf8`, then `Sections`.
-    pub(crate) fn of_bytes(bytes: &'a [u8]) -> Result<Sections<'a>, InputRefusal>
-        ensures { seen result ≡ input_of bytes.now }
+    pub(crate) fn of_bytes(bytes: &'a [u8]) -> Result<Sections<'a>, SectionFault>
+        ensures { texts_of result ≡ input_of bytes.now }
     {
         if bytes.len() > INPUT_LIMIT {
-            return Err(InputRefusal::Limit);
+            return Err(SectionFault::Limit);
         }
         match str::from_utf8(bytes) {
             Ok(text) => Sections::of(text),
-            Err(_) => Err(InputRefusal::Utf8),
+            Err(_) => Err(SectionFault::Utf8),
         }
     }
 
     /// The sections of a text.
-    pub(crate) fn of(text: &'a str) -> Result<Sections<'a>, InputRefusal>
-        ensures { seen result ≡ sections_of text.now }
+    pub(crate) fn of(text: &'a str) -> Result<Sections<'a>, SectionFault>
+        ensures { texts_of result ≡ sections_of text.now }
     {
-        let (schema, rest) = section(Header::Schema, text).ok_or(InputRefusal::Sections)?;
+        let (schema, rest) = section(Header::Schema, text).ok_or(SectionFault::Sections)?;
         let (units, rest) = section(Header::Units, rest).unwrap_or(("{}", rest));
         let (bundle, rest) = section(Header::Bundle, rest).unwrap_or(("", rest));
         if !rest.is_empty() {
-            return Err(InputRefusal::Sections);
+            return Err(SectionFault::Sections);
         }
         Ok(Sections {
             schema,

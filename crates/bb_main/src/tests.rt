@@ -1,7 +1,10 @@
+//! Tests of inputs: how they are read, cut and refused, and of the statuses.
+
+use crate::input::{In, Intake};
 use crate::read::read_input;
-use crate::refusal::InputRefusal;
+use crate::section_fault::SectionFault;
 use crate::sections::Sections;
-use crate::serving::serve;
+use crate::serving::{program, serve};
 use bb_shell::Pipe;
 use std::io;
 use std::io::{Error, ErrorKind, Read, Write};
@@ -44,19 +47,21 @@ impl Read for Endless {
     }
 }
 
-/// Each other read is interrupted.
+/// So many reads are interrupted before one is not.
 #[derive(Drop)]
 struct Interrupted<'a> {
     inner: Pieces<'a>,
-    next: bool,
+    times: usize,
+    left: usize,
 }
 
 impl Read for Interrupted<'_> {
     fn read(&mut self, buf: &mut [u8]) -> io::Result<usize> {
-        self.next = !self.next;
-        if self.next {
+        if self.left > 0 {
+            self.left -= 1;
             return Err(Error::from(ErrorKind::Interrupted));
         }
+        self.left = self.times;
         self.inner.read(buf)
     }
 }
@@ -117,7 +122,7 @@ fn refused_sections(rt: HostRuntime) {
         "%schema\n%units\n%sources\r\n%bundle\n",
     ] {
         assert!(rt;
-            Sections::of_bytes(input.as_bytes()) == Err(InputRefusal::Sections),
+            Sections::of_bytes(input.as_bytes()) == Err(SectionFault::Sections),
             "{input}"
         );
     }
@@ -127,7 +132,7 @@ fn refused_sections(rt: HostRuntime) {
         b"%schema\n\xc3",
         b"%schema\n%sources\n\xed\xa0\x80",
     ] {
-        assert!(rt; Sections::of_bytes(input) == Err(InputRefusal::Utf8));
+        assert!(rt; Sections::of_bytes(input) == Err(SectionFault::Utf8));
     }
 }
 
@@ -135,71 +140,60 @@ fn refused_sections(rt: HostRuntime) {
 fn whole_readings(rt: HostRuntime) -> Result<(), Fail> {
     let bytes = b"%schema\n{}\n%units\n\xff";
     for piece in [1, 2, 7, 8_192] {
-        let mut reader = Pieces {
+        let mut reader = Intake::new(Pieces {
             bytes,
             piece,
             end: None,
-        };
+        });
         let input = read_input(rt.alloc(), &mut reader)?;
-        assert!(rt; input.as_slice() == bytes.as_slice());
+        assert!(rt; input.as_slice() == bytes.as_slice() && !reader.failed());
     }
-    let inner = Pieces {
-        bytes,
-        piece: 3,
-        end: None,
-    };
-    let mut reader = Interrupted { inner, next: false };
-    let input = read_input(rt.alloc(), &mut reader)?;
-    assert!(rt; input.as_slice() == bytes.as_slice());
     Ok(())
 }
 
-fn refusal<R: Read>(rt: &HostRuntime, reader: &mut R) -> Option<InputRefusal> {
-    match read_input(rt.alloc(), reader) {
-        Ok(_) => None,
-        Err(refusal) => Some(refusal),
-    }
-}
-
 #[test]
-fn failing_readings(rt: HostRuntime) {
-    for piece in [1, 3, 9] {
-        for kind in [ErrorKind::Other, ErrorKind::Interrupted] {
-            let mut reader = Pieces {
-                bytes: b"%schema\n",
-                piece,
-                end: Some(kind),
-            };
-            assert!(rt; refusal(&rt, &mut reader) == Some(InputRefusal::Read));
-        }
+fn longest_reading(rt: HostRuntime) -> Result<(), Fail> {
+    let mut reader = Intake::new(Endless {
+        byte: b' ',
+        given: 0,
     }
-}
-
-#[test]
-fn endless_readings(rt: HostRuntime) {
-    for byte in [b' ', 0xff] {
-        let mut reader = Endless { byte, given: 0 };
-        assert!(rt; refusal(&rt, &mut reader) == Some(InputRefusal::Limit));
-        assert_eq!(rt; reader.given, 16_777_217);
-    }
+    .take(16_777_216));
+    let input = read_input(rt.alloc(), &mut reader)?;
+    assert_eq!(rt; input.len(), 16_777_216);
+    Ok(())
 }
 
 #[test]
 fn lines_of_refusals(rt: HostRuntime) {
-    for (refusal, line) in [
-        (InputRefusal::Read, "refused input read"),
-        (InputRefusal::Limit, "refused input limit"),
-        (InputRefusal::Utf8, "refused input utf8"),
-        (InputRefusal::Sections, "refused input sections"),
-        (InputRefusal::Memory, ""),
+    for (fault, line) in [
+        (SectionFault::Limit, "refused input limit"),
+        (SectionFault::Utf8, "refused input utf8"),
+        (SectionFault::Sections, "refused input sections"),
     ] {
-        assert_eq!(rt; refusal.line(), line);
+        assert_eq!(rt; fault.line(), line);
     }
 }
 
 /// The input of a run of one source, which says a word.
-const FIRST_RUN: &str =
-    "%schema\n{\"classes\":[{\"name\":\"note\"}]}\n%units\n{\"units\":[{\"name\":\"a\",\"class\":\"note\"}]}\n%bundle\nsource hail note 100\nwhen create note\ndo 42424301010001000568656c6c6f000000000000000302000029012e\n";
+const FIRST_RUN: &str = "%schema
+{\"classes\":[{\"name\":\"note\"}]}
+%units
+{\"units\":[{\"name\":\"a\",\"class\":\"note\"}]}
+%bundle
+source hail note 100
+when create note
+do 42424301010001000568656c6c6f000000000000000302000029012e
+";
+
+/// Its trace.
+const FIRST_TRACE: &str = "create 1 note
+trigger 1 hail unit 1 rating 100
+cycle 1 act 1 hail unit 1 rating 100
+say \"hello\"
+end steps 3 found 0 budget 3
+quiescence
+finish quiescence
+";
 
 /// Takes no more than so many bytes.
 #[derive(Drop)]
@@ -220,9 +214,10 @@ impl Write for Full {
 }
 
 /// Whether an input, read from this reader, ends with that status and exactly that text.
-fn serves<R: Read>(rt: &HostRuntime, reader: &mut R, limit: u32, status: u8, text: &str) -> bool {
+fn serves<R: Read + Drop>(rt: &HostRuntime, reader: R, limit: u32, status: u8, text: &str) -> bool {
+    let mut reader = Intake::new(reader);
     let mut writer = Pipe::new(Vec::new(rt.alloc()));
-    let ended = serve(rt.alloc(), limit, 0, reader, &mut writer);
+    let ended = serve(rt.alloc(), limit, 0, &mut reader, &mut writer);
     ended == status && writer.into_inner().as_slice() == text.as_bytes()
 }
 
@@ -241,26 +236,30 @@ fn refused_inputs(rt: HostRuntime) {
             "refused bundle 3 2\n",
         ),
     ] {
-        let mut reader = input;
-        assert!(rt; serves(&rt, &mut reader, 100, 2, line), "{line}");
+        assert!(rt; serves(&rt, input, 100, 2, line), "{line}");
+    }
+}
+
+#[test]
+fn too_long_inputs(rt: HostRuntime) {
+    // Whether the bytes are a text is not looked at.
+    for byte in [b' ', 0xff] {
+        let mut reader = Intake::new(Endless { byte, given: 0 });
+        let mut writer = Pipe::new(Vec::new(rt.alloc()));
+        let status = serve(rt.alloc(), 100, 0, &mut reader, &mut writer);
+        assert_eq!(rt; status, 2);
+        assert!(rt; writer.into_inner().as_slice() == b"refused input limit\n".as_slice());
+        assert_eq!(rt; reader.into_inner().given, 16_777_217);
     }
 }
 
 #[test]
 fn served_runs(rt: HostRuntime) {
+    assert!(rt; serves(&rt, FIRST_RUN.as_bytes(), 100, 0, FIRST_TRACE));
     assert!(rt;
         serves(
             &rt,
-            &mut FIRST_RUN.as_bytes(),
-            100,
-            0,
-            "create 1 note\ntrigger 1 hail unit 1 rating 100\ncycle 1 act 1 hail unit 1 rating 100\nsay \"hello\"\nend steps 3 found 0 budget 3\nquiescence\nfinish quiescence\n"
-        )
-    );
-    assert!(rt;
-        serves(
-            &rt,
-            &mut FIRST_RUN.as_bytes(),
+            FIRST_RUN.as_bytes(),
             0,
             3,
             "create 1 note\ntrigger 1 hail unit 1 rating 100\nfinish limit\n"
@@ -270,7 +269,7 @@ fn served_runs(rt: HostRuntime) {
     assert!(rt;
         serves(
             &rt,
-            &mut b"%schema\r\n{}\r\n".as_slice(),
+            b"%schema\r\n{}\r\n".as_slice(),
             100,
             0,
             "quiescence\nfinish quiescence\n"
@@ -279,17 +278,59 @@ fn served_runs(rt: HostRuntime) {
 }
 
 #[test]
-fn failing_ends(rt: HostRuntime) {
-    let mut reader = Pieces {
-        bytes: FIRST_RUN.as_bytes(),
-        piece: 7,
-        end: Some(ErrorKind::Other),
-    };
-    assert!(rt; serves(&rt, &mut reader, 100, 2, "refused input read\n"));
+fn program_run(rt: HostRuntime) {
+    let mut reader = Intake::new(FIRST_RUN.as_bytes());
+    let mut writer = Pipe::new(Vec::new(rt.alloc()));
+    assert_eq!(rt; program(rt.alloc(), &mut reader, &mut writer), 0);
+    assert!(rt; writer.into_inner().as_slice() == FIRST_TRACE.as_bytes());
+}
+
+#[test]
+fn failing_readers(rt: HostRuntime) {
+    let input = FIRST_RUN.as_bytes();
+    for length in [0, 1, 8, 60, input.len() - 1, input.len()] {
+        for kind in [ErrorKind::Other, ErrorKind::Interrupted] {
+            let reader = Pieces {
+                bytes: &input[..length],
+                piece: 7,
+                end: Some(kind),
+            };
+            assert!(rt;
+                serves(&rt, reader, 100, 2, "refused input read\n"),
+                "{length}"
+            );
+        }
+    }
+}
+
+#[test]
+fn interrupted_readers(rt: HostRuntime) {
+    for (times, status, text) in [
+        (1, 0, FIRST_TRACE),
+        (63, 0, FIRST_TRACE),
+        (64, 2, "refused input read\n"),
+    ] {
+        let inner = Pieces {
+            bytes: FIRST_RUN.as_bytes(),
+            piece: 50,
+            end: None,
+        };
+        let reader = Interrupted {
+            inner,
+            times,
+            left: times,
+        };
+        assert!(rt; serves(&rt, reader, 100, status, text), "{times}");
+    }
+}
+
+#[test]
+fn failing_writers(rt: HostRuntime) {
     // A trace, the line of a refusal and its end each need room.
     for (input, room) in [(FIRST_RUN, 0), (FIRST_RUN, 20), ("{}", 0), ("{}", 22)] {
+        let mut reader = Intake::new(input.as_bytes());
         let mut writer = Pipe::new(Full { room });
-        let status = serve(rt.alloc(), 100, 0, &mut input.as_bytes(), &mut writer);
+        let status = serve(rt.alloc(), 100, 0, &mut reader, &mut writer);
         assert_eq!(rt; status, 6);
     }
 }

@@ -2,13 +2,14 @@
 use Rattle.std.proofs.Common.{◌≡◌, ℕ, zero, suc, ◌<◌, ◌≤◌, ◌||◌, Bool, true, false, Option, Some, None, refl, sym, ap, subst, ◌∙◌, arith}
 use Rattle.std.specs.Prelude.{◌==◌}
 use Rattle.std.specs.Option.{option_map_or}
-use Rattle.std.proofs.lemmas.Bool.{eqb-true, false_from_ne_true, or_parts, or_right}
+use Rattle.std.proofs.lemmas.Bool.{eqb-true, or_parts, or_right}
 use Rattle.std.proofs.lemmas.Bool.Decides.{Decides-eqb}
 use Rattle.std.specs.Prelude.{IsTrue, ◌↔◌}
 use Rattle.std.specs.Prelude.{List, [], ◌∷◌}
 use Rattle.std.specs.List.{list_any}
+use Rattle.bb_basis.proofs.NumberLemmas.{differs, turned}
 use Rattle.bb_schema.specs.declared.class.Class.{Class}
-use Rattle.bb_schema.specs.Standing.{ParentsAreEarlier, parent_of, Descends, itself, through_parent, climbs, stands_below}
+use Rattle.bb_schema.specs.Inheritance.{ParentsAreEarlier, parent_of, Descends, itself, through_parent, climbs, descends_in}
 
 -- one more step: at the class itself, or from its parent
 above : (s : List Class) (d n m : ℕ) (parent : Option ℕ) → ((p : ℕ) → parent ≡ Some p → climbs n s p d ≡ climbs m s p d) → option_map_or (λ p. climbs n s p d) parent false ≡ option_map_or (λ p. climbs m s p d) parent false
@@ -33,19 +34,19 @@ climbs_enough s d earlier (suc n) (suc m) c a b =
     ap (λ r. (c == d) || r) (above s d n m (parent_of s c) (λ p h. climbs_enough s d earlier n m p (omega (arith, earlier c p h)) (omega (arith, earlier c p h))))
 
 -- a class that is not the one sought: what its parent says
-pub descends_parent : (s : List Class) (c p d : ℕ) → ParentsAreEarlier s → parent_of s c ≡ Some p → (c == d) ≡ false → stands_below s c d ≡ stands_below s p d
+pub descends_parent : (s : List Class) (c p d : ℕ) → ParentsAreEarlier s → parent_of s c ≡ Some p → (c == d) ≡ false → descends_in s c d ≡ descends_in s p d
 unfolding climbs
 descends_parent s c p d earlier h other =
     let lower = earlier c p h in
-    let one : stands_below s c d ≡ climbs (suc c) s c d = climbs_enough s d earlier c (suc c) c (omega arith) (omega arith) in
+    let one : descends_in s c d ≡ climbs (suc c) s c d = climbs_enough s d earlier c (suc c) c (omega arith) (omega arith) in
     let two : climbs (suc c) s c d ≡ climbs c s p d = rw (other, h) refl in
     one ∙ two ∙ climbs_enough s d earlier c p p (omega arith) (omega arith)
 
-pub descends_top : (s : List Class) (c d : ℕ) → ParentsAreEarlier s → parent_of s c ≡ None → (c == d) ≡ false → stands_below s c d ≡ false
+pub descends_top : (s : List Class) (c d : ℕ) → ParentsAreEarlier s → parent_of s c ≡ None → (c == d) ≡ false → descends_in s c d ≡ false
 unfolding climbs
 descends_top s c d earlier h other = climbs_enough s d earlier c (suc c) c (omega arith) (omega arith) ∙ rw (other, h) refl
 
-pub descends_itself : (s : List Class) (c d : ℕ) → ParentsAreEarlier s → (c == d) ≡ true → stands_below s c d ≡ true
+pub descends_itself : (s : List Class) (c d : ℕ) → ParentsAreEarlier s → (c == d) ≡ true → descends_in s c d ≡ true
 unfolding climbs
 descends_itself s c d earlier same = climbs_enough s d earlier c (suc c) c (omega arith) (omega arith) ∙ rw same refl
 
@@ -61,33 +62,30 @@ climbs_sound s d zero c found = subst (Descends s c) (eqb-true c d found) (itsel
 climbs_sound s d (suc n) c found = sound_at s d n c (c == d) refl (parent_of s c) refl (climbs_sound s d n) found
 
 -- what descends is found
-found_at : (s : List Class) (c p d : ℕ) → ParentsAreEarlier s → parent_of s c ≡ Some p → stands_below s p d ≡ true → (b : Bool) → (c == d) ≡ b → stands_below s c d ≡ true
+found_at : (s : List Class) (c p d : ℕ) → ParentsAreEarlier s → parent_of s c ≡ Some p → descends_in s p d ≡ true → (b : Bool) → (c == d) ≡ b → descends_in s c d ≡ true
 found_at s c p d earlier h rest true same = descends_itself s c d earlier same
 found_at s c p d earlier h rest false other = descends_parent s c p d earlier h other ∙ rest
 
-pub descends_complete : (s : List Class) → ParentsAreEarlier s → (c d : ℕ) → Descends s c d → stands_below s c d ≡ true
+pub descends_complete : (s : List Class) → ParentsAreEarlier s → (c d : ℕ) → Descends s c d → descends_in s c d ≡ true
 descends_complete s earlier c _ (itself _) = descends_itself s c c earlier ((Decides-eqb c c).1 refl)
 descends_complete s earlier c d (through_parent _ p _ h rest) = found_at s c p d earlier h (descends_complete s earlier p d rest) (c == d) refl
 
 -- the test decides the relation
-pub descends_decides : (s : List Class) → ParentsAreEarlier s → (c d : ℕ) (r : Bool) → r ≡ stands_below s c d → IsTrue r ↔ Descends s c d
+pub descends_decides : (s : List Class) → ParentsAreEarlier s → (c d : ℕ) (r : Bool) → r ≡ descends_in s c d → IsTrue r ↔ Descends s c d
 descends_decides s earlier c d r is = (λ t. climbs_sound s d c c (sym is ∙ t), λ h. is ∙ descends_complete s earlier c d h)
-
-differs : (c d : ℕ) → (c ≡ d → ⊥) → (c == d) ≡ false
-differs c d other = false_from_ne_true (c == d) (λ e. other ((Decides-eqb c d).0 e))
 
 -- one turn of the way up, from a class to the parent that stands with it
 pub record GoesUp (s : List Class) (c p d : ℕ) : Type 0 where
   pub lower : p < c
-  pub same : stands_below s p d ≡ stands_below s c d
+  pub same : descends_in s p d ≡ descends_in s c d
 
 pub goes_up : (s : List Class) → ParentsAreEarlier s → (c p d : ℕ) → parent_of s c ≡ Some p → (c ≡ d → ⊥) → GoesUp s c p d
 goes_up s earlier c p d h other = record { lower = earlier c p h; same = sym (descends_parent s c p d earlier h (differs c d other)) }
 
-pub ends_at_top : (s : List Class) → ParentsAreEarlier s → (c d : ℕ) → parent_of s c ≡ None → (c ≡ d → ⊥) → stands_below s c d ≡ false
+pub ends_at_top : (s : List Class) → ParentsAreEarlier s → (c d : ℕ) → parent_of s c ≡ None → (c ≡ d → ⊥) → descends_in s c d ≡ false
 ends_at_top s earlier c d h other = descends_top s c d earlier h (differs c d other)
 
-pub found_itself : (s : List Class) (c d : ℕ) → ParentsAreEarlier s → c ≡ d → stands_below s c d ≡ true
+pub found_itself : (s : List Class) (c d : ℕ) → ParentsAreEarlier s → c ≡ d → descends_in s c d ≡ true
 found_itself s c d earlier e = descends_itself s c d earlier ((Decides-eqb c d).1 e)
 
 -- the same for one of some others
@@ -101,27 +99,24 @@ none_any : (ds : List ℕ) → list_any (λ _. false) ds ≡ false
 none_any [] = refl
 none_any (d ∷ ds) = none_any ds
 
-pub turned : (c d : ℕ) → (d == c) ≡ false → (c == d) ≡ false
-turned c d other = differs c d (λ e. let same : (d == c) ≡ true = (Decides-eqb d c).1 (sym e) in cc)
-
 -- a turn of the way up to one of some others
 pub record AllGoUp (s : List Class) (c p : ℕ) (ds : List ℕ) : Type 0 where
   pub lower : p < c
-  pub same : list_any (λ d. stands_below s p d) ds ≡ list_any (λ d. stands_below s c d) ds
+  pub same : list_any (λ d. descends_in s p d) ds ≡ list_any (λ d. descends_in s c d) ds
 
 pub all_go_up : (s : List Class) → ParentsAreEarlier s → (c p : ℕ) (ds : List ℕ) → parent_of s c ≡ Some p → list_any (λ d. d == c) ds ≡ false → AllGoUp s c p ds
 all_go_up s earlier c p ds h apart = record {
   lower = earlier c p h;
-  same = none_same c ds (λ d. stands_below s p d) (λ d. stands_below s c d) apart (λ d other. sym (descends_parent s c p d earlier h (turned c d other)));
+  same = none_same c ds (λ d. descends_in s p d) (λ d. descends_in s c d) apart (λ d other. sym (descends_parent s c p d earlier h (turned c d other)));
 }
 
-pub all_end_at_top : (s : List Class) → ParentsAreEarlier s → (c : ℕ) (ds : List ℕ) → parent_of s c ≡ None → list_any (λ d. d == c) ds ≡ false → list_any (λ d. stands_below s c d) ds ≡ false
-all_end_at_top s earlier c ds h apart = none_same c ds (λ d. stands_below s c d) (λ _. false) apart (λ d other. descends_top s c d earlier h (turned c d other)) ∙ none_any ds
+pub all_end_at_top : (s : List Class) → ParentsAreEarlier s → (c : ℕ) (ds : List ℕ) → parent_of s c ≡ None → list_any (λ d. d == c) ds ≡ false → list_any (λ d. descends_in s c d) ds ≡ false
+all_end_at_top s earlier c ds h apart = none_same c ds (λ d. descends_in s c d) (λ _. false) apart (λ d other. descends_top s c d earlier h (turned c d other)) ∙ none_any ds
 
-one_at : (s : List Class) (c d : ℕ) (rest : Bool) (t : Bool) → ParentsAreEarlier s → (d == c) ≡ t → (t ≡ false → rest ≡ true) → (stands_below s c d || rest) ≡ true
+one_at : (s : List Class) (c d : ℕ) (rest : Bool) (t : Bool) → ParentsAreEarlier s → (d == c) ≡ t → (t ≡ false → rest ≡ true) → (descends_in s c d || rest) ≡ true
 one_at s c d rest true earlier is further = ap (λ b. b || rest) (found_itself s c d earlier (sym ((Decides-eqb d c).0 is)))
-one_at s c d rest false earlier is further = or_right (stands_below s c d) rest (further refl)
+one_at s c d rest false earlier is further = or_right (descends_in s c d) rest (further refl)
 
-pub all_found : (s : List Class) → ParentsAreEarlier s → (c : ℕ) (ds : List ℕ) → list_any (λ d. d == c) ds ≡ true → list_any (λ d. stands_below s c d) ds ≡ true
+pub all_found : (s : List Class) → ParentsAreEarlier s → (c : ℕ) (ds : List ℕ) → list_any (λ d. d == c) ds ≡ true → list_any (λ d. descends_in s c d) ds ≡ true
 all_found s earlier c [] h = absurd cc
-all_found s earlier c (d ∷ ds) h = one_at s c d (list_any (λ e. stands_below s c e) ds) (d == c) earlier refl (λ other. all_found s earlier c ds (sym (ap (λ b. b || list_any (λ e. e == c) ds) other) ∙ h))
+all_found s earlier c (d ∷ ds) h = one_at s c d (list_any (λ e. descends_in s c e) ds) (d == c) earlier refl (λ other. all_found s earlier c ds (sym (ap (λ b. b || list_any (λ e. e == c) ds) other) ∙ h))

@@ -1,14 +1,14 @@
 -- The walk has refused each link whose inverse does not lead back, so that linking refuses nothing.
 use Rattle.std.specs.Prelude.{option_and_then}
-use Rattle.std.proofs.Common.{◌&&◌, ◌≡◌, ℕ, zero, suc, ◌+◌, ◌<◌, ◌≤◌, inl, inr, ◌||◌, Bool, true, false, not, cond, List, [], ◌∷◌, ◌++◌, length, map, Option, Some, None, Result, Ok, Err, refl, ap, sym, subst, ◌∙◌, arith, length-append}
+use Rattle.std.proofs.Common.{◌&&◌, ◌≡◌, ℕ, ◌+◌, ◌<◌, ◌≤◌, inl, inr, ◌||◌, Bool, true, false, not, cond, List, [], ◌∷◌, ◌++◌, length, map, Option, Some, None, Ok, Err, refl, ap, sym, subst, ◌∙◌, arith, length-append}
 use Rattle.std.specs.Prelude.{All, nat_le, slice_get, position, find, option_map, if◌then◌else◌}
 use Rattle.std.specs.Str.{bytes_eq}
 use Rattle.std.specs.List.{list_any, AllByRecursion}
 use Rattle.std.specs.Option.{option_map_or}
 use Rattle.std.specs.Cmp.Lexicographic.{bytes_decides}
-use Rattle.std.proofs.lemmas.Bool.{and_parts, or_parts, cases_lt}
-use Rattle.std.proofs.lemmas.List.Elements.{All-head, All-tail, All-nil, All-push, All-weaker}
-use Rattle.bb_document.specs.Answers.{◌>>=◌, expected, each, through}
+use Rattle.std.proofs.lemmas.Bool.{and_parts, cases_lt}
+use Rattle.std.proofs.lemmas.List.Elements.{All-nil, All-push, All-weaker}
+use Rattle.bb_basis.specs.Results.{ok_or, try_map, try_fold}
 use Rattle.bb_document.specs.Document.{SlotDeclaration, LinkDeclaration, ClassDeclaration}
 use Rattle.bb_schema.specs.declared.fault.SchemaFault.TheVariants as faults
 use Rattle.bb_schema.specs.declared.label_set.LabelSet.{LabelSet}
@@ -20,18 +20,20 @@ use Rattle.bb_schema.specs.declared.slot.Content.TheVariants as contents
 use Rattle.bb_schema.specs.declared.draft.Draft.{Draft}
 use Rattle.bb_schema.specs.declared.draft.DraftContent.{DraftContent}
 use Rattle.bb_schema.specs.declared.draft.DraftContent.TheVariants as drafts
-use Rattle.bb_schema.specs.Names.{is_name}
+use Rattle.bb_basis.specs.Names.{is_name}
 use Rattle.bb_schema.specs.Schema.{slots_in, link_in, link_of}
-use Rattle.bb_schema.specs.Drafts.{Growing, Drafted, draft_has_name, has_member, is_full, with_slot}
+use Rattle.bb_schema.specs.Drafts.{ClassDraft, SchemaDraft, draft_has_name, has_slot_named, is_full, with_slot}
 use Rattle.bb_schema.specs.SlotReading.{default_value, is_long, slot_after}
 use Rattle.bb_schema.specs.LinkReading.{first_named, link_entry, leads_to, is_back, leads_back, link_after}
-use Rattle.bb_schema.specs.ClassReading.{parent_number, inherited, class_after}
-use Rattle.bb_schema.specs.Linking.{linked_link, linked}
+use Rattle.bb_schema.specs.ClassReading.{parent_number, inherited_slots, class_after}
+use Rattle.bb_schema.specs.Resolution.{resolved_link, resolved_slot}
 use Rattle.bb_schema.specs.Fits.{IsCoupled}
-use Rattle.bb_schema.proofs.StepLemmas.{bind_ok, guard_ok, expected_ok, same_ok, through_keeps}
-use Rattle.bb_schema.proofs.FitLemmas.{some_within, snoc_old, snoc_new, snoc_cases}
-use Rattle.bb_schema.proofs.IndexLemmas.{spot, position_spot, or_last, spot_snoc}
-use Rattle.bb_schema.proofs.ListLemmas.{map-last}
+use Rattle.bb_basis.proofs.ResultLemmas.{bind_ok, guard_ok, ok_or_ok, same_ok, try_fold_keeps}
+use Rattle.bb_basis.proofs.AppendLemmas.{some_within, snoc_old, snoc_new, snoc_cases}
+use Rattle.bb_basis.proofs.PositionLemmas.{spot, position_spot, or_last, spot_snoc, none_spot}
+use Rattle.bb_basis.proofs.SearchLemmas.{find_front, find_after, find_same, any_same}
+use Rattle.bb_basis.proofs.MadeLemmas.{Marked, try_fold_marks, try_map-at, try_map-from, try_map-ok}
+use Rattle.bb_basis.proofs.ListLemmas.{map-last}
 use Rattle.std.proofs.lemmas.List.{length-map}
 
 -- ---- searches
@@ -46,29 +48,6 @@ not_false false h = absurd cc
 itself : (a : List ℕ) → bytes_eq a a ≡ true
 itself a = (bytes_decides a a).1 refl
 
-front_by : {X : Type 0} (z x : X) (b : Bool) (rest more : Option X) → (rest ≡ Some x → more ≡ Some x) → cond b (Some z) rest ≡ Some x → cond b (Some z) more ≡ Some x
-front_by z x true rest more on h = h
-front_by z x false rest more on h = on h
-
-find_front : {X : Type 0} (p : X → Bool) (xs ys : List X) (x : X) → find p xs ≡ Some x → find p (xs ++ ys) ≡ Some x
-find_front p [] ys x h = absurd cc
-find_front p (z ∷ xs) ys x h = front_by z x (p z) (find p xs) (find p (xs ++ ys)) (find_front p xs ys x) h
-
-find_behind : {X : Type 0} (p : X → Bool) (xs ys : List X) → list_any p xs ≡ false → find p (xs ++ ys) ≡ find p ys
-find_behind p [] ys h = refl
-find_behind p (z ∷ xs) ys h =
-    let parts = or_parts (p z) (list_any p xs) h in
-    ap (λ b. cond b (Some z) (find p (xs ++ ys))) parts.0 ∙ find_behind p xs ys parts.1
-
-find_same : {X : Type 0} (p q : X → Bool) (P : X → Type 0) (xs : List X) → All P xs → ((x : X) → P x → p x ≡ q x) → find p xs ≡ find q xs
-find_same p q P [] all same = refl
-find_same p q P (x ∷ xs) all same =
-    ap (λ b. cond b (Some x) (find p xs)) (same x (All-head P x xs all)) ∙ ap (λ r. cond (q x) (Some x) r) (find_same p q P xs (All-tail P x xs all) same)
-
-any_same : {X : Type 0} (p q : X → Bool) (P : X → Type 0) (xs : List X) → All P xs → ((x : X) → P x → p x ≡ q x) → list_any p xs ≡ list_any q xs
-any_same p q P [] all same = refl
-any_same p q P (x ∷ xs) all same = ap (λ b. b || list_any p xs) (same x (All-head P x xs all)) ∙ ap (λ r. q x || r) (any_same p q P xs (All-tail P x xs all) same)
-
 old_name : (slots : List Draft) (d : Draft) (name : List ℕ) (n : ℕ) → n < length slots → draft_has_name (slots ++ d ∷ []) name n ≡ draft_has_name slots name n
 unfolding draft_has_name
 old_name slots d name n lt = ap (λ (o : Option Draft). option_map_or (λ t. bytes_eq name t.name) o false) (snoc_old slots d n lt)
@@ -78,44 +57,21 @@ unfolding draft_has_name
 new_name slots d = ap (λ (o : Option Draft). option_map_or (λ t. bytes_eq d.name t.name) o false) (snoc_new slots d) ∙ itself d.name
 
 -- what was found among slots that are there is found when one more comes
-still_found : (slots : List Draft) (d : Draft) (name : List ℕ) (members more : List ℕ) (n : ℕ) → All (λ m. m < length slots) members → find (draft_has_name slots name) members ≡ Some n → find (draft_has_name (slots ++ d ∷ []) name) (members ++ more) ≡ Some n
-still_found slots d name members more n all h =
-    find_front (draft_has_name (slots ++ d ∷ []) name) members more n (find_same (draft_has_name (slots ++ d ∷ []) name) (draft_has_name slots name) (λ m. m < length slots) members all (λ m lt. old_name slots d name m lt) ∙ h)
+still_found : (slots : List Draft) (d : Draft) (name : List ℕ) (class_slots more : List ℕ) (n : ℕ) → All (λ m. m < length slots) class_slots → find (draft_has_name slots name) class_slots ≡ Some n → find (draft_has_name (slots ++ d ∷ []) name) (class_slots ++ more) ≡ Some n
+still_found slots d name class_slots more n all h =
+    find_front (draft_has_name (slots ++ d ∷ []) name) class_slots more n (find_same (draft_has_name (slots ++ d ∷ []) name) (draft_has_name slots name) (λ m. m < length slots) class_slots all (λ m lt. old_name slots d name m lt) ∙ h)
 
-new_found : (slots : List Draft) (d : Draft) (members : List ℕ) → All (λ m. m < length slots) members → list_any (draft_has_name slots d.name) members ≡ false → find (draft_has_name (slots ++ d ∷ []) d.name) (members ++ length slots ∷ []) ≡ Some (length slots)
-new_found slots d members all fresh =
-    find_behind (draft_has_name (slots ++ d ∷ []) d.name) members (length slots ∷ []) (any_same (draft_has_name (slots ++ d ∷ []) d.name) (draft_has_name slots d.name) (λ m. m < length slots) members all (λ m lt. old_name slots d d.name m lt) ∙ fresh)
+new_found : (slots : List Draft) (d : Draft) (class_slots : List ℕ) → All (λ m. m < length slots) class_slots → list_any (draft_has_name slots d.name) class_slots ≡ false → find (draft_has_name (slots ++ d ∷ []) d.name) (class_slots ++ length slots ∷ []) ≡ Some (length slots)
+new_found slots d class_slots all fresh =
+    find_after (draft_has_name (slots ++ d ∷ []) d.name) class_slots (length slots ∷ []) (any_same (draft_has_name (slots ++ d ∷ []) d.name) (draft_has_name slots d.name) (λ m. m < length slots) class_slots all (λ m lt. old_name slots d d.name m lt) ∙ fresh)
     ∙ ap (λ b. cond b (Some (length slots)) None) (new_name slots d)
-
--- ---- walks that leave something of each entry
-
-pub record Marked {S A : Type 0} (P : S → Type 0) (Q : S → A → Type 0) (t : S) (items : List A) : Type 0 where
-  pub kept : P t
-  pub all : AllByRecursion (Q t) items
-
--- what one step keeps of another entry, all steps keep
-stays : {S A E : Type 0} (P : S → Type 0) (Q : S → A → Type 0) (f : S → A → Result S E) → ((s t : S) (a : A) → P s → f s a ≡ Ok t → P t) → ((s t : S) (a b : A) → P s → f s b ≡ Ok t → Q s a → Q t a) → (a : A) (s t : S) (items : List A) → P s → through f s items ≡ Ok t → Q s a → Q t a
-unfolding through
-stays P Q f step stable a s t [] p h q = subst (λ u. Q u a) (same_ok s t h) q
-stays P Q f step stable a s t (b ∷ more) p h q =
-    let one = bind_ok (f s b) (λ next. through f next more) t h in
-    stays P Q f step stable a one.0 t more (step s one.0 b p one.1) one.2 (stable s one.0 a b p one.1 q)
-
-pub through_marks : {S A E : Type 0} (P : S → Type 0) (Q : S → A → Type 0) (f : S → A → Result S E) → ((s t : S) (a : A) → P s → f s a ≡ Ok t → P t) → ((s t : S) (a : A) → P s → f s a ≡ Ok t → Q t a) → ((s t : S) (a b : A) → P s → f s b ≡ Ok t → Q s a → Q t a)
-    → (s t : S) (items : List A) → P s → through f s items ≡ Ok t → Marked P Q t items
-unfolding through
-through_marks P Q f step mark stable s t [] p h = record { kept = subst P (same_ok s t h) p; all = tt }
-through_marks P Q f step mark stable s t (a ∷ more) p h =
-    let one = bind_ok (f s a) (λ next. through f next more) t h in
-    let rest = through_marks P Q f step mark stable one.0 t more (step s one.0 a p one.1) one.2 in
-    record { kept = rest.kept; all = (stays P Q f step stable a one.0 t more (step s one.0 a p one.1) one.2 (mark s one.0 a p one.1), rest.all) }
 
 -- ---- the slots of the class that is read
 
 -- the class of the walk has the link slot of the entry, and finds it by its name
-pub record Held (slots : List Draft) (owner : ℕ) (members : List ℕ) (l : LinkDeclaration) : Type 0 where
+pub record Held (slots : List Draft) (owner : ℕ) (class_slots : List ℕ) (l : LinkDeclaration) : Type 0 where
   pub number : ℕ
-  pub found : find (draft_has_name slots l.name) members ≡ Some number
+  pub found : find (draft_has_name slots l.name) class_slots ≡ Some number
   pub is : slice_get slots number ≡ Some (record { name = l.name; owner = owner; content = drafts.Link l.to l.many l.inverse })
 
 -- the link of a slot of the class of the name leads back
@@ -124,157 +80,157 @@ LeadsBackIn all class name (drafts.Default v) = Unit {0}
 LeadsBackIn all class name (drafts.Link to many inverse) = (target : ClassDeclaration) × (first_named (λ c. c.name) to all ≡ Some target) × (leads_back target class (record { name = name; to = to; many = many; inverse = inverse }) ≡ true)
 
 -- a slot of the class that is read, from the number old on
-record Own (all : List ClassDeclaration) (class : List ℕ) (owner : ℕ) (g : Growing) (n : ℕ) (t : Draft) : Type 0 where
+record Own (all : List ClassDeclaration) (class : List ℕ) (owner : ℕ) (g : ClassDraft) (n : ℕ) (t : Draft) : Type 0 where
   pub owned : t.owner ≡ owner
-  pub found : find (draft_has_name g.slots t.name) g.members ≡ Some n
+  pub found : find (draft_has_name g.slots t.name) g.class_slots ≡ Some n
   pub back : LeadsBackIn all class t.name t.content
 
-record Grows (all : List ClassDeclaration) (class : List ℕ) (owner : ℕ) (before : List Draft) (g : Growing) : Type 0 where
+record Grows (all : List ClassDeclaration) (class : List ℕ) (owner : ℕ) (before : List Draft) (g : ClassDraft) : Type 0 where
   pub longer : length before ≤ length g.slots
-  pub members : All (λ n. n < length g.slots) g.members
+  pub class_slots : All (λ n. n < length g.slots) g.class_slots
   pub old : (n : ℕ) → n < length before → slice_get g.slots n ≡ slice_get before n
   pub own : (n : ℕ) (t : Draft) → length before ≤ n → slice_get g.slots n ≡ Some t → Own all class owner g n t
 
-grow : (all : List ClassDeclaration) (class : List ℕ) (owner : ℕ) (before : List Draft) (g : Growing) (d : Draft) → Grows all class owner before g → has_member g d.name ≡ false → d.owner ≡ owner → LeadsBackIn all class d.name d.content → Grows all class owner before (with_slot g d)
+grow : (all : List ClassDeclaration) (class : List ℕ) (owner : ℕ) (before : List Draft) (g : ClassDraft) (d : Draft) → Grows all class owner before g → has_slot_named g d.name ≡ false → d.owner ≡ owner → LeadsBackIn all class d.name d.content → Grows all class owner before (with_slot g d)
 grow all class owner before g d well fresh owned back =
     let long : length (g.slots ++ d ∷ []) ≡ length g.slots + 1 = length-append g.slots (d ∷ []) in
     record {
       longer = omega (arith, long, well.longer);
-      members = All-push (λ n. n < length (g.slots ++ d ∷ [])) g.members (length g.slots) (All-weaker (λ n. n < length g.slots) (λ n. n < length (g.slots ++ d ∷ [])) (λ n lt. omega (arith, long, lt)) g.members well.members) (omega (arith, long));
+      class_slots = All-push (λ n. n < length (g.slots ++ d ∷ [])) g.class_slots (length g.slots) (All-weaker (λ n. n < length g.slots) (λ n. n < length (g.slots ++ d ∷ [])) (λ n lt. omega (arith, long, lt)) g.class_slots well.class_slots) (omega (arith, long));
       old = λ n lt. snoc_old g.slots d n (omega (arith, lt, well.longer)) ∙ well.old n lt;
       own = λ n t le at. elim (snoc_cases g.slots d n t at) [
-        | inl before' ↦ let o = well.own n t le before'.1 in record { owned = o.owned; found = still_found g.slots d t.name g.members (length g.slots ∷ []) n well.members o.found; back = o.back }
+        | inl before' ↦ let o = well.own n t le before'.1 in record { owned = o.owned; found = still_found g.slots d t.name g.class_slots (length g.slots ∷ []) n well.class_slots o.found; back = o.back }
         | inr new ↦ record {
           owned = ap (λ (u : Draft). u.owner) (sym new.1) ∙ owned;
-          found = subst (λ (u : Draft). find (draft_has_name (g.slots ++ d ∷ []) u.name) (g.members ++ length g.slots ∷ []) ≡ Some n) new.1 (new_found g.slots d g.members well.members fresh ∙ ap (λ m. Some m) (sym new.0));
+          found = subst (λ (u : Draft). find (draft_has_name (g.slots ++ d ∷ []) u.name) (g.class_slots ++ length g.slots ∷ []) ≡ Some n) new.1 (new_found g.slots d g.class_slots well.class_slots fresh ∙ ap (λ m. Some m) (sym new.0));
           back = subst (λ (u : Draft). LeadsBackIn all class u.name u.content) new.1 back;
         }
       ];
     }
 
-held_on : (g : Growing) (d : Draft) (owner : ℕ) (l : LinkDeclaration) → All (λ n. n < length g.slots) g.members → Held g.slots owner g.members l → Held (g.slots ++ d ∷ []) owner (g.members ++ length g.slots ∷ []) l
+held_on : (g : ClassDraft) (d : Draft) (owner : ℕ) (l : LinkDeclaration) → All (λ n. n < length g.slots) g.class_slots → Held g.slots owner g.class_slots l → Held (g.slots ++ d ∷ []) owner (g.class_slots ++ length g.slots ∷ []) l
 held_on g d owner l within held = record {
   number = held.number;
-  found = still_found g.slots d l.name g.members (length g.slots ∷ []) held.number within held.found;
+  found = still_found g.slots d l.name g.class_slots (length g.slots ∷ []) held.number within held.found;
   is = snoc_old g.slots d held.number (some_within g.slots held.number _ held.is) ∙ held.is;
 }
 
-slot_step : (sets : List LabelSet) (all : List ClassDeclaration) (class : List ℕ) (owner : ℕ) (before : List Draft) (g h : Growing) (e : SlotDeclaration) → Grows all class owner before g → slot_after sets owner g e ≡ Ok h → Grows all class owner before h
+slot_step : (sets : List LabelSet) (all : List ClassDeclaration) (class : List ℕ) (owner : ℕ) (before : List Draft) (g h : ClassDraft) (e : SlotDeclaration) → Grows all class owner before g → slot_after sets owner g e ≡ Ok h → Grows all class owner before h
 unfolding slot_after
 slot_step sets all class owner before g h e well made =
     let named = guard_ok (not (is_name e.name)) faults.Name _ h made in
-    let fresh = guard_ok (has_member g e.name) faults.Twice _ h named.1 in
+    let fresh = guard_ok (has_slot_named g e.name) faults.Twice _ h named.1 in
     let value = bind_ok (default_value sets e.default) (λ value. if is_full g || is_long e.default then Err faults.Limit else Ok (with_slot g (record { name = e.name; owner = owner; content = drafts.Default value }))) h fresh.1 in
     let room = guard_ok (is_full g || is_long e.default) faults.Limit (Ok (with_slot g (record { name = e.name; owner = owner; content = drafts.Default value.0 }))) h value.2 in
     subst (Grows all class owner before) (same_ok _ h room.1) (grow all class owner before g (record { name = e.name; owner = owner; content = drafts.Default value.0 }) well fresh.0 refl tt)
 
 -- what a link that was taken says
-record LinkTaken (all : List ClassDeclaration) (class : List ℕ) (owner : ℕ) (g h : Growing) (e : LinkDeclaration) : Type 0 where
-  pub fresh : has_member g e.name ≡ false
+record LinkTaken (all : List ClassDeclaration) (class : List ℕ) (owner : ℕ) (g h : ClassDraft) (e : LinkDeclaration) : Type 0 where
+  pub fresh : has_slot_named g e.name ≡ false
   pub target : ClassDeclaration
   pub there : first_named (λ c. c.name) e.to all ≡ Some target
   pub back : leads_back target class e ≡ true
   pub is : with_slot g (record { name = e.name; owner = owner; content = drafts.Link e.to e.many e.inverse }) ≡ h
 
-link_taken : (all : List ClassDeclaration) (class : List ℕ) (owner : ℕ) (g h : Growing) (e : LinkDeclaration) → link_after all class owner g e ≡ Ok h → LinkTaken all class owner g h e
+link_taken : (all : List ClassDeclaration) (class : List ℕ) (owner : ℕ) (g h : ClassDraft) (e : LinkDeclaration) → link_after all class owner g e ≡ Ok h → LinkTaken all class owner g h e
 unfolding link_after
 link_taken all class owner g h e made =
     let draft : Draft = record { name = e.name; owner = owner; content = drafts.Link e.to e.many e.inverse } in
     let named = guard_ok (not (is_name e.name)) faults.Name _ h made in
-    let fresh = guard_ok (has_member g e.name) faults.Twice _ h named.1 in
-    let target = bind_ok (expected faults.Unknown (first_named (λ c. c.name) e.to all)) (λ target. if not (leads_back target class e) then Err faults.Inverse else if is_full g then Err faults.Limit else Ok (with_slot g draft)) h fresh.1 in
+    let fresh = guard_ok (has_slot_named g e.name) faults.Twice _ h named.1 in
+    let target = bind_ok (ok_or (first_named (λ c. c.name) e.to all) faults.Unknown) (λ target. if not (leads_back target class e) then Err faults.Inverse else if is_full g then Err faults.Limit else Ok (with_slot g draft)) h fresh.1 in
     let back = guard_ok (not (leads_back target.0 class e)) faults.Inverse (if is_full g then Err faults.Limit else Ok (with_slot g draft)) h target.2 in
     let room = guard_ok (is_full g) faults.Limit (Ok (with_slot g draft)) h back.1 in
-    record { fresh = fresh.0; target = target.0; there = expected_ok faults.Unknown _ target.0 target.1; back = not_false (leads_back target.0 class e) back.0; is = same_ok (with_slot g draft) h room.1 }
+    record { fresh = fresh.0; target = target.0; there = ok_or_ok faults.Unknown _ target.0 target.1; back = not_false (leads_back target.0 class e) back.0; is = same_ok (with_slot g draft) h room.1 }
 
-link_step : (all : List ClassDeclaration) (class : List ℕ) (owner : ℕ) (before : List Draft) (g h : Growing) (e : LinkDeclaration) → Grows all class owner before g → link_after all class owner g e ≡ Ok h → Grows all class owner before h
+link_step : (all : List ClassDeclaration) (class : List ℕ) (owner : ℕ) (before : List Draft) (g h : ClassDraft) (e : LinkDeclaration) → Grows all class owner before g → link_after all class owner g e ≡ Ok h → Grows all class owner before h
 link_step all class owner before g h e well made =
     let taken = link_taken all class owner g h e made in
     subst (Grows all class owner before) taken.is (grow all class owner before g (record { name = e.name; owner = owner; content = drafts.Link e.to e.many e.inverse }) well taken.fresh refl (taken.target, taken.there, taken.back))
 
-abbrev HeldIn : ℕ → Growing → LinkDeclaration → Type 0
-HeldIn owner g l = Held g.slots owner g.members l
+abbrev HeldIn : ℕ → ClassDraft → LinkDeclaration → Type 0
+HeldIn owner g l = Held g.slots owner g.class_slots l
 
-link_mark : (all : List ClassDeclaration) (class : List ℕ) (owner : ℕ) (before : List Draft) (g h : Growing) (e : LinkDeclaration) → Grows all class owner before g → link_after all class owner g e ≡ Ok h → HeldIn owner h e
+link_mark : (all : List ClassDeclaration) (class : List ℕ) (owner : ℕ) (before : List Draft) (g h : ClassDraft) (e : LinkDeclaration) → Grows all class owner before g → link_after all class owner g e ≡ Ok h → HeldIn owner h e
 link_mark all class owner before g h e well made =
     let taken = link_taken all class owner g h e made in
     let draft : Draft = record { name = e.name; owner = owner; content = drafts.Link e.to e.many e.inverse } in
-    subst (λ (i : Growing). HeldIn owner i e) taken.is (record { number = length g.slots; found = new_found g.slots draft g.members well.members taken.fresh; is = snoc_new g.slots draft })
+    subst (λ (i : ClassDraft). HeldIn owner i e) taken.is (record { number = length g.slots; found = new_found g.slots draft g.class_slots well.class_slots taken.fresh; is = snoc_new g.slots draft })
 
-link_stable : (all : List ClassDeclaration) (class : List ℕ) (owner : ℕ) (before : List Draft) (g h : Growing) (l e : LinkDeclaration) → Grows all class owner before g → link_after all class owner g e ≡ Ok h → HeldIn owner g l → HeldIn owner h l
+link_stable : (all : List ClassDeclaration) (class : List ℕ) (owner : ℕ) (before : List Draft) (g h : ClassDraft) (l e : LinkDeclaration) → Grows all class owner before g → link_after all class owner g e ≡ Ok h → HeldIn owner g l → HeldIn owner h l
 link_stable all class owner before g h l e well made held =
     let taken = link_taken all class owner g h e made in
-    subst (λ (i : Growing). HeldIn owner i l) taken.is (held_on g (record { name = e.name; owner = owner; content = drafts.Link e.to e.many e.inverse }) owner l well.members held)
+    subst (λ (i : ClassDraft). HeldIn owner i l) taken.is (held_on g (record { name = e.name; owner = owner; content = drafts.Link e.to e.many e.inverse }) owner l well.class_slots held)
 
 -- ---- the classes that were read
 
 -- a slot is found in its class by its name, and its link leads back
-pub record Stands (all : List ClassDeclaration) (s : Drafted) (n : ℕ) (t : Draft) : Type 0 where
+pub record Resolves (all : List ClassDeclaration) (s : SchemaDraft) (n : ℕ) (t : Draft) : Type 0 where
   pub class : Class
   pub at : slice_get s.classes t.owner ≡ Some class
   pub found : find (draft_has_name s.slots t.name) class.slots ≡ Some n
   pub back : LeadsBackIn all class.name t.name t.content
 
-pub record Walks (all : List ClassDeclaration) (s : Drafted) : Type 0 where
-  pub members : (c : ℕ) (k : Class) → slice_get s.classes c ≡ Some k → All (λ n. n < length s.slots) k.slots
+pub record Walks (all : List ClassDeclaration) (s : SchemaDraft) : Type 0 where
+  pub class_slots : (c : ℕ) (k : Class) → slice_get s.classes c ≡ Some k → All (λ n. n < length s.slots) k.slots
   pub named : (c : ℕ) (k : Class) → slice_get s.classes c ≡ Some k → spot (bytes_eq k.name) (map (λ (j : Class). j.name) s.classes) ≡ Some c
-  pub stands : (n : ℕ) (t : Draft) → slice_get s.slots n ≡ Some t → Stands all s n t
+  pub resolves : (n : ℕ) (t : Draft) → slice_get s.slots n ≡ Some t → Resolves all s n t
 
 -- the class of an entry has all its links
-pub record Declares (s : Drafted) (e : ClassDeclaration) : Type 0 where
+pub record Declares (s : SchemaDraft) (e : ClassDeclaration) : Type 0 where
   pub number : ℕ
   pub class : Class
   pub at : slice_get s.classes number ≡ Some class
   pub name : class.name ≡ e.name
   pub links : (l : LinkDeclaration) → link_entry e l.name ≡ Some l → Held s.slots number class.slots l
 
-record ClassTaken (sets : List LabelSet) (all : List ClassDeclaration) (s t : Drafted) (e : ClassDeclaration) : Type 0 where
+record ClassTaken (sets : List LabelSet) (all : List ClassDeclaration) (s t : SchemaDraft) (e : ClassDeclaration) : Type 0 where
   pub fresh : list_any (bytes_eq e.name) (map (λ (k : Class). k.name) s.classes) ≡ false
   pub parent : Option ℕ
-  pub ordinary : Growing
-  pub slots : through (slot_after sets (length s.classes)) (record { slots = s.slots; members = inherited s.classes parent }) e.slots ≡ Ok ordinary
-  pub own : Growing
-  pub links : through (link_after all e.name (length s.classes)) ordinary e.links ≡ Ok own
-  pub is : (let made : Drafted = record { classes = s.classes ++ record { name = e.name; parent = parent; slots = own.members } ∷ []; slots = own.slots } in made) ≡ t
+  pub ordinary : ClassDraft
+  pub slots : try_fold (slot_after sets (length s.classes)) (record { slots = s.slots; class_slots = inherited_slots s.classes parent }) e.slots ≡ Ok ordinary
+  pub own : ClassDraft
+  pub links : try_fold (link_after all e.name (length s.classes)) ordinary e.links ≡ Ok own
+  pub is : (let made : SchemaDraft = record { classes = s.classes ++ record { name = e.name; parent = parent; slots = own.class_slots } ∷ []; slots = own.slots } in made) ≡ t
 
-class_taken : (sets : List LabelSet) (all : List ClassDeclaration) (s t : Drafted) (e : ClassDeclaration) → class_after sets all s e ≡ Ok t → ClassTaken sets all s t e
+class_taken : (sets : List LabelSet) (all : List ClassDeclaration) (s t : SchemaDraft) (e : ClassDeclaration) → class_after sets all s e ≡ Ok t → ClassTaken sets all s t e
 unfolding class_after
 class_taken sets all s t e made =
     let named = guard_ok (not (is_name e.name)) faults.Name _ t made in
     let fresh = guard_ok (list_any (bytes_eq e.name) (map (λ (k : Class). k.name) s.classes)) faults.Twice _ t named.1 in
     let parent = bind_ok (parent_number s.classes e.parent) _ t fresh.1 in
     let room = guard_ok (nat_le 256 (length s.classes)) faults.Limit _ t parent.2 in
-    let ordinary = bind_ok (through (slot_after sets (length s.classes)) (record { slots = s.slots; members = inherited s.classes parent.0 }) e.slots) _ t room.1 in
-    let own = bind_ok (through (link_after all e.name (length s.classes)) ordinary.0 e.links) _ t ordinary.2 in
+    let ordinary = bind_ok (try_fold (slot_after sets (length s.classes)) (record { slots = s.slots; class_slots = inherited_slots s.classes parent.0 }) e.slots) _ t room.1 in
+    let own = bind_ok (try_fold (link_after all e.name (length s.classes)) ordinary.0 e.links) _ t ordinary.2 in
     record { fresh = fresh.0; parent = parent.0; ordinary = ordinary.0; slots = ordinary.1; own = own.0; links = own.1; is = same_ok _ t own.2 }
 
-members_there : (all : List ClassDeclaration) (s : Drafted) (p : ℕ) (o : Option Class) → Walks all s → slice_get s.classes p ≡ o → All (λ n. n < length s.slots) (option_map_or (λ k. k.slots) o [])
-members_there all s p None walks at = All-nil (λ n. n < length s.slots)
-members_there all s p (Some k) walks at = walks.members p k at
+class_slots_there : (all : List ClassDeclaration) (s : SchemaDraft) (p : ℕ) (o : Option Class) → Walks all s → slice_get s.classes p ≡ o → All (λ n. n < length s.slots) (option_map_or (λ k. k.slots) o [])
+class_slots_there all s p None walks at = All-nil (λ n. n < length s.slots)
+class_slots_there all s p (Some k) walks at = walks.class_slots p k at
 
-inherited_there : (all : List ClassDeclaration) (s : Drafted) (parent : Option ℕ) → Walks all s → All (λ n. n < length s.slots) (inherited s.classes parent)
+inherited_there : (all : List ClassDeclaration) (s : SchemaDraft) (parent : Option ℕ) → Walks all s → All (λ n. n < length s.slots) (inherited_slots s.classes parent)
 inherited_there all s None walks = All-nil (λ n. n < length s.slots)
-inherited_there all s (Some p) walks = members_there all s p (slice_get s.classes p) walks refl
+inherited_there all s (Some p) walks = class_slots_there all s p (slice_get s.classes p) walks refl
 
-grows_from : (all : List ClassDeclaration) (class : List ℕ) (owner : ℕ) (s : Drafted) (members : List ℕ) → All (λ n. n < length s.slots) members → Grows all class owner s.slots (record { slots = s.slots; members = members })
-grows_from all class owner s members within = record {
+grows_from : (all : List ClassDeclaration) (class : List ℕ) (owner : ℕ) (s : SchemaDraft) (class_slots : List ℕ) → All (λ n. n < length s.slots) class_slots → Grows all class owner s.slots (record { slots = s.slots; class_slots = class_slots })
+grows_from all class owner s class_slots within = record {
   longer = omega arith;
-  members = within;
+  class_slots = within;
   old = λ n lt. refl;
   own = λ n t le at. absurd (let lt = some_within s.slots n t at in omega arith);
 }
 
 -- what the walk over a class leaves
-record Left (all : List ClassDeclaration) (s : Drafted) (e : ClassDeclaration) (own : Growing) : Type 0 where
+record Left (all : List ClassDeclaration) (s : SchemaDraft) (e : ClassDeclaration) (own : ClassDraft) : Type 0 where
   pub grows : Grows all e.name (length s.classes) s.slots own
   pub held : AllByRecursion (HeldIn (length s.classes) own) e.links
 
-left_by : (sets : List LabelSet) (all : List ClassDeclaration) (s t : Drafted) (e : ClassDeclaration) (taken : ClassTaken sets all s t e) → Walks all s → Left all s e taken.own
+left_by : (sets : List LabelSet) (all : List ClassDeclaration) (s t : SchemaDraft) (e : ClassDeclaration) (taken : ClassTaken sets all s t e) → Walks all s → Left all s e taken.own
 left_by sets all s t e taken walks =
-    let P : Growing → Type 0 = Grows all e.name (length s.classes) s.slots in
-    let one : P taken.ordinary = through_keeps P (slot_after sets (length s.classes)) (λ g h d. slot_step sets all e.name (length s.classes) s.slots g h d) (record { slots = s.slots; members = inherited s.classes taken.parent }) taken.ordinary e.slots
-    (grows_from all e.name (length s.classes) s (inherited s.classes taken.parent) (inherited_there all s taken.parent walks)) taken.slots in
-    let two = through_marks P (HeldIn (length s.classes)) (link_after all e.name (length s.classes)) (λ g h l. link_step all e.name (length s.classes) s.slots g h l) (λ g h l. link_mark all e.name (length s.classes) s.slots g h l)
+    let P : ClassDraft → Type 0 = Grows all e.name (length s.classes) s.slots in
+    let one : P taken.ordinary = try_fold_keeps P (slot_after sets (length s.classes)) (λ g h d. slot_step sets all e.name (length s.classes) s.slots g h d) (record { slots = s.slots; class_slots = inherited_slots s.classes taken.parent }) taken.ordinary e.slots
+    (grows_from all e.name (length s.classes) s (inherited_slots s.classes taken.parent) (inherited_there all s taken.parent walks)) taken.slots in
+    let two = try_fold_marks P (HeldIn (length s.classes)) (link_after all e.name (length s.classes)) (λ g h l. link_step all e.name (length s.classes) s.slots g h l) (λ g h l. link_mark all e.name (length s.classes) s.slots g h l)
     (λ g h l m. link_stable all e.name (length s.classes) s.slots g h l m) taken.ordinary taken.own e.links one taken.links in
     record { grows = two.kept; held = two.all }
 
@@ -282,25 +238,19 @@ name_same : (a b : List Draft) (name : List ℕ) (n : ℕ) → slice_get a n ≡
 unfolding draft_has_name
 name_same a b name n same = ap (λ (o : Option Draft). option_map_or (λ t. bytes_eq name t.name) o false) same
 
-found_same : (a b : List Draft) (name : List ℕ) (members : List ℕ) (n : ℕ) → All (λ m. m < length b) members → ((m : ℕ) → m < length b → slice_get a m ≡ slice_get b m) → find (draft_has_name b name) members ≡ Some n → find (draft_has_name a name) members ≡ Some n
-found_same a b name members n within same h = find_same (draft_has_name a name) (draft_has_name b name) (λ m. m < length b) members within (λ m lt. name_same a b name m (same m lt)) ∙ h
+found_same : (a b : List Draft) (name : List ℕ) (class_slots : List ℕ) (n : ℕ) → All (λ m. m < length b) class_slots → ((m : ℕ) → m < length b → slice_get a m ≡ slice_get b m) → find (draft_has_name b name) class_slots ≡ Some n → find (draft_has_name a name) class_slots ≡ Some n
+found_same a b name class_slots n within same h = find_same (draft_has_name a name) (draft_has_name b name) (λ m. m < length b) class_slots within (λ m lt. name_same a b name m (same m lt)) ∙ h
 
-none_spot : {X : Type 0} (p : X → Bool) (xs : List X) → list_any p xs ≡ false → spot p xs ≡ None
-none_spot p [] h = refl
-none_spot p (x ∷ xs) h =
-    let parts = or_parts (p x) (list_any p xs) h in
-    ap (λ b. cond b (Some 0) (option_map suc (spot p xs))) parts.0 ∙ ap (option_map suc) (none_spot p xs parts.1)
-
-walks_on : (sets : List LabelSet) (all : List ClassDeclaration) (s t : Drafted) (e : ClassDeclaration) → Walks all s → class_after sets all s e ≡ Ok t → Walks all t
+walks_on : (sets : List LabelSet) (all : List ClassDeclaration) (s t : SchemaDraft) (e : ClassDeclaration) → Walks all s → class_after sets all s e ≡ Ok t → Walks all t
 walks_on sets all s t e walks made =
     let taken = class_taken sets all s t e made in
     let left = left_by sets all s t e taken walks in
-    let k : Class = record { name = e.name; parent = taken.parent; slots = taken.own.members } in
+    let k : Class = record { name = e.name; parent = taken.parent; slots = taken.own.class_slots } in
     let names = map (λ (j : Class). j.name) s.classes in
     subst (Walks all) taken.is (record {
-      members = λ c j at. elim (snoc_cases s.classes k c j at) [
-        | inl old ↦ All-weaker (λ n. n < length s.slots) (λ n. n < length taken.own.slots) (λ n lt. omega (arith, lt, left.grows.longer)) j.slots (walks.members c j old.1)
-        | inr new ↦ subst (λ (i : Class). All (λ n. n < length taken.own.slots) i.slots) new.1 left.grows.members
+      class_slots = λ c j at. elim (snoc_cases s.classes k c j at) [
+        | inl old ↦ All-weaker (λ n. n < length s.slots) (λ n. n < length taken.own.slots) (λ n lt. omega (arith, lt, left.grows.longer)) j.slots (walks.class_slots c j old.1)
+        | inr new ↦ subst (λ (i : Class). All (λ n. n < length taken.own.slots) i.slots) new.1 left.grows.class_slots
       ];
       named = λ c j at. elim (snoc_cases s.classes k c j at) [
         | inl old ↦ ap (spot (bytes_eq j.name)) (map-last (λ (i : Class). i.name) s.classes k) ∙ (spot_snoc (bytes_eq j.name) names e.name ∙ ap (λ o. or_last o (bytes_eq j.name e.name) (length names)) (walks.named c j old.1))
@@ -308,13 +258,13 @@ walks_on sets all s t e walks made =
             (ap (spot (bytes_eq e.name)) (map-last (λ (i : Class). i.name) s.classes k) ∙ (spot_snoc (bytes_eq e.name) names e.name
             ∙ (ap (λ o. or_last o (bytes_eq e.name e.name) (length names)) (none_spot (bytes_eq e.name) names taken.fresh) ∙ (ap (λ b. cond b (Some (length names)) None) (itself e.name) ∙ ap (λ m. Some m) (length-map s.classes (λ (j : Class). j.name) ∙ sym new.0)))))
       ];
-      stands = λ n d at. elim (cases_lt n (length s.slots)) [
+      resolves = λ n d at. elim (cases_lt n (length s.slots)) [
         | inl lt ↦
-            let before = walks.stands n d (sym (left.grows.old n lt) ∙ at) in
+            let before = walks.resolves n d (sym (left.grows.old n lt) ∙ at) in
             record {
               class = before.class;
               at = snoc_old s.classes k d.owner (some_within s.classes d.owner before.class before.at) ∙ before.at;
-              found = found_same taken.own.slots s.slots d.name before.class.slots n (walks.members d.owner before.class before.at) left.grows.old before.found;
+              found = found_same taken.own.slots s.slots d.name before.class.slots n (walks.class_slots d.owner before.class before.at) left.grows.old before.found;
               back = before.back;
             }
         | inr le ↦
@@ -340,12 +290,12 @@ link_by false o l h = h
 link_first : (e : ClassDeclaration) (name : List ℕ) (l : LinkDeclaration) → link_entry e name ≡ Some l → first_named (λ (m : LinkDeclaration). m.name) name e.links ≡ Some l
 link_first e name l h = link_by (list_any (bytes_eq name) (map (λ (d : SlotDeclaration). d.name) e.slots)) (first_named (λ (m : LinkDeclaration). m.name) name e.links) l h
 
-declares_now : (sets : List LabelSet) (all : List ClassDeclaration) (s t : Drafted) (e : ClassDeclaration) → Walks all s → class_after sets all s e ≡ Ok t → Declares t e
+declares_now : (sets : List LabelSet) (all : List ClassDeclaration) (s t : SchemaDraft) (e : ClassDeclaration) → Walks all s → class_after sets all s e ≡ Ok t → Declares t e
 declares_now sets all s t e walks made =
     let taken = class_taken sets all s t e made in
     let left = left_by sets all s t e taken walks in
-    let k : Class = record { name = e.name; parent = taken.parent; slots = taken.own.members } in
-    subst (λ (u : Drafted). Declares u e) taken.is (record {
+    let k : Class = record { name = e.name; parent = taken.parent; slots = taken.own.class_slots } in
+    subst (λ (u : SchemaDraft). Declares u e) taken.is (record {
       number = length s.classes;
       class = k;
       at = snoc_new s.classes k;
@@ -353,45 +303,45 @@ declares_now sets all s t e walks made =
       links = λ l h. (first_in (HeldIn (length s.classes) taken.own) (λ (m : LinkDeclaration). m.name) l.name e.links l (link_first e l.name l h) left.held).0;
     })
 
-declares_still : (sets : List LabelSet) (all : List ClassDeclaration) (s t : Drafted) (a e : ClassDeclaration) → Walks all s → class_after sets all s e ≡ Ok t → Declares s a → Declares t a
+declares_still : (sets : List LabelSet) (all : List ClassDeclaration) (s t : SchemaDraft) (a e : ClassDeclaration) → Walks all s → class_after sets all s e ≡ Ok t → Declares s a → Declares t a
 declares_still sets all s t a e walks made before =
     let taken = class_taken sets all s t e made in
     let left = left_by sets all s t e taken walks in
-    let k : Class = record { name = e.name; parent = taken.parent; slots = taken.own.members } in
-    subst (λ (u : Drafted). Declares u a) taken.is (record {
+    let k : Class = record { name = e.name; parent = taken.parent; slots = taken.own.class_slots } in
+    subst (λ (u : SchemaDraft). Declares u a) taken.is (record {
       number = before.number;
       class = before.class;
       at = snoc_old s.classes k before.number (some_within s.classes before.number before.class before.at) ∙ before.at;
       name = before.name;
       links = λ l h. let held = before.links l h in record {
         number = held.number;
-        found = found_same taken.own.slots s.slots l.name before.class.slots held.number (walks.members before.number before.class before.at) left.grows.old held.found;
+        found = found_same taken.own.slots s.slots l.name before.class.slots held.number (walks.class_slots before.number before.class before.at) left.grows.old held.found;
         is = left.grows.old held.number (some_within s.slots held.number _ held.is) ∙ held.is;
       };
     })
 
 -- all that the walk leaves
-pub walk_leaves : (sets : List LabelSet) (all : List ClassDeclaration) (t : Drafted) → through (class_after sets all) (record { classes = []; slots = [] }) all ≡ Ok t → Marked (Walks all) Declares t all
+pub walk_leaves : (sets : List LabelSet) (all : List ClassDeclaration) (t : SchemaDraft) → try_fold (class_after sets all) (record { classes = []; slots = [] }) all ≡ Ok t → Marked (Walks all) Declares t all
 walk_leaves sets all t made =
-    through_marks (Walks all) Declares (class_after sets all) (λ s u e. walks_on sets all s u e) (λ s u e. declares_now sets all s u e) (λ s u a e. declares_still sets all s u a e) (record { classes = []; slots = [] }) t all
-    (record { members = λ c k at. absurd cc; named = λ c k at. absurd cc; stands = λ n d at. absurd cc }) made
+    try_fold_marks (Walks all) Declares (class_after sets all) (λ s u e. walks_on sets all s u e) (λ s u e. declares_now sets all s u e) (λ s u a e. declares_still sets all s u a e) (record { classes = []; slots = [] }) t all
+    (record { class_slots = λ c k at. absurd cc; named = λ c k at. absurd cc; resolves = λ n d at. absurd cc }) made
 
 -- ---- linking
 
 link_gives : (classes : List Class) (slots : List Draft) (to : List ℕ) (many : Bool) (inverse : List ℕ) (c : ℕ) (k : Class) (m : ℕ) → position (bytes_eq to) (map (λ (j : Class). j.name) classes) ≡ Some c → slice_get classes c ≡ Some k → find (draft_has_name slots inverse) k.slots ≡ Some m
-    → linked_link classes slots to many inverse ≡ Ok (record { to = c; many = many; inverse = m })
-unfolding linked_link
+    → resolved_link classes slots to many inverse ≡ Ok (record { to = c; many = many; inverse = m })
+unfolding resolved_link
 link_gives classes slots to many inverse c k m number at found =
-    let members : slots_in classes c ≡ k.slots = ap (λ (o : Option Class). option_map_or (λ j. j.slots) o []) at in
-    rw (number, members, found) refl
+    let class_slots : slots_in classes c ≡ k.slots = ap (λ (o : Option Class). option_map_or (λ j. j.slots) o []) at in
+    rw (number, class_slots, found) refl
 
 -- what linking makes of a draft, given the link, if it is one
-draft_gives : (classes : List Class) (slots : List Draft) (d : Draft) (to : List ℕ) (many : Bool) (inverse : List ℕ) (l : Link) → d.content ≡ drafts.Link to many inverse → linked_link classes slots to many inverse ≡ Ok l → linked classes slots d ≡ Ok (record { name = d.name; owner = d.owner; content = contents.Link l })
-unfolding linked
+draft_gives : (classes : List Class) (slots : List Draft) (d : Draft) (to : List ℕ) (many : Bool) (inverse : List ℕ) (l : Link) → d.content ≡ drafts.Link to many inverse → resolved_link classes slots to many inverse ≡ Ok l → resolved_slot classes slots d ≡ Ok (record { name = d.name; owner = d.owner; content = contents.Link l })
+unfolding resolved_slot
 draft_gives classes slots d to many inverse l is made = rw (is, made) refl
 
-default_gives : (classes : List Class) (slots : List Draft) (d : Draft) (v : Value) → d.content ≡ drafts.Default v → linked classes slots d ≡ Ok (record { name = d.name; owner = d.owner; content = contents.Default v })
-unfolding linked
+default_gives : (classes : List Class) (slots : List Draft) (d : Draft) (v : Value) → d.content ≡ drafts.Default v → resolved_slot classes slots d ≡ Ok (record { name = d.name; owner = d.owner; content = contents.Default v })
+unfolding resolved_slot
 default_gives classes slots d v is = rw is refl
 
 all_units : {X : Type 0} (xs : List X) → AllByRecursion (λ (x : X). Unit {0}) xs
@@ -403,14 +353,14 @@ back_entry None class name h = absurd cc
 back_entry (Some back) class name h = (back, refl, h)
 
 -- a link slot and its inverse, by numbers
-record Pair (s : Drafted) (n : ℕ) (t : Draft) : Type 0 where
+record Pair (s : SchemaDraft) (n : ℕ) (t : Draft) : Type 0 where
   pub link : Link
-  pub made : linked s.classes s.slots t ≡ Ok (record { name = t.name; owner = t.owner; content = contents.Link link })
+  pub made : resolved_slot s.classes s.slots t ≡ Ok (record { name = t.name; owner = t.owner; content = contents.Link link })
   pub other : Draft
   pub at : slice_get s.slots link.inverse ≡ Some other
   pub owned : other.owner ≡ link.to
   pub back : Link
-  pub returns : linked s.classes s.slots other ≡ Ok (record { name = other.name; owner = other.owner; content = contents.Link back })
+  pub returns : resolved_slot s.classes s.slots other ≡ Ok (record { name = other.name; owner = other.owner; content = contents.Link back })
   pub is : back.inverse ≡ n
   pub apart : link.inverse ≡ n → ⊥
 
@@ -421,10 +371,10 @@ some_same x y h = cc
 itself_refused : (b c : Bool) → b ≡ true → c ≡ true → not (b && c) ≡ true → ⊥
 itself_refused b c first second refused = let e : false ≡ true = sym (ap not (let h : (b && c) ≡ true = rw (first, second) refl in h)) ∙ refused in absurd cc
 
-pair_of : (all : List ClassDeclaration) (s : Drafted) (n : ℕ) (t : Draft) (to : List ℕ) (many : Bool) (inverse : List ℕ) → Marked (Walks all) Declares s all → slice_get s.slots n ≡ Some t → t.content ≡ drafts.Link to many inverse → Pair s n t
+pair_of : (all : List ClassDeclaration) (s : SchemaDraft) (n : ℕ) (t : Draft) (to : List ℕ) (many : Bool) (inverse : List ℕ) → Marked (Walks all) Declares s all → slice_get s.slots n ≡ Some t → t.content ≡ drafts.Link to many inverse → Pair s n t
 pair_of all s n t to many inverse left at is =
     let names = map (λ (j : Class). j.name) s.classes in
-    let mine = left.kept.stands n t at in
+    let mine = left.kept.resolves n t at in
     let found = subst (LeadsBackIn all mine.class.name t.name) is mine.back in
     let target = first_in (Declares s) (λ (c : ClassDeclaration). c.name) to all found.0 found.1 left.all in
     let theirs = target.0 in
@@ -456,32 +406,6 @@ pair_of all s n t to many inverse left at is =
           itself_refused (bytes_eq to mine.class.name) (bytes_eq inverse t.name) to_mine back_mine parts.0;
     }
 
-each_at : {A X E : Type 0} (f : A → Result X E) (items : List A) (made : List X) (i : ℕ) (a : A) (x : X) → each f items ≡ Ok made → slice_get items i ≡ Some a → f a ≡ Ok x → slice_get made i ≡ Some x
-unfolding each
-each_at f [] made i a x h at gives = absurd cc
-each_at {X = X} f (b ∷ more) made zero a x h at gives =
-    let one = bind_ok (f b) (λ first. each f more >>= λ others. Ok (first ∷ others)) made h in
-    let rest = bind_ok (each f more) (λ others. Ok (one.0 ∷ others)) made one.2 in
-    let same : b ≡ a = cc in
-    let got : one.0 ≡ x = same_ok one.0 x (sym one.1 ∙ (ap f same ∙ gives)) in
-    ap (λ (ys : List X). slice_get ys 0) (sym (same_ok (one.0 ∷ rest.0) made rest.2)) ∙ ap (λ y. Some y) got
-each_at {X = X} f (b ∷ more) made (suc i) a x h at gives =
-    let one = bind_ok (f b) (λ first. each f more >>= λ others. Ok (first ∷ others)) made h in
-    let rest = bind_ok (each f more) (λ others. Ok (one.0 ∷ others)) made one.2 in
-    ap (λ (ys : List X). slice_get ys (suc i)) (sym (same_ok (one.0 ∷ rest.0) made rest.2)) ∙ each_at f more rest.0 i a x rest.1 at gives
-
-from_either : {A X E : Type 0} (f : A → Result X E) (b : A) (more : List A) (first : X) (others : List X) (i : ℕ) (x : X) → f b ≡ Ok first → ((j : ℕ) → slice_get others j ≡ Some x → (a : A) × (slice_get more j ≡ Some a) × (f a ≡ Ok x)) → slice_get (first ∷ others) i ≡ Some x → (a : A) × (slice_get (b ∷ more) i ≡ Some a) × (f a ≡ Ok x)
-from_either f b more first others zero x gives rest at = (b, refl, gives ∙ ap (λ y. Ok y) (let same : first ≡ x = cc in same))
-from_either f b more first others (suc i) x gives rest at = rest i at
-
-each_from : {A X E : Type 0} (f : A → Result X E) (items : List A) (made : List X) (i : ℕ) (x : X) → each f items ≡ Ok made → slice_get made i ≡ Some x → (a : A) × (slice_get items i ≡ Some a) × (f a ≡ Ok x)
-unfolding each
-each_from {X = X} f [] made i x h at = absurd (let e = ap (λ (ys : List X). slice_get ys i) (same_ok [] made h) ∙ at in cc)
-each_from {X = X} f (b ∷ more) made i x h at =
-    let one = bind_ok (f b) (λ first. each f more >>= λ others. Ok (first ∷ others)) made h in
-    let rest = bind_ok (each f more) (λ others. Ok (one.0 ∷ others)) made one.2 in
-    from_either f b more one.0 rest.0 i x one.1 (λ j g. each_from f more rest.0 j x rest.1 g) (ap (λ (ys : List X). slice_get ys i) (same_ok (one.0 ∷ rest.0) made rest.2) ∙ at)
-
 link_there : (o : Option Slot) (l : Link) → option_and_then (λ t. link_in t.content) o ≡ Some l → (x : Slot) × (o ≡ Some x) × (link_in x.content ≡ Some l)
 link_there None l h = absurd cc
 link_there (Some x) l h = (x, refl, h)
@@ -495,41 +419,33 @@ one_coupled made n l back name owner at owned is apart = record {
   returns = is;
 }
 
-slot_coupled : (all : List ClassDeclaration) (s : Drafted) (made : List Slot) (n : ℕ) (t : Draft) (x : Slot) (content : DraftContent) (l : Link) → Marked (Walks all) Declares s all → each (linked s.classes s.slots) s.slots ≡ Ok made → slice_get s.slots n ≡ Some t → linked s.classes s.slots t ≡ Ok x → link_in x.content ≡ Some l → t.content ≡ content
+slot_coupled : (all : List ClassDeclaration) (s : SchemaDraft) (made : List Slot) (n : ℕ) (t : Draft) (x : Slot) (content : DraftContent) (l : Link) → Marked (Walks all) Declares s all → try_map (resolved_slot s.classes s.slots) s.slots ≡ Ok made → slice_get s.slots n ≡ Some t → resolved_slot s.classes s.slots t ≡ Ok x → link_in x.content ≡ Some l → t.content ≡ content
     → IsCoupled made n l
 slot_coupled all s made n t x (drafts.Default v) l left h at gives is_link is =
     let same = same_ok (record { name = t.name; owner = t.owner; content = contents.Default v }) x (sym (default_gives s.classes s.slots t v is) ∙ gives) in
     absurd (let e : None ≡ Some l = ap (λ (y : Slot). link_in y.content) same ∙ is_link in cc)
 slot_coupled all s made n t x (drafts.Link to many inverse) l left h at gives is_link is =
     let pair = pair_of all s n t to many inverse left at is in
-    let there = each_at (linked s.classes s.slots) s.slots made pair.link.inverse pair.other (record { name = pair.other.name; owner = pair.other.owner; content = contents.Link pair.back }) h pair.at pair.returns in
+    let there = try_map-at (resolved_slot s.classes s.slots) s.slots made pair.link.inverse pair.other (record { name = pair.other.name; owner = pair.other.owner; content = contents.Link pair.back }) h pair.at pair.returns in
     let same = same_ok (record { name = t.name; owner = t.owner; content = contents.Link pair.link }) x (sym pair.made ∙ gives) in
     let link_is : pair.link ≡ l = some_same pair.link l (ap (λ (y : Slot). link_in y.content) same ∙ is_link) in
     subst (IsCoupled made n) link_is (one_coupled made n pair.link pair.back pair.other.name pair.other.owner there pair.owned pair.is pair.apart)
 
 -- the inverse of each link that the walk has let through leads back
-pub walk_couples : (sets : List LabelSet) (all : List ClassDeclaration) (s : Drafted) (made : List Slot) → through (class_after sets all) (record { classes = []; slots = [] }) all ≡ Ok s → each (linked s.classes s.slots) s.slots ≡ Ok made
+pub walk_couples : (sets : List LabelSet) (all : List ClassDeclaration) (s : SchemaDraft) (made : List Slot) → try_fold (class_after sets all) (record { classes = []; slots = [] }) all ≡ Ok s → try_map (resolved_slot s.classes s.slots) s.slots ≡ Ok made
     → (n : ℕ) (l : Link) → link_of made n ≡ Some l → IsCoupled made n l
-walk_couples sets all s made walked h n l is_link =
-    let left = walk_leaves sets all s walked in
+walk_couples sets all s made declared_schema h n l is_link =
+    let left = walk_leaves sets all s declared_schema in
     let slot = link_there (slice_get made n) l is_link in
-    let from = each_from (linked s.classes s.slots) s.slots made n slot.0 h slot.1 in
+    let from = try_map-from (resolved_slot s.classes s.slots) s.slots made n slot.0 h slot.1 in
     slot_coupled all s made n from.0 slot.0 from.0.content l left h from.1 from.2 slot.2 refl
 
 -- and linking refuses nothing
-linked_ok : (all : List ClassDeclaration) (s : Drafted) (n : ℕ) (t : Draft) (content : DraftContent) → Marked (Walks all) Declares s all → slice_get s.slots n ≡ Some t → t.content ≡ content → (x : Slot) × (linked s.classes s.slots t ≡ Ok x)
+linked_ok : (all : List ClassDeclaration) (s : SchemaDraft) (n : ℕ) (t : Draft) (content : DraftContent) → Marked (Walks all) Declares s all → slice_get s.slots n ≡ Some t → t.content ≡ content → (x : Slot) × (resolved_slot s.classes s.slots t ≡ Ok x)
 linked_ok all s n t (drafts.Default v) left at is = (record { name = t.name; owner = t.owner; content = contents.Default v }, default_gives s.classes s.slots t v is)
 linked_ok all s n t (drafts.Link to many inverse) left at is = let pair = pair_of all s n t to many inverse left at is in (record { name = t.name; owner = t.owner; content = contents.Link pair.link }, pair.made)
 
-each_ok : {A X E : Type 0} (f : A → Result X E) (items : List A) → ((i : ℕ) (a : A) → slice_get items i ≡ Some a → (x : X) × (f a ≡ Ok x)) → (made : List X) × (each f items ≡ Ok made)
-unfolding each
-each_ok f [] h = ([], refl)
-each_ok f (a ∷ more) h =
-    let one = h 0 a refl in
-    let rest = each_ok f more (λ i b at. h (suc i) b at) in
-    (one.0 ∷ rest.0, rw (one.1, rest.1) refl)
-
-pub walk_links : (sets : List LabelSet) (all : List ClassDeclaration) (s : Drafted) → through (class_after sets all) (record { classes = []; slots = [] }) all ≡ Ok s → (made : List Slot) × (each (linked s.classes s.slots) s.slots ≡ Ok made)
-walk_links sets all s walked =
-    let left = walk_leaves sets all s walked in
-    each_ok (linked s.classes s.slots) s.slots (λ i t at. linked_ok all s i t t.content left at refl)
+pub walk_links : (sets : List LabelSet) (all : List ClassDeclaration) (s : SchemaDraft) → try_fold (class_after sets all) (record { classes = []; slots = [] }) all ≡ Ok s → (made : List Slot) × (try_map (resolved_slot s.classes s.slots) s.slots ≡ Ok made)
+walk_links sets all s declared_schema =
+    let left = walk_leaves sets all s declared_schema in
+    try_map-ok (resolved_slot s.classes s.slots) s.slots (λ i t at. linked_ok all s i t t.content left at refl)

@@ -2,15 +2,16 @@
 use Rattle.std.specs.Prelude.{ℕ, not, ◌∷◌, [], ◌++◌, nat_le, List, map, length, position, Option, Some, None, Result, Ok, Err, pos, codes, true, if◌then◌else◌}
 use Rattle.std.specs.List.{list_any}
 use Rattle.std.specs.Str.{bytes_eq}
-use Rattle.bb_document.specs.Answers.{◌>>=◌, expected, through}
+use Rattle.bb_basis.specs.Results.{◌>>=◌, ok_or, try_fold}
 use Rattle.bb_document.specs.Document.{ClassDeclaration, text_default, int_default, bool_default}
+use Rattle.bb_schema.specs.declared.read.classes.TheConstants.{CLASS_LIMIT}
 use Rattle.bb_schema.specs.declared.fault.SchemaFault.{SchemaFault}
 use Rattle.bb_schema.specs.declared.fault.SchemaFault.TheVariants.{Name, Twice, Unknown, Limit}
 use Rattle.bb_schema.specs.declared.label_set.LabelSet.{LabelSet}
 use Rattle.bb_schema.specs.declared.class.Class.{Class}
-use Rattle.bb_schema.specs.Names.{is_name}
+use Rattle.bb_basis.specs.Names.{is_name}
 use Rattle.bb_schema.specs.Schema.{slots_in}
-use Rattle.bb_schema.specs.Drafts.{Drafted}
+use Rattle.bb_schema.specs.Drafts.{SchemaDraft}
 use Rattle.bb_schema.specs.SlotReading.{slot_after}
 use Rattle.bb_schema.specs.LinkReading.{link_after}
 
@@ -27,20 +28,24 @@ focus = record {
 -- the number of the parent, which is an earlier class
 abbrev pub parent_number : List Class → Option (List ℕ) → Result (Option ℕ) SchemaFault
 parent_number classes None = Ok None
-parent_number classes (Some name) = expected Unknown (position (bytes_eq name) (map (λ k. k.name) classes)) >>= λ p. Ok (Some p)
+parent_number classes (Some name) = ok_or (position (bytes_eq name) (map (λ k. k.name) classes)) Unknown >>= λ p. Ok (Some p)
 
 -- the slots that a class has from its parent
-abbrev pub inherited : List Class → Option ℕ → List ℕ
-inherited classes None = []
-inherited classes (Some p) = slots_in classes p
+abbrev pub inherited_slots : List Class → Option ℕ → List ℕ
+inherited_slots classes None = []
+inherited_slots classes (Some p) = slots_in classes p
 
 -- the classes with one more, or what is wrong with it
-unfoldable pub class_after : List LabelSet → List ClassDeclaration → Drafted → ClassDeclaration → Result Drafted SchemaFault
+unfoldable pub class_after : List LabelSet → List ClassDeclaration → SchemaDraft → ClassDeclaration → Result SchemaDraft SchemaFault
 class_after sets all s entry =
     if not (is_name entry.name) then Err Name
     else if list_any (bytes_eq entry.name) (map (λ k. k.name) s.classes) then Err Twice
     else parent_number s.classes entry.parent >>= λ parent.
-    if nat_le 256 (length s.classes) then Err Limit
-    else through (slot_after sets (length s.classes)) (record { slots = s.slots; members = inherited s.classes parent }) entry.slots >>= λ ordinary.
-    through (link_after all entry.name (length s.classes)) ordinary entry.links >>= λ own.
-    Ok (record { classes = s.classes ++ record { name = entry.name; parent = parent; slots = own.members } ∷ []; slots = own.slots })
+    if nat_le CLASS_LIMIT (length s.classes) then Err Limit
+    else try_fold (slot_after sets (length s.classes)) (record { slots = s.slots; class_slots = inherited_slots s.classes parent }) entry.slots >>= λ ordinary.
+    try_fold (link_after all entry.name (length s.classes)) ordinary entry.links >>= λ own.
+    Ok (record { classes = s.classes ++ record { name = entry.name; parent = parent; slots = own.class_slots } ∷ []; slots = own.slots })
+
+-- the classes that some entries of all mean, and their slots
+abbrev pub draft_of : List LabelSet → List ClassDeclaration → List ClassDeclaration → Result SchemaDraft SchemaFault
+draft_of sets all entries = try_fold (class_after sets all) (record { classes = []; slots = [] }) entries

@@ -31,7 +31,7 @@ couple_end slots n l = if nat_lt n l.inverse then (couple_number slots n, A) els
 abbrev pub couple_of : Schema → ℕ → Option (ℕ × Side)
 couple_of s n = option_map (couple_end s.slots n) (link_of s.slots n)
 
--- for each slot, numbered from n, how many couples come before it, where k come before all
+-- for each slot, numbered from n, the number of couples before it, where k come before all
 unfoldable pub counts : ℕ → ℕ → List Slot → List ℕ
 counts k n [] = []
 counts k n (t ∷ ts) = k ∷ counts (if comes_first n t then suc k else k) (suc n) ts

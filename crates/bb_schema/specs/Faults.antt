@@ -3,13 +3,13 @@ use Rattle.std.specs.Prelude.{ℕ}
 use Rattle.bb_schema.specs.declared.fault.SchemaFault.{SchemaFault}
 use Rattle.bb_schema.specs.declared.fault.SchemaFault.TheVariants.{Json, Shape, Name, Twice, Unknown, Inverse, Dimension, Limit, Memory}
 
-abbrev pub number_of : SchemaFault → ℕ
-number_of Json = 1
-number_of Shape = 2
-number_of Name = 3
-number_of Twice = 4
-number_of Unknown = 5
-number_of Inverse = 6
-number_of Dimension = 7
-number_of Limit = 8
-number_of Memory = 9
+abbrev pub fault_number : SchemaFault → ℕ
+fault_number Json = 1
+fault_number Shape = 2
+fault_number Name = 3
+fault_number Twice = 4
+fault_number Unknown = 5
+fault_number Inverse = 6
+fault_number Dimension = 7
+fault_number Limit = 8
+fault_number Memory = 9

@@ -1,41 +1,73 @@
 -- What holds of every schema.
-use Rattle.std.specs.Prelude.{◌≡◌, ◌≢◌, ◌<◌, ◌≤◌, ◌++◌, ℕ, List, length, slice_get, option_map, Some, All, IfSome}
+use Rattle.std.specs.Prelude.{◌≡◌, ◌≢◌, ◌<◌, ◌≤◌, ◌++◌, [], ◌∷◌, ℕ, List, map, length, slice_get, option_map, Some, All, IfSome, IsTrue, true, nat_eq}
+use Rattle.std.specs.List.{IsDistinct, list_all}
+use Rattle.bb_basis.specs.Names.{is_name}
+use Rattle.bb_schema.specs.declared.read.labels.TheConstants.{LABEL_SET_LIMIT}
+use Rattle.bb_schema.specs.declared.label_set.TheConstants.{LABEL_LIMIT}
 use Rattle.bb_schema.specs.declared.label_set.LabelSet.{LabelSet}
+use Rattle.bb_schema.specs.declared.draft.TheConstants.{CLASS_SLOT_LIMIT, SLOT_LIMIT}
+use Rattle.bb_schema.specs.declared.read.classes.TheConstants.{CLASS_LIMIT}
 use Rattle.bb_schema.specs.declared.class.Class.{Class}
 use Rattle.bb_schema.specs.declared.value.Value.{Value}
-use Rattle.bb_schema.specs.declared.value.Value.TheVariants.{Int, Text, Bool as Truth, Label, Interval}
 use Rattle.bb_schema.specs.declared.slot.Slot.{Slot}
 use Rattle.bb_schema.specs.declared.slot.Link.{Link}
+use Rattle.bb_schema.specs.declared.read.spaces.TheConstants.{DIM_LIMIT, SPACE_LIMIT}
 use Rattle.bb_schema.specs.declared.space.Space.{Space}
-use Rattle.bb_schema.specs.Standing.{ParentsAreEarlier, parent_of}
-use Rattle.bb_schema.specs.Schema.{Schema, link_of, default_in, label_at, slots_in}
+use Rattle.bb_schema.specs.SpaceReading.{is_among, has_slot_for}
+use Rattle.bb_schema.specs.Inheritance.{ParentsAreEarlier, parent_of, descends_in}
+use Rattle.bb_schema.specs.Naming.{AreNames}
+use Rattle.bb_schema.specs.Focus.{focus_class, focus_slots}
+use Rattle.bb_schema.specs.Schema.{Schema, link_of, default_in, slots_in}
+use Rattle.bb_schema.specs.Kinds.{kind_of_value}
+use Rattle.bb_schema.specs.Values.{label_counts, value_fits}
 
--- a label that a value names is one of its set
-abbrev pub LabelIsThere : List LabelSet → Value → Type 0
-LabelIsThere sets (Int z) = Unit {0}
-LabelIsThere sets (Text t) = Unit {0}
-LabelIsThere sets (Truth b) = Unit {0}
-LabelIsThere sets (Label set label) = (name : List ℕ) × (label_at sets set label ≡ Some name)
-LabelIsThere sets (Interval low high) = Unit {0}
+-- the label sets are named, and so are the labels of each
+pub record AreLabelSets (sets : List LabelSet) : Type 0 where
+  pub named : AreNames LABEL_SET_LIMIT (map (λ l. l.name) sets)
+  pub labels : All (λ l. AreNames LABEL_LIMIT l.values) sets
 
--- a slot is of one of so many classes, and a label in its default is there
+-- a slot can hold the value, by the value's own kind
+abbrev pub IsHeld : List LabelSet → Value → Type 0
+IsHeld sets v = IsTrue (value_fits (label_counts sets) (kind_of_value v) v)
+
+-- a slot has a name, is of one of so many classes, and can hold its default
 pub record IsSlot (sets : List LabelSet) (class_count : ℕ) (t : Slot) : Type 0 where
+  pub name : IsTrue (is_name t.name)
   pub owner : t.owner < class_count
-  pub label : IfSome (default_in t.content) (LabelIsThere sets)
+  pub default : IfSome (default_in t.content) (IsHeld sets)
 
--- a class has at most 64 slots, each of so many
+-- a class has at most 64 slots, each of so many, and none twice
 pub record IsClass (slot_count : ℕ) (k : Class) : Type 0 where
-  pub few : length k.slots ≤ 64
+  pub few : length k.slots ≤ CLASS_SLOT_LIMIT
+  pub distinct : IsDistinct nat_eq k.slots
   pub slots : All (λ n. n < slot_count) k.slots
 
--- the classes of a space, and the label sets of its dimensions, are of so many
-pub record IsSpace (set_count class_count : ℕ) (p : Space) : Type 0 where
-  pub classes : All (λ c. c < class_count) p.classes
-  pub sets : All (λ d. IfSome d.set (λ set. set < set_count)) p.dims
+-- the classes that a space lists are there, and none twice; it has named dimensions, whose label sets are there, and for
+-- each of which each of its classes has a slot of that name and of a kind that suits it
+pub record IsSpace (s : Schema) (p : Space) : Type 0 where
+  pub classes : All (λ c. c < length s.classes) p.classes
+  pub distinct : IsDistinct nat_eq p.classes
+  pub named : AreNames DIM_LIMIT (map (λ d. d.name) p.dims)
+  pub sets : All (λ d. IfSome d.set (λ set. set < length s.label_sets)) p.dims
+  pub slots : All (λ d. IsTrue (list_all (has_slot_for s d.name d.set) p.classes)) p.dims
+
+-- the spaces are named, and each is one of the schema
+pub record AreSpaces (s : Schema) (spaces : List Space) : Type 0 where
+  pub named : AreNames SPACE_LIMIT (map (λ p. p.name) spaces)
+  pub each : All (IsSpace s) spaces
 
 -- the first ones are those of front
-abbrev pub StartsWith : List ℕ → List ℕ → Type 0
-StartsWith xs front = (rest : List ℕ) × (xs ≡ front ++ rest)
+abbrev pub StartsWith : {X : Type 0} → List X → List X → Type 0
+StartsWith {X} xs front = (rest : List X) × (xs ≡ front ++ rest)
+
+-- a slot is among those of a class exactly where the class descends from the one that declares the slot
+abbrev pub OwnsSlots : List Class → List Slot → Type 0
+OwnsSlots classes slots = (c n : ℕ) (t : Slot) → c < length classes → slice_get slots n ≡ Some t → is_among (slots_in classes c) n ≡ descends_in classes c t.owner
+
+-- no two slots of a class have one name
+abbrev pub HasOwnNames : List Class → List Slot → Type 0
+HasOwnNames classes slots = (c m n : ℕ) (t u : Slot) → c < length classes → is_among (slots_in classes c) m ≡ true → is_among (slots_in classes c) n ≡ true
+    → slice_get slots m ≡ Some t → slice_get slots n ≡ Some u → t.name ≡ u.name → m ≡ n
 
 -- the inverse of a link slot is another slot, of the class it leads to, and leads back
 pub record IsCoupled (slots : List Slot) (n : ℕ) (l : Link) : Type 0 where
@@ -47,12 +79,19 @@ pub record IsCoupled (slots : List Slot) (n : ℕ) (l : Link) : Type 0 where
 
 -- what every schema fulfils
 pub record Fits (s : Schema) : Type 0 where
-  pub few_classes : length s.classes ≤ 256
-  pub few_slots : length s.slots ≤ 65536
+  pub label_sets : AreLabelSets s.label_sets
+  -- class 0 is `focus`, and slots 0 to 3 are its own
+  pub focus : StartsWith s.classes (focus_class ∷ [])
+  pub focus_slots : StartsWith s.slots focus_slots
+  pub few_classes : length s.classes ≤ CLASS_LIMIT
+  pub few_slots : length s.slots ≤ SLOT_LIMIT
+  pub class_names : AreNames CLASS_LIMIT (map (λ k. k.name) s.classes)
   -- a parent is declared before its children, and its slots are their first ones
   pub parents : ParentsAreEarlier s.classes
   pub heirs : (c p : ℕ) → parent_of s.classes c ≡ Some p → StartsWith (slots_in s.classes c) (slots_in s.classes p)
   pub classes : All (IsClass (length s.slots)) s.classes
+  pub owned : OwnsSlots s.classes s.slots
+  pub slot_names : HasOwnNames s.classes s.slots
   pub slots : All (IsSlot s.label_sets (length s.classes)) s.slots
   pub coupled : (n : ℕ) (l : Link) → link_of s.slots n ≡ Some l → IsCoupled s.slots n l
-  pub spaces : All (IsSpace (length s.label_sets) (length s.classes)) s.spaces
+  pub spaces : AreSpaces s s.spaces

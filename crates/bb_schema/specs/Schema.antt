@@ -13,7 +13,7 @@ use Rattle.bb_schema.specs.declared.slot.Content.TheVariants as contents
 use Rattle.bb_schema.specs.declared.space.Space.{Space}
 use Rattle.bb_schema.specs.declared.space.Dim.{Dim}
 use Rattle.bb_schema.specs.Kinds.{kind_of}
-use Rattle.bb_schema.specs.Standing.{stands_below}
+use Rattle.bb_schema.specs.Inheritance.{descends_in}
 
 -- all parts by their numbers: class 0 is `focus`
 pub record Schema : Type 0 where
@@ -97,4 +97,4 @@ dims_of s w = option_map_or (λ p. p.dims) (slice_get s.spaces w) []
 
 -- whether c descends from d
 abbrev pub descends : Schema → ℕ → ℕ → Bool
-descends s c d = stands_below s.classes c d
+descends s c d = descends_in s.classes c d

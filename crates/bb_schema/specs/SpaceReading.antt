@@ -3,24 +3,25 @@ use Rattle.std.specs.Prelude.{ℕ, Bool, true, false, not, ◌==◌, ◌∷◌, 
 use Rattle.std.specs.List.{list_any, list_all}
 use Rattle.std.specs.Option.{option_map_or}
 use Rattle.std.specs.Str.{bytes_eq}
-use Rattle.bb_document.specs.Answers.{◌>>=◌, expected, through}
+use Rattle.bb_basis.specs.Results.{◌>>=◌, ok_or, try_fold}
 use Rattle.bb_document.specs.Document.{SpaceDeclaration, DimDeclaration}
+use Rattle.bb_schema.specs.declared.read.spaces.TheConstants.{DIM_LIMIT, SPACE_LIMIT}
 use Rattle.bb_schema.specs.declared.fault.SchemaFault.{SchemaFault}
 use Rattle.bb_schema.specs.declared.fault.SchemaFault.TheVariants as faults
 use Rattle.bb_schema.specs.declared.slot.Kind.{Kind}
 use Rattle.bb_schema.specs.declared.slot.Kind.TheVariants.{Int, Label, Interval}
 use Rattle.bb_schema.specs.declared.space.Space.{Space}
 use Rattle.bb_schema.specs.declared.space.Dim.{Dim}
-use Rattle.bb_schema.specs.Names.{is_name}
+use Rattle.bb_basis.specs.Names.{is_name}
 use Rattle.bb_schema.specs.Schema.{Schema, class_named, label_set_named, slot_named, kind_of_slot}
 
--- the class stands among these
+-- the class is one of these
 unfoldable pub is_among : List ℕ → ℕ → Bool
 is_among listed c = list_any (λ d. d == c) listed
 
 -- the classes of a space with one more, or what is wrong with it
-unfoldable pub listed_after : Schema → List ℕ → List ℕ → Result (List ℕ) SchemaFault
-listed_after s listed name = expected faults.Unknown (class_named s name) >>= λ c.
+unfoldable pub space_class_after : Schema → List ℕ → List ℕ → Result (List ℕ) SchemaFault
+space_class_after s listed name = ok_or (class_named s name) faults.Unknown >>= λ c.
     if is_among listed c then Err faults.Twice else Ok (listed ++ c ∷ [])
 
 -- an ordered dimension reads numbers and intervals, an enumerated one labels of its set
@@ -37,7 +38,7 @@ has_slot_for s name set c = option_map_or (λ n. option_map_or (suits set) (kind
 -- the label set of a dimension
 abbrev pub set_number : Schema → Option (List ℕ) → Result (Option ℕ) SchemaFault
 set_number s None = Ok None
-set_number s (Some name) = expected faults.Unknown (label_set_named s name) >>= λ set. Ok (Some set)
+set_number s (Some name) = ok_or (label_set_named s name) faults.Unknown >>= λ set. Ok (Some set)
 
 -- the dimensions with one more, of a space that lists these classes
 unfoldable pub dim_after : Schema → List ℕ → List Dim → DimDeclaration → Result (List Dim) SchemaFault
@@ -46,7 +47,7 @@ dim_after s listed dims entry =
     else if list_any (bytes_eq entry.name) (map (λ d. d.name) dims) then Err faults.Twice
     else set_number s entry.of >>= λ set.
     if not (list_all (has_slot_for s entry.name set) listed) then Err faults.Dimension
-    else if nat_le 16 (length dims) then Err faults.Limit
+    else if nat_le DIM_LIMIT (length dims) then Err faults.Limit
     else Ok (dims ++ record { name = entry.name; set = set } ∷ [])
 
 -- the spaces with one more
@@ -54,7 +55,7 @@ unfoldable pub space_after : Schema → List Space → SpaceDeclaration → Resu
 space_after s spaces entry =
     if not (is_name entry.name) then Err faults.Name
     else if list_any (bytes_eq entry.name) (map (λ p. p.name) spaces) then Err faults.Twice
-    else if nat_le 256 (length spaces) then Err faults.Limit
-    else through (listed_after s) [] entry.classes >>= λ listed.
-    through (dim_after s listed) [] entry.dims >>= λ dims.
+    else if nat_le SPACE_LIMIT (length spaces) then Err faults.Limit
+    else try_fold (space_class_after s) [] entry.classes >>= λ listed.
+    try_fold (dim_after s listed) [] entry.dims >>= λ dims.
     Ok (spaces ++ record { name = entry.name; classes = listed; dims = dims } ∷ [])

@@ -2,7 +2,7 @@
 use Rattle.std.specs.Prelude.{ℕ, Bool, List, [], slice_get}
 use Rattle.std.specs.List.{list_any, Any}
 use Rattle.std.specs.Option.{option_map_or}
-use Rattle.bb_schema.specs.Standing.{Descends, stands_below}
+use Rattle.bb_schema.specs.Inheritance.{Descends, descends_in}
 use Rattle.bb_schema.specs.Schema.{Schema}
 
 -- the classes that a space lists
@@ -11,7 +11,7 @@ classes_in s w = option_map_or (λ p. p.classes) (slice_get s.spaces w) []
 
 -- whether the class descends from one of them
 abbrev pub allowed : Schema → ℕ → ℕ → Bool
-allowed s w c = list_any (λ d. stands_below s.classes c d) (classes_in s w)
+allowed s w c = list_any (λ d. descends_in s.classes c d) (classes_in s w)
 
 -- the class descends from one of them
 abbrev pub IsAllowed : Schema → ℕ → ℕ → Type 0

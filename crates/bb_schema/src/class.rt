@@ -1,11 +1,11 @@
+//! Classes and their inheritance. The schema keeps them in a table.
+
 ghost use Rattle.std.specs.Prelude.{◌≡◌};
 ghost use Rattle.std.specs.List.{list_any};
-ghost use Rattle.bb_schema.specs.Standing.{stands_below, parent_of, ParentsAreEarlier};
+ghost use Rattle.bb_schema.specs.Inheritance.{descends_in, parent_of, ParentsAreEarlier};
 
-use crate::class_set::ClassSet;
-use crate::numbers::Numbers;
-use crate::table::Named;
-use crate::text::Text;
+use crate::slot::SlotId;
+use bb_basis::{IdSet, Items, Named, Text};
 
 /// The number of a class: 0 is `focus`, the declared ones follow in the order of their document.
 pub type ClassId = u16;
@@ -16,7 +16,7 @@ pub struct Class {
     pub name: Text,
     pub parent: Option<ClassId>,
     /// All its slots: the inherited ones, then its own ordinary ones, then its own link slots.
-    pub slots: Numbers,
+    pub slots: Items<SlotId>,
 }
 
 impl Named for Class {
@@ -27,11 +27,11 @@ impl Named for Class {
     }
 }
 
-/// Whether a class is another one or stands anywhere below it, by the parents. A number without a class stands
-/// below itself alone.
-pub(crate) fn stands_below(classes: &[Class], class: ClassId, ancestor: ClassId) -> bool
+/// Whether a class descends from another: it is that class, or its parent descends from it. A number without a class
+/// descends from itself alone.
+pub(crate) fn descends_in(classes: &[Class], class: ClassId, ancestor: ClassId) -> bool
     requires { ParentsAreEarlier classes.now }
-    ensures { result ≡ stands_below classes.now class ancestor }
+    ensures { result ≡ descends_in classes.now class ancestor }
 {
     let mut at = class;
     while at != ancestor {
@@ -43,10 +43,10 @@ pub(crate) fn stands_below(classes: &[Class], class: ClassId, ancestor: ClassId)
     true
 }
 
-/// Whether a class is one of some others or stands anywhere below one.
-pub(crate) fn stands_below_any(classes: &[Class], class: ClassId, ancestors: &ClassSet) -> bool
+/// Whether a class descends from one of some others.
+pub(crate) fn descends_from_any(classes: &[Class], class: ClassId, ancestors: &IdSet) -> bool
     requires { ParentsAreEarlier classes.now }
-    ensures { result ≡ list_any (λ d. stands_below classes.now class d) ancestors.now }
+    ensures { result ≡ list_any (λ d. descends_in classes.now class d) ancestors.now }
 {
     let mut at = class;
     while !ancestors.contains(at) {

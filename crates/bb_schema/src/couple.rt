@@ -1,5 +1,8 @@
+//! Couples of link slots that are each other's inverse. A schema counts them once, when it is made.
+
 ghost use Rattle.std.specs.Prelude.{◌≡◌, ◌≤◌, ◌<◌, length, IfOk};
 ghost use Rattle.bb_schema.specs.Couples.{comes_first, firsts, counts, couple_end};
+ghost use Rattle.bb_schema.specs.declared.draft.TheConstants.{SLOT_LIMIT};
 
 use crate::slot::{Content, Link, Slot, SlotId};
 use std::alloc::{AllocError, Global};
@@ -26,39 +29,41 @@ fn comes_first(number: usize, slot: &Slot) -> bool
     }
 }
 
-/// For each slot, how many couples come before it, and how many there are.
+/// For each slot the number of couples before it, and the number of all.
 pub(crate) fn count_couples(
     alloc: Global,
     slots: &[Slot],
 ) -> Result<(Vec<CoupleId>, usize), AllocError>
-    requires { length slots.now ≤ 65536 }
-    ensures { IfOk result (λ counted. (counted.0.items ≡ counts 0 0 slots.now) × (counted.1 ≡ length (firsts 0 slots.now))) }
+    requires { length slots.now ≤ SLOT_LIMIT }
+    ensures before { IfOk result (λ counted. counted.0.items ≡ counts 0 0 slots.now) }
+    ensures all { IfOk result (λ counted. counted.1 ≡ length (firsts 0 slots.now)) }
 {
-    let mut befores = Vec::new(alloc);
+    let mut couples_before = Vec::new(alloc);
     let mut count = 0usize;
     for (number, slot) in slots.iter().enumerate() {
-        befores.push(count as u16)?;
+        couples_before.push(count as u16)?;
         if comes_first(number, slot) {
             count += 1;
         }
     }
-    Ok((befores, count))
+    Ok((couples_before, count))
 }
 
-/// The couple of a link slot, and which side the slot is. `befores` has for each slot how many couples come before it.
+/// The couple of a link slot, and which side the slot is. `couples_before` has for each slot the number of couples
+/// before it.
 pub(crate) fn couple_end(
     slots: &[Slot],
-    befores: &[CoupleId],
+    couples_before: &[CoupleId],
     slot: SlotId,
     link: Link,
 ) -> (CoupleId, Side)
-    requires counted { befores.now ≡ counts 0 0 slots.now }
+    requires counted { couples_before.now ≡ counts 0 0 slots.now }
     requires slot { slot < length slots.now }
     requires inverse { link.inverse < length slots.now }
     ensures { result ≡ couple_end slots.now slot link }
 {
     if slot < link.inverse {
-        return (befores[slot as usize], Side::A);
+        return (couples_before[slot as usize], Side::A);
     }
-    (befores[link.inverse as usize], Side::B)
+    (couples_before[link.inverse as usize], Side::B)
 }

@@ -1,19 +1,22 @@
+//! The parts of a schema that is being read: its classes so far, and slots whose links still have names. The readers of
+//! entries, `read/classes.rt` and below, add to them.
+
 ghost use Rattle.std.specs.Prelude.{◌≡◌, ◌<◌, length, OnOk};
 ghost use Rattle.std.specs.List.{list_any};
-ghost use Rattle.bb_schema.specs.Drafts.{Growing, draft_has_name, has_member, is_full, with_slot};
+ghost use Rattle.bb_schema.specs.declared.draft.TheConstants.{SLOT_LIMIT};
+ghost use Rattle.bb_schema.specs.Drafts.{draft_has_name};
 
-use crate::class::ClassId;
-use crate::numbers::Numbers;
+use crate::class::{Class, ClassId};
 use crate::slot::SlotId;
-use crate::text::Text;
 use crate::value::Value;
+use bb_basis::{Items, Table, Text};
 use std::alloc::AllocError;
 
 /// The greatest number of slots of a class, with the inherited ones.
-pub const MEMBER_LIMIT: usize = 64;
+pub(crate) const CLASS_SLOT_LIMIT: usize = 64;
 
-// One more than the greatest number of a slot.
-const SLOT_LIMIT: usize = 65_536;
+/// The greatest number of slots of all classes.
+pub(crate) const SLOT_LIMIT: usize = 65_536;
 
 /// A slot of a schema that is being read.
 #[derive(Drop)]
@@ -30,6 +33,27 @@ pub enum DraftContent {
     Link { to: Text, many: bool, inverse: Text },
 }
 
+/// The classes that were read so far, and all their slots.
+#[derive(Drop)]
+pub struct SchemaDraft {
+    pub classes: Table<Class>,
+    pub slots: Items<Draft>,
+}
+
+/// A class that is being read: all slots so far, and the numbers of its own, inherited ones first.
+#[derive(Drop)]
+pub struct ClassDraft {
+    pub slots: Items<Draft>,
+    pub class_slots: Items<SlotId>,
+}
+
+/// The class that slots are read for.
+#[derive(Drop)]
+pub struct Owner {
+    pub name: Text,
+    pub number: ClassId,
+}
+
 /// Whether the slot of a number has the name.
 #[tactic(auto, unfolding(crate::specs::Drafts::draft_has_name))]
 pub(crate) fn draft_has_name(slots: &[Draft], slot: SlotId, name: &str) -> bool
@@ -41,32 +65,39 @@ pub(crate) fn draft_has_name(slots: &[Draft], slot: SlotId, name: &str) -> bool
     }
 }
 
-/// Whether one of a class's slots has the name.
-pub(crate) fn has_member(slots: &[Draft], members: &[SlotId], name: &str) -> bool
-    ensures { result ≡ list_any (draft_has_name slots.now name.now) members.now }
+/// Whether one of some slots has the name.
+fn is_any_named(slots: &[Draft], numbers: &[SlotId], name: &str) -> bool
+    ensures { result ≡ list_any (draft_has_name slots.now name.now) numbers.now }
 {
-    members
+    numbers
         .iter()
-        .any(|member| draft_has_name(slots, *member, name))
+        .any(|number| draft_has_name(slots, *number, name))
 }
 
-/// Whether a class can have no more slots.
-pub(crate) fn is_full(slots: &[Draft], members: &Numbers) -> bool
-    ensures { result ≡ is_full (record { slots = slots.now; members = members.now }) }
-{
-    members.len() >= MEMBER_LIMIT || slots.len() >= SLOT_LIMIT
-}
+impl ClassDraft {
+    ghost use Rattle.bb_schema.specs.Drafts.{has_slot_named, is_full, with_slot};
 
-/// Gives a class one slot more, which has the next number.
-pub(crate) fn push_draft(
-    slots: &mut Vec<Draft>,
-    members: &mut Numbers,
-    draft: Draft,
-) -> Result<(), AllocError>
-    requires { length slots.old.items < 65536 }
-    ensures { OnOk result (let new : Growing = record { slots = slots.new.items; members = members.new } in new ≡ with_slot (record { slots = slots.old.items; members = members.old }) draft) }
-{
-    members.push(slots.len() as SlotId)?;
-    slots.push(draft)?;
-    Ok(())
+    /// Whether the class has a slot of the name, an inherited one perhaps.
+    pub(crate) fn has_slot_named(&self, name: &str) -> bool
+        ensures { result ≡ has_slot_named self.now name.now }
+    {
+        is_any_named(self.slots.as_slice(), self.class_slots.as_slice(), name)
+    }
+
+    /// Whether the class can have no more slots.
+    pub(crate) fn is_full(&self) -> bool
+        ensures { result ≡ is_full self.now }
+    {
+        self.class_slots.len() >= CLASS_SLOT_LIMIT || self.slots.len() >= SLOT_LIMIT
+    }
+
+    /// Appends a slot to the class, which gets the next number.
+    pub(crate) fn push(&mut self, draft: Draft) -> Result<(), AllocError>
+        requires { length self.old.slots < SLOT_LIMIT }
+        ensures { OnOk result (self.new ≡ with_slot self.old draft) }
+    {
+        self.class_slots.push(self.slots.len() as SlotId)?;
+        self.slots.push(draft)?;
+        Ok(())
+    }
 }

@@ -1,6 +1,8 @@
+//! Why a document means no schema. `Schema::read` answers it.
+
 ghost use Rattle.std.specs.Prelude.{◌≡◌};
 ghost use Rattle.bb_schema.specs.declared.fault.SchemaFault.TheVariants.{Memory as OutOfMemory};
-ghost use Rattle.bb_schema.specs.Faults.{number_of};
+ghost use Rattle.bb_schema.specs.Faults.{fault_number};
 
 use std::alloc::{AllocError, AllocFailed};
 use thiserror::Error;
@@ -11,16 +13,16 @@ pub enum SchemaFault {
     /// The text is not JSON.
     #[error("the schema is not JSON")]
     Json,
-    /// The JSON has not the form of a schema: another key, a missing one, or a value of another form.
+    /// The JSON does not have the form of a schema: another key, a missing one, or a value of another form.
     #[error("the schema has not the form of a schema")]
     Shape,
-    /// An entry declares what is not a name.
+    /// An entry declares a text that is no name.
     #[error("a declared name is not a name")]
     Name,
-    /// An entry declares a name that stands already.
+    /// An entry declares a name that is declared already.
     #[error("a name is declared twice")]
     Twice,
-    /// An entry refers to what is not there.
+    /// An entry refers to something that is not declared.
     #[error("a reference to what is not declared")]
     Unknown,
     /// The inverse of a link slot does not point back to it.
@@ -40,7 +42,7 @@ pub enum SchemaFault {
 impl SchemaFault {
     /// The number by which a refusal line names the fault, from 1 to 9.
     pub fn number(self) -> u8
-        ensures { result ≡ number_of self }
+        ensures { result ≡ fault_number self }
     {
         match self {
             SchemaFault::Json => 1,

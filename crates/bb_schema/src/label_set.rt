@@ -1,9 +1,10 @@
+//! Label sets. The schema keeps them in a table, and defaults and dimensions refer to them.
+
 ghost use Rattle.std.specs.Prelude.{◌≡◌, ◌<◌, [], ◌∷◌, ◌++◌, false, length, position, slice_get, option_map, OnOk, OnErr};
 ghost use Rattle.std.specs.List.{list_any};
 ghost use Rattle.std.specs.Str.{bytes_eq};
 
-use crate::table::{Named, Table};
-use crate::text::Text;
+use bb_basis::{Named, Table, Text};
 use std::alloc::{AllocError, Global};
 use std::marker::Model;
 
@@ -14,7 +15,7 @@ pub type LabelSetId = u16;
 pub type LabelId = u8;
 
 /// The greatest number of labels of a set.
-pub const LABEL_LIMIT: usize = 256;
+pub(crate) const LABEL_LIMIT: usize = 256;
 
 /// The labels of a set, each found by its text.
 #[derive(Drop)]
@@ -29,7 +30,9 @@ impl Model for Labels {
 
     ghost view = { λ l. l.table };
 
-    ghost invariant = { λ l. length l.table ≤ 256 };
+    ghost use Rattle.bb_schema.specs.declared.label_set.TheConstants.{LABEL_LIMIT};
+
+    ghost invariant = { λ l. length l.table ≤ LABEL_LIMIT };
 }
 
 impl PartialEq for Labels {
@@ -47,7 +50,9 @@ impl PartialEq for Labels {
 }
 
 impl Labels {
-    /// No labels. It allocates nothing.
+    ghost use Rattle.bb_schema.specs.declared.label_set.TheConstants.{LABEL_LIMIT};
+
+    /// An empty list of labels. It allocates nothing.
     pub fn new(alloc: Global) -> Labels
         ensures { result ≡ [] }
     {
@@ -56,7 +61,7 @@ impl Labels {
         }
     }
 
-    /// How many there are.
+    /// The number of labels.
     pub fn len(&self) -> usize
         ensures { result ≡ length self.now }
     {
@@ -71,23 +76,23 @@ impl Labels {
     }
 
     /// The number of a label.
-    pub fn number(&self, label: &str) -> Option<LabelId>
+    pub fn index_of(&self, label: &str) -> Option<LabelId>
         ensures { result ≡ position (bytes_eq label.now) self.now }
     {
-        let place = self.table.place(label)?;
-        Some(place as LabelId)
+        let index = self.table.index_of(label)?;
+        Some(index as LabelId)
     }
 
-    /// Whether a label is there.
+    /// Whether the label is in the list.
     pub fn contains(&self, label: &str) -> bool
         ensures { result ≡ list_any (bytes_eq label.now) self.now }
     {
         self.table.contains(label)
     }
 
-    /// Puts a new label last. An error changes nothing.
+    /// Appends a new label. An error changes nothing.
     pub fn push(&mut self, alloc: Global, label: Text) -> Result<(), AllocError>
-        requires room { length self.old < 256 }
+        requires room { length self.old < LABEL_LIMIT }
         requires fresh { list_any (bytes_eq label) self.old ≡ false }
         ensures ok { OnOk result (self.new ≡ self.old ++ label ∷ []) }
         ensures err { OnErr result (self.new ≡ self.old) }

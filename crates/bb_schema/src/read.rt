@@ -1,34 +1,40 @@
-ghost use Rattle.std.specs.Prelude.{◌≡◌, IfErr, map};
-ghost use Rattle.bb_document.specs.Answers.{Gives};
+//! `Schema::read`: the document, one walk over its entries, and the schema that they mean.
+
+ghost use Rattle.std.specs.Prelude.{◌≡◌, IfErr, IfOk, map};
+ghost use Rattle.bb_basis.specs.Results.{Gives, map_err};
 ghost use Rattle.bb_document.specs.Document.{declarations, space_declaration};
 ghost use Rattle.bb_document.specs.Form.{document_of};
+ghost use Rattle.bb_document.specs.Intervals.{HasOrderedIntervals};
 ghost use Rattle.bb_schema.specs.declared.fault.SchemaFault.TheVariants.{Memory as OutOfMemory};
-ghost use Rattle.bb_schema.specs.Reading.{IsWalked, declared_by, bare_schema, spaced, walked, schema_of};
+ghost use Rattle.bb_schema.specs.Reading.{IsWalked, fault_of, bare_schema, schema_with_spaces, declared_schema, schema_of};
 
 mod classes;
 mod entries;
 mod focus;
+mod index;
 mod labels;
-mod linking;
 mod links;
+mod resolve;
 mod slots;
 mod spaces;
 
 use crate::couple::count_couples;
+use crate::draft::SchemaDraft;
 use crate::fault::SchemaFault;
 use crate::label_set::LabelSet;
 use crate::schema::Schema;
-use crate::table::Table;
+use bb_basis::Table;
 use bb_document::{Document, DocumentFault, SpaceEntry};
-use classes::{Drafted, classes_of};
+use classes::classes_of;
 use focus::with_focus;
 use labels::label_sets_of;
-use linking::linked_slots;
+use resolve::resolve_slots;
 use spaces::spaces_of;
 use std::alloc::Global;
 
 fn document(alloc: Global, text: &str) -> Result<Document, SchemaFault>
-    ensures { Gives OutOfMemory declarations result (declared_by (document_of text.now)) }
+    ensures gives { Gives OutOfMemory declarations result (map_err fault_of (document_of text.now)) }
+    ensures ordered { IfOk result (λ document. HasOrderedIntervals (declarations document)) }
 {
     match Document::read(alloc, text) {
         Ok(document) => Ok(document),
@@ -43,44 +49,49 @@ fn document(alloc: Global, text: &str) -> Result<Document, SchemaFault>
 fn bare_schema(
     alloc: Global,
     label_sets: Table<LabelSet>,
-    drafted: Drafted,
+    draft: SchemaDraft,
 ) -> Result<Schema, SchemaFault>
-    requires { IsWalked label_sets (record { classes = drafted.classes; slots = drafted.slots.items }) }
-    ensures gives { Gives OutOfMemory (λ s. s) result (bare_schema label_sets (record { classes = drafted.classes; slots = drafted.slots.items })) }
-    // The walk has refused whatever linking could refuse.
+    requires { IsWalked label_sets draft }
+    ensures gives { Gives OutOfMemory (λ s. s) result (bare_schema label_sets draft) }
+    // The walk has refused whatever could be refused here.
     ensures only { IfErr result (λ e. e ≡ OutOfMemory) }
 {
-    let slots = linked_slots(alloc, &drafted.classes, &drafted.slots)?;
-    let (befores, couple_count) = count_couples(alloc, &slots)?;
+    let slots = resolve_slots(alloc, &draft.classes, draft.slots.as_slice())?;
+    let (couples_before, couple_count) = count_couples(alloc, &slots)?;
     Ok(Schema {
         label_sets,
-        classes: drafted.classes,
+        classes: draft.classes,
         slots,
         spaces: Table::new(alloc),
-        befores,
+        couples_before,
         couple_count,
     })
 }
 
 /// The schema with the spaces of the entries.
-#[tactic(auto, unfolding(crate::specs::Reading::spaced))]
-fn spaced(alloc: Global, bare: Schema, entries: &[SpaceEntry]) -> Result<Schema, SchemaFault>
-    ensures { Gives OutOfMemory (λ s. s) result (spaced bare (map space_declaration entries.now)) }
+#[tactic(auto, unfolding(crate::specs::Reading::schema_with_spaces))]
+fn schema_with_spaces(
+    alloc: Global,
+    bare: Schema,
+    entries: &[SpaceEntry],
+) -> Result<Schema, SchemaFault>
+    ensures { Gives OutOfMemory (λ s. s) result (schema_with_spaces bare (map space_declaration entries.now)) }
 {
     let spaces = spaces_of(alloc, &bare, entries)?;
     Ok(bare.with_spaces(spaces))
 }
 
-/// The schema that the entries of a document mean.
-#[tactic(auto, unfolding(crate::specs::Reading::walked))]
-fn walked(alloc: Global, document: Document) -> Result<Schema, SchemaFault>
-    ensures { Gives OutOfMemory (λ s. s) result (walked (declarations document)) }
+/// The schema that the entries of a document mean. Their intervals are in order, as `Document::read` gives them.
+#[tactic(auto, unfolding(crate::specs::Reading::declared_schema))]
+fn declared_schema(alloc: Global, document: Document) -> Result<Schema, SchemaFault>
+    requires { HasOrderedIntervals (declarations document) }
+    ensures { Gives OutOfMemory (λ s. s) result (declared_schema (declarations document)) }
 {
     let label_sets = label_sets_of(alloc, &document.label_sets)?;
     let classes = with_focus(alloc, document.classes)?;
-    let drafted = classes_of(alloc, &label_sets, &classes)?;
-    let bare = bare_schema(alloc, label_sets, drafted)?;
-    spaced(alloc, bare, &document.spaces)
+    let draft = classes_of(alloc, &label_sets, &classes)?;
+    let bare = bare_schema(alloc, label_sets, draft)?;
+    schema_with_spaces(alloc, bare, &document.spaces)
 }
 
 impl Schema {
@@ -93,6 +104,6 @@ impl Schema {
         ensures { Gives OutOfMemory (λ s. s) result (schema_of text.now) }
     {
         let document = document(alloc, text)?;
-        walked(alloc, document)
+        declared_schema(alloc, document)
     }
 }

@@ -1,27 +1,31 @@
-ghost use Rattle.std.specs.Prelude.{All, ◌≡◌, ◌<◌, ◌≤◌, ◌↔◌, Some, IsSome, is_some, IsTrue, length, min, slice_get, option_map, ◌⊎◌};
+//! The schema and what can be asked of it. Every crate above looks names, slots and classes up here.
+
+ghost use Rattle.std.specs.Prelude.{◌≡◌, ◌<◌, ◌≤◌, ◌↔◌, Some, IsSome, is_some, IsTrue, length, min, slice_get, option_map, ◌⊎◌};
 ghost use Rattle.bb_schema.specs.Schema.{class_named, space_named, label_set_named, label_named, slot_named, name_of_class, name_of_slot, name_of_space, name_of_label, slots_of, owner_of, kind_of_slot, default_of, link_of, dims_of, descends};
-ghost use Rattle.bb_schema.specs.Standing.{parent_of, Descends};
+ghost use Rattle.bb_schema.specs.Inheritance.{parent_of, Descends};
 ghost use Rattle.bb_schema.specs.Couples.{couples, couple_of};
-ghost use Rattle.bb_schema.specs.Fits.{Fits, IsSpace};
+ghost use Rattle.bb_schema.specs.Fits.{Fits, AreSpaces};
+ghost use Rattle.bb_schema.specs.Values.{label_counts};
 ghost use Rattle.bb_schema.specs.Spaces.{allowed, IsAllowed};
 
-use crate::class::{Class, ClassId, parent, stands_below, stands_below_any};
+use crate::class::{Class, ClassId, descends_from_any, descends_in, parent};
 use crate::couple::{CoupleId, Side, couple_end};
 use crate::label_set::{LabelId, LabelSet, LabelSetId};
 use crate::slot::{Content, Kind, Slot, SlotId, find_slot, link_at};
 use crate::space::{Dim, Space, SpaceId};
-use crate::table::Table;
 use crate::value::Value;
+use bb_basis::Table;
 use std::marker::Model;
 
-/// The classes of units, their slots, the label sets of these, and the spaces.
+/// The classes of units, their slots, the label sets of these, and the spaces (GBBopen Reference Manual, unit classes
+/// and space instances).
 pub struct Schema {
     pub(crate) label_sets: Table<LabelSet>,
     pub(crate) classes: Table<Class>,
     pub(crate) slots: Vec<Slot>,
     pub(crate) spaces: Table<Space>,
-    // For each slot, how many couples come before it.
-    pub(crate) befores: Vec<CoupleId>,
+    // For each slot, the number of couples before it.
+    pub(crate) couples_before: Vec<CoupleId>,
     pub(crate) couple_count: usize,
 }
 
@@ -30,11 +34,21 @@ impl Model for Schema {
 
     ghost Value = { Parts };
 
-    ghost use Rattle.bb_schema.specs.WellFormed.{IsWellFormed};
+    ghost use Rattle.bb_schema.specs.proving.WellFormed.{IsWellFormed};
 
-    ghost view = { λ s. record { label_sets = s.label_sets; classes = s.classes; slots = s.slots.items; spaces = s.spaces } };
+    ghost view = { λ s. record {
+      label_sets = s.label_sets;
+      classes = s.classes;
+      slots = s.slots.items;
+      spaces = s.spaces;
+    } };
 
-    ghost invariant = { λ s. IsWellFormed (record { label_sets = s.label_sets; classes = s.classes; slots = s.slots.items; spaces = s.spaces }) s.befores.items s.couple_count };
+    ghost invariant = { λ s. IsWellFormed (record {
+      label_sets = s.label_sets;
+      classes = s.classes;
+      slots = s.slots.items;
+      spaces = s.spaces;
+    }) s.couples_before.items s.couple_count };
 }
 
 // By hand, so that a proof meets one call where a schema is dropped, and not all its parts.
@@ -45,7 +59,7 @@ impl Drop for Schema {
             classes: _,
             slots: _,
             spaces: _,
-            befores: _,
+            couples_before: _,
             couple_count: _,
         } = self;
     }
@@ -56,32 +70,32 @@ impl Schema {
     pub fn class(&self, name: &str) -> Option<ClassId>
         ensures { result ≡ class_named self.now name.now }
     {
-        self.classes.place(name)
+        self.classes.index_of(name)
     }
 
     /// The number of the space of a name.
     pub fn space(&self, name: &str) -> Option<SpaceId>
         ensures { result ≡ space_named self.now name.now }
     {
-        self.spaces.place(name)
+        self.spaces.index_of(name)
     }
 
     /// The number of the label set of a name.
     pub fn label_set(&self, name: &str) -> Option<LabelSetId>
         ensures { result ≡ label_set_named self.now name.now }
     {
-        self.label_sets.place(name)
+        self.label_sets.index_of(name)
     }
 
     /// The number of a label in a set, or `None` where the set isn't there or has no such label.
     pub fn label(&self, set: LabelSetId, name: &str) -> Option<LabelId>
         ensures { result ≡ label_named self.now set name.now }
     {
-        self.label_sets.get(set as usize)?.values.number(name)
+        self.label_sets.get(set as usize)?.values.index_of(name)
     }
 
-    /// The number of the slot that a name means in a class, inherited ones too, or `None` where the class isn't there
-    /// or has no such slot.
+    /// The number of the slot that a name refers to in a class, inherited ones included, or `None` where the class
+    /// isn't there or has no such slot.
     pub fn slot(&self, class: ClassId, name: &str) -> Option<SlotId>
         ensures { result ≡ slot_named self.now class name.now }
     {
@@ -117,42 +131,50 @@ impl Schema {
         self.label_sets.get(set as usize)?.values.get(label)
     }
 
-    /// How many label sets there are.
+    /// The number of label sets.
     pub fn label_set_count(&self) -> usize
         ensures { result ≡ length self.now.label_sets }
     {
         self.label_sets.len()
     }
 
-    /// How many classes there are, with `focus`.
+    /// The number of labels of a set.
+    pub fn label_count(&self, set: LabelSetId) -> usize
+        requires { set < length self.now.label_sets }
+        ensures { slice_get (label_counts self.now.label_sets) set ≡ Some result }
+    {
+        self.label_sets.as_slice()[set as usize].values.len()
+    }
+
+    /// The number of classes, `focus` included.
     pub fn class_count(&self) -> usize
         ensures { result ≡ length self.now.classes }
     {
         self.classes.len()
     }
 
-    /// How many slots all classes declare.
+    /// The number of slots that all classes declare.
     pub fn slot_count(&self) -> usize
         ensures { result ≡ length self.now.slots }
     {
         self.slots.len()
     }
 
-    /// How many spaces there are.
+    /// The number of spaces.
     pub fn space_count(&self) -> usize
         ensures { result ≡ length self.now.spaces }
     {
         self.spaces.len()
     }
 
-    /// How many couples of link slots there are.
+    /// The number of couples of link slots.
     pub fn couple_count(&self) -> usize
         ensures { result ≡ length (couples self.now) }
     {
         self.couple_count
     }
 
-    /// The class right above a class. `focus` has none.
+    /// The parent of a class. `focus` has none.
     pub fn parent(&self, class: ClassId) -> Option<ClassId>
         requires { class < length self.now.classes }
         ensures { result ≡ parent_of self.now.classes class }
@@ -160,12 +182,13 @@ impl Schema {
         parent(self.classes.as_slice(), class)
     }
 
-    /// Whether a class is another one or stands anywhere below it. A number without a class stands below itself alone.
+    /// Whether a class descends from another: it is that class, or its parent descends from it. A number without a
+    /// class descends from itself alone.
     pub fn descends(&self, class: ClassId, ancestor: ClassId) -> bool
         ensures computed { result ≡ descends self.now class ancestor }
         ensures least { IsTrue result ↔ Descends self.now.classes class ancestor }
     {
-        stands_below(self.classes.as_slice(), class, ancestor)
+        descends_in(self.classes.as_slice(), class, ancestor)
     }
 
     /// Whether one of two classes descends from the other.
@@ -239,15 +262,16 @@ impl Schema {
         requires { IsSome (link_of self.now.slots slot) }
         ensures computed { couple_of self.now slot ≡ Some result }
         // It is the number of the couple's first slot in the list of couples.
-        ensures listed { slice_get (couples self.now) result.0 ≡ option_map (λ l. min slot l.inverse) (link_of self.now.slots slot) }
+        ensures listed { slice_get (couples self.now) result.0 ≡
+            option_map (λ l. min slot l.inverse) (link_of self.now.slots slot) }
     {
         match link_at(&self.slots, slot) {
             None => unreachable!(),
-            Some(link) => couple_end(&self.slots, &self.befores, slot, link),
+            Some(link) => couple_end(&self.slots, &self.couples_before, slot, link),
         }
     }
 
-    /// The dimensions of a space, in the order of the document.
+    /// The dimensions of a space, in the order of its document.
     pub fn dims(&self, space: SpaceId) -> &[Dim]
         requires { space < length self.now.spaces }
         ensures { result.now ≡ dims_of self.now space }
@@ -263,13 +287,13 @@ impl Schema {
     {
         match self.spaces.get(space as usize) {
             None => false,
-            Some(found) => stands_below_any(self.classes.as_slice(), class, &found.classes),
+            Some(found) => descends_from_any(self.classes.as_slice(), class, &found.classes),
         }
     }
 
     /// The schema with these spaces in place of its own.
     pub(crate) fn with_spaces(self, spaces: Table<Space>) -> Schema
-        requires { All (IsSpace (length self.label_sets) (length self.classes)) spaces }
+        requires { AreSpaces self spaces }
         ensures { result ≡ record self { spaces = spaces } }
     {
         let mut schema = self;
@@ -277,8 +301,11 @@ impl Schema {
         schema
     }
 
-    /// What holds of every schema: its numbers are in range, parents are earlier, a class's slots begin with its
-    /// parent's, labels in defaults are there, and inverses lead back. It does nothing.
+    /// Does nothing, and says what holds of every schema: class 0 is `focus`; label sets, labels, classes, slots,
+    /// spaces and dimensions have names, within their limits, and numbers that are in range; parents are earlier; a
+    /// slot is among those of a class exactly where the class descends from the one that declares it, and no two of
+    /// them have one name; a slot can hold its default; inverses lead back; and the classes of a space have the slots
+    /// that its dimensions read.
     pub fn fits(&self)
         ensures { Fits self.now }
     {

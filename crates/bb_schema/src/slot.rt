@@ -1,3 +1,5 @@
+//! Slots: what they hold in a new unit, and what they can hold.
+
 ghost use Rattle.std.specs.Prelude.{◌≡◌};
 ghost use Rattle.std.specs.List.{find};
 ghost use Rattle.bb_schema.specs.Kinds.{kind_of};
@@ -5,8 +7,8 @@ ghost use Rattle.bb_schema.specs.Schema.{has_name, link_in, link_of};
 
 use crate::class::ClassId;
 use crate::label_set::LabelSetId;
-use crate::text::Text;
 use crate::value::Value;
+use bb_basis::Text;
 
 /// The number of a slot: 0 to 3 are those of `focus`, then class by class the own ordinary slots and the own link
 /// slots. An inherited slot keeps its number.
@@ -46,11 +48,7 @@ impl Content {
         ensures { result ≡ kind_of self.now }
     {
         match self {
-            Content::Default(Value::Int(_)) => Kind::Int,
-            Content::Default(Value::Text(_)) => Kind::Text,
-            Content::Default(Value::Bool(_)) => Kind::Bool,
-            Content::Default(Value::Label(set, _)) => Kind::Label(*set),
-            Content::Default(Value::Interval(_, _)) => Kind::Interval,
+            Content::Default(value) => value.kind(),
             Content::Link(link) => Kind::Link(*link),
         }
     }

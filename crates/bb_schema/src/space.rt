@@ -1,7 +1,7 @@
-use crate::class_set::ClassSet;
+//! Spaces and their dimensions. The schema keeps them in a table.
+
 use crate::label_set::LabelSetId;
-use crate::table::{Named, Table};
-use crate::text::Text;
+use bb_basis::{IdSet, Named, Table, Text};
 
 /// The number of a space, in the order of the document.
 pub type SpaceId = u16;
@@ -27,7 +27,7 @@ impl Named for Dim {
 #[derive(PartialEq, Drop)]
 pub struct Space {
     pub name: Text,
-    pub classes: ClassSet,
+    pub classes: IdSet,
     pub dims: Table<Dim>,
 }
 

@@ -1,20 +1,18 @@
+-- worked runs
 mod Rows
-pub mod MachineLemmas
-pub mod ExecuteLemmas
-pub mod ProcessLemmas
-pub mod OutLemmas
-pub mod RunLemmas
-pub mod WriteLemmas
-pub mod ChosenLemmas
-pub mod DepthLemmas
-pub mod CreateLemmas
-pub mod LineLemmas
-pub mod RateLemmas
-pub mod ReadingLemmas
-pub mod ListedLemmas
-pub mod MeaningLemmas
+-- texts of several pieces
 pub mod RefusalLemmas
+-- what an output took
+pub mod OutLemmas
+-- segments, one after another
+pub mod TellLemmas
+-- the response of one source after another
+pub mod ResponseLemmas
+-- what an input means, after each step
+pub mod MeaningLemmas
+-- notes that may come one after another
 pub mod OrderLemmas
-pub mod WaitingLemmas
+-- what is pending by the notes
+pub mod PendingLemmas
+-- each stretch of a run goes on orderly
 pub mod OrderlyRuns
-pub mod FinishLemmas

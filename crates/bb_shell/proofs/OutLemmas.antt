@@ -1,8 +1,8 @@
 -- What an output took, piece by piece.
-use Rattle.std.proofs.Common.{ℕ, ◌-◌, List, [], ◌++◌, length, take, drop, Option, Some, None, sym, ap, ◌∙◌, arith, append_assoc}
+use Rattle.std.proofs.Common.{◌≡◌, ℕ, ◌-◌, List, [], ◌++◌, length, take, drop, Option, Some, None, subst, sym, ap, ◌∙◌, arith, append_assoc}
 use Rattle.std.specs.Io.KnownBytes.{Appends}
-use Rattle.bb_shell.specs.Ledger.{Sent}
 use Rattle.std.proofs.lemmas.List.{append-nil, take-append-drop, take_all, length-drop}
+use Rattle.std.proofs.Math.Seq.{take-append_seam}
 
 pub appends_none : (known : Option (List ℕ)) → Appends known known []
 appends_none None = tt
@@ -14,6 +14,10 @@ appends_then (Some o) None new xs ys a b = absurd a
 appends_then (Some o) (Some m) None xs ys a b = absurd b
 appends_then (Some o) (Some m) (Some n) xs ys a b = b ∙ (ap (λ t. t ++ ys) a ∙ append_assoc o xs ys)
 
+-- some bytes were taken, and the rest is left of the whole
+abbrev pub Sent : (taken given : Option (List ℕ)) → (rest whole : List ℕ) → Type 0
+Sent taken given rest whole = (sent : List ℕ) × Appends taken given sent × (sent ++ rest ≡ whole)
+
 pub sent_more : (old mid new : Option (List ℕ)) (rest whole : List ℕ) (count : ℕ) → Sent old mid rest whole → Appends mid new (take count rest) → Sent old new (take (length rest - count) (drop count rest)) whole
 sent_more old mid new rest whole count so_far more = (
   so_far.0 ++ take count rest,
@@ -22,3 +26,7 @@ sent_more old mid new rest whole count so_far more = (
       ∙ ap (λ t. so_far.0 ++ (take count rest ++ t)) (take_all (length rest - count) (drop count rest) (omega (arith, length-drop count rest)))
       ∙ ap (λ t. so_far.0 ++ t) (take-append-drop count rest) ∙ so_far.2,
 )
+
+-- what was taken is the front of the whole
+pub sent_front : (old new : Option (List ℕ)) (rest whole : List ℕ) → Sent old new rest whole → (count : ℕ) × Appends old new (take count whole)
+sent_front old new rest whole s = (length s.0, subst (Appends old new) (sym (take-append_seam s.0 rest) ∙ ap (take (length s.0)) s.2) s.1)

@@ -2,20 +2,26 @@
 use Rattle.std.proofs.Common.{◌≡◌, [], ◌∷◌, None, refl, codes, true}
 use Rattle.std.specs.Prelude.{pos, ℤ}
 use Rattle.bb_schema.specs.Schema.{Schema}
-use Rattle.bb_schema.specs.Standing.{climbs}
+use Rattle.bb_schema.specs.Inheritance.{climbs}
 use Rattle.bb_schema.specs.declared.slot.Content.TheVariants.{Default}
 use Rattle.bb_schema.specs.declared.value.Value.TheVariants.{Int, Text, Bool}
 use Rattle.bb_code.specs.declared.op.Op.TheVariants.{PushText, Say, Done}
-use Rattle.bb_shell.specs.declared.clause.Clause.TheVariants as clause
-use Rattle.bb_shell.specs.declared.event.Event.TheVariants.{Created, Quiescence}
-use Rattle.bb_shell.specs.declared.finish.Finish.TheVariants as finishes
-use Rattle.bb_shell.specs.Source.{Source}
-use Rattle.bb_shell.specs.declared.activation.Activation.{Activation}
-use Rattle.bb_shell.specs.Value.{text}
-use Rattle.bb_shell.specs.Note.{happened, said, triggered, acts, ended, finished}
-use Rattle.bb_shell.specs.Activation.{steps_from}
-use Rattle.bb_shell.specs.Processing.{processed_by}
-use Rattle.bb_shell.specs.Run.{Rules, run, events_first, cycles}
+use Rattle.bb_board.specs.declared.event.ChangeKind.TheVariants.{Create}
+use Rattle.bb_board.specs.declared.event.Event.TheVariants.{Change as happens, Quiescence}
+use Rattle.bb_board.specs.declared.note.Note.TheVariants as noted
+use Rattle.bb_board.specs.declared.note.Said.TheVariants as saids
+use Rattle.bb_board.specs.declared.world.World.{World}
+use Rattle.bb_board.specs.World.{empty_world, after_create}
+use Rattle.bb_agenda.specs.declared.activation.Activation.{Activation}
+use Rattle.bb_machine.specs.Activation.{steps_from}
+use Rattle.bb_rules.specs.declared.clause.Clause.TheVariants as clause
+use Rattle.bb_rules.specs.declared.source.Act.TheVariants.{Code}
+use Rattle.bb_rules.specs.declared.source.Source.{Source}
+use Rattle.bb_shell.specs.declared.finish.End.TheVariants as ends
+use Rattle.bb_shell.specs.declared.note.Note.TheVariants.{Board, Triggered, Chosen, Ended, Finished}
+use Rattle.bb_shell.specs.declared.shell.Shell.{Shell}
+use Rattle.bb_shell.specs.Processing.{response_by, processing_all}
+use Rattle.bb_shell.specs.Run.{run, cycles}
 
 note_schema : Schema
 note_schema = record {
@@ -27,31 +33,29 @@ note_schema = record {
 }
 
 hail : Source
-hail = record { name = codes "hail"; class = 1; triggers = clause.Created 1 ∷ []; rate = pos 100; body = record { locals = 1; texts = codes "hello" ∷ []; ops = PushText 0 ∷ Say 1 ∷ Done ∷ [] } }
+hail = record { name = codes "hail"; class = 1; triggers = clause.Change Create 1 ∷ []; rate = pos 100; act = Code (record { locals = 1; texts = codes "hello" ∷ []; ops = PushText 0 ∷ Say 1 ∷ Done ∷ [] }) }
 
-rules : ℤ → Rules
-rules floor = record { schema = note_schema; sources = hail ∷ []; floor = floor }
+shell : ℤ → Shell
+shell floor = record { schema = note_schema; sources = hail ∷ []; floor = floor }
+
+one_note : World
+one_note = after_create (empty_world note_schema) 1
 
 waiting : Activation
 waiting = record { number = 1; source = 0; unit = 1; base = pos 100 }
 
-first_run : run (rules (pos 0)) (Created 1 1 ∷ []) 100 ≡ record {
-  segments = (happened (Created 1 1) ∷ []) ∷ (triggered waiting ∷ []) ∷ (acts 1 waiting ∷ []) ∷ (said (text (codes "hello") ∷ []) ∷ ended 3 0 3 ∷ []) ∷ (happened Quiescence ∷ []) ∷ (finished finishes.Quiescence ∷ []) ∷ [];
-  finish = finishes.Quiescence;
-}
-unfolding rules hail note_schema waiting climbs steps_from processed_by events_first cycles
+first_run : (run (shell (pos 0)) one_note 100).segments ≡
+    (Board (noted.Event (happens Create 1 1)) ∷ []) ∷ (Triggered waiting ∷ []) ∷ (Chosen 1 waiting (pos 100) ∷ [])
+    ∷ (Board (noted.Said (saids.Value (Text (codes "hello")) ∷ [])) ∷ Ended 3 0 3 ∷ []) ∷ (Board (noted.Event Quiescence) ∷ []) ∷ (Finished ends.Quiescence ∷ []) ∷ []
+unfolding shell hail note_schema one_note waiting climbs steps_from response_by processing_all cycles
 first_run = refl
 
-limit_zero : run (rules (pos 0)) (Created 1 1 ∷ []) 0 ≡ record {
-  segments = (happened (Created 1 1) ∷ []) ∷ (triggered waiting ∷ []) ∷ (finished finishes.Limit ∷ []) ∷ [];
-  finish = finishes.Limit;
-}
-unfolding rules hail note_schema waiting climbs steps_from processed_by events_first cycles
+limit_zero : (run (shell (pos 0)) one_note 0).segments ≡
+    (Board (noted.Event (happens Create 1 1)) ∷ []) ∷ (Triggered waiting ∷ []) ∷ (Finished ends.Limit ∷ []) ∷ []
+unfolding shell hail note_schema one_note waiting climbs steps_from response_by processing_all cycles
 limit_zero = refl
 
-floor_above : run (rules (pos 101)) (Created 1 1 ∷ []) 100 ≡ record {
-  segments = (happened (Created 1 1) ∷ []) ∷ (triggered waiting ∷ []) ∷ (happened Quiescence ∷ []) ∷ (finished finishes.Quiescence ∷ []) ∷ [];
-  finish = finishes.Quiescence;
-}
-unfolding rules hail note_schema waiting climbs steps_from processed_by events_first cycles
+floor_above : (run (shell (pos 101)) one_note 100).segments ≡
+    (Board (noted.Event (happens Create 1 1)) ∷ []) ∷ (Triggered waiting ∷ []) ∷ (Board (noted.Event Quiescence) ∷ []) ∷ (Finished ends.Quiescence ∷ []) ∷ []
+unfolding shell hail note_schema one_note waiting climbs steps_from response_by processing_all cycles
 floor_above = refl

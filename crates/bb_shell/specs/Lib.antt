@@ -1,33 +1,20 @@
-pub mod Reasons
-pub mod World
-pub mod Source
-pub mod Match
-pub mod Agenda
-pub mod Rating
-pub mod Chosen
-pub mod Better
-pub mod Value
-pub mod Note
-pub mod Budget
-pub mod Step
-pub mod Activation
+-- a stretch of a run: what it tells, the state that it leaves, and the end
+pub mod Stretch
+-- what an event brings about
 pub mod Processing
+-- the run
 pub mod Run
-pub mod Order
+-- the text of a trace
 pub mod TraceText
-pub mod Flaws
-pub mod Effect
-pub mod Accepted
-pub mod Depths
-pub mod ValueView
-pub mod Execution
-pub mod Ledger
-pub mod UnitsFaults
-pub mod UnitsDocument
-pub mod Load
-pub mod SourceCode
-pub mod Bundle
-pub mod Faults
+-- what every run is like
+pub mod Order
+-- how a run's answer tells its end, and what was written where it was cut short
+pub mod Finish
+-- the line of a refusal
 pub mod Refusals
+-- the sources that run together
 pub mod Sources
+-- what an input means
 pub mod Meaning
+-- for proofs alone
+pub mod proving

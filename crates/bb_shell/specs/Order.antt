@@ -1,78 +1,135 @@
--- The order of activations in what a run tells, read off its notes alone (of this project).
-use Rattle.std.specs.Prelude.{◌≡◌, ℕ, ◌+◌, ◌≤◌, ℤ, ◌≤ℤ◌, ◌<ℤ◌, List, [], ◌∷◌, ◌++◌, length, filter, Bool, not, ◌==◌, ⊤}
-use Rattle.std.specs.List.{list_any, flat_map, Contains}
-use Rattle.bb_shell.specs.declared.activation.Activation.{Activation}
-use Rattle.bb_shell.specs.declared.finish.Finish.{Finish}
-use Rattle.bb_shell.specs.declared.finish.Finish.TheVariants as finishes
-use Rattle.bb_shell.specs.Rating.{rating}
-use Rattle.bb_shell.specs.Note.{Note, happened, said, triggered, acts, ended, finished}
-use Rattle.bb_shell.specs.Run.{Run}
+-- What every run is like. Most of it is read off the notes alone.
+use Rattle.std.specs.Prelude.{◌≡◌, ℕ, ◌+◌, ◌≤◌, ℤ, ◌≤ℤ◌, Bool, true, false, not, ◌==◌, List, [], ◌∷◌, ◌++◌, length, filter, Some, None, Contains}
+use Rattle.std.specs.List.{count_by, flat_map, list_any}
+use Rattle.bb_agenda.specs.declared.activation.Activation.{Activation}
+use Rattle.bb_agenda.specs.Chosen.{IsChosen}
+use Rattle.bb_agenda.specs.Rating.{rating}
+use Rattle.bb_shell.specs.declared.finish.End.{End}
+use Rattle.bb_shell.specs.declared.finish.End.TheVariants as ends
+use Rattle.bb_shell.specs.declared.note.Note.{Note}
+use Rattle.bb_shell.specs.declared.note.Note.TheVariants.{Board, Triggered, Chosen, Ended, Finished}
+use Rattle.bb_shell.specs.declared.shell.Shell.{Shell}
+use Rattle.bb_shell.specs.Stretch.{Stretch}
+use Rattle.bb_shell.specs.Run.{choice}
 
--- all notes of a run, in order
-abbrev pub notes_of : Run → List Note
-notes_of run = flat_map (λ segment. segment) run.segments
+-- ---- what notes tell
 
--- the activation that a note triggers, and the one that a cycle acts on
+-- all notes of a stretch, in order
+abbrev pub notes_of : Stretch → List Note
+notes_of p = flat_map (λ segment. segment) p.segments
+
+-- the note is one of these notes, and comes after those before it
+abbrev pub At : (notes before : List Note) → Note → Type 0
+At notes before note = (after : List Note) × (notes ≡ before ++ note ∷ after)
+
+-- the activation that a note tells to be new
 abbrev pub triggered_by : Note → List Activation
-triggered_by (happened event) = []
-triggered_by (said values) = []
-triggered_by (triggered a) = a ∷ []
-triggered_by (acts cycle a) = []
-triggered_by (ended steps found budget) = []
-triggered_by (finished f) = []
+triggered_by (Board note) = []
+triggered_by (Triggered a) = a ∷ []
+triggered_by (Chosen cycle a r) = []
+triggered_by (Ended steps found budget) = []
+triggered_by (Finished end) = []
 
-abbrev pub acted_by : Note → List Activation
-acted_by (happened event) = []
-acted_by (said values) = []
-acted_by (triggered a) = []
-acted_by (acts cycle a) = a ∷ []
-acted_by (ended steps found budget) = []
-acted_by (finished f) = []
+-- the activation that a note tells to be chosen
+abbrev pub chosen_by : Note → List Activation
+chosen_by (Board note) = []
+chosen_by (Triggered a) = []
+chosen_by (Chosen cycle a r) = a ∷ []
+chosen_by (Ended steps found budget) = []
+chosen_by (Finished end) = []
 
--- all that these notes triggered, and all that they acted on
+-- the note tells that an execution has ended
+abbrev pub is_end : Note → Bool
+is_end (Board note) = false
+is_end (Triggered a) = false
+is_end (Chosen cycle a r) = false
+is_end (Ended steps found budget) = true
+is_end (Finished end) = false
+
+-- all activations that notes tell to be new
 abbrev pub triggered_in : List Note → List Activation
 triggered_in notes = flat_map triggered_by notes
 
-abbrev pub acted_in : List Note → List Activation
-acted_in notes = flat_map acted_by notes
+-- all activations that notes tell to be chosen
+abbrev pub chosen_in : List Note → List Activation
+chosen_in notes = flat_map chosen_by notes
 
--- one of the list has this number
+-- the number of executions that have ended
+abbrev pub ends_in : List Note → ℕ
+ends_in notes = count_by is_end notes
+
+-- one of the activations has this number
 abbrev pub has_number : List Activation → ℕ → Bool
-has_number activations number = list_any (λ a. a.number == number) activations
+has_number activations number = list_any (λ a. number == a.number) activations
 
--- what waits after these notes: it was triggered, and not acted on
-abbrev pub waiting : List Note → List Activation
-waiting notes = filter (λ a. not (has_number (acted_in notes) a.number)) (triggered_in notes)
+-- what is pending after these notes: what was triggered, but for what was chosen
+abbrev pub pending_after : List Note → List Activation
+pending_after notes = filter (λ a. not (has_number (chosen_in notes) a.number)) (triggered_in notes)
 
--- after these notes a cycle may act on a
-pub record MayAct (floor : ℤ) (before : List Note) (cycle : ℕ) (a : Activation) : Type 0 where
-  -- cycles count up from 1
-  pub counted : cycle ≡ length (acted_in before) + 1
-  -- a was triggered before, and not acted on before
-  pub waits : Contains (waiting before) a
-  pub enough : floor ≤ℤ rating a
-  -- nothing that waits is rated higher, and of those rated the same a came first
-  pub highest : (b : Activation) → Contains (waiting before) b → rating b ≤ℤ rating a
-  pub earliest : (b : Activation) → Contains (waiting before) b → rating b ≡ rating a → a.number ≤ b.number
+-- ---- what holds of the notes of every run
 
--- after these notes the run may finish so: quiescent only where nothing that waits is rated at least the floor
-abbrev pub MayFinish : ℤ → List Note → Finish → Type 0
-MayFinish floor before finishes.Quiescence = (b : Activation) → Contains (waiting before) b → rating b <ℤ floor
-MayFinish floor before finishes.Limit = ⊤
-MayFinish floor before finishes.Full = ⊤
-MayFinish floor before finishes.Memory = ⊤
-MayFinish floor before finishes.Write = ⊤
-MayFinish floor before (finishes.Stuck reason) = ⊤
+-- activations and cycles have the numbers from 1 on, in order
+pub record IsCounted (notes : List Note) : Type 0 where
+  -- the number of a new activation is one more than the number of those before it
+  pub activations : (before : List Note) (a : Activation) → At notes before (Triggered a)
+      → a.number ≡ length (triggered_in before) + 1
+  -- so is the number of a cycle
+  pub cycles : (before : List Note) (cycle : ℕ) (a : Activation) (r : ℤ) → At notes before (Chosen cycle a r)
+      → cycle ≡ length (chosen_in before) + 1
 
--- a note may come after these: new activations count up from 1, a cycle may act, and a run may finish
-abbrev pub MayCome : ℤ → List Note → Note → Type 0
-MayCome floor before (happened event) = ⊤
-MayCome floor before (said values) = ⊤
-MayCome floor before (triggered a) = a.number ≡ length (triggered_in before) + 1
-MayCome floor before (acts cycle a) = MayAct floor before cycle a
-MayCome floor before (ended steps found budget) = ⊤
-MayCome floor before (finished f) = MayFinish floor before f
+-- a cycle acts on what is pending then
+pub record ActsOnPending (floor : ℤ) (notes : List Note) : Type 0 where
+  -- what is chosen was triggered before, and not chosen before
+  pub pending : (before : List Note) (cycle : ℕ) (a : Activation) (r : ℤ) → At notes before (Chosen cycle a r)
+      → Contains (pending_after before) a
+  -- the rating that the line of the choice prints is at least the floor
+  pub enough : (before : List Note) (cycle : ℕ) (a : Activation) (r : ℤ) → At notes before (Chosen cycle a r)
+      → floor ≤ℤ r
 
--- each note may come after those before it
-abbrev pub IsOrderly : ℤ → List Note → Type 0
-IsOrderly floor notes = (before : List Note) (note : Note) (after : List Note) → notes ≡ before ++ note ∷ after → MayCome floor before note
+-- each execution follows its choice
+pub record ExecutesInTurn (notes : List Note) : Type 0 where
+  -- at a choice the execution of each choice before has ended
+  pub choices : (before : List Note) (cycle : ℕ) (a : Activation) (r : ℤ) → At notes before (Chosen cycle a r)
+      → ends_in before ≡ length (chosen_in before)
+  -- at the end of an execution one choice more was made than executions have ended before
+  pub ends : (before : List Note) (steps found budget : ℕ) → At notes before (Ended steps found budget)
+      → ends_in before + 1 ≡ length (chosen_in before)
+
+-- ---- how every run ends
+
+-- the run has an end, which it tells last and once
+pub record IsFinished (run : Stretch) : Type 0 where
+  pub end : End
+  -- the run ends so
+  pub ends : run.end ≡ Some end
+  -- its last note tells that
+  pub last : (before : List Note) × (notes_of run ≡ before ++ Finished end ∷ [])
+  -- nothing comes after a finish
+  pub once : (before : List Note) (e : End) (after : List Note) → notes_of run ≡ before ++ Finished e ∷ after
+      → after ≡ []
+
+-- the run makes so many cycles at most, and its end tells why not more
+pub record KeepsLimit (shell : Shell) (limit : ℕ) (run : Stretch) : Type 0 where
+  -- no more cycles than the limit
+  pub within : length (chosen_in (notes_of run)) ≤ limit
+  -- a run that ends by its limit made as many
+  pub met : run.end ≡ Some ends.Limit → length (chosen_in (notes_of run)) ≡ limit
+  -- and something can be chosen in its last state
+  pub left : run.end ≡ Some ends.Limit → (a : Activation) × (choice shell run.state ≡ Some a)
+  -- nothing can be chosen in the last state of a run that ends in quiescence
+  pub exhausted : run.end ≡ Some ends.Quiescence → choice shell run.state ≡ None
+
+-- ---- how every choice is made
+
+-- after these notes an activation is chosen in the last state of a run, and its line prints this rating
+pub record IsChosenAfter (shell : Shell) (run : Stretch) (before : List Note) (a : Activation) (r : ℤ) : Type 0 where
+  -- that run tells these notes, and then ends by its limit
+  pub told : notes_of run ≡ before ++ Finished ends.Limit ∷ []
+  -- what is pending in its last state is what is pending by the notes
+  pub agenda : run.state.agenda.pending ≡ pending_after before
+  -- the activation is the choice in that state
+  pub choice_is : choice shell run.state ≡ Some a
+  -- the line prints the rating that it has there
+  pub rated : r ≡ rating a
+  -- nothing that is pending there is rated higher, and of equals it is the earliest
+  pub best : IsChosen rating shell.floor run.state.agenda.pending a

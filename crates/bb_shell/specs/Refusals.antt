@@ -1,31 +1,36 @@
 -- The line that tells why an input is refused.
 use Rattle.std.specs.Prelude.{ℕ, List, [], ◌++◌, codes}
 use Rattle.std.specs.Fmt.{decimal}
-use Rattle.bb_schema.specs.Faults.{number_of as schema_number}
-use Rattle.bb_code.specs.CodeFault.{number_of as code_number}
-use Rattle.bb_shell.specs.declared.bundle.fault.BundleFault.{BundleFault}
-use Rattle.bb_shell.specs.declared.bundle.fault.BundleFault.TheVariants as bundles
+use Rattle.bb_schema.specs.Faults.{fault_number as schema_number}
+use Rattle.bb_code.specs.CodeFault.{fault_number as code_number}
+use Rattle.bb_compile.specs.declared.fault.BundleFault.{BundleFault}
+use Rattle.bb_compile.specs.declared.fault.BundleFault.TheVariants as bundles
 use Rattle.bb_shell.specs.declared.input_fault.InputFault.{InputFault}
 use Rattle.bb_shell.specs.declared.input_fault.InputFault.TheVariants as inputs
 use Rattle.bb_shell.specs.declared.input_fault.Part.{Part}
 use Rattle.bb_shell.specs.declared.input_fault.Part.TheVariants as parts
-use Rattle.bb_shell.specs.UnitsFaults.{units_fault_number}
-use Rattle.bb_shell.specs.Faults.{rule_fault_number}
-use Rattle.bb_shell.specs.Flaws.{flaw_number}
+use Rattle.bb_board.specs.UnitsFaults.{fault_number as units_number}
+use Rattle.bb_rules.specs.Faults.{fault_number as rule_number}
+use Rattle.bb_verify.specs.Flaws.{fault_number as flaw_number}
 
+-- the word of a part of a source
 abbrev pub part_word : Part → List ℕ
 part_word parts.Do = codes "do"
 
+-- a bundle's fault, with its line; empty where memory ran out
 abbrev pub bundle_text : BundleFault → List ℕ
 bundle_text (bundles.Line line) = codes "refused bundle " ++ decimal line ++ codes " 1"
 bundle_text (bundles.Hex line) = codes "refused bundle " ++ decimal line ++ codes " 2"
 bundle_text (bundles.Code line fault) = codes "refused bundle " ++ decimal line ++ codes " code " ++ decimal (code_number fault)
 bundle_text bundles.Memory = []
 
+-- the line without its line feed; empty where memory ran out
 abbrev pub refusal_text : InputFault → List ℕ
 refusal_text (inputs.Schema fault) = codes "refused schema " ++ decimal (schema_number fault)
-refusal_text (inputs.Units fault) = codes "refused units " ++ decimal (units_fault_number fault)
+refusal_text (inputs.Units fault) = codes "refused units " ++ decimal (units_number fault)
 refusal_text (inputs.Bundle fault) = bundle_text fault
-refusal_text (inputs.Verify name part fault) = codes "refused verify " ++ name ++ codes " " ++ part_word part ++ codes " " ++ decimal fault.place ++ codes " " ++ decimal (flaw_number fault.flaw)
-refusal_text (inputs.Rule name fault) = codes "refused rule " ++ name ++ codes " " ++ decimal (rule_fault_number fault)
+refusal_text (inputs.Verify name part fault) =
+    codes "refused verify " ++ name ++ codes " " ++ part_word part ++ codes " " ++ decimal fault.place
+    ++ codes " " ++ decimal (flaw_number fault.flaw)
+refusal_text (inputs.Rule name fault) = codes "refused rule " ++ name ++ codes " " ++ decimal (rule_number fault)
 refusal_text inputs.Memory = []

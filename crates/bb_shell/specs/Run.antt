@@ -1,92 +1,116 @@
--- The run of the blackboard machine: a list of segments, each a list of notes, and a finish.
-use Rattle.std.specs.Prelude.{ℕ, zero, suc, ◌+◌, ℤ, List, [], ◌∷◌, ◌++◌, map, Option, Some, None, slice_get}
-use Rattle.bb_schema.specs.Schema.{Schema}
-use Rattle.bb_shell.specs.declared.event.Event.{Event}
-use Rattle.bb_shell.specs.declared.event.Event.TheVariants as events
-use Rattle.bb_shell.specs.declared.finish.Finish.{Finish}
-use Rattle.bb_shell.specs.declared.finish.Finish.TheVariants as finishes
-use Rattle.bb_shell.specs.declared.finish.Stuck.{Stuck}
-use Rattle.bb_shell.specs.declared.finish.Stuck.TheVariants as reasons
-use Rattle.bb_shell.specs.Source.{Source}
-use Rattle.bb_shell.specs.declared.activation.Activation.{Activation}
-use Rattle.bb_shell.specs.Agenda.{Agenda, no_activations, without}
-use Rattle.bb_shell.specs.Chosen.{chosen}
-use Rattle.bb_shell.specs.Note.{Note, happened, acts, ended, finished}
-use Rattle.bb_shell.specs.Budget.{budget, most_found}
-use Rattle.bb_shell.specs.Activation.{Outcome, activation}
-use Rattle.bb_shell.specs.Processing.{processed}
+-- The run of the blackboard machine (the control cycle of the GBBopen Agenda Shell).
+use Rattle.std.specs.Prelude.{ℕ, zero, suc, ◌+◌, List, [], ◌∷◌, ◌++◌, map, Option, Some, None, slice_get}
+use Rattle.bb_board.specs.declared.event.Event.TheVariants.{Quiescence as quiescence}
+use Rattle.bb_board.specs.declared.note.Note.TheVariants.{Event as happened}
+use Rattle.bb_board.specs.declared.world.World.{World}
+use Rattle.bb_board.specs.World.{after_take}
+use Rattle.bb_agenda.specs.declared.activation.Activation.{Activation}
+use Rattle.bb_agenda.specs.Agenda.{Agenda, no_activations, without}
+use Rattle.bb_agenda.specs.Rating.{rating}
+use Rattle.bb_agenda.specs.Chosen.{chosen}
+use Rattle.bb_code.specs.Code.{Code}
+use Rattle.bb_verify.specs.Budget.{budget}
+use Rattle.bb_verify.specs.declared.checked.TheConstants.{FOUND_LIMIT}
+use Rattle.bb_machine.specs.declared.outcome.Ending.{Ending}
+use Rattle.bb_machine.specs.declared.outcome.Ending.TheVariants as endings
+use Rattle.bb_machine.specs.declared.outcome.Outcome.{Outcome}
+use Rattle.bb_machine.specs.Activation.{activation}
+use Rattle.bb_rules.specs.declared.source.Act.{Act}
+use Rattle.bb_rules.specs.declared.source.Act.TheVariants as acts
+use Rattle.bb_rules.specs.declared.source.Source.{Source}
+use Rattle.bb_shell.specs.declared.finish.End.{End}
+use Rattle.bb_shell.specs.declared.finish.End.TheVariants as finishes
+use Rattle.bb_shell.specs.declared.note.Note.{Note}
+use Rattle.bb_shell.specs.declared.note.Note.TheVariants.{Board, Chosen, Ended, Finished}
+use Rattle.bb_shell.specs.declared.shell.Shell.{Shell}
+use Rattle.bb_shell.specs.declared.state.State.{State}
+use Rattle.bb_shell.specs.Stretch.{Stretch, idle, telling, over, and_then}
+use Rattle.bb_shell.specs.Processing.{response, processing_all, events_in}
 
--- what a run goes by
-pub record Rules : Type 0 where
-  pub schema : Schema
-  pub sources : List Source
-  -- the least rating that can be chosen
-  pub floor : ℤ
+-- the activation that is chosen, if one can be
+abbrev pub choice : Shell → State → Option Activation
+choice shell s = chosen rating shell.floor s.agenda.pending
 
--- what a run tells, in the pieces in which it is written, and how it ends
-pub record Run : Type 0 where
-  pub segments : List (List Note)
-  pub finish : Finish
+-- quiescence is told, and the sources respond to it
+abbrev pub quiet : Shell → State → Stretch
+quiet shell s = let r = response shell quiescence s in telling (Board (happened quiescence) ∷ r.notes) r.state r.end
 
--- the run is over: its last segment says how
-abbrev pub over : Finish → Run
-over f = record { segments = (finished f ∷ []) ∷ []; finish = f }
+-- before a cycle quiescence comes where nothing can be chosen
+abbrev pub wait_for : Shell → State → Option Activation → Stretch
+wait_for shell s None = quiet shell s
+wait_for shell s (Some a) = idle s
 
--- a segment before the rest
-abbrev pub told : List Note → Run → Run
-told notes rest = record { segments = notes ∷ rest.segments; finish = rest.finish }
+-- the wait before a cycle, by the choice there is
+abbrev pub wait : Shell → State → Stretch
+wait shell s = wait_for shell s (choice shell s)
 
--- a part of the run, and then the rest unless the run is over
-abbrev pub ends_or : Option Finish → Run → Run
-ends_or None rest = rest
-ends_or (Some f) rest = over f
+-- the blackboard's notes are taken
+abbrev pub with_notes_taken : World → Agenda → State
+with_notes_taken world agenda = record { world = after_take world; agenda = agenda }
 
--- each event is processed, a segment each, and then the rest
-unfoldable pub events_first : Rules → List Event → Agenda → (Agenda → Run) → Run
-events_first r [] agenda rest = rest agenda
-events_first r (event ∷ events) agenda rest =
-    let p = processed r.schema r.sources event agenda in
-    told p.notes (ends_or p.finish (events_first r events p.agenda rest))
+-- what the blackboard noted is told, with what more there is to tell, and then its events are processed
+abbrev pub report : Shell → World → Agenda → List Note → Option End → Stretch
+report shell world agenda more end =
+    and_then (telling (map Board world.notes ++ more) (with_notes_taken world agenda) end)
+    (processing_all shell (events_in world.notes))
 
--- a choice is acted on, or the run is over
-abbrev pub acted_or : Option Activation → (Activation → Run) → Run
-acted_or None act = over finishes.Quiescence
-acted_or (Some a) act = act a
+-- what an execution leads to: the run is over where it did not come to an answer
+abbrev pub after_execution : Shell → Code → World → Agenda → Outcome → Ending → Stretch
+after_execution shell code world agenda o (endings.Answered answer) =
+    report shell world agenda (Ended o.steps o.found (budget code o.found) ∷ []) None
+after_execution shell code world agenda o endings.Full = report shell world agenda [] (Some finishes.Full)
+after_execution shell code world agenda o (endings.Stuck reason) = report shell world agenda [] (Some (finishes.Stuck reason))
 
--- where nothing can be chosen, quiescence is an event; where nothing can be chosen after it, the run is over
-abbrev pub act_or_rest : Rules → Agenda → Option Activation → (Agenda → Activation → Run) → Run
-act_or_rest r agenda (Some a) act = act agenda a
-act_or_rest r agenda None act =
-    let p = processed r.schema r.sources events.Quiescence agenda in
-    told (happened events.Quiescence ∷ p.notes) (ends_or p.finish (acted_or (chosen r.floor p.agenda) (act p.agenda)))
+-- a source acts for an activation
+abbrev pub acting : Shell → Act → Activation → State → Stretch
+acting shell (acts.Code code) a s =
+    let e = activation (budget code FOUND_LIMIT) code a.unit s.world in
+    after_execution shell code e.1 s.agenda e.0 e.0.ending
 
-abbrev pub turn : Rules → Agenda → (Agenda → Activation → Run) → Run
-turn r agenda act = act_or_rest r agenda (chosen r.floor agenda) act
+-- the source at the activation's place acts; each pending activation has one
+abbrev pub acting_at : Shell → Option Source → Activation → State → Stretch
+acting_at shell None a s = idle s
+acting_at shell (Some source) a s = acting shell source.act a s
 
-abbrev pub noted_end : Outcome → ℕ → Option Stuck → List Note
-noted_end o allowed None = ended o.steps o.found allowed ∷ []
-noted_end o allowed (Some reason) = []
+-- the chosen activation is no longer pending
+abbrev pub after_choice : State → Activation → State
+after_choice s a = record { world = s.world; agenda = without s.agenda a.number }
 
-abbrev pub stuck_finish : Option Stuck → Option Finish
-stuck_finish None = None
-stuck_finish (Some reason) = Some (finishes.Stuck reason)
+-- a cycle: the choice is told, and its source acts
+abbrev pub cycle : Shell → ℕ → Activation → State → Stretch
+cycle shell number a s =
+    and_then (telling (Chosen number a (rating a) ∷ []) (after_choice s a) None)
+    (acting_at shell (slice_get shell.sources a.source) a)
 
--- what an execution of a code notes, with its end, and then the rest
-abbrev pub executed : Outcome → ℕ → Run → Run
-executed o allowed rest = told (o.notes ++ noted_end o allowed o.stuck) (ends_or (stuck_finish o.stuck) rest)
-
--- one cycle: the choice, the execution of its source's code, and then the rest
-abbrev pub cycle_of : ℕ → Agenda → Activation → Option Source → (Agenda → Run) → Run
-cycle_of number agenda a None rest = over (finishes.Stuck reasons.Missing)
-cycle_of number agenda a (Some source) rest =
-    let o = activation (budget source.body most_found) source.body a.unit in
-    told (acts number a ∷ []) (executed o (budget source.body o.found) (rest (without agenda a.number)))
+-- what comes of a choice: the run is over where nothing can be chosen
+abbrev pub if_chosen : State → Option Activation → (Activation → Stretch) → Stretch
+if_chosen s None next = over finishes.Quiescence s
+if_chosen s (Some a) next = next a
 
 -- what is left of a run after so many cycles, where so many more can be made
-unfoldable pub cycles : Rules → (made left : ℕ) → Agenda → Run
-cycles r made zero agenda = turn r agenda (λ _ _. over finishes.Limit)
-cycles r made (suc left) agenda = turn r agenda (λ after a. cycle_of (made + 1) after a (slice_get r.sources a.source) (λ later. cycles r (made + 1) left later))
+unfoldable pub cycles : Shell → (made left : ℕ) → State → Stretch
+cycles shell made zero s = and_then (wait shell s) (λ t. if_chosen t (choice shell t) (λ a. over finishes.Limit t))
+cycles shell made (suc left) s =
+    and_then (wait shell s) (λ t. if_chosen t (choice shell t)
+    (λ a. and_then (cycle shell (made + 1) a t) (cycles shell (made + 1) left)))
 
--- the whole run, from the events of the first units on
-abbrev pub run : Rules → List Event → (limit : ℕ) → Run
-run r events limit = told (map happened events) (events_first r events no_activations (λ agenda. cycles r 0 limit agenda))
+-- what the first units' creation noted is told, and its events are processed
+abbrev pub start : Shell → World → Stretch
+start shell world = report shell world no_activations [] None
+
+-- the segment that tells the end, if there is one
+abbrev pub finish_segments : Option End → List (List Note)
+finish_segments None = []
+finish_segments (Some end) = (Finished end ∷ []) ∷ []
+
+-- the same, with its end told last
+abbrev pub with_finish : Stretch → Stretch
+with_finish p = record { segments = p.segments ++ finish_segments p.end; state = p.state; end = p.end }
+
+-- the start, and then at most so many cycles
+abbrev pub unfinished : Shell → World → (limit : ℕ) → Stretch
+unfinished shell world limit = and_then (start shell world) (cycles shell 0 limit)
+
+-- the whole run from a blackboard's first state, with at most so many cycles
+abbrev pub run : Shell → World → (limit : ℕ) → Stretch
+run shell world limit = with_finish (unfinished shell world limit)

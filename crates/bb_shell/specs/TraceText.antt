@@ -1,74 +1,110 @@
--- The text of a run: one line for each note, each ended by a line feed.
-use Rattle.std.specs.Prelude.{ℕ, ℤ, List, [], ◌∷◌, ◌++◌, codes, unwrap_or, slice_get, option_map}
+-- The text of a run: one line for each note, ended by a line feed.
+use Rattle.std.specs.Prelude.{ℕ, ℤ, Bool, List, [], ◌∷◌, ◌++◌, codes, unwrap_or, slice_get, option_map, cond}
 use Rattle.std.specs.List.{flat_map}
 use Rattle.std.specs.Fmt.{decimal, signed_decimal}
 use Rattle.serde_json.specs.Data.{string}
 use Rattle.serde_json.specs.Written.{compact_text}
-use Rattle.bb_schema.specs.Schema.{Schema, name_of_class}
-use Rattle.bb_shell.specs.declared.event.Event.{Event}
-use Rattle.bb_shell.specs.declared.event.Event.TheVariants as events
-use Rattle.bb_shell.specs.declared.finish.Finish.{Finish}
-use Rattle.bb_shell.specs.declared.finish.Finish.TheVariants as finishes
-use Rattle.bb_shell.specs.Reasons.{reason_number}
-use Rattle.bb_shell.specs.Source.{Source}
-use Rattle.bb_shell.specs.declared.activation.Activation.{Activation}
-use Rattle.bb_shell.specs.Rating.{rating}
-use Rattle.bb_shell.specs.Value.{Value, text, unit}
-use Rattle.bb_shell.specs.Note.{Note, happened, said, triggered, acts, ended, finished}
-use Rattle.bb_shell.specs.Run.{Rules, Run}
+use Rattle.bb_schema.specs.Schema.{Schema, name_of_class, name_of_label}
+use Rattle.bb_schema.specs.declared.value.Value.{Value}
+use Rattle.bb_schema.specs.declared.value.Value.TheVariants as values
+use Rattle.bb_board.specs.declared.event.ChangeKind.{ChangeKind}
+use Rattle.bb_board.specs.declared.event.ChangeKind.TheVariants.{Create}
+use Rattle.bb_board.specs.declared.event.Event.{Event}
+use Rattle.bb_board.specs.declared.event.Event.TheVariants.{Change, Quiescence}
+use Rattle.bb_board.specs.declared.note.Note.{Note as BoardNote}
+use Rattle.bb_board.specs.declared.note.Note.TheVariants.{Event as happened, Said as said}
+use Rattle.bb_board.specs.declared.note.Said.{Said}
+use Rattle.bb_board.specs.declared.note.Said.TheVariants as saids
+use Rattle.bb_agenda.specs.declared.activation.Activation.{Activation}
+use Rattle.bb_machine.specs.Reasons.{reason_number}
+use Rattle.bb_rules.specs.declared.source.Source.{Source}
+use Rattle.bb_shell.specs.declared.finish.End.{End}
+use Rattle.bb_shell.specs.declared.finish.End.TheVariants as ends
+use Rattle.bb_shell.specs.declared.note.Note.{Note}
+use Rattle.bb_shell.specs.declared.note.Note.TheVariants.{Board, Triggered, Chosen, Ended, Finished}
+use Rattle.bb_shell.specs.declared.shell.Shell.{Shell}
 
+-- the name of a class, empty where there is none
 abbrev pub class_name : Schema → ℕ → List ℕ
 class_name s c = unwrap_or (name_of_class s c) []
 
+-- the name of the source at a place, empty where there is none
 abbrev pub source_name : List Source → ℕ → List ℕ
 source_name sources place = unwrap_or (option_map (λ source. source.name) (slice_get sources place)) []
 
--- texts as JSON writes them, units by their numbers
-abbrev pub value_text : Value → List ℕ
-value_text (text t) = compact_text (string t)
-value_text (unit n) = codes "#" ++ decimal n
+-- `true` or `false`
+abbrev pub bool_text : Bool → List ℕ
+bool_text b = cond b (codes "true") (codes "false")
 
+-- numbers in decimal, texts as JSON writes them, labels by name, intervals as `[low,high]`
+abbrev pub value_text : Schema → Value → List ℕ
+value_text s (values.Int z) = signed_decimal z
+value_text s (values.Text t) = compact_text (string t)
+value_text s (values.Bool b) = bool_text b
+value_text s (values.Label set label) = unwrap_or (name_of_label s set label) []
+value_text s (values.Interval low high) = codes "[" ++ signed_decimal low ++ codes "," ++ signed_decimal high ++ codes "]"
+
+-- a unit is told by its number
+abbrev pub said_text : Schema → Said → List ℕ
+said_text s (saids.Value v) = value_text s v
+said_text s (saids.Unit n) = codes "#" ++ decimal n
+
+-- the word of a kind of change
+abbrev pub change_word : ChangeKind → List ℕ
+change_word Create = codes "create "
+
+-- `create U CLASS`, or `quiescence`
 abbrev pub event_text : Schema → Event → List ℕ
-event_text s (events.Created n class) = codes "create " ++ decimal n ++ codes " " ++ class_name s class
-event_text s events.Quiescence = codes "quiescence"
+event_text s (Change kind n class) = change_word kind ++ decimal n ++ codes " " ++ class_name s class
+event_text s Quiescence = codes "quiescence"
 
--- `SOURCE unit U rating R`
-abbrev pub rated_text : List Source → Activation → ℤ → List ℕ
-rated_text sources a r = source_name sources a.source ++ codes " unit " ++ decimal a.unit ++ codes " rating " ++ signed_decimal r
+-- an event, or `say` and the values
+abbrev pub board_note_text : Schema → BoardNote → List ℕ
+board_note_text s (happened event) = event_text s event
+board_note_text s (said values) = codes "say" ++ flat_map (λ v. codes " " ++ said_text s v) values
 
-abbrev pub finish_text : Finish → List ℕ
-finish_text finishes.Quiescence = codes "finish quiescence"
-finish_text finishes.Limit = codes "finish limit"
-finish_text finishes.Full = codes "finish full"
-finish_text finishes.Memory = []
-finish_text finishes.Write = []
-finish_text (finishes.Stuck reason) = codes "finish stuck " ++ decimal (reason_number reason)
+-- `A SOURCE unit U rating R`: an activation by its number, with a rating
+abbrev pub numbered_text : List Source → Activation → ℤ → List ℕ
+numbered_text sources a r =
+    decimal a.number ++ codes " " ++ source_name sources a.source ++ codes " unit " ++ decimal a.unit
+    ++ codes " rating " ++ signed_decimal r
 
-abbrev pub said_text : List Value → List ℕ
-said_text values = codes "say" ++ flat_map (λ v. codes " " ++ value_text v) values
+-- a new activation, with its base
+abbrev pub trigger_text : List Source → Activation → List ℕ
+trigger_text sources a = codes "trigger " ++ numbered_text sources a a.base
 
-abbrev pub triggered_text : List Source → Activation → List ℕ
-triggered_text sources a = codes "trigger " ++ decimal a.number ++ codes " " ++ rated_text sources a a.base
+-- the choice of a cycle
+abbrev pub choice_text : List Source → (cycle : ℕ) → Activation → ℤ → List ℕ
+choice_text sources cycle a r = codes "cycle " ++ decimal cycle ++ codes " act " ++ numbered_text sources a r
 
-abbrev pub acts_text : List Source → ℕ → Activation → List ℕ
-acts_text sources number a = codes "cycle " ++ decimal number ++ codes " act " ++ decimal a.number ++ codes " " ++ rated_text sources a (rating a)
-
+-- the end of an execution
 abbrev pub ended_text : (steps found budget : ℕ) → List ℕ
-ended_text steps found budget = codes "end steps " ++ decimal steps ++ codes " found " ++ decimal found ++ codes " budget " ++ decimal budget
+ended_text steps found budget =
+    codes "end steps " ++ decimal steps ++ codes " found " ++ decimal found ++ codes " budget " ++ decimal budget
 
-abbrev pub note_text : Rules → Note → List ℕ
-note_text r (happened event) = event_text r.schema event
-note_text r (said values) = said_text values
-note_text r (triggered a) = triggered_text r.sources a
-note_text r (acts number a) = acts_text r.sources number a
-note_text r (ended steps found budget) = ended_text steps found budget
-note_text r (finished f) = finish_text f
+-- the end of the run
+abbrev pub end_text : End → List ℕ
+end_text ends.Quiescence = codes "finish quiescence"
+end_text ends.Limit = codes "finish limit"
+end_text ends.Full = codes "finish full"
+end_text (ends.Stuck reason) = codes "finish stuck " ++ decimal (reason_number reason)
 
-abbrev pub line : Rules → Note → List ℕ
-line r note = note_text r note ++ 10 ∷ []
+-- what a note says
+abbrev pub note_text : Shell → Note → List ℕ
+note_text shell (Board note) = board_note_text shell.schema note
+note_text shell (Triggered a) = trigger_text shell.sources a
+note_text shell (Chosen cycle a r) = choice_text shell.sources cycle a r
+note_text shell (Ended steps found budget) = ended_text steps found budget
+note_text shell (Finished end) = end_text end
 
-abbrev pub segment_text : Rules → List Note → List ℕ
-segment_text r notes = flat_map (line r) notes
+-- a note's line, with its line feed
+abbrev pub line : Shell → Note → List ℕ
+line shell note = note_text shell note ++ 10 ∷ []
 
-abbrev pub trace_text : Rules → Run → List ℕ
-trace_text r run = flat_map (segment_text r) run.segments
+-- the lines of a segment
+abbrev pub segment_text : Shell → List Note → List ℕ
+segment_text shell notes = flat_map (line shell) notes
+
+-- the lines of all segments
+abbrev pub trace_text : Shell → List (List Note) → List ℕ
+trace_text shell segments = flat_map (segment_text shell) segments

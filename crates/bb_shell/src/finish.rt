@@ -1,40 +1,18 @@
-ghost use Rattle.std.specs.Prelude.{◌≡◌};
-ghost use Rattle.bb_shell.specs.Reasons.{reason_number};
+//! How a run ends. Traces name the machine's own ends (line.rt), and `run_texts` returns a `Finish`.
 
-/// Why an activation could not go on.
+use bb_machine::Stuck;
+
+/// How a run ends that nothing cuts short.
 #[derive(Clone, Copy, Debug, PartialEq, Eq)]
-pub enum Stuck {
-    /// An operand, a table entry or the value of a local is not there.
-    Missing,
-    /// An operand is of another sort.
-    Kind,
-    /// A deleted unit stands where a live one is due.
-    Deleted,
-    /// A link between classes that the slot does not join.
-    LinkClass,
-    /// A place outside the code, or a 65th entry of the stack.
-    Outside,
-    /// A slot or a space that does not fit.
-    Slot,
-    /// The steps ran out.
-    Turns,
-}
-
-impl Stuck {
-    /// The number by which a trace names the reason, from 1 to 7.
-    pub fn number(self) -> u8
-        ensures { result ≡ reason_number self }
-    {
-        match self {
-            Stuck::Missing => 1,
-            Stuck::Kind => 2,
-            Stuck::Deleted => 3,
-            Stuck::LinkClass => 4,
-            Stuck::Outside => 5,
-            Stuck::Slot => 6,
-            Stuck::Turns => 7,
-        }
-    }
+pub enum End {
+    /// Nothing can be chosen, and quiescence changed nothing.
+    Quiescence,
+    /// As many cycles as the limit were made, and something can be chosen still.
+    Limit,
+    /// The blackboard or the agenda is full.
+    Full,
+    /// An activation could not go on.
+    Stuck(Stuck),
 }
 
 /// How a run ends.
@@ -52,4 +30,20 @@ pub enum Finish {
     Write,
     /// An activation could not go on.
     Stuck(Stuck),
+}
+
+impl From<End> for Finish {
+    ghost use Rattle.std.specs.Prelude.{◌≡◌, Some};
+    ghost use Rattle.bb_shell.specs.Finish.{end_of};
+
+    ghost from_gives = { λ end finish. end_of finish ≡ Some end };
+
+    fn from(end: End) -> Finish {
+        match end {
+            End::Quiescence => Finish::Quiescence,
+            End::Limit => Finish::Limit,
+            End::Full => Finish::Full,
+            End::Stuck(reason) => Finish::Stuck(reason),
+        }
+    }
 }

@@ -1,12 +1,15 @@
+//! Why an input is refused, and the line that tells it. `run_texts` returns it, and programs (bb_main) write its line.
+
 ghost use Rattle.std.specs.Prelude.{◌≡◌, IfOk, string_bytes};
 ghost use Rattle.bb_shell.specs.declared.input_fault.InputFault.TheVariants.{Memory as OutOfMemory};
 ghost use Rattle.bb_shell.specs.Refusals.{refusal_text, bundle_text, part_word};
 
-use crate::bundle::BundleFault;
-use crate::flaw::VerifyFault;
-use crate::rule_fault::RuleFault;
-use crate::units_fault::UnitsFault;
-use bb_schema::{SchemaFault, Text};
+use bb_basis::Text;
+use bb_board::UnitsFault;
+use bb_compile::BundleFault;
+use bb_rules::RuleFault;
+use bb_schema::SchemaFault;
+use bb_verify::VerifyFault;
 use std::alloc::{AllocError, AllocFailed, Global};
 use thiserror::Error;
 

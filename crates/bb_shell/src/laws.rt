@@ -1,13 +1,35 @@
-//! What holds of all runs.
+//! What holds of every run. No code calls it: it says what the runs are like that `run_texts` tells.
 
-ghost use Rattle.std.specs.Prelude.{List, ℕ};
-ghost use Rattle.bb_shell.specs.declared.event.Event.{Event};
-ghost use Rattle.bb_shell.specs.Run.{Rules, run};
-ghost use Rattle.bb_shell.specs.Order.{IsOrderly, notes_of};
+ghost use Rattle.std.specs.Prelude.{ℕ, ◌-◌, ℤ, List};
+ghost use Rattle.bb_agenda.specs.declared.activation.Activation.{Activation};
+ghost use Rattle.bb_board.specs.declared.world.World.{World};
+ghost use Rattle.bb_shell.specs.declared.note.Note.{Note};
+ghost use Rattle.bb_shell.specs.declared.note.Note.TheVariants.{Chosen};
+ghost use Rattle.bb_shell.specs.declared.shell.Shell.{Shell};
+ghost use Rattle.bb_shell.specs.Run.{run};
+ghost use Rattle.bb_shell.specs.Order.{notes_of, At, IsCounted, ActsOnPending, ExecutesInTurn, IsFinished, KeepsLimit};
+ghost use Rattle.bb_shell.specs.Order.{IsChosenAfter};
 
-/// Whatever the schema, the sources, the first events, the limit and the floor: the numbers of activations rise from 1
-/// without gaps, and each cycle acts on one that was triggered before and was not acted on before, rated at least the
-/// floor and highest of all that wait, of equals the earliest.
+/// What every run is like, whatever the shell, the first state of the blackboard and the limit.
+///
+/// - `counted`: activations and cycles have the numbers from 1 on, in order.
+/// - `pending`: a cycle acts on an activation that is pending then, and prints a rating of at least the floor.
+/// - `executions`: the execution of a cycle ends before the next cycle.
+/// - `finish`: a run has an end, and tells it last and once.
+/// - `limit`: a run makes no more cycles than its limit. Where it ends by that it made as many, and something can be
+///   chosen still; where it ends in quiescence nothing can be chosen.
+/// - `choices`: up to the choice of a cycle a run is the run whose limit is one less, and in the last state of that
+///   run the activation is chosen: nothing that is pending there is rated higher, and of equals it is the earliest.
 pub fn runs_are_orderly()
-    ensures { (r : Rules) (events : List Event) (limit : ℕ) → IsOrderly r.floor (notes_of (run r events limit)) }
+    ensures counted { (shell : Shell) (world : World) (limit : ℕ) → IsCounted (notes_of (run shell world limit)) }
+    ensures pending { (shell : Shell) (world : World) (limit : ℕ) →
+        ActsOnPending shell.floor (notes_of (run shell world limit)) }
+    ensures executions { (shell : Shell) (world : World) (limit : ℕ) →
+        ExecutesInTurn (notes_of (run shell world limit)) }
+    ensures finish { (shell : Shell) (world : World) (limit : ℕ) → IsFinished (run shell world limit) }
+    ensures limit { (shell : Shell) (world : World) (limit : ℕ) → KeepsLimit shell limit (run shell world limit) }
+    ensures choices { (shell : Shell) (world : World) (limit : ℕ)
+        (before : List Note) (cycle : ℕ) (a : Activation) (r : ℤ) →
+        At (notes_of (run shell world limit)) before (Chosen cycle a r) →
+        IsChosenAfter shell (run shell world (cycle - 1)) before a r }
 {}

@@ -1,38 +1,29 @@
-//! The run of a blackboard: events trigger sources, activations wait on an agenda, and a cycle runs the best one.
+//! The run of a blackboard: events trigger sources, activations are pending on the agenda, and a cycle executes the
+//! best one. Programs (bb_main) call it with the texts of an input.
 #![tactic(auto)]
 
-mod accept;
-mod activation;
-mod agenda;
-mod bundle;
-mod clause;
-mod event;
 mod finish;
-mod flaw;
+mod halt;
 mod input_fault;
 mod laws;
 mod line;
-mod load;
-mod machine;
+mod note;
 mod output;
+mod page;
 mod processing;
-mod rule_fault;
 mod run;
 mod shell;
-mod source;
-mod source_code;
+mod sources;
+mod state;
 mod texts;
-mod units_document;
-mod units_fault;
-mod value;
-mod verify;
 
-pub use bundle::BundleFault;
-pub use finish::{Finish, Stuck};
-pub use flaw::{Flaw, VerifyFault};
+pub use bb_board::UnitsFault;
+pub use bb_compile::BundleFault;
+pub use bb_machine::Stuck;
+pub use bb_rules::RuleFault;
+pub use bb_verify::{Flaw, VerifyFault};
+pub use finish::{End, Finish};
 pub use input_fault::{InputFault, Part};
 pub use laws::runs_are_orderly;
 pub use output::{Out, Pipe, put_all};
-pub use rule_fault::RuleFault;
 pub use texts::run_texts;
-pub use units_fault::UnitsFault;

@@ -1,33 +1,123 @@
-//! The lines of the trace.
+//! The lines of a trace. The page (page.rt) adds one for each note.
 
-ghost use Rattle.std.specs.Prelude.{◌≡◌, ◌++◌, ◌∷◌, [], OnOk, map, string_bytes, codes};
-ghost use Rattle.std.specs.List.{flat_map};
-ghost use Rattle.std.specs.Fmt.{decimal};
-ghost use Rattle.bb_shell.specs.Reasons.{reason_number};
-ghost use Rattle.bb_shell.specs.Rating.{rating};
-ghost use Rattle.bb_shell.specs.ValueView.{value_of, values_of};
-ghost use Rattle.bb_shell.specs.TraceText.{rated_text, event_text, source_name, value_text, finish_text, triggered_text, acts_text, ended_text, said_text};
+ghost use Rattle.std.specs.Prelude.{◌≡◌, ◌++◌, ◌∷◌, [], OnOk, string_bytes};
+ghost use Rattle.bb_board.specs.declared.note.Note.TheVariants.{Said as says};
+ghost use Rattle.bb_shell.specs.declared.finish.End.TheVariants as ends;
+ghost use Rattle.bb_shell.specs.TraceText.{board_note_text, choice_text, end_text, ended_text, event_text};
+ghost use Rattle.bb_shell.specs.TraceText.{line, numbered_text, said_text, source_name, trigger_text, value_text};
 
-use crate::activation::Activation;
-use crate::event::Event;
-use crate::finish::{Finish, Stuck};
-use crate::source::Source;
-use crate::value::Value;
-use bb_schema::Schema;
+use crate::finish::End;
+use crate::note::Note;
+use crate::shell::Shell;
+use bb_agenda::Activation;
+use bb_board::{ChangeKind, Event, Said};
+use bb_machine::Stuck;
+use bb_rules::Source;
+use bb_schema::{Schema, Value};
 use serde_json::Value as Json;
 use std::alloc::{AllocError, Global};
 use std::fmt::Write;
 
-/// Adds the line of a change, or of quiescence.
-pub(crate) fn add_event(page: &mut String, schema: &Schema, event: Event) -> Result<(), AllocError>
-    ensures { OnOk result (string_bytes page.new ≡ string_bytes page.old ++ (event_text schema.now event ++ 10 ∷ [])) }
+/// Appends the line of a note.
+pub(crate) fn add_note(
+    alloc: Global,
+    text: &mut String,
+    shell: &Shell,
+    note: &Note,
+) -> Result<(), AllocError>
+    ensures { OnOk result (string_bytes text.new ≡ string_bytes text.old ++ line shell.now note.now) }
+{
+    match note {
+        Note::Board(bb_board::Note::Event(event)) => add_event(text, &shell.schema, *event),
+        Note::Board(bb_board::Note::Said(values)) => {
+            add_said(alloc, text, &shell.schema, values.as_slice())
+        }
+        Note::Triggered(activation) => { add_trigger(text, shell.sources.as_slice(), *activation) }
+        Note::Chosen {
+            cycle,
+            activation,
+            rating,
+        } => add_choice(text, shell.sources.as_slice(), *cycle, *activation, *rating),
+        Note::Ended {
+            steps,
+            found,
+            budget,
+        } => add_end(text, *steps, *found, *budget),
+        Note::Finished(end) => add_finish(text, *end),
+    }
+}
+
+fn add_event(text: &mut String, schema: &Schema, event: Event) -> Result<(), AllocError>
+    ensures { OnOk result (string_bytes text.new
+        ≡ string_bytes text.old ++ (event_text schema.now event ++ 10 ∷ [])) }
 {
     match event {
-        Event::Created { unit, class } => {
+        Event::Change {
+            kind: ChangeKind::Create,
+            unit,
+            class,
+        } => {
             let name = schema.class_name(class).unwrap_or("");
-            writeln!(page, "create {unit} {name}")
+            writeln!(text, "create {unit} {name}")
         }
-        Event::Quiescence => writeln!(page, "quiescence"),
+        Event::Quiescence => writeln!(text, "quiescence"),
+    }
+}
+
+fn add_said(
+    alloc: Global,
+    text: &mut String,
+    schema: &Schema,
+    values: &[Said],
+) -> Result<(), AllocError>
+    ensures { OnOk result (string_bytes text.new
+        ≡ string_bytes text.old ++ (board_note_text schema.now (says values.now) ++ 10 ∷ [])) }
+{
+    text.push_str("say")?;
+    for value in values {
+        text.push_str(" ")?;
+        add_said_value(alloc, text, schema, value)?;
+    }
+    text.push_str("\n")?;
+    Ok(())
+}
+
+fn add_said_value(
+    alloc: Global,
+    text: &mut String,
+    schema: &Schema,
+    said: &Said,
+) -> Result<(), AllocError>
+    ensures { OnOk result (string_bytes text.new ≡ string_bytes text.old ++ said_text schema.now said.now) }
+{
+    match said {
+        Said::Value(value) => add_value(alloc, text, schema, value),
+        Said::Unit(unit) => write!(text, "#{unit}"),
+    }
+}
+
+fn add_value(
+    alloc: Global,
+    text: &mut String,
+    schema: &Schema,
+    value: &Value,
+) -> Result<(), AllocError>
+    ensures { OnOk result (string_bytes text.new ≡ string_bytes text.old ++ value_text schema.now value.now) }
+{
+    match value {
+        Value::Int(number) => write!(text, "{number}"),
+        Value::Text(value) => {
+            let json = Json::String(String::from_str(alloc, value.as_str())?).to_string(alloc)?;
+            text.push_str(json.as_str())?;
+            Ok(())
+        }
+        Value::Bool(true) => write!(text, "true"),
+        Value::Bool(false) => write!(text, "false"),
+        Value::Label(set, label) => {
+            let name = schema.label_name(*set, *label).unwrap_or("");
+            write!(text, "{name}")
+        }
+        Value::Interval(low, high) => write!(text, "[{low},{high}]"),
     }
 }
 
@@ -35,112 +125,78 @@ fn source_name(sources: &[Source], place: u16) -> &str
     ensures { result.now ≡ source_name sources.now place }
 {
     match sources.get(place as usize) {
-        Some(source) => source.name(),
+        Some(source) => source.name.as_str(),
         None => "",
     }
 }
 
-/// Adds the line of a new activation.
-pub(crate) fn add_trigger(
-    page: &mut String,
-    sources: &[Source],
-    new: Activation,
-) -> Result<(), AllocError>
-    ensures { OnOk result (string_bytes page.new ≡ string_bytes page.old ++ (triggered_text sources.now new ++ 10 ∷ [])) }
-{
-    let name = source_name(sources, new.source);
-    let number = new.number;
-    let unit = new.unit;
-    let base = new.base;
-    writeln!(page, "trigger {number} {name} unit {unit} rating {base}")
-}
-
-// Adds the number of an activation, its source, unit and rating, and ends the line.
-fn add_rated(
-    page: &mut String,
+fn add_trigger(
+    text: &mut String,
     sources: &[Source],
     activation: Activation,
 ) -> Result<(), AllocError>
-    ensures { OnOk result (string_bytes page.new ≡ string_bytes page.old ++ (decimal activation.number ++ codes " " ++ rated_text sources.now activation (rating activation) ++ 10 ∷ [])) }
+    ensures { OnOk result (string_bytes text.new
+        ≡ string_bytes text.old ++ (trigger_text sources.now activation ++ 10 ∷ [])) }
 {
     let name = source_name(sources, activation.source);
     let number = activation.number;
     let unit = activation.unit;
-    let rating = activation.rating();
-    writeln!(page, "{number} {name} unit {unit} rating {rating}")
+    let base = activation.base;
+    writeln!(text, "trigger {number} {name} unit {unit} rating {base}")
 }
 
-/// Adds the line of the choice of a cycle.
-pub(crate) fn add_choice(
-    page: &mut String,
+// Appends the number of an activation, its source, unit and rating, and ends the line.
+fn add_rated(
+    text: &mut String,
+    sources: &[Source],
+    activation: Activation,
+    rating: i64,
+) -> Result<(), AllocError>
+    ensures { OnOk result (string_bytes text.new
+        ≡ string_bytes text.old ++ (numbered_text sources.now activation rating ++ 10 ∷ [])) }
+{
+    let name = source_name(sources, activation.source);
+    let number = activation.number;
+    let unit = activation.unit;
+    writeln!(text, "{number} {name} unit {unit} rating {rating}")
+}
+
+fn add_choice(
+    text: &mut String,
     sources: &[Source],
     cycle: u64,
-    choice: Activation,
+    activation: Activation,
+    rating: i64,
 ) -> Result<(), AllocError>
-    ensures { OnOk result (string_bytes page.new ≡ string_bytes page.old ++ (acts_text sources.now cycle choice ++ 10 ∷ [])) }
+    ensures { OnOk result (string_bytes text.new
+        ≡ string_bytes text.old ++ (choice_text sources.now cycle activation rating ++ 10 ∷ [])) }
 {
-    write!(page, "cycle {cycle} act ")?;
-    add_rated(page, sources, choice)
+    write!(text, "cycle {cycle} act ")?;
+    add_rated(text, sources, activation, rating)
 }
 
-/// Adds the line of the end of an execution.
-pub(crate) fn add_end(
-    page: &mut String,
-    steps: u64,
-    found: u32,
-    budget: u64,
-) -> Result<(), AllocError>
-    ensures { OnOk result (string_bytes page.new ≡ string_bytes page.old ++ (ended_text steps found budget ++ 10 ∷ [])) }
+fn add_end(text: &mut String, steps: u128, found: u32, budget: u128) -> Result<(), AllocError>
+    ensures { OnOk result (string_bytes text.new
+        ≡ string_bytes text.old ++ (ended_text steps found budget ++ 10 ∷ [])) }
 {
-    writeln!(page, "end steps {steps} found {found} budget {budget}")
+    writeln!(text, "end steps {steps} found {found} budget {budget}")
 }
 
-fn add_value(alloc: Global, page: &mut String, value: Value<'_>) -> Result<(), AllocError>
-    ensures { OnOk result (string_bytes page.new ≡ string_bytes page.old ++ value_text (value_of value.entry)) }
+fn add_finish(text: &mut String, end: End) -> Result<(), AllocError>
+    ensures { OnOk result (string_bytes text.new ≡ string_bytes text.old ++ (end_text end ++ 10 ∷ [])) }
 {
-    match value {
-        Value::Text(text) => {
-            let json = Json::String(String::from_str(alloc, text)?).to_string(alloc)?;
-            page.push_str(json.as_str())?;
-            Ok(())
-        }
-        Value::Unit(unit) => write!(page, "#{unit}"),
+    match end {
+        End::Quiescence => writeln!(text, "finish quiescence"),
+        End::Limit => writeln!(text, "finish limit"),
+        End::Full => writeln!(text, "finish full"),
+        End::Stuck(reason) => add_stuck(text, reason),
     }
 }
 
-/// Adds the line of values that a code says.
-pub(crate) fn add_said(
-    alloc: Global,
-    page: &mut String,
-    values: &[Value<'_>],
-) -> Result<(), AllocError>
-    ensures { OnOk result (string_bytes page.new ≡ string_bytes page.old ++ (said_text (values_of values.now) ++ 10 ∷ [])) }
-{
-    page.push_str("say")?;
-    for value in values {
-        page.push_str(" ")?;
-        add_value(alloc, page, *value)?;
-    }
-    page.push_str("\n")?;
-    Ok(())
-}
-
-/// Adds the line of the end of the run.
-pub(crate) fn add_finish(page: &mut String, finish: Finish) -> Result<(), AllocError>
-    ensures { OnOk result (string_bytes page.new ≡ string_bytes page.old ++ (finish_text finish ++ 10 ∷ [])) }
-{
-    match finish {
-        Finish::Quiescence => writeln!(page, "finish quiescence"),
-        Finish::Limit => writeln!(page, "finish limit"),
-        Finish::Full => writeln!(page, "finish full"),
-        Finish::Memory | Finish::Write => writeln!(page, ""),
-        Finish::Stuck(reason) => add_stuck(page, reason),
-    }
-}
-
-fn add_stuck(page: &mut String, reason: Stuck) -> Result<(), AllocError>
-    ensures { OnOk result (string_bytes page.new ≡ string_bytes page.old ++ (codes "finish stuck " ++ decimal (reason_number reason) ++ 10 ∷ [])) }
+fn add_stuck(text: &mut String, reason: Stuck) -> Result<(), AllocError>
+    ensures { OnOk result (string_bytes text.new
+        ≡ string_bytes text.old ++ (end_text (ends.Stuck reason) ++ 10 ∷ [])) }
 {
     let number = reason.number();
-    writeln!(page, "finish stuck {number}")
+    writeln!(text, "finish stuck {number}")
 }

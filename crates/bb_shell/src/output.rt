@@ -1,6 +1,8 @@
+//! Where a trace is written. The page (page.rt) writes to it, and so do programs (bb_main) where they refuse.
+
 ghost use Rattle.std.specs.Prelude.{◌≡◌, ◌<◌, ◌≤◌, ◌==◌, ℕ, List, Option, Bool, false, not, length, take};
 ghost use Rattle.std.specs.Io.KnownBytes.{Appends};
-ghost use Rattle.std.specs.Bool.{OnTrue as WhenTrue};
+ghost use Rattle.std.specs.Bool.{OnTrue as WhenTrue, OnFalse as WhenFalse};
 
 use std::io::Write;
 
@@ -73,10 +75,12 @@ impl<W: Write> Out for Pipe<W> {
     }
 }
 
-/// Writes all the bytes, or answers that the output has failed.
+/// Writes all the bytes, or answers that the output has failed; then it took the front of them.
 pub fn put_all<O: Out>(out: &mut O, bytes: &[u8]) -> bool
     requires { O.has_failed out.old ≡ false }
     ensures ok { WhenTrue result (Appends (O.taken out.old) (O.taken out.new) bytes.now) }
+    ensures front { WhenFalse result
+        ((count : ℕ) × Appends (O.taken out.old) (O.taken out.new) (take count bytes.now)) }
     ensures failed { O.has_failed out.new ≡ not result }
 {
     let mut rest = bytes;

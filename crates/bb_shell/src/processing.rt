@@ -1,36 +1,38 @@
-ghost use Rattle.std.specs.Prelude.{◌≡◌, ◌≤◌, ℤ, IfOk, string_bytes, length};
-ghost use Rattle.bb_shell.specs.Processing.{processed};
-ghost use Rattle.bb_shell.specs.Ledger.{IsAfter};
+//! The processing of an event. The run (run.rt) calls it for each event, and for quiescence.
 
-use crate::agenda::Agenda;
-use crate::event::Event;
-use crate::finish::Finish;
-use crate::line::add_trigger;
-use crate::source::Source;
-use bb_schema::Schema;
+ghost use Rattle.std.specs.Prelude.{◌≤◌, IfOk, length};
+ghost use Rattle.bb_shell.specs.declared.sources.TheConstants.{SOURCE_LIMIT};
+ghost use Rattle.bb_shell.specs.Processing.{response};
+ghost use Rattle.bb_shell.specs.proving.Telling.{IsResponse};
+
+use crate::finish::End;
+use crate::note::Note;
+use crate::shell::Shell;
+use crate::state::State;
+use bb_board::Event;
 use std::alloc::AllocError;
 
-/// Processes an event: each source that it triggers gets an activation, in order, and the page its line. Answers how
-/// the run ends if the agenda is full.
-pub(crate) fn process(
-    page: &mut String,
-    schema: &Schema,
-    sources: &[Source],
+/// Processes an event: each source that it triggers gets an activation, in order, and the notes tell of it. Returns the
+/// end of the run where the agenda is full.
+pub(crate) fn respond(
+    shell: &Shell,
     event: Event,
-    agenda: &mut Agenda,
-) -> Result<Option<Finish>, AllocError>
-    requires { length sources.now ≤ 256 }
-    ensures { IfOk result (λ finish. (floor : ℤ) → IsAfter (record { schema = schema.now; sources = sources.now; floor = floor }) (processed schema.now sources.now event agenda.old) (string_bytes page.old) (string_bytes page.new) agenda.new finish) }
+    state: &mut State,
+    notes: &mut Vec<Note>,
+) -> Result<Option<End>, AllocError>
+    requires few { length shell.now.sources ≤ SOURCE_LIMIT }
+    ensures { IfOk result (IsResponse (response shell.now event state.old) notes.old.items notes.new.items state.new) }
 {
+    let sources = shell.sources.as_slice();
     for (place, source) in sources.iter().enumerate() {
-        if !source.is_triggered(schema, event) {
+        if !source.is_triggered(&shell.schema, event) {
             continue;
         }
-        if agenda.is_full() {
-            return Ok(Some(Finish::Full));
+        if state.agenda.is_full() {
+            return Ok(Some(End::Full));
         }
-        let new = agenda.add(place as u16, event.unit(), source.rate())?;
-        add_trigger(page, sources, new)?;
+        let activation = state.agenda.add(place as u16, event.unit(), source.rate)?;
+        notes.push(Note::Triggered(activation))?;
     }
     Ok(None)
 }

@@ -1,245 +1,392 @@
-ghost use Rattle.std.specs.Prelude.{◌≡◌, ◌∷◌, [], ◌++◌, IfOk, OnOk, string_bytes, slice_get, false};
-ghost use Rattle.std.specs.List.{flat_map};
-ghost use Rattle.std.specs.Io.KnownBytes.{Appends};
-ghost use Rattle.bb_shell.specs.declared.activation.Activation.{Activation as Choice};
-ghost use Rattle.bb_shell.specs.declared.run.Halt.TheVariants.{Memory as Stopped};
-ghost use Rattle.bb_shell.specs.Agenda.{Agenda as Waiting};
-ghost use Rattle.bb_shell.specs.Run.{Run, turn, cycle_of, cycles, ends_or, events_first, over, run};
-ghost use Rattle.bb_shell.specs.TraceText.{event_text, trace_text};
-ghost use Rattle.bb_shell.specs.Ledger.{Pages, Sent, Writes, acts_or, OnEnd, is_write, stopped_by_write};
+//! The run of the blackboard machine, in parts as its definition is. `run_texts` calls `run`.
 
-use crate::activation::Activation;
-use crate::agenda::Agenda;
-use crate::event::Event;
-use crate::finish::{Finish, Stuck};
-use crate::line::{add_choice, add_end, add_event, add_finish};
-use crate::machine::{Ending, execute};
-use crate::output::{Out, put_all};
+ghost use Rattle.std.specs.Prelude.{◌≡◌, ◌≤◌, ◌∷◌, ◌++◌, [], Some, IfOk, IfSome, false, length, map, option_map, slice_get};
+ghost use Rattle.std.specs.Io.KnownBytes.{Appends};
+ghost use Rattle.bb_agenda.specs.Agenda.{no_activations};
+ghost use Rattle.bb_rules.specs.declared.source.Act.TheVariants.{Code};
+ghost use Rattle.bb_agenda.specs.declared.activation.Activation.{Activation as Chosen};
+ghost use Rattle.bb_shell.specs.declared.note.Note.TheVariants.{Board};
+ghost use Rattle.bb_shell.specs.declared.sources.TheConstants.{SOURCE_LIMIT};
+ghost use Rattle.bb_shell.specs.Finish.{WritesFront, end_of, is_write};
+ghost use Rattle.bb_shell.specs.Processing.{events_in, processing, processing_all};
+ghost use Rattle.bb_shell.specs.Run.{acting, cycle, cycles, quiet, report, run, unfinished};
+ghost use Rattle.bb_shell.specs.TraceText.{trace_text};
+ghost use Rattle.bb_shell.specs.proving.Telling.{Finishes, Makes, Tells, Waits, Writes};
+ghost use Rattle.bb_shell.specs.proving.Telling.{at, option_list, stopped_by_write};
+
+use crate::finish::{End, Finish};
+use crate::halt::Halt;
+use crate::note::Note;
+use crate::output::Out;
+use crate::page::Page;
+use crate::processing::respond;
 use crate::shell::Shell;
-use bb_schema::Schema;
+use crate::state::State;
+use bb_agenda::{Activation, Agenda};
+use bb_basis::Items;
+use bb_board::{Event, World};
+use bb_machine::{Ending, execute};
+use bb_rules::{Act, Source};
+use bb_verify::{Checked, FOUND_LIMIT};
 use std::alloc::{AllocError, Global};
 
-// How much text waits before it is written.
-const PAGE_LEN: usize = 65_536;
-
-// How long a list a find can give.
-const MOST_FOUND: u32 = 65_536;
-
-/// Why a run stops short.
-#[derive(Clone, Copy, Debug)]
-pub(crate) enum Halt {
-    Memory,
-    Write,
-}
-
-impl From<AllocError> for Halt {
-    ghost from_gives = { λ _ e. e ≡ Stopped };
-
-    fn from(_refused: AllocError) -> Halt {
-        Halt::Memory
-    }
-}
-
-/// What comes next: an activation is acted on, or the run is over.
+/// What comes before a cycle: an activation is chosen, or the run is over.
 #[derive(Clone, Copy, Debug)]
 pub(crate) enum Turn {
     Act(Activation),
-    Over(Finish),
+    Over(End),
 }
 
-// Chooses an activation. Where none can be chosen, quiescence is an event; where none can be chosen after it, the run
-// is over.
-fn next_turn(page: &mut String, shell: &Shell, agenda: &mut Agenda) -> Result<Turn, AllocError>
-    ensures { IfOk result (λ t. (act : Waiting → Choice → Run) → Pages shell.now (string_bytes page.old) (string_bytes page.new) (turn shell.now agenda.old act) (acts_or t (act agenda.new))) }
-{
-    if let Some(choice) = agenda.choose(shell.floor()) {
-        return Ok(Turn::Act(choice));
-    }
-    add_event(page, shell.schema(), Event::Quiescence)?;
-    if let Some(finish) = shell.process(page, Event::Quiescence, agenda)? {
-        return Ok(Turn::Over(finish));
-    }
-    match agenda.choose(shell.floor()) {
-        Some(choice) => Ok(Turn::Act(choice)),
-        None => Ok(Turn::Over(Finish::Quiescence)),
-    }
-}
-
-// Makes a cycle: the choice is noted, the code of its source runs, and the activation is taken off the agenda. Answers
-// how the run ends if the code could not go on.
-fn act(
+// Tells a segment, and writes the page if it is long.
+fn tell<O: Out>(
     alloc: Global,
-    page: &mut String,
+    out: &mut O,
+    page: &mut Page,
     shell: &Shell,
-    cycle: u64,
-    choice: Activation,
-    agenda: &mut Agenda,
-) -> Result<Option<Finish>, AllocError>
-    ensures { IfOk result (λ f. (rest : Waiting → Run) → Pages shell.now (string_bytes page.old) (string_bytes page.new) (cycle_of cycle agenda.old choice (slice_get shell.now.sources choice.source) rest) (ends_or f (rest agenda.new))) }
-{
-    let Some(source) = shell.source(choice.source) else {
-        return Ok(Some(Finish::Stuck(Stuck::Missing)));
-    };
-    let body = source.body();
-    add_choice(page, shell.sources(), cycle, choice)?;
-    match execute(alloc, body.code(), body.budget(MOST_FOUND), page)? {
-        Ending::Stuck(reason) => Ok(Some(Finish::Stuck(reason))),
-        Ending::Ended { steps, found } => {
-            add_end(page, steps, found, body.budget(found))?;
-            agenda.remove(choice.number);
-            Ok(None)
-        }
-    }
-}
-
-// Writes the page if it is long, and begins it anew.
-fn spill<O: Out>(out: &mut O, page: &mut String) -> Result<(), Halt>
+    notes: &[Note],
+) -> Result<(), Halt>
     requires { O.has_failed out.old ≡ false }
-    ensures sent { OnOk result (Sent (O.taken out.old) (O.taken out.new) (string_bytes page.new) (string_bytes page.old)) }
+    ensures told { Tells shell.now (at (O.taken out.old) page.old) (at (O.taken out.new) page.new)
+        (notes.now ∷ []) result }
     ensures failed { O.has_failed out.new ≡ stopped_by_write result }
 {
-    if page.len() < PAGE_LEN {
-        return Ok(());
-    }
-    flush(out, page)
+    page.add_segment(alloc, shell, notes)?;
+    page.spill(out)
 }
 
-// Writes the page, and begins it anew.
-fn flush<O: Out>(out: &mut O, page: &mut String) -> Result<(), Halt>
-    requires { O.has_failed out.old ≡ false }
-    ensures sent { OnOk result (Sent (O.taken out.old) (O.taken out.new) (string_bytes page.new) (string_bytes page.old)) }
-    ensures empty { OnOk result (string_bytes page.new ≡ []) }
+// Processes an event.
+fn process<O: Out>(
+    alloc: Global,
+    out: &mut O,
+    page: &mut Page,
+    shell: &Shell,
+    event: Event,
+    state: &mut State,
+) -> Result<Option<End>, Halt>
+    requires open { O.has_failed out.old ≡ false }
+    requires few { length shell.now.sources ≤ SOURCE_LIMIT }
+    ensures made { Makes shell.now (at (O.taken out.old) page.old) (at (O.taken out.new) page.new)
+        (processing shell.now event state.old) state.new result }
     ensures failed { O.has_failed out.new ≡ stopped_by_write result }
 {
-    if !put_all(out, page.as_bytes()) {
-        return Err(Halt::Write);
-    }
-    page.clear();
-    Ok(())
+    let mut notes = Vec::new(alloc);
+    let end = respond(shell, event, state, &mut notes)?;
+    tell(alloc, out, page, shell, &notes)?;
+    Ok(end)
 }
 
-// Processes the events of the first units, one after another. Answers how the run ends if it is over.
+// Processes events, one after another, until the run ends.
 fn process_all<O: Out>(
-    page: &mut String,
+    alloc: Global,
+    out: &mut O,
+    page: &mut Page,
     shell: &Shell,
     events: &[Event],
-    agenda: &mut Agenda,
-    out: &mut O,
-) -> Result<Option<Finish>, Halt>
-    requires { O.has_failed out.old ≡ false }
-    ensures run { IfOk result (λ f. (rest : Waiting → Run) → Writes shell.now (O.taken out.old) (O.taken out.new) (string_bytes page.old) (string_bytes page.new) (events_first shell.now events.now agenda.old rest) (ends_or f (rest agenda.new))) }
+    state: &mut State,
+) -> Result<Option<End>, Halt>
+    requires open { O.has_failed out.old ≡ false }
+    requires few { length shell.now.sources ≤ SOURCE_LIMIT }
+    ensures made { Makes shell.now (at (O.taken out.old) page.old) (at (O.taken out.new) page.new)
+        (processing_all shell.now events.now state.old) state.new result }
     ensures failed { O.has_failed out.new ≡ stopped_by_write result }
 {
     for event in events {
-        let over = shell.process(page, *event, agenda)?;
-        spill(out, page)?;
-        if let Some(finish) = over {
-            return Ok(Some(finish));
+        if let Some(end) = process(alloc, out, page, shell, *event, state)? {
+            return Ok(Some(end));
         }
     }
     Ok(None)
 }
 
-// Makes cycles up to the limit, and answers how the run ends.
+// Tells of quiescence, and processes it.
+fn quiesce<O: Out>(
+    alloc: Global,
+    out: &mut O,
+    page: &mut Page,
+    shell: &Shell,
+    state: &mut State,
+) -> Result<Option<End>, Halt>
+    requires open { O.has_failed out.old ≡ false }
+    requires few { length shell.now.sources ≤ SOURCE_LIMIT }
+    ensures made { Makes shell.now (at (O.taken out.old) page.old) (at (O.taken out.new) page.new)
+        (quiet shell.now state.old) state.new result }
+    ensures failed { O.has_failed out.new ≡ stopped_by_write result }
+{
+    let mut notes = Vec::new(alloc);
+    notes.push(Note::Board(bb_board::Note::Event(Event::Quiescence)))?;
+    let end = respond(shell, Event::Quiescence, state, &mut notes)?;
+    tell(alloc, out, page, shell, &notes)?;
+    Ok(end)
+}
+
+// Chooses an activation, after quiescence where none can be chosen at once. The run is over where none can be chosen
+// after it either.
+fn next_turn<O: Out>(
+    alloc: Global,
+    out: &mut O,
+    page: &mut Page,
+    shell: &Shell,
+    state: &mut State,
+) -> Result<Turn, Halt>
+    requires open { O.has_failed out.old ≡ false }
+    requires few { length shell.now.sources ≤ SOURCE_LIMIT }
+    ensures waited { Waits shell.now (at (O.taken out.old) page.old) (at (O.taken out.new) page.new)
+        state.old state.new result }
+    ensures failed { O.has_failed out.new ≡ stopped_by_write result }
+{
+    if let Some(activation) = state.agenda.choose(shell.floor) {
+        return Ok(Turn::Act(activation));
+    }
+    if let Some(end) = quiesce(alloc, out, page, shell, state)? {
+        return Ok(Turn::Over(end));
+    }
+    match state.agenda.choose(shell.floor) {
+        Some(activation) => Ok(Turn::Act(activation)),
+        None => Ok(Turn::Over(End::Quiescence)),
+    }
+}
+
+// The events among what a blackboard noted.
+fn events_in(alloc: Global, notes: &[bb_board::Note]) -> Result<Vec<Event>, AllocError>
+    ensures { IfOk result (λ events. events.items ≡ events_in notes.now) }
+{
+    let mut events = Vec::new(alloc);
+    for note in notes {
+        if let bb_board::Note::Event(event) = note {
+            events.push(*event)?;
+        }
+    }
+    Ok(events)
+}
+
+// What a blackboard noted, as notes of the run, and one note more if there is one.
+fn board_notes(
+    alloc: Global,
+    noted: Items<bb_board::Note>,
+    last: Option<Note>,
+) -> Result<Vec<Note>, AllocError>
+    ensures { IfOk result (λ notes. notes.items ≡ map Board noted ++ option_list last) }
+{
+    let mut notes = Vec::new(alloc);
+    for note in noted.into_vec() {
+        notes.push(Note::Board(note))?;
+    }
+    match last {
+        None => Ok(notes),
+        Some(note) => {
+            notes.push(note)?;
+            Ok(notes)
+        }
+    }
+}
+
+// Tells what the blackboard noted, and one note more if there is one. Processes its events unless the run ends.
+fn report<O: Out>(
+    alloc: Global,
+    out: &mut O,
+    page: &mut Page,
+    shell: &Shell,
+    last: Option<Note>,
+    end: Option<End>,
+    state: &mut State,
+) -> Result<Option<End>, Halt>
+    requires open { O.has_failed out.old ≡ false }
+    requires few { length shell.now.sources ≤ SOURCE_LIMIT }
+    ensures made { Makes shell.now (at (O.taken out.old) page.old) (at (O.taken out.new) page.new)
+        (report shell.now state.old.world state.old.agenda (option_list last) end) state.new result }
+    ensures failed { O.has_failed out.new ≡ stopped_by_write result }
+{
+    let noted = state.world.take_notes(alloc);
+    let events = events_in(alloc, noted.as_slice())?;
+    let notes = board_notes(alloc, noted, last)?;
+    tell(alloc, out, page, shell, &notes)?;
+    if let Some(end) = end {
+        return Ok(Some(end));
+    }
+    process_all(alloc, out, page, shell, &events, state)
+}
+
+// Executes a code for an activation.
+fn execute_code<O: Out>(
+    alloc: Global,
+    out: &mut O,
+    page: &mut Page,
+    shell: &Shell,
+    code: &Checked,
+    state: &mut State,
+) -> Result<Option<End>, Halt>
+    requires open { O.has_failed out.old ≡ false }
+    requires few { length shell.now.sources ≤ SOURCE_LIMIT }
+    ensures made { (a : Chosen) → Makes shell.now (at (O.taken out.old) page.old) (at (O.taken out.new) page.new)
+        (acting shell.now (Code code.now) a state.old) state.new result }
+    ensures failed { O.has_failed out.new ≡ stopped_by_write result }
+{
+    let limit = code.budget(FOUND_LIMIT);
+    let outcome = execute(alloc, code.code(), limit, &mut state.world)?;
+    match outcome.ending {
+        Ending::Answered(_) => {
+            let ended = Note::Ended {
+                steps: outcome.steps,
+                found: outcome.found,
+                budget: code.budget(outcome.found),
+            };
+            report(alloc, out, page, shell, Some(ended), None, state)
+        }
+        Ending::Full => report(alloc, out, page, shell, None, Some(End::Full), state),
+        Ending::Stuck(reason) => {
+            report(
+                alloc,
+                out,
+                page,
+                shell,
+                None,
+                Some(End::Stuck(reason)),
+                state,
+            )
+        }
+    }
+}
+
+// The code that an act executes.
+fn code_of(act: &Act) -> &Checked
+    ensures { act.now ≡ Code result.now }
+{
+    match act {
+        Act::Code(code) => code,
+    }
+}
+
+fn source_at(sources: &[Source], place: u16) -> Option<&Source>
+    ensures { option_map (λ s. s.now) result ≡ slice_get sources.now place }
+{
+    sources.get(place as usize)
+}
+
+// Makes a cycle: tells of the choice, takes it off the agenda, and has its source act.
+fn make_cycle<O: Out>(
+    alloc: Global,
+    out: &mut O,
+    page: &mut Page,
+    shell: &Shell,
+    number: u64,
+    activation: Activation,
+    state: &mut State,
+) -> Result<Option<End>, Halt>
+    requires open { O.has_failed out.old ≡ false }
+    requires few { length shell.now.sources ≤ SOURCE_LIMIT }
+    ensures made { Makes shell.now (at (O.taken out.old) page.old) (at (O.taken out.new) page.new)
+        (cycle shell.now number activation state.old) state.new result }
+    ensures failed { O.has_failed out.new ≡ stopped_by_write result }
+{
+    let chosen = Note::Chosen {
+        cycle: number,
+        activation,
+        rating: activation.rating(),
+    };
+    tell(alloc, out, page, shell, &[chosen])?;
+    state.agenda.executed(activation.number);
+    match source_at(shell.sources.as_slice(), activation.source) {
+        Some(source) => execute_code(alloc, out, page, shell, code_of(&source.act), state),
+        None => Ok(None),
+    }
+}
+
+// Makes cycles up to the limit, and returns the end of the run.
 fn make_cycles<O: Out>(
     alloc: Global,
-    page: &mut String,
+    out: &mut O,
+    page: &mut Page,
     shell: &Shell,
     limit: u64,
-    agenda: &mut Agenda,
-    out: &mut O,
-) -> Result<Finish, Halt>
-    requires { O.has_failed out.old ≡ false }
-    ensures run { IfOk result (λ f. Writes shell.now (O.taken out.old) (O.taken out.new) (string_bytes page.old) (string_bytes page.new) (cycles shell.now 0 limit agenda.old) (over f)) }
+    state: &mut State,
+) -> Result<End, Halt>
+    requires open { O.has_failed out.old ≡ false }
+    requires few { length shell.now.sources ≤ SOURCE_LIMIT }
+    ensures made { Finishes shell.now (at (O.taken out.old) page.old) (at (O.taken out.new) page.new)
+        (cycles shell.now 0 limit state.old) state.new result }
     ensures failed { O.has_failed out.new ≡ stopped_by_write result }
 {
     for made in 0..limit {
-        let choice = match next_turn(page, shell, agenda)? {
-            Turn::Over(finish) => return Ok(finish),
-            Turn::Act(choice) => choice,
+        let activation = match next_turn(alloc, out, page, shell, state)? {
+            Turn::Act(activation) => activation,
+            Turn::Over(end) => return Ok(end),
         };
-        let over = act(alloc, page, shell, made + 1, choice, agenda)?;
-        spill(out, page)?;
-        if let Some(finish) = over {
-            return Ok(finish);
+        if let Some(end) = make_cycle(alloc, out, page, shell, made + 1, activation, state)? {
+            return Ok(end);
         }
     }
-    match next_turn(page, shell, agenda)? {
-        Turn::Over(finish) => Ok(finish),
-        Turn::Act(_) => Ok(Finish::Limit),
+    match next_turn(alloc, out, page, shell, state)? {
+        Turn::Act(_) => Ok(End::Limit),
+        Turn::Over(end) => Ok(end),
     }
 }
 
-// Processes the events, makes the cycles, and answers how the run ends.
+// Makes the whole run but for its last segment.
 fn go<O: Out>(
     alloc: Global,
-    page: &mut String,
-    shell: &Shell,
-    events: &[Event],
-    limit: u64,
-    agenda: &mut Agenda,
     out: &mut O,
-) -> Result<Finish, Halt>
-    requires { O.has_failed out.old ≡ false }
-    ensures run { IfOk result (λ f. Writes shell.now (O.taken out.old) (O.taken out.new) (string_bytes page.old) (string_bytes page.new) (events_first shell.now events.now agenda.old (λ after. cycles shell.now 0 limit after)) (over f)) }
+    page: &mut Page,
+    shell: &Shell,
+    limit: u64,
+    state: &mut State,
+) -> Result<End, Halt>
+    requires open { O.has_failed out.old ≡ false }
+    requires few { length shell.now.sources ≤ SOURCE_LIMIT }
+    requires new { state.old.agenda ≡ no_activations }
+    ensures made { Finishes shell.now (at (O.taken out.old) page.old) (at (O.taken out.new) page.new)
+        (unfinished shell.now state.old.world limit) state.new result }
     ensures failed { O.has_failed out.new ≡ stopped_by_write result }
 {
-    match process_all(page, shell, events, agenda, out)? {
-        Some(finish) => Ok(finish),
-        None => {
-            let finish = make_cycles(alloc, page, shell, limit, agenda, out)?;
-            Ok(finish)
-        }
+    if let Some(end) = report(alloc, out, page, shell, None, None, state)? {
+        return Ok(end);
     }
+    make_cycles(alloc, out, page, shell, limit, state)
 }
 
-// Writes the lines of the whole run.
+// Makes the whole run, and writes all of its text.
 fn write_run<O: Out>(
     alloc: Global,
-    shell: &Shell,
-    events: &[Event],
-    limit: u64,
     out: &mut O,
-) -> Result<Finish, Halt>
-    requires { O.has_failed out.old ≡ false }
-    ensures finish { IfOk result (λ f. f ≡ (run shell.now events.now limit).finish) }
-    ensures text { OnOk result (Appends (O.taken out.old) (O.taken out.new) (trace_text shell.now (run shell.now events.now limit))) }
+    shell: &Shell,
+    world: World,
+    limit: u64,
+) -> Result<End, Halt>
+    requires open { O.has_failed out.old ≡ false }
+    requires few { length shell.now.sources ≤ SOURCE_LIMIT }
+    ensures end { IfOk result (λ end. (run shell.now world limit).end ≡ Some end) }
+    ensures written { Writes shell.now (O.taken out.old) (O.taken out.new) (run shell.now world limit).segments result }
     ensures failed { O.has_failed out.new ≡ stopped_by_write result }
 {
-    let mut page = String::new(alloc);
-    let mut agenda = Agenda::new(alloc);
-    add_events(&mut page, shell.schema(), events)?;
-    let finish = go(alloc, &mut page, shell, events, limit, &mut agenda, out)?;
-    add_finish(&mut page, finish)?;
-    flush(out, &mut page)?;
-    Ok(finish)
+    let mut page = Page::new(alloc);
+    let mut state = State {
+        world,
+        agenda: Agenda::new(alloc),
+    };
+    let end = go(alloc, out, &mut page, shell, limit, &mut state)?;
+    page.add_segment(alloc, shell, &[Note::Finished(end)])?;
+    page.flush(out)?;
+    Ok(end)
 }
 
-fn add_events(page: &mut String, schema: &Schema, events: &[Event]) -> Result<(), AllocError>
-    ensures { OnOk result (string_bytes page.new ≡ string_bytes page.old ++ flat_map (λ e. event_text schema.now e ++ 10 ∷ []) events.now) }
-{
-    for event in events {
-        add_event(page, schema, *event)?;
-    }
-    Ok(())
-}
-
-/// Runs the blackboard from the events of its first units on, at most `limit` cycles, and writes the trace. `Memory`:
-/// memory ran out. `Write`: the output has failed.
+/// Runs a blackboard from its first state, at most `limit` cycles, and writes the trace. `Memory`: memory ran out.
+/// `Write`: the output failed.
 pub(crate) fn run<O: Out>(
     alloc: Global,
     shell: &Shell,
-    events: &[Event],
+    world: World,
     limit: u32,
     out: &mut O,
 ) -> Finish
-    requires { O.has_failed out.old ≡ false }
-    ensures finish { OnEnd result (result ≡ (run shell.now events.now limit).finish) }
-    ensures text { OnEnd result (Appends (O.taken out.old) (O.taken out.new) (trace_text shell.now (run shell.now events.now limit))) }
+    requires open { O.has_failed out.old ≡ false }
+    requires few { length shell.now.sources ≤ SOURCE_LIMIT }
+    ensures finish { IfSome (end_of result) (λ end. (run shell.now world limit).end ≡ Some end) }
+    ensures text { IfSome (end_of result) (λ _. Appends (O.taken out.old) (O.taken out.new)
+        (trace_text shell.now (run shell.now world limit).segments)) }
+    ensures front { WritesFront shell.now (run shell.now world limit) result (O.taken out.old) (O.taken out.new) }
     ensures failed { O.has_failed out.new ≡ is_write result }
 {
-    match write_run(alloc, shell, events, u64::from(limit), out) {
-        Ok(finish) => finish,
+    match write_run(alloc, out, shell, world, u64::from(limit)) {
+        Ok(end) => Finish::from(end),
         Err(Halt::Memory) => Finish::Memory,
         Err(Halt::Write) => Finish::Write,
     }

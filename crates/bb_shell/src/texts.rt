@@ -1,27 +1,26 @@
-//! A run from the texts of its schema, first units and sources.
+//! A run from the texts of its schema, first units and sources. Programs (bb_main) call it.
 
-ghost use Rattle.std.specs.Prelude.{◌≡◌, ◌⊎◌, false, IfOk, IfErr, OnErr, Ok, Err};
+ghost use Rattle.std.specs.Prelude.{◌≡◌, ◌≤◌, ◌⊎◌, false, IfOk, IfErr, IfSome, OnErr, Ok, Err, Some, length};
 ghost use Rattle.std.specs.Io.KnownBytes.{Appends};
-ghost use Rattle.bb_document.specs.Answers.{Gives};
-ghost use Rattle.bb_shell.specs.Ledger.{OnEnd, is_write};
+ghost use Rattle.bb_basis.specs.Results.{Gives, map_err};
 ghost use Rattle.bb_schema.specs.Reading.{schema_of};
-ghost use Rattle.bb_shell.specs.Bundle.{sources_of};
-ghost use Rattle.bb_shell.specs.Load.{load, loaded};
-ghost use Rattle.bb_shell.specs.Meaning.{Meaning, meaning, with_fault};
+ghost use Rattle.bb_board.specs.Load.{load};
+ghost use Rattle.bb_compile.specs.Bundle.{sources_of};
+ghost use Rattle.bb_shell.specs.declared.sources.TheConstants.{SOURCE_LIMIT};
+ghost use Rattle.bb_shell.specs.Finish.{WritesFront, end_of, is_write};
+ghost use Rattle.bb_shell.specs.Meaning.{Meaning, meaning};
 ghost use Rattle.bb_shell.specs.Run.{run};
 ghost use Rattle.bb_shell.specs.TraceText.{trace_text};
 
-use crate::accept::sources_for;
-use crate::bundle::{BundleFault, unbundle};
-use crate::event::Event;
 use crate::finish::Finish;
 use crate::input_fault::InputFault;
-use crate::load::{Loaded, load};
 use crate::output::Out;
 use crate::run::run;
 use crate::shell::Shell;
-use crate::source_code::SourceCode;
-use crate::units_fault::UnitsFault;
+use crate::sources::sources_for;
+use bb_basis::Items;
+use bb_board::{UnitsFault, World, load};
+use bb_compile::{BundleFault, SourceCode, unbundle};
 use bb_schema::{Schema, SchemaFault};
 use std::alloc::Global;
 
@@ -40,18 +39,26 @@ pub fn run_texts<O: Out>(
     requires { O.has_failed out.old ≡ false }
 
     // At `Ok` the input has a meaning, the finish is that of its run, and the output took the text of its trace.
-    ensures finish { IfOk result (λ f. (m : Meaning) × (meaning schema.now units.now bundle.now floor ≡ Ok m) × OnEnd f (f ≡ (run m.rules m.events limit).finish)) }
-    ensures text { IfOk result (λ f. (m : Meaning) × (meaning schema.now units.now bundle.now floor ≡ Ok m) × OnEnd f (Appends (O.taken out.old) (O.taken out.new) (trace_text m.rules (run m.rules m.events limit)))) }
+    ensures finish { IfOk result (λ f. (m : Meaning) × (meaning schema.now units.now bundle.now floor ≡ Ok m)
+        × IfSome (end_of f) (λ end. (run m.shell m.world limit).end ≡ Some end)) }
+    ensures text { IfOk result (λ f. (m : Meaning) × (meaning schema.now units.now bundle.now floor ≡ Ok m)
+        × IfSome (end_of f) (λ _. Appends (O.taken out.old) (O.taken out.new)
+        (trace_text m.shell (run m.shell m.world limit).segments))) }
+
+    // At `Memory` the output took the text of the first segments of the run, at `Write` the front of its trace.
+    ensures front { IfOk result (λ f. (m : Meaning) × (meaning schema.now units.now bundle.now floor ≡ Ok m)
+        × WritesFront m.shell (run m.shell m.world limit) f (O.taken out.old) (O.taken out.new)) }
 
     // `Write` tells that the output has failed, and no other finish does.
     ensures failed { IfOk result (λ f. O.has_failed out.new ≡ is_write f) }
 
     // At `Err` it is the first refusal, and the output is as it was.
-    ensures refused { IfErr result (λ e. (e ≡ InputFault.Memory) ⊎ (meaning schema.now units.now bundle.now floor ≡ Err e)) }
+    ensures refused { IfErr result (λ e. (e ≡ InputFault.Memory)
+        ⊎ (meaning schema.now units.now bundle.now floor ≡ Err e)) }
     ensures quiet { OnErr result (out.new ≡ out.old) }
 {
-    let (shell, events) = read_input(alloc, schema, units, bundle, floor)?;
-    Ok(run(alloc, &shell, &events, limit, out))
+    let (shell, world) = read_input(alloc, schema, units, bundle, floor)?;
+    Ok(run(alloc, &shell, world, limit, out))
 }
 
 fn read_input(
@@ -60,25 +67,28 @@ fn read_input(
     units: &str,
     bundle: &str,
     floor: i64,
-) -> Result<(Shell, Vec<Event>), InputFault>
-    ensures { Gives InputFault.Memory (λ i. record { rules = i.0; events = i.1.items }) result (meaning schema.now units.now bundle.now floor) }
+) -> Result<(Shell, World), InputFault>
+    ensures means { Gives InputFault.Memory (λ i. record { shell = i.0; world = i.1 }) result
+        (meaning schema.now units.now bundle.now floor) }
+    ensures few { IfOk result (λ i. length i.0.sources ≤ SOURCE_LIMIT) }
 {
     let schema = read_schema(alloc, schema)?;
-    let Loaded { units: _, events } = load_units(alloc, &schema, units)?;
+    let world = load_units(alloc, &schema, units)?;
     let codes = read_bundle(alloc, bundle)?;
     let sources = sources_for(alloc, &schema, codes)?;
+    let sources = Items::from(sources);
     Ok((
         Shell {
             schema,
             sources,
             floor,
         },
-        events,
+        world,
     ))
 }
 
 fn read_schema(alloc: Global, text: &str) -> Result<Schema, InputFault>
-    ensures { Gives InputFault.Memory (λ s. s) result (with_fault InputFault.Schema (schema_of text.now)) }
+    ensures { Gives InputFault.Memory (λ s. s) result (map_err InputFault.Schema (schema_of text.now)) }
 {
     match Schema::read(alloc, text) {
         Ok(schema) => Ok(schema),
@@ -87,18 +97,18 @@ fn read_schema(alloc: Global, text: &str) -> Result<Schema, InputFault>
     }
 }
 
-fn load_units(alloc: Global, schema: &Schema, text: &str) -> Result<Loaded, InputFault>
-    ensures { Gives InputFault.Memory loaded result (with_fault InputFault.Units (load schema.now text.now)) }
+fn load_units(alloc: Global, schema: &Schema, text: &str) -> Result<World, InputFault>
+    ensures { Gives InputFault.Memory (λ w. w) result (map_err InputFault.Units (load schema.now text.now)) }
 {
     match load(alloc, schema, text) {
-        Ok(loaded) => Ok(loaded),
+        Ok(world) => Ok(world),
         Err(UnitsFault::Memory) => Err(InputFault::Memory),
         Err(fault) => Err(InputFault::Units(fault)),
     }
 }
 
 fn read_bundle(alloc: Global, text: &str) -> Result<Vec<SourceCode>, InputFault>
-    ensures { Gives InputFault.Memory (λ v. v.items) result (with_fault InputFault.Bundle (sources_of text.now)) }
+    ensures { Gives InputFault.Memory (λ v. v.items) result (map_err InputFault.Bundle (sources_of text.now)) }
 {
     match unbundle(alloc, text) {
         Ok(codes) => Ok(codes),

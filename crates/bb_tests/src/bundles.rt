@@ -1,7 +1,7 @@
 //! Bundles that the tests make.
 
+use bb_basis::Text;
 use bb_code::{Code, Op};
-use bb_schema::Text;
 use std::alloc::Global;
 use std::fmt::Write;
 use std::test::Fail;

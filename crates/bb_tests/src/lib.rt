@@ -14,6 +14,12 @@ mod refusals;
 #[cfg(test)]
 mod said;
 #[cfg(test)]
+mod schema_calls;
+#[cfg(test)]
+mod schema_faults;
+#[cfg(test)]
+mod schema_limits;
+#[cfg(test)]
 mod schemas;
 #[cfg(test)]
 mod traces;

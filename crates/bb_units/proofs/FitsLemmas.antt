@@ -1,34 +1,34 @@
 -- Units that fit stay so.
-use Rattle.std.proofs.Common.{◌≡◌, ℕ, ◌+◌, ◌-◌, ◌<◌, ◌≤◌, ◌^◌, Bool, true, false, cond, Option, Some, None, refl, sym, ap, subst, ◌∙◌, arith}
-use Rattle.std.specs.Prelude.{is_some, option_and_then, IsSomeAnd}
+use Rattle.std.proofs.Common.{◌≡◌, ℕ, ◌+◌, ◌-◌, ◌<◌, ◌≤◌, ◌^◌, Bool, true, false, cond, length, Option, Some, None, refl, sym, ap, subst, ◌∙◌, arith}
+use Rattle.std.specs.Prelude.{is_some}
 use Rattle.std.specs.Option.{option_map_or}
 use Rattle.std.specs.Ordering.{nat_cmp, eq_by_cmp}
 use Rattle.std.specs.Cmp.{nat_cmp_total, Equal-is}
 use Rattle.std.specs.FinMap.{get, insert, remove, len, contains_key, get-empty, get-insert, get-remove, len-insert, len-remove, len-empty, nat_cmp-IsAntisymmetric}
 use Rattle.bb_schema.specs.declared.value.Value.{Value}
 use Rattle.bb_units.specs.declared.unit.Unit.{Unit}
-use Rattle.bb_units.specs.Values.{kind_of_value, value_at}
-use Rattle.bb_units.specs.Layout.{Layout}
-use Rattle.bb_units.specs.Units.{Units, no_units, value_of, new_unit, created, deleted, with_slot, updated}
-use Rattle.bb_units.specs.Fits.{IsUnitOf, Fits}
+use Rattle.bb_units.specs.Layout.{Layout, can_hold}
+use Rattle.bb_units.specs.Units.{Units, no_units, new_unit, after_create, after_delete, with_slot, after_set}
+use Rattle.bb_units.specs.Fits.{HoldsDefaults, IsUnitOf, Fits}
 use Rattle.bb_units.proofs.KindLemmas.{new_unit_fits, other_unit_fits}
 
 same_number : (n k : ℕ) → eq_by_cmp nat_cmp n k ≡ true → n ≡ k
 same_number n k e = nat_cmp-IsAntisymmetric n k ((Equal-is (nat_cmp n k)).0 e)
 
-pub none_fit : (l : Layout) → Fits (no_units l)
-none_fit l = record {
+pub none_fit : (l : Layout) → HoldsDefaults l → Fits (no_units l)
+none_fit l holds = record {
   numbers = λ n live. absurd (let e : false ≡ true = sym (ap is_some (get-empty {X = Unit} nat_cmp n)) ∙ live in cc);
   begun = omega arith;
   last = omega arith;
   few = rw (len-empty nat_cmp Unit) (omega arith);
+  defaults = holds;
   units = λ n x is. absurd (let e : None ≡ Some x = sym (get-empty {X = Unit} nat_cmp n) ∙ is in cc);
 }
 
 module _ (u : Units) (fits : Fits u) where
-  at_new : (class n : ℕ) (x : Unit) (b : Bool) → eq_by_cmp nat_cmp n u.next ≡ b → cond b (Some (new_unit u.layout class)) (get u.units n) ≡ Some x → IsUnitOf u.layout x
-  at_new class n x true same is = let e : new_unit u.layout class ≡ x = cc in subst (IsUnitOf u.layout) e (new_unit_fits u.layout class)
-  at_new class n x false other is = fits.units n x is
+  at_new : (class n : ℕ) (x : Unit) (b : Bool) → class < length u.layout.slots → eq_by_cmp nat_cmp n u.next ≡ b → cond b (Some (new_unit u.layout class)) (get u.units n) ≡ Some x → IsUnitOf u.layout x
+  at_new class n x true there same is = let e : new_unit u.layout class ≡ x = cc in subst (IsUnitOf u.layout) e (new_unit_fits u.layout class there fits.defaults)
+  at_new class n x false there other is = fits.units n x is
 
   number_new : (class n : ℕ) (b : Bool) → eq_by_cmp nat_cmp n u.next ≡ b → is_some (cond b (Some (new_unit u.layout class)) (get u.units n)) ≡ true → (0 < n) × (n < u.next + 1)
   number_new class n true same live = let e = same_number n u.next same in (omega (arith, e, fits.begun), omega (arith, e))
@@ -41,13 +41,14 @@ module _ (u : Units) (fits : Fits u) where
   pub next_is_new : contains_key u.units u.next ≡ false
   next_is_new = not_live (contains_key u.units u.next) refl
 
-  pub created_fit : (class : ℕ) → len u.units < 65536 → u.next < 2 ^ 63 → Fits (created u class)
-  created_fit class room number = record {
+  pub created_fit : (class : ℕ) → class < length u.layout.slots → len u.units < 65536 → u.next < 2 ^ 63 → Fits (after_create u class)
+  created_fit class there room number = record {
     numbers = λ n live. number_new class n (eq_by_cmp nat_cmp n u.next) refl (sym (ap is_some (get-insert nat_cmp_total u.units u.next (new_unit u.layout class) n)) ∙ live);
     begun = omega arith;
     last = omega (arith, number);
     few = rw (len-insert nat_cmp_total u.units u.next (new_unit u.layout class), next_is_new) (omega (arith, room));
-    units = λ n x is. at_new class n x (eq_by_cmp nat_cmp n u.next) refl (sym (get-insert nat_cmp_total u.units u.next (new_unit u.layout class) n) ∙ is);
+    defaults = fits.defaults;
+    units = λ n x is. at_new class n x (eq_by_cmp nat_cmp n u.next) there refl (sym (get-insert nat_cmp_total u.units u.next (new_unit u.layout class) n) ∙ is);
   }
 
   kept : (n k : ℕ) (b : Bool) (x : Option Unit) → cond b None (get u.units n) ≡ x → is_some x ≡ true → get u.units n ≡ x
@@ -58,12 +59,13 @@ module _ (u : Units) (fits : Fits u) where
   fewer true = omega (arith, fits.few)
   fewer false = fits.few
 
-  pub deleted_fit : (k : ℕ) → Fits (deleted u k)
+  pub deleted_fit : (k : ℕ) → Fits (after_delete u k)
   deleted_fit k = record {
     numbers = λ n live. fits.numbers n (ap is_some (kept n k (eq_by_cmp nat_cmp n k) (get (remove u.units k) n) (sym (get-remove nat_cmp_total u.units k n)) live) ∙ live);
     begun = fits.begun;
     last = fits.last;
     few = rw (len-remove nat_cmp_total u.units k) (fewer (contains_key u.units k));
+    defaults = fits.defaults;
     units = λ n x is. fits.units n x (kept n k (eq_by_cmp nat_cmp n k) (get (remove u.units k) n) (sym (get-remove nat_cmp_total u.units k n)) (ap is_some is) ∙ is);
   }
 
@@ -82,17 +84,14 @@ module _ (u : Units) (fits : Fits u) where
     begun = fits.begun;
     last = fits.last;
     few = rw (len-insert nat_cmp_total u.units k y, there) fits.few;
+    defaults = fits.defaults;
     units = λ n z is. at_changed k n y z (eq_by_cmp nat_cmp n k) well refl (sym (get-insert nat_cmp_total u.units k y n) ∙ is);
   }
 
-  of_kind : (k slot : ℕ) (value : Value) (x : Unit) → get u.units k ≡ Some x → (before : Option Value) → value_at x.values slot ≡ before → IsSomeAnd before (λ v. kind_of_value value ≡ kind_of_value v) → IsUnitOf u.layout (with_slot x slot value)
-  of_kind k slot value x there None is never = absurd never
-  of_kind k slot value x there (Some before) is same = other_unit_fits u.layout x slot before value (fits.units k x there) is same
-
-  changed_at : (k slot : ℕ) (value : Value) (x : Option Unit) → get u.units k ≡ x → IsSomeAnd (option_and_then (λ y. value_at y.values slot) x) (λ v. kind_of_value value ≡ kind_of_value v)
+  changed_at : (k slot : ℕ) (value : Value) (x : Option Unit) → get u.units k ≡ x → can_hold u.layout slot value ≡ true
       → Fits (record { next = u.next; units = option_map_or (λ y. insert u.units k (with_slot y slot value)) x u.units; layout = u.layout })
-  changed_at k slot value None is never = absurd never
-  changed_at k slot value (Some x) is same = replaced_fit k x (with_slot x slot value) is (of_kind k slot value x is (value_at x.values slot) refl same)
+  changed_at k slot value None is held = fits
+  changed_at k slot value (Some x) is held = replaced_fit k x (with_slot x slot value) is (other_unit_fits u.layout x slot value (fits.units k x is) held)
 
-  pub updated_fit : (k slot : ℕ) (value : Value) → IsSomeAnd (value_of u k slot) (λ v. kind_of_value value ≡ kind_of_value v) → Fits (updated u k slot value)
-  updated_fit k slot value same = changed_at k slot value (get u.units k) refl same
+  pub updated_fit : (k slot : ℕ) (value : Value) → can_hold u.layout slot value ≡ true → Fits (after_set u k slot value)
+  updated_fit k slot value held = changed_at k slot value (get u.units k) refl held

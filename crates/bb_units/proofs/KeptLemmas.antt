@@ -1,34 +1,34 @@
 -- The entries that the code keeps, after each change.
 use Rattle.std.proofs.Common.{◌≡◌, ℕ, ◌+◌, ◌-◌, ◌<◌, ◌^◌, Bool, true, false, cond, List, [], length, Option, Some, None, refl, sym, ap, subst, ◌∙◌, arith}
-use Rattle.std.specs.Prelude.{is_some, IsSomeAnd}
+use Rattle.std.specs.Prelude.{is_some}
 use Rattle.std.specs.Option.{option_map_or}
 use Rattle.std.specs.Ordering.{nat_cmp}
 use Rattle.std.specs.Cmp.{nat_cmp_total}
 use Rattle.std.specs.FinMap.{FinMap, get, insert, remove, len, len-insert, len-remove, len-empty}
 use Rattle.bb_schema.specs.declared.value.Value.{Value}
 use Rattle.bb_units.specs.declared.unit.Unit.{Unit}
-use Rattle.bb_units.specs.Values.{kind_of_value}
-use Rattle.bb_units.specs.Layout.{Layout}
-use Rattle.bb_units.specs.Units.{Units, units_of, value_of, new_unit, with_slot, with_value_of}
-use Rattle.bb_units.specs.Fits.{Fits, AreKept}
+use Rattle.bb_units.specs.Layout.{Layout, can_hold}
+use Rattle.bb_units.specs.Units.{Units, units_of, new_unit, with_slot, with_value_of}
+use Rattle.bb_units.specs.Fits.{HoldsDefaults, Fits}
+use Rattle.bb_units.specs.proving.Kept.{AreKept}
 use Rattle.bb_units.proofs.FitsLemmas.{none_fit, next_is_new, created_fit, deleted_fit, updated_fit}
 
 abbrev pub seen : ℕ → FinMap nat_cmp Unit → Layout → Units
 seen next m l = record { next = next; units = m; layout = l }
 
-pub kept_none : (l : Layout) (es : List (ℕ × Unit)) → es ≡ [] → AreKept 1 es l
-kept_none l es none = subst (λ es. AreKept 1 es l) (sym none) (record { fits = none_fit l; counted = len-empty nat_cmp Unit })
+pub kept_none : (l : Layout) (es : List (ℕ × Unit)) → HoldsDefaults l → es ≡ [] → AreKept 1 es l
+kept_none l es holds none = subst (λ es. AreKept 1 es l) (sym none) (record { fits = none_fit l holds; counted = len-empty nat_cmp Unit })
 
 module _ (next : ℕ) (l : Layout) (es fs : List (ℕ × Unit)) (kept : AreKept next es l) where
   abbrev m : FinMap nat_cmp Unit
   m = units_of es
 
-  pub kept_more : (class : ℕ) (x : Unit) (old : Option Unit) → x ≡ new_unit l class → units_of fs ≡ insert m next x → old ≡ get m next → length fs ≡ length es + cond (is_some old) 0 1 → length es < 65536 → next < 2 ^ 63 → AreKept (next + 1) fs l
-  kept_more class x old new made was grown room number =
+  pub kept_more : (class : ℕ) (x : Unit) (old : Option Unit) → class < length l.slots → x ≡ new_unit l class → units_of fs ≡ insert m next x → old ≡ get m next → length fs ≡ length es + cond (is_some old) 0 1 → length es < 65536 → next < 2 ^ 63 → AreKept (next + 1) fs l
+  kept_more class x old there new made was grown room number =
       let made_new : units_of fs ≡ insert m next (new_unit l class) = made ∙ ap (insert m next) new in
       let fresh = next_is_new (seen next m l) kept.fits in
       record {
-        fits = subst (λ n. Fits (seen (next + 1) n l)) (sym made_new) (created_fit (seen next m l) kept.fits class (rw kept.counted room) number);
+        fits = subst (λ n. Fits (seen (next + 1) n l)) (sym made_new) (created_fit (seen next m l) kept.fits class there (rw kept.counted room) number);
         counted = ap len made ∙ (len-insert nat_cmp_total m next x ∙ (ap (λ b. cond b (len m) (len m + 1)) fresh ∙ (ap (λ k. k + 1) kept.counted ∙ sym (grown ∙ ap (λ b. length es + cond b 0 1) (ap is_some was ∙ fresh)))));
       }
 
@@ -46,8 +46,8 @@ module _ (next : ℕ) (l : Layout) (es fs : List (ℕ × Unit)) (kept : AreKept 
   same_len k slot value None is = refl
   same_len k slot value (Some x) is = rw (len-insert nat_cmp_total m k (with_slot x slot value), is) refl
 
-  pub kept_changed : (k slot : ℕ) (value : Value) → units_of fs ≡ with_value_of m k slot value → length fs ≡ length es → IsSomeAnd (value_of (seen next m l) k slot) (λ v. kind_of_value value ≡ kind_of_value v) → AreKept next fs l
-  kept_changed k slot value made same kind = record {
-    fits = subst (λ n. Fits (seen next n l)) (sym made) (updated_fit (seen next m l) kept.fits k slot value kind);
+  pub kept_changed : (k slot : ℕ) (value : Value) → units_of fs ≡ with_value_of m k slot value → length fs ≡ length es → can_hold l slot value ≡ true → AreKept next fs l
+  kept_changed k slot value made same held = record {
+    fits = subst (λ n. Fits (seen next n l)) (sym made) (updated_fit (seen next m l) kept.fits k slot value held);
     counted = ap len made ∙ (same_len k slot value (get m k) refl ∙ (kept.counted ∙ sym same));
   }

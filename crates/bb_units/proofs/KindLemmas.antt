@@ -1,16 +1,22 @@
--- The values of a unit stay of the kinds of their slots.
-use Rattle.std.proofs.Common.{◌≡◌, ℕ, ◌⊎◌, inl, inr, Bool, true, false, cond, List, [], ◌∷◌, Option, Some, None, refl, sym, ap, subst, ◌∙◌}
-use Rattle.std.specs.Prelude.{◌==◌, slice_get, option_map}
+-- The values of a unit stay such that their slots can hold them.
+use Rattle.std.proofs.Common.{◌≡◌, ℕ, zero, suc, map, length, ◌<◌, ◌⊎◌, inl, inr, Bool, true, false, cond, List, [], ◌∷◌, Option, Some, None, refl, sym, ap, subst, ◌∙◌}
+use Rattle.std.specs.Prelude.{◌==◌, IfSome, slice_get, option_map}
 use Rattle.std.specs.List.{cons_option}
 use Rattle.std.specs.Option.{option_map_or}
 use Rattle.std.proofs.lemmas.Map.{keys-set_value}
 use Rattle.std.proofs.lemmas.Bool.{eqb-true}
 use Rattle.bb_schema.specs.declared.value.Value.{Value}
 use Rattle.bb_units.specs.declared.unit.Unit.{Unit}
-use Rattle.bb_units.specs.Values.{kind_of_value, value_at, with_value}
-use Rattle.bb_units.specs.Layout.{Layout, default_at, defaults_of}
+use Rattle.bb_schema.specs.declared.slot.Slot.{Slot}
+use Rattle.bb_schema.specs.Kinds.{kind_of_value}
+use Rattle.bb_schema.specs.Values.{value_fits}
+use Rattle.bb_schema.specs.Schema.{Schema, default_in}
+use Rattle.bb_schema.specs.Fits.{IsHeld, IsSlot, Fits}
+use Rattle.bb_schema.proofs.FitLemmas.{All-at}
+use Rattle.bb_units.specs.Values.{value_at, with_value}
+use Rattle.bb_units.specs.Layout.{Layout, layout_of, default_at, can_hold, defaults_of}
 use Rattle.bb_units.specs.Units.{new_unit, with_slot}
-use Rattle.bb_units.specs.Fits.{IsUnitOf}
+use Rattle.bb_units.specs.Fits.{HoldsDefaults, IsUnitOf}
 
 -- after a change, a slot has what it had, or it is the changed one
 changed : (values : List (ℕ × Value)) (slot : ℕ) (w : Value) (s : ℕ) → (value_at (with_value values slot w) s ≡ value_at values s) ⊎ ((s ≡ slot) × (value_at (with_value values slot w) s ≡ Some w))
@@ -48,20 +54,38 @@ at_default_of_class : (l : Layout) (slots : Option (List ℕ)) (slot : ℕ) (val
 at_default_of_class l None slot value is = absurd cc
 at_default_of_class l (Some slots) slot value is = at_default l.defaults slots slot value is
 
-pub new_unit_fits : (l : Layout) (class : ℕ) → IsUnitOf l (new_unit l class)
-new_unit_fits l class = record {
+pub new_unit_fits : (l : Layout) (class : ℕ) → class < length l.slots → HoldsDefaults l → IsUnitOf l (new_unit l class)
+new_unit_fits l class there holds = record {
+  class = there;
   slots = refl;
-  kinds = λ slot value is. ap (option_map kind_of_value) (at_default_of_class l (slice_get l.slots class) slot value is);
+  values = λ slot value is. holds slot value (at_default_of_class l (slice_get l.slots class) slot value is);
 }
 
--- a value of the kind of the one before it
-pub other_unit_fits : (l : Layout) (x : Unit) (slot : ℕ) (before value : Value) → IsUnitOf l x → value_at x.values slot ≡ Some before → kind_of_value value ≡ kind_of_value before → IsUnitOf l (with_slot x slot value)
-other_unit_fits l x slot before value fits there same = record {
+-- another value that the slot can hold
+pub other_unit_fits : (l : Layout) (x : Unit) (slot : ℕ) (value : Value) → IsUnitOf l x → can_hold l slot value ≡ true → IsUnitOf l (with_slot x slot value)
+other_unit_fits l x slot value fits held = record {
+  class = fits.class;
   slots = keys-set_value (λ s. s == slot) x.values value ∙ fits.slots;
-  kinds = λ s v is. elim (changed x.values slot value s) [
-    | inl kept ↦ fits.kinds s v (sym kept ∙ is)
+  values = λ s v is. elim (changed x.values slot value s) [
+    | inl kept ↦ fits.values s v (sym kept ∙ is)
     | inr set ↦
-        let new : Some value ≡ Some v = sym set.1 ∙ is in
-        ap (λ s. option_map kind_of_value (default_at l.defaults s)) set.0 ∙ (fits.kinds slot before there ∙ (ap (λ k. Some k) (sym same) ∙ ap (option_map kind_of_value) new))
+        let new : value ≡ v = let e : Some value ≡ Some v = sym set.1 ∙ is in cc in
+        ap (λ (t : ℕ). can_hold l t v) set.0 ∙ (ap (λ (w : Value). can_hold l slot w) (sym new) ∙ held)
   ];
 }
+
+-- ---- the layout of a schema
+
+default_there : (slots : List Slot) (slot : ℕ) (value : Value) → default_at (map (λ t. default_in t.content) slots) slot ≡ Some value → (t : Slot) × (slice_get slots slot ≡ Some t) × (default_in t.content ≡ Some value)
+default_there [] slot value is = absurd cc
+default_there (t ∷ ts) zero value is = (t, refl, is)
+default_there (t ∷ ts) (suc slot) value is = default_there ts slot value is
+
+held_by : (l : Layout) (slot : ℕ) (value : Value) → default_at l.defaults slot ≡ Some value → value_fits l.label_counts (kind_of_value value) value ≡ true → can_hold l slot value ≡ true
+held_by l slot value is fits = rw is fits
+
+pub layout_holds : (s : Schema) → Fits s → HoldsDefaults (layout_of s)
+layout_holds s fits slot value is =
+    let there = default_there s.slots slot value is in
+    let slot_fits : IsSlot s.label_sets (length s.classes) there.0 = All-at (IsSlot s.label_sets (length s.classes)) s.slots slot there.0 there.1 fits.slots in
+    held_by (layout_of s) slot value is (subst (λ (o : Option Value). IfSome o (IsHeld s.label_sets)) there.2 slot_fits.default)

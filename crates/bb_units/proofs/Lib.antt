@@ -4,3 +4,4 @@ pub mod LayoutLemmas
 pub mod KindLemmas
 pub mod FitsLemmas
 pub mod KeptLemmas
+pub mod HasLemmas

@@ -1,8 +1,10 @@
--- Which slots the units of a class have, and what a new unit has in them.
-use Rattle.std.specs.Prelude.{ℕ, List, [], map, Option, slice_get, option_map, option_and_then}
+-- Which slots the units of a class have, what a new unit has in them, and what they can hold.
+use Rattle.std.specs.Prelude.{ℕ, Bool, false, List, [], map, Option, slice_get, option_map, option_and_then}
 use Rattle.std.specs.List.{filter_map}
 use Rattle.std.specs.Option.{option_map_or}
 use Rattle.bb_schema.specs.declared.value.Value.{Value}
+use Rattle.bb_schema.specs.Kinds.{kind_of_value}
+use Rattle.bb_schema.specs.Values.{label_counts, value_fits}
 use Rattle.bb_schema.specs.Schema.{Schema, default_in}
 
 pub record Layout : Type 0 where
@@ -10,14 +12,28 @@ pub record Layout : Type 0 where
   pub slots : List (List ℕ)
   -- by slot, the default of an ordinary one
   pub defaults : List (Option Value)
+  -- by label set, the number of its labels
+  pub label_counts : List ℕ
 
 -- the layout of the units of a schema
 abbrev pub layout_of : Schema → Layout
-layout_of s = record { slots = map (λ k. k.slots) s.classes; defaults = map (λ t. default_in t.content) s.slots }
+layout_of s = record {
+  slots = map (λ k. k.slots) s.classes;
+  defaults = map (λ t. default_in t.content) s.slots;
+  label_counts = label_counts s.label_sets;
+}
+
+-- all slots of a class
+abbrev pub slots_of : Layout → ℕ → List ℕ
+slots_of l class = option_map_or (λ slots. slots) (slice_get l.slots class) []
 
 -- the default of an ordinary slot
 abbrev pub default_at : List (Option Value) → ℕ → Option Value
 default_at defaults slot = option_and_then (λ default. default) (slice_get defaults slot)
+
+-- whether the slot is an ordinary one that can hold the value; its kind is that of its default
+abbrev pub can_hold : Layout → ℕ → Value → Bool
+can_hold l slot value = option_map_or (λ default. value_fits l.label_counts (kind_of_value default) value) (default_at l.defaults slot) false
 
 -- the ordinary ones of some slots, each with its default
 abbrev pub defaults_of : List (Option Value) → List ℕ → List (ℕ × Value)

@@ -1,5 +1,6 @@
 -- The units: which numbers are live, of which class, and with which values (GBBopen Reference Manual, unit instances).
-use Rattle.std.specs.Prelude.{ℕ, ◌+◌, ◌^◌, Bool, ◌||◌, nat_le, List, Option, option_and_then, option_map, Result, Ok, Err, if◌then◌else◌}
+use Rattle.std.specs.Prelude.{ℕ, ◌+◌, ◌^◌, Bool, false, ◌==◌, ◌&&◌, ◌||◌, is_some, nat_le, List, Option, option_and_then, option_map, Result, Ok, Err, if◌then◌else◌}
+use Rattle.std.specs.List.{list_any}
 use Rattle.std.specs.Option.{option_map_or}
 use Rattle.std.specs.Ordering.{nat_cmp}
 use Rattle.std.specs.FinMap as map
@@ -7,8 +8,9 @@ use Rattle.bb_schema.specs.declared.value.Value.{Value}
 use Rattle.bb_units.specs.declared.fault.CreateFault.{CreateFault}
 use Rattle.bb_units.specs.declared.fault.CreateFault.TheVariants.{Full}
 use Rattle.bb_units.specs.declared.unit.Unit.{Unit}
+use Rattle.bb_units.specs.declared.units.TheConstants.{UNIT_LIMIT}
 use Rattle.bb_units.specs.Values.{value_at, with_value}
-use Rattle.bb_units.specs.Layout.{Layout, blank}
+use Rattle.bb_units.specs.Layout.{Layout, slots_of, default_at, can_hold, blank}
 
 pub record Units : Type 0 where
   -- the number that the next unit gets; numbers begin at 1
@@ -22,12 +24,15 @@ pub record Units : Type 0 where
 abbrev pub units_of : List (ℕ × Unit) → map.FinMap nat_cmp Unit
 units_of entries = map.from_entries entries
 
+-- no units yet
 abbrev pub no_units : Layout → Units
 no_units l = record { next = 1; units = map.empty; layout = l }
 
+-- the number names a unit
 abbrev pub is_live : Units → ℕ → Bool
 is_live u n = map.contains_key u.units n
 
+-- the class of a unit
 abbrev pub class_of : Units → ℕ → Option ℕ
 class_of u n = option_map (λ x. x.class) (map.get u.units n)
 
@@ -38,9 +43,17 @@ value_among m n slot = option_and_then (λ x. value_at x.values slot) (map.get m
 abbrev pub value_of : Units → ℕ → ℕ → Option Value
 value_of u n slot = value_among u.units n slot
 
--- no unit can be created: 65,536 are live, or the last number was given out
+-- whether the unit is live, and the slot is among those of its class and an ordinary one
+abbrev pub has_slot : Units → ℕ → ℕ → Bool
+has_slot u n slot = option_map_or (λ x. list_any (λ s. s == slot) (slots_of u.layout x.class) && is_some (default_at u.layout.defaults slot)) (map.get u.units n) false
+
+-- whether the unit is live and has the ordinary slot, and the slot can hold the value
+abbrev pub takes : Units → ℕ → ℕ → Value → Bool
+takes u n slot value = is_some (value_of u n slot) && can_hold u.layout slot value
+
+-- no unit can be created: as many are live as can be, or the last number was given out
 abbrev pub is_full : Units → Bool
-is_full u = nat_le 65536 (map.len u.units) || nat_le (2 ^ 63) u.next
+is_full u = nat_le UNIT_LIMIT (map.len u.units) || nat_le (2 ^ 63) u.next
 
 -- the number that a new unit gets, if there can be one
 abbrev pub next_number : Units → Result ℕ CreateFault
@@ -50,13 +63,13 @@ next_number u = if is_full u then Err Full else Ok u.next
 abbrev pub new_unit : Layout → ℕ → Unit
 new_unit l class = record { class = class; values = blank l class }
 
--- a unit more, under the next number
-abbrev pub created : Units → ℕ → Units
-created u class = record { next = u.next + 1; units = map.insert u.units u.next (new_unit u.layout class); layout = u.layout }
+-- with one more unit, under the next number
+abbrev pub after_create : Units → ℕ → Units
+after_create u class = record { next = u.next + 1; units = map.insert u.units u.next (new_unit u.layout class); layout = u.layout }
 
 -- the same units without one
-abbrev pub deleted : Units → ℕ → Units
-deleted u n = record { next = u.next; units = map.remove u.units n; layout = u.layout }
+abbrev pub after_delete : Units → ℕ → Units
+after_delete u n = record { next = u.next; units = map.remove u.units n; layout = u.layout }
 
 -- a unit with another value in a slot
 abbrev pub with_slot : Unit → ℕ → Value → Unit
@@ -67,5 +80,5 @@ abbrev pub with_value_of : map.FinMap nat_cmp Unit → ℕ → ℕ → Value →
 with_value_of m n slot value = option_map_or (λ x. map.insert m n (with_slot x slot value)) (map.get m n) m
 
 -- the same units, but for one value of one
-abbrev pub updated : Units → ℕ → ℕ → Value → Units
-updated u n slot value = record { next = u.next; units = with_value_of u.units n slot value; layout = u.layout }
+abbrev pub after_set : Units → ℕ → ℕ → Value → Units
+after_set u n slot value = record { next = u.next; units = with_value_of u.units n slot value; layout = u.layout }

@@ -1,14 +1,7 @@
 -- The values of a unit: each under the number of its slot.
 use Rattle.std.specs.Prelude.{ℕ, List, Option, ◌==◌, position}
 use Rattle.std.specs.Map.{lookup, set_value}
-use Rattle.bb_schema.specs.declared.slot.Kind.{Kind}
-use Rattle.bb_schema.specs.declared.slot.Content.TheVariants.{Default}
-use Rattle.bb_schema.specs.Kinds.{kind_of}
 use Rattle.bb_schema.specs.declared.value.Value.{Value}
-
--- the kind of a value: that of the slots that can hold it
-abbrev pub kind_of_value : Value → Kind
-kind_of_value value = kind_of (Default value)
 
 -- the value of a slot
 abbrev pub value_at : List (ℕ × Value) → ℕ → Option Value

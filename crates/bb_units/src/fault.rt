@@ -1,3 +1,5 @@
+//! Why a unit could not be created. `Units::create` answers it.
+
 ghost use Rattle.std.specs.Prelude.{◌≡◌};
 ghost use Rattle.bb_units.specs.declared.fault.CreateFault.TheVariants.{Memory as OutOfMemory};
 
@@ -7,7 +9,7 @@ use thiserror::Error;
 /// Why a unit could not be created. The units are as before.
 #[derive(Clone, Copy, Debug, PartialEq, Eq, Error)]
 pub enum CreateFault {
-    /// As many units are live as can be, or each number was given out.
+    /// As many units are live as can be, or all numbers are used.
     #[error("no more units")]
     Full,
     /// Memory ran out.

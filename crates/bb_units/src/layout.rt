@@ -1,19 +1,26 @@
-ghost use Rattle.std.specs.Prelude.{◌≡◌, ◌<◌, IfOk, length, map, option_map};
+//! What the units keep of their schema: `units.rt` asks it for the values of a new unit.
+
+ghost use Rattle.std.specs.Prelude.{◌≡◌, ◌<◌, ◌↔◌, IsTrue, IfOk, length, map, option_map};
+ghost use Rattle.bb_schema.specs.Values.{label_counts};
 ghost use Rattle.bb_schema.specs.Schema.{default_in, default_of};
-ghost use Rattle.bb_units.specs.Layout.{layout_of, default_at, defaults_of, blank};
+ghost use Rattle.bb_units.specs.Layout.{layout_of, default_at, can_hold, defaults_of, blank};
 
 use crate::values::Values;
-use bb_schema::{ClassId, Kind, Memory, Schema, SlotId, Value};
+use bb_basis::Memory;
+use bb_schema::{ClassId, Kind, LabelSetId, Schema, SlotId, Value};
 use std::alloc::Global;
 use std::marker::Model;
 
-/// What the units keep of their schema: which slots each class has, and what a new unit has in them.
+/// What the units keep of their schema: which slots each class has, what a new unit has in them, and
+/// what they can hold.
 #[derive(Drop)]
 pub(crate) struct Layout {
     // By class, all its slots in class order.
     slots: Vec<Vec<SlotId>>,
     // By slot, the default of an ordinary one.
     defaults: Vec<Option<Value>>,
+    // By label set, the number of its labels.
+    label_counts: Vec<usize>,
 }
 
 impl Model for Layout {
@@ -22,7 +29,11 @@ impl Model for Layout {
 
     ghost Value = { Known };
 
-    ghost view = { λ l. record { slots = map (λ v. v.items) l.slots.items; defaults = l.defaults.items } };
+    ghost view = { λ l. record {
+      slots = map (λ v. v.items) l.slots.items;
+      defaults = l.defaults.items;
+      label_counts = l.label_counts.items;
+    } };
 }
 
 /// The default of an ordinary slot.
@@ -48,7 +59,7 @@ fn defaults_of(
         let Some(value) = default_at(defaults, *slot) else {
             continue;
         };
-        values.push(*slot, value.try_clone()?)?;
+        values.push(*slot, value.clone()?)?;
     }
     Ok(values)
 }
@@ -73,7 +84,7 @@ fn default_of(schema: &Schema, slot: SlotId) -> Result<Option<Value>, Memory>
 {
     match schema.kind(slot) {
         Kind::Link(_) => Ok(None),
-        _ => Ok(Some(schema.default(slot).try_clone()?)),
+        _ => Ok(Some(schema.default(slot).clone()?)),
     }
 }
 
@@ -90,6 +101,19 @@ fn defaults_by_slot(alloc: Global, schema: &Schema) -> Result<Vec<Option<Value>>
     Ok(defaults)
 }
 
+/// By label set, the number of its labels.
+fn label_counts(alloc: Global, schema: &Schema) -> Result<Vec<usize>, Memory>
+    ensures { IfOk result (λ counts. counts.items ≡ label_counts schema.now.label_sets) }
+{
+    // At most 256 label sets.
+    schema.fits();
+    let mut counts = Vec::new(alloc);
+    for set in 0..schema.label_set_count() {
+        counts.push(schema.label_count(set as LabelSetId))?;
+    }
+    Ok(counts)
+}
+
 impl Layout {
     /// What the units of a schema keep of it.
     pub(crate) fn of(alloc: Global, schema: &Schema) -> Result<Layout, Memory>
@@ -98,7 +122,25 @@ impl Layout {
         Ok(Layout {
             slots: slots_by_class(alloc, schema)?,
             defaults: defaults_by_slot(alloc, schema)?,
+            label_counts: label_counts(alloc, schema)?,
         })
+    }
+
+    /// Whether a number names a class.
+    pub(crate) fn has_class(&self, class: ClassId) -> bool
+        ensures { IsTrue result ↔ (class < length self.now.slots) }
+    {
+        (class as usize) < self.slots.len()
+    }
+
+    /// Whether a slot is an ordinary one that can hold a value.
+    pub(crate) fn can_hold(&self, slot: SlotId, value: &Value) -> bool
+        ensures { result ≡ can_hold self.now slot value.now }
+    {
+        match default_at(&self.defaults, slot) {
+            None => false,
+            Some(default) => value.fits(&self.label_counts, default.kind()),
+        }
     }
 
     /// The values of a new unit: each ordinary slot of its class with its default. A class that isn't there has none.

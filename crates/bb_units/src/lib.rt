@@ -9,5 +9,6 @@ mod unit;
 mod units;
 mod values;
 
+pub use bb_schema::UnitId;
 pub use fault::CreateFault;
-pub use units::{UNIT_LIMIT, UnitId, Units};
+pub use units::{UNIT_LIMIT, Units};

@@ -20,12 +20,20 @@ const WORD: ClassId = 2;
 const FOCUS: &str =
     r#"0=Text(Text { inner: "" });1=Text(Text { inner: "" });2=Int(0);3=Bool(true);"#;
 
+/// Creates a unit, where its class is there.
+fn create(units: &mut Units, class: ClassId) -> Result<UnitId, CreateFault> {
+    if !units.has_class(class) {
+        return Err(CreateFault::Memory);
+    }
+    units.create(class)
+}
+
 /// Units of these classes, under the numbers from 1 on.
 fn units_of(alloc: Global, classes: &[ClassId]) -> Result<Units, Fail> {
     let schema = Schema::read(alloc, SCHEMA)?;
     let mut units = Units::new(alloc, &schema)?;
     for class in classes {
-        units.create(*class)?;
+        create(&mut units, *class)?;
     }
     Ok(units)
 }
@@ -35,7 +43,7 @@ fn full(alloc: Global) -> Result<Units, Fail> {
     let schema = Schema::read(alloc, "{}")?;
     let mut units = Units::new(alloc, &schema)?;
     for _ in 0..65_536 {
-        units.create(0)?;
+        create(&mut units, 0)?;
     }
     Ok(units)
 }
@@ -87,7 +95,7 @@ fn numbers_rise_from_one(rt: HostRuntime) -> Result<(), Fail> {
     let mut units = units_of(rt.alloc(), &[THING, 0])?;
     assert_eq!(rt; units.count(), 2);
     assert_eq!(rt; units.next(), 3);
-    assert_eq!(rt; units.create(WORD)?, 3);
+    assert_eq!(rt; create(&mut units, WORD)?, 3);
     Ok(())
 }
 
@@ -134,12 +142,15 @@ fn one_slot_of_one_unit_is_set(rt: HostRuntime) -> Result<(), Fail> {
 }
 
 #[test]
-fn values_of_another_kind(rt: HostRuntime) -> Result<(), Fail> {
+fn values_that_a_slot_cannot_hold(rt: HostRuntime) -> Result<(), Fail> {
     let mut units = units_of(rt.alloc(), &[THING])?;
     assert!(rt; !set(&mut units, 1, 6, Value::Bool(true)));
     assert!(rt; set(&mut units, 1, 5, Value::Label(0, 1)));
-    // A label of another set.
+    // A label of another set, one that is not there, and an interval that is not in order.
     assert!(rt; !set(&mut units, 1, 5, Value::Label(1, 0)));
+    assert!(rt; !set(&mut units, 1, 5, Value::Label(0, 2)));
+    assert!(rt; set(&mut units, 1, 4, Value::Interval(-1, 3)));
+    assert!(rt; !set(&mut units, 1, 4, Value::Interval(3, 2)));
     Ok(())
 }
 
@@ -159,14 +170,14 @@ fn a_number_is_not_used_again(rt: HostRuntime) -> Result<(), Fail> {
     delete(&mut units, 2);
     assert_eq!(rt; class_of(&units, 2), None);
     assert_eq!(rt; units.count(), 1);
-    assert_eq!(rt; units.create(THING)?, 3);
+    assert_eq!(rt; create(&mut units, THING)?, 3);
     Ok(())
 }
 
 #[test]
 fn full_at_the_limit(rt: HostRuntime) -> Result<(), Fail> {
     let mut units = full(rt.alloc())?;
-    assert_eq!(rt; units.create(0), Err(CreateFault::Full));
+    assert_eq!(rt; create(&mut units, 0), Err(CreateFault::Full));
     assert_eq!(rt; units.count(), 65_536);
     assert_eq!(rt; units.next(), 65_537);
     Ok(())
@@ -176,7 +187,7 @@ fn full_at_the_limit(rt: HostRuntime) -> Result<(), Fail> {
 fn room_for_one_again(rt: HostRuntime) -> Result<(), Fail> {
     let mut units = full(rt.alloc())?;
     delete(&mut units, 9);
-    assert_eq!(rt; units.create(0)?, 65_537);
-    assert_eq!(rt; units.create(0), Err(CreateFault::Full));
+    assert_eq!(rt; create(&mut units, 0)?, 65_537);
+    assert_eq!(rt; create(&mut units, 0), Err(CreateFault::Full));
     Ok(())
 }

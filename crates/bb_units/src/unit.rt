@@ -1,3 +1,5 @@
+//! A live unit. `units.rt` keeps each under its number.
+
 use crate::values::Values;
 use bb_schema::ClassId;
 

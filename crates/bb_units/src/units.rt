@@ -1,22 +1,20 @@
-ghost use Rattle.std.specs.Prelude.{◌≡◌, ◌↔◌, IsTrue, IsSome, IsSomeAnd, IfOk, OnOk, OnErr, Some, length, option_map};
+//! The units of a blackboard. The board changes them and reads them.
+
+ghost use Rattle.std.specs.Prelude.{◌≡◌, ◌<◌, ◌↔◌, IsTrue, IsSome, IfOk, OnOk, OnErr, Some, length, option_map};
 ghost use Rattle.std.specs.FinMap as map;
-ghost use Rattle.bb_document.specs.Answers.{Gives};
+ghost use Rattle.bb_basis.specs.Results.{Gives};
 ghost use Rattle.bb_units.specs.Fits.{Fits};
 ghost use Rattle.bb_units.specs.Layout.{layout_of};
-ghost use Rattle.bb_units.specs.Values.{kind_of_value};
-ghost use Rattle.bb_units.specs.Units.{no_units, is_live, class_of, value_of, next_number, created, deleted, updated, units_of, value_among, with_value_of};
+ghost use Rattle.bb_units.specs.Units.{no_units, is_live, class_of, value_of, has_slot, takes, next_number, after_create, after_delete, after_set, units_of, value_among, with_value_of};
 
 use crate::fault::CreateFault;
 use crate::layout::Layout;
 use crate::unit::Unit;
-use crate::values::are_of_one_kind;
-use bb_schema::{ClassId, Memory, Schema, SlotId, Value};
+use bb_basis::Memory;
+use bb_schema::{ClassId, Schema, SlotId, UnitId, Value};
 use std::alloc::Global;
 use std::collections::BTreeMap;
 use std::marker::Model;
-
-/// The number of a unit, from 1. A number is never used again, and 0 names no unit.
-pub type UnitId = u64;
 
 /// The greatest number of live units.
 pub const UNIT_LIMIT: usize = 65_536;
@@ -24,7 +22,7 @@ pub const UNIT_LIMIT: usize = 65_536;
 // One more than the last number that a unit can get.
 const NUMBER_LIMIT: u64 = 1 << 63;
 
-/// The units of a blackboard, each under its number.
+/// The units of a blackboard, each under its number (GBBopen Reference Manual, unit instances).
 #[derive(Drop)]
 pub struct Units {
     alloc: Global,
@@ -35,7 +33,7 @@ pub struct Units {
 
 impl Model for Units {
     ghost use Rattle.bb_units.specs.Units.{Units as Numbered, units_of};
-    ghost use Rattle.bb_units.specs.Codes.{units_code};
+    ghost use Rattle.bb_units.specs.proving.Codes.{units_code};
 
     ghost Value = { Numbered };
 
@@ -43,13 +41,13 @@ impl Model for Units {
 
     ghost view = { λ u. record { next = u.next; units = units_of u.units.entries; layout = u.layout } };
 
-    ghost use Rattle.bb_units.specs.Fits.{AreKept};
+    ghost use Rattle.bb_units.specs.proving.Kept.{AreKept};
 
     ghost invariant = { λ u. AreKept u.next u.units.entries u.layout };
 }
 
 /// The unit of a number, if it is live.
-fn found(units: &BTreeMap<UnitId, Unit>, unit: UnitId) -> Option<&Unit>
+fn unit_at(units: &BTreeMap<UnitId, Unit>, unit: UnitId) -> Option<&Unit>
     ensures { option_map (λ x. x.now) result ≡ map.get (units_of units.now.entries) unit }
 {
     units.get(&unit)
@@ -59,7 +57,7 @@ fn found(units: &BTreeMap<UnitId, Unit>, unit: UnitId) -> Option<&Unit>
 fn value_in(units: &BTreeMap<UnitId, Unit>, unit: UnitId, slot: SlotId) -> Option<&Value>
     ensures { option_map (λ v. v.now) result ≡ value_among (units_of units.now.entries) unit slot }
 {
-    found(units, unit)?.values.get(slot)
+    unit_at(units, unit)?.values.get(slot)
 }
 
 /// Gives a slot of a live unit another value.
@@ -78,6 +76,8 @@ impl Units {
     pub fn new(alloc: Global, schema: &Schema) -> Result<Units, Memory>
         ensures { IfOk result (λ units. units ≡ no_units (layout_of schema.now)) }
     {
+        // A slot can hold its default.
+        schema.fits();
         Ok(Units {
             alloc,
             next: 1,
@@ -86,7 +86,7 @@ impl Units {
         })
     }
 
-    /// How many units are live, at most 65,536.
+    /// The number of live units, at most 65,536.
     pub fn count(&self) -> usize
         ensures { result ≡ map.len self.now.units }
     {
@@ -98,6 +98,13 @@ impl Units {
         ensures { result ≡ self.now.next }
     {
         self.next
+    }
+
+    /// Whether a number names a class, so that units of it can be created.
+    pub fn has_class(&self, class: ClassId) -> bool
+        ensures { IsTrue result ↔ (class < length self.now.layout.slots) }
+    {
+        self.layout.has_class(class)
     }
 
     /// Whether a number names a unit.
@@ -112,7 +119,7 @@ impl Units {
         requires { IsTrue (is_live self.now unit) }
         ensures { class_of self.now unit ≡ Some result }
     {
-        found(&self.units, unit).unwrap().class
+        unit_at(&self.units, unit).unwrap().class
     }
 
     /// The value of an ordinary slot of a live unit, one that its class has.
@@ -125,26 +132,26 @@ impl Units {
 
     /// Whether a number names a unit whose class has the ordinary slot.
     pub fn has(&self, unit: UnitId, slot: SlotId) -> bool
-        ensures { IsTrue result ↔ IsSome (value_of self.now unit slot) }
+        ensures value { IsTrue result ↔ IsSome (value_of self.now unit slot) }
+        ensures listed { result ≡ has_slot self.now unit slot }
     {
         value_in(&self.units, unit, slot).is_some()
     }
 
-    /// Whether a number names a unit whose class has the ordinary slot, and a value is of the slot's kind.
+    /// Whether a number names a unit whose class has the ordinary slot, and the slot can hold a value: one of its kind,
+    /// a text of at most 65,535 bytes, a label that is there, an interval in order.
     pub fn takes(&self, unit: UnitId, slot: SlotId, value: &Value) -> bool
-        ensures { IsTrue result ↔ IsSomeAnd (value_of self.now unit slot) (λ before. kind_of_value value.now ≡ kind_of_value before) }
+        ensures { result ≡ takes self.now unit slot value.now }
     {
-        match value_in(&self.units, unit, slot) {
-            None => false,
-            Some(before) => are_of_one_kind(value, before),
-        }
+        self.has(unit, slot) && self.layout.can_hold(slot, value)
     }
 
-    /// Creates a unit, each of its slots at its default, and answers its number, the next one. `Full`: 65,536 units are
-    /// live, or each number below 2^63 was given out. An error changes nothing.
+    /// Creates a unit of a class that is there, each of its slots at its default, and returns its number, the next one.
+    /// `Full`: 65,536 units are live, or all numbers below 2^63 are used. An error changes nothing.
     pub fn create(&mut self, class: ClassId) -> Result<UnitId, CreateFault>
+        requires { class < length self.old.layout.slots }
         ensures number { Gives CreateFault.Memory (λ number. number) result (next_number self.old) }
-        ensures created { OnOk result (self.new ≡ created self.old class) }
+        ensures created { OnOk result (self.new ≡ after_create self.old class) }
         ensures err { OnErr result (self.new ≡ self.old) }
     {
         if self.units.len() >= UNIT_LIMIT || self.next >= NUMBER_LIMIT {
@@ -157,25 +164,25 @@ impl Units {
         Ok(number)
     }
 
-    /// Gives an ordinary slot of a live unit another value, of the kind of the one that it has.
+    /// Gives an ordinary slot of a live unit another value, one that the slot can hold.
     pub fn set(&mut self, unit: UnitId, slot: SlotId, value: Value)
-        requires { IsSomeAnd (value_of self.old unit slot) (λ before. kind_of_value value ≡ kind_of_value before) }
-        ensures { self.new ≡ updated self.old unit slot value }
+        requires { IsTrue (takes self.old unit slot value) }
+        ensures { self.new ≡ after_set self.old unit slot value }
     {
         update(&mut self.units, unit, slot, value);
     }
 
-    /// Takes a live unit away. Its number is never used again.
+    /// Deletes a live unit. Its number is never used again.
     pub fn delete(&mut self, unit: UnitId)
         requires { IsTrue (is_live self.old unit) }
-        ensures { self.new ≡ deleted self.old unit }
+        ensures { self.new ≡ after_delete self.old unit }
     {
         self.units.remove(&unit);
     }
 
-    /// Does nothing, and says what holds of the units at any time: numbers of units were given out, and 0 never is; at
-    /// most 65,536 units are live; and each has exactly the ordinary slots of its class, in class order, with a value
-    /// of the slot's kind.
+    /// Does nothing, and says what holds of the units at any time: each number is above 0 and below the next one; at
+    /// most 65,536 units are live; the class of each is there, and each has exactly the ordinary slots of its class, in
+    /// class order, each with a value that it can hold.
     pub fn fits(&self)
         ensures { Fits self.now }
     {

@@ -1,6 +1,8 @@
-ghost use Rattle.std.specs.Prelude.{◌≡◌, ◌↔◌, IsTrue, [], ◌∷◌, ◌++◌, IfOk, IsSome, nat_eq, option_map};
+//! The values of a unit. `units.rt` reads and sets them, and `layout.rt` makes those of a new unit.
+
+ghost use Rattle.std.specs.Prelude.{◌≡◌, [], ◌∷◌, ◌++◌, IfOk, IsSome, nat_eq, option_map};
 ghost use Rattle.std.specs.Map.{lookup, set_value};
-ghost use Rattle.bb_units.specs.Values.{kind_of_value, place_of, value_at, with_value};
+ghost use Rattle.bb_units.specs.Values.{place_of, value_at, with_value};
 
 use bb_schema::{SlotId, Value};
 use std::alloc::{AllocError, Global};
@@ -22,29 +24,15 @@ impl Model for Values {
     ghost view = { λ v. v.entries.items };
 }
 
-/// The place of a slot among values.
+/// The index of a slot among values.
 fn place(entries: &[(SlotId, Value)], slot: SlotId) -> Option<usize>
     ensures { result ≡ place_of slot entries.now }
 {
     entries.iter().position(|entry| entry.0 == slot)
 }
 
-/// Whether one slot could hold two values: they are both numbers, or both labels of one set, and so on.
-pub(crate) fn are_of_one_kind(value: &Value, other: &Value) -> bool
-    ensures { IsTrue result ↔ (kind_of_value value.now ≡ kind_of_value other.now) }
-{
-    match (value, other) {
-        (Value::Int(_), Value::Int(_)) => true,
-        (Value::Text(_), Value::Text(_)) => true,
-        (Value::Bool(_), Value::Bool(_)) => true,
-        (Value::Label(set, _), Value::Label(other_set, _)) => set == other_set,
-        (Value::Interval(_, _), Value::Interval(_, _)) => true,
-        _ => false,
-    }
-}
-
 impl Values {
-    /// No values. It allocates nothing.
+    /// An empty list of values. It allocates nothing.
     pub(crate) fn new(alloc: Global) -> Values
         ensures { result ≡ [] }
     {
@@ -53,7 +41,7 @@ impl Values {
         }
     }
 
-    /// Puts a value last.
+    /// Appends a value.
     pub(crate) fn push(&mut self, slot: SlotId, value: Value) -> Result<(), AllocError>
         ensures { IfOk result (λ _. self.new ≡ self.old ++ (slot, value) ∷ []) }
     {

@@ -1,62 +1,56 @@
+//! The classes of a schema, read one entry after another.
+
 ghost use Rattle.std.specs.Prelude.{◌≡◌, [], map, option_map, string_bytes, IfOk};
-ghost use Rattle.bb_document.specs.Answers.{Gives, through};
+ghost use Rattle.bb_basis.specs.Results.{Gives, try_fold};
 ghost use Rattle.bb_document.specs.Document.{class_declaration};
 ghost use Rattle.bb_schema.specs.declared.fault.SchemaFault.TheVariants.{Memory as OutOfMemory};
-ghost use Rattle.bb_schema.specs.Drafts.{Drafted as Classes};
-ghost use Rattle.bb_schema.specs.ClassReading.{parent_number, inherited, class_after};
+ghost use Rattle.bb_schema.specs.ClassReading.{parent_number, inherited_slots, class_after, draft_of};
 
 use crate::class::{Class, ClassId};
-use crate::draft::Draft;
+use crate::draft::{ClassDraft, Owner, SchemaDraft};
 use crate::fault::SchemaFault;
 use crate::label_set::LabelSet;
-use crate::name::is_name;
-use crate::numbers::Numbers;
 use crate::read::entries::Entries;
 use crate::read::links::add_links;
 use crate::read::slots::add_slots;
-use crate::table::Table;
-use crate::text::Text;
+use crate::slot::SlotId;
+use bb_basis::{Items, Table, Text, is_name};
 use bb_document::ClassEntry;
 use std::alloc::{AllocError, Global};
+use std::mem;
 
 /// The greatest number of classes, with `focus`.
-pub const CLASS_LIMIT: usize = 256;
-
-/// The classes that were read so far, and all their slots.
-#[derive(Drop)]
-pub(crate) struct Drafted {
-    pub classes: Table<Class>,
-    pub slots: Vec<Draft>,
-}
+pub(crate) const CLASS_LIMIT: usize = 256;
 
 fn parent_number(
     classes: &Table<Class>,
     parent: &Option<String>,
 ) -> Result<Option<ClassId>, SchemaFault>
-    ensures { Gives OutOfMemory (λ p. p) result (parent_number classes.now (option_map string_bytes parent.now)) }
+    ensures { Gives OutOfMemory (λ p. p) result
+        (parent_number classes.now (option_map string_bytes parent.now)) }
 {
     match parent {
         None => Ok(None),
         Some(name) => {
-            let number = classes.place(name.as_str()).ok_or(SchemaFault::Unknown)?;
+            let number = classes.index_of(name.as_str()).ok_or(SchemaFault::Unknown)?;
             Ok(Some(number))
         }
     }
 }
 
 /// The slots that a class has from its parent.
-fn inherited(
+fn inherited_slots(
     alloc: Global,
     classes: &Table<Class>,
     parent: Option<ClassId>,
-) -> Result<Numbers, AllocError>
-    ensures { IfOk result (λ slots. slots ≡ inherited classes.now parent) }
+) -> Result<Items<SlotId>, AllocError>
+    ensures { IfOk result (λ slots. slots ≡ inherited_slots classes.now parent) }
 {
     match parent {
-        None => Ok(Numbers::new(alloc)),
+        None => Ok(Items::new(alloc)),
         Some(number) => match classes.get(number as usize) {
-            None => Ok(Numbers::new(alloc)),
-            Some(class) => class.slots.try_clone(),
+            None => Ok(Items::new(alloc)),
+            Some(class) => class.slots.clone(),
         },
     }
 }
@@ -67,49 +61,40 @@ fn add_class(
     alloc: Global,
     sets: &Table<LabelSet>,
     all: &Entries,
-    drafted: &mut Drafted,
+    draft: &mut SchemaDraft,
     entry: &ClassEntry,
 ) -> Result<(), SchemaFault>
-    ensures { Gives OutOfMemory (λ _. let new : Classes = record { classes = drafted.new.classes; slots = drafted.new.slots.items } in new) result
-        (class_after sets.now all.now (record { classes = drafted.old.classes; slots = drafted.old.slots.items }) (class_declaration entry.now)) }
+    ensures { Gives OutOfMemory (λ _. draft.new) result
+        (class_after sets.now all.now draft.old (class_declaration entry.now)) }
 {
     let name = entry.name.as_str();
     if !is_name(name) {
         return Err(SchemaFault::Name);
     }
-    if drafted.classes.contains(name) {
+    if draft.classes.contains(name) {
         return Err(SchemaFault::Twice);
     }
-    let parent = parent_number(&drafted.classes, &entry.parent)?;
-    if drafted.classes.len() >= CLASS_LIMIT {
+    let parent = parent_number(&draft.classes, &entry.parent)?;
+    if draft.classes.len() >= CLASS_LIMIT {
         return Err(SchemaFault::Limit);
     }
-    let owner = drafted.classes.len() as ClassId;
-    let mut slots = inherited(alloc, &drafted.classes, parent)?;
-    add_slots(
-        alloc,
-        sets,
-        owner,
-        &mut drafted.slots,
-        &mut slots,
-        &entry.slots,
-    )?;
-    add_links(
-        alloc,
-        all,
-        name,
-        owner,
-        &mut drafted.slots,
-        &mut slots,
-        &entry.links,
-    )?;
-    let name = Text::from_str(alloc, name)?;
-    drafted.classes.push(
+    let owner = Owner {
+        name: Text::from_str(alloc, name)?,
+        number: draft.classes.len() as ClassId,
+    };
+    let class_slots = inherited_slots(alloc, &draft.classes, parent)?;
+    let slots = mem::replace(&mut draft.slots, Items::new(alloc));
+    let mut class = ClassDraft { slots, class_slots };
+    add_slots(alloc, sets, owner.number, &mut class, &entry.slots)?;
+    add_links(alloc, all, &owner, &mut class, &entry.links)?;
+    let ClassDraft { slots, class_slots } = class;
+    draft.slots = slots;
+    draft.classes.push(
         alloc,
         Class {
-            name,
+            name: owner.name,
             parent,
-            slots,
+            slots: class_slots,
         },
     )?;
     Ok(())
@@ -120,18 +105,18 @@ fn add_classes(
     sets: &Table<LabelSet>,
     all: &Entries,
     entries: &[ClassEntry],
-) -> Result<Drafted, SchemaFault>
-    ensures { Gives OutOfMemory (λ drafted. let new : Classes = record { classes = drafted.classes; slots = drafted.slots.items } in new) result
-        (through (class_after sets.now all.now) (record { classes = []; slots = [] }) (map class_declaration entries.now)) }
+) -> Result<SchemaDraft, SchemaFault>
+    ensures { Gives OutOfMemory (λ draft. draft) result
+        (draft_of sets.now all.now (map class_declaration entries.now)) }
 {
-    let mut drafted = Drafted {
+    let mut draft = SchemaDraft {
         classes: Table::new(alloc),
-        slots: Vec::new(alloc),
+        slots: Items::new(alloc),
     };
     for entry in entries {
-        add_class(alloc, sets, all, &mut drafted, entry)?;
+        add_class(alloc, sets, all, &mut draft, entry)?;
     }
-    Ok(drafted)
+    Ok(draft)
 }
 
 /// The classes of all entries.
@@ -139,9 +124,9 @@ pub(crate) fn classes_of(
     alloc: Global,
     sets: &Table<LabelSet>,
     entries: &[ClassEntry],
-) -> Result<Drafted, SchemaFault>
-    ensures { Gives OutOfMemory (λ drafted. let new : Classes = record { classes = drafted.classes; slots = drafted.slots.items } in new) result
-        (through (class_after sets.now (map class_declaration entries.now)) (record { classes = []; slots = [] }) (map class_declaration entries.now)) }
+) -> Result<SchemaDraft, SchemaFault>
+    ensures { Gives OutOfMemory (λ draft. draft) result
+        (draft_of sets.now (map class_declaration entries.now) (map class_declaration entries.now)) }
 {
     let all = Entries::new(alloc, entries)?;
     add_classes(alloc, sets, &all, entries)

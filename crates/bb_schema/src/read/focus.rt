@@ -1,3 +1,5 @@
+//! The built-in class. `read.rt` reads its entry before those of the document.
+
 ghost use Rattle.std.specs.Prelude.{◌≡◌, [], ◌∷◌, map, IfOk};
 ghost use Rattle.bb_document.specs.Document.{class_declaration, slot_declaration, text_default};
 ghost use Rattle.bb_schema.specs.ClassReading.{focus};
@@ -37,7 +39,7 @@ fn focus(alloc: Global) -> Result<ClassEntry, AllocError>
     })
 }
 
-/// The classes of a document, behind the built-in one.
+/// The classes of a document, after the built-in one.
 pub(crate) fn with_focus(
     alloc: Global,
     entries: Vec<ClassEntry>,

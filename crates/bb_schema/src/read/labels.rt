@@ -1,19 +1,19 @@
+//! The label sets of a schema, read one entry after another.
+
 ghost use Rattle.std.specs.Prelude.{map, [], string_bytes};
-ghost use Rattle.bb_document.specs.Answers.{Gives, through};
+ghost use Rattle.bb_basis.specs.Results.{Gives, try_fold};
 ghost use Rattle.bb_document.specs.Document.{label_set_declaration};
 ghost use Rattle.bb_schema.specs.declared.fault.SchemaFault.TheVariants.{Memory as OutOfMemory};
 ghost use Rattle.bb_schema.specs.LabelReading.{label_after, label_set_after};
 
 use crate::fault::SchemaFault;
 use crate::label_set::{LABEL_LIMIT, LabelSet, Labels};
-use crate::name::is_name;
-use crate::table::Table;
-use crate::text::Text;
+use bb_basis::{Table, Text, is_name};
 use bb_document::LabelSetEntry;
 use std::alloc::Global;
 
 /// The greatest number of label sets.
-pub const LABEL_SET_LIMIT: usize = 256;
+pub(crate) const LABEL_SET_LIMIT: usize = 256;
 
 #[tactic(auto, unfolding(crate::specs::LabelReading::label_after))]
 fn add_label(alloc: Global, labels: &mut Labels, name: &str) -> Result<(), SchemaFault>
@@ -33,7 +33,7 @@ fn add_label(alloc: Global, labels: &mut Labels, name: &str) -> Result<(), Schem
 }
 
 fn labels_of(alloc: Global, names: &[String]) -> Result<Labels, SchemaFault>
-    ensures { Gives OutOfMemory (λ ls. ls) result (through label_after [] (map string_bytes names.now)) }
+    ensures { Gives OutOfMemory (λ ls. ls) result (try_fold label_after [] (map string_bytes names.now)) }
 {
     let mut labels = Labels::new(alloc);
     for name in names {
@@ -71,7 +71,8 @@ pub(crate) fn label_sets_of(
     alloc: Global,
     entries: &[LabelSetEntry],
 ) -> Result<Table<LabelSet>, SchemaFault>
-    ensures { Gives OutOfMemory (λ sets. sets) result (through label_set_after [] (map label_set_declaration entries.now)) }
+    ensures { Gives OutOfMemory (λ sets. sets) result
+        (try_fold label_set_after [] (map label_set_declaration entries.now)) }
 {
     let mut sets = Table::new(alloc);
     for entry in entries {

@@ -1,24 +1,19 @@
+//! The ordinary slots of a class, read one entry after another.
+
 ghost use Rattle.std.specs.Prelude.{◌≡◌, map, option_map, option_and_then, slice_get, string_bytes};
-ghost use Rattle.bb_document.specs.Answers.{Gives, through};
+ghost use Rattle.bb_basis.specs.Results.{Gives, try_fold};
 ghost use Rattle.bb_document.specs.Document.{default_declaration, slot_declaration};
 ghost use Rattle.bb_schema.specs.declared.fault.SchemaFault.TheVariants.{Memory as OutOfMemory};
-ghost use Rattle.bb_schema.specs.Drafts.{Growing};
 ghost use Rattle.bb_schema.specs.SlotReading.{chosen_label, label_value, default_value, is_long, slot_after};
 
 use crate::class::ClassId;
-use crate::draft::{Draft, DraftContent, has_member, is_full, push_draft};
+use crate::draft::{ClassDraft, Draft, DraftContent};
 use crate::fault::SchemaFault;
 use crate::label_set::{LabelId, LabelSet, LabelSetId, Labels};
-use crate::name::is_name;
-use crate::numbers::Numbers;
-use crate::table::Table;
-use crate::text::Text;
-use crate::value::Value;
+use crate::value::{TEXT_LIMIT, Value};
+use bb_basis::{Table, Text, is_name};
 use bb_document::{DefaultEntry, SlotEntry};
 use std::alloc::Global;
-
-/// The greatest length of a text in a slot, in bytes.
-pub const TEXT_LIMIT: usize = 65_535;
 
 fn chosen_label(labels: &Labels, given: &Option<String>) -> Option<LabelId>
     ensures { result ≡ chosen_label labels.now (option_map string_bytes given.now) }
@@ -26,12 +21,13 @@ fn chosen_label(labels: &Labels, given: &Option<String>) -> Option<LabelId>
     match given {
         None if labels.len() == 0 => None,
         None => Some(0),
-        Some(name) => labels.number(name.as_str()),
+        Some(name) => labels.index_of(name.as_str()),
     }
 }
 
 fn label_in(sets: &Table<LabelSet>, set: LabelSetId, given: &Option<String>) -> Option<LabelId>
-    ensures { result ≡ option_and_then (λ s. chosen_label s.values (option_map string_bytes given.now)) (slice_get sets.now set) }
+    ensures { result ≡
+        option_and_then (λ s. chosen_label s.values (option_map string_bytes given.now)) (slice_get sets.now set) }
 {
     chosen_label(&sets.get(set as usize)?.values, given)
 }
@@ -44,7 +40,7 @@ fn label_value(
 ) -> Result<Value, SchemaFault>
     ensures { Gives OutOfMemory (λ v. v) result (label_value sets.now of.now (option_map string_bytes given.now)) }
 {
-    let set = sets.place(of).ok_or(SchemaFault::Unknown)?;
+    let set = sets.index_of(of).ok_or(SchemaFault::Unknown)?;
     let label = label_in(sets, set, given).ok_or(SchemaFault::Unknown)?;
     Ok(Value::Label(set, label))
 }
@@ -74,58 +70,52 @@ fn is_long(default: &DefaultEntry) -> bool
     }
 }
 
-/// Adds an ordinary slot to the class of number `owner`, whose slots so far are `members`.
+/// Appends the ordinary slot of an entry to the class of number `owner`.
 #[tactic(auto, unfolding(crate::specs::SlotReading::slot_after))]
 fn add_slot(
     alloc: Global,
     sets: &Table<LabelSet>,
     owner: ClassId,
-    slots: &mut Vec<Draft>,
-    members: &mut Numbers,
+    class: &mut ClassDraft,
     entry: &SlotEntry,
 ) -> Result<(), SchemaFault>
-    ensures { Gives OutOfMemory (λ _. let new : Growing = record { slots = slots.new.items; members = members.new } in new) result
-        (slot_after sets.now owner (record { slots = slots.old.items; members = members.old }) (slot_declaration entry.now)) }
+    ensures { Gives OutOfMemory (λ _. class.new) result
+        (slot_after sets.now owner class.old (slot_declaration entry.now)) }
 {
     let name = entry.name.as_str();
     if !is_name(name) {
         return Err(SchemaFault::Name);
     }
-    if has_member(slots, members.as_slice(), name) {
+    if class.has_slot_named(name) {
         return Err(SchemaFault::Twice);
     }
     let value = default_value(alloc, sets, &entry.default)?;
-    if is_full(slots, members) || is_long(&entry.default) {
+    if class.is_full() || is_long(&entry.default) {
         return Err(SchemaFault::Limit);
     }
     let name = Text::from_str(alloc, name)?;
     let content = DraftContent::Default(value);
-    push_draft(
-        slots,
-        members,
-        Draft {
-            name,
-            owner,
-            content,
-        },
-    )?;
+    class.push(Draft {
+        name,
+        owner,
+        content,
+    })?;
     Ok(())
 }
 
-/// Adds the ordinary slots of an entry to a class.
+/// Appends the ordinary slots of some entries to the class of number `owner`.
 pub(crate) fn add_slots(
     alloc: Global,
     sets: &Table<LabelSet>,
     owner: ClassId,
-    slots: &mut Vec<Draft>,
-    members: &mut Numbers,
+    class: &mut ClassDraft,
     entries: &[SlotEntry],
 ) -> Result<(), SchemaFault>
-    ensures { Gives OutOfMemory (λ _. let new : Growing = record { slots = slots.new.items; members = members.new } in new) result
-        (through (slot_after sets.now owner) (record { slots = slots.old.items; members = members.old }) (map slot_declaration entries.now)) }
+    ensures { Gives OutOfMemory (λ _. class.new) result
+        (try_fold (slot_after sets.now owner) class.old (map slot_declaration entries.now)) }
 {
     for entry in entries {
-        add_slot(alloc, sets, owner, slots, members, entry)?;
+        add_slot(alloc, sets, owner, class, entry)?;
     }
     Ok(())
 }

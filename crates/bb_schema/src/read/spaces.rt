@@ -1,32 +1,31 @@
+//! The spaces of a schema, read one entry after another over the schema without spaces.
+
 ghost use Rattle.std.specs.Prelude.{◌≡◌, [], map, option_map, string_bytes};
 ghost use Rattle.std.specs.List.{list_all};
-ghost use Rattle.bb_document.specs.Answers.{Gives, through};
+ghost use Rattle.bb_basis.specs.Results.{Gives, try_fold};
 ghost use Rattle.bb_document.specs.Document.{dim_declaration, space_declaration};
 ghost use Rattle.bb_schema.specs.declared.fault.SchemaFault.TheVariants.{Memory as OutOfMemory};
-ghost use Rattle.bb_schema.specs.SpaceReading.{listed_after, suits, has_slot_for, set_number, dim_after, space_after};
+ghost use Rattle.bb_schema.specs.SpaceReading.{space_class_after, suits, has_slot_for, set_number, dim_after, space_after};
 
 use crate::class::ClassId;
-use crate::class_set::ClassSet;
 use crate::fault::SchemaFault;
 use crate::label_set::LabelSetId;
-use crate::name::is_name;
 use crate::schema::Schema;
 use crate::slot::Kind;
 use crate::space::{Dim, Space};
-use crate::table::Table;
-use crate::text::Text;
+use bb_basis::{IdSet, Table, Text, is_name};
 use bb_document::{DimEntry, SpaceEntry};
 use std::alloc::Global;
 
 /// The greatest number of spaces.
-pub const SPACE_LIMIT: usize = 256;
+pub(crate) const SPACE_LIMIT: usize = 256;
 
 /// The greatest number of dimensions of a space.
-pub const DIM_LIMIT: usize = 16;
+pub(crate) const DIM_LIMIT: usize = 16;
 
-#[tactic(auto, unfolding(crate::specs::SpaceReading::listed_after, crate::specs::SpaceReading::is_among))]
-fn add_listed(schema: &Schema, listed: &mut ClassSet, name: &str) -> Result<(), SchemaFault>
-    ensures { Gives OutOfMemory (λ _. listed.new) result (listed_after schema.now listed.old name.now) }
+#[tactic(auto, unfolding(crate::specs::SpaceReading::space_class_after, crate::specs::SpaceReading::is_among))]
+fn add_space_class(schema: &Schema, listed: &mut IdSet, name: &str) -> Result<(), SchemaFault>
+    ensures { Gives OutOfMemory (λ _. listed.new) result (space_class_after schema.now listed.old name.now) }
 {
     let class = schema.class(name).ok_or(SchemaFault::Unknown)?;
     if listed.contains(class) {
@@ -36,12 +35,13 @@ fn add_listed(schema: &Schema, listed: &mut ClassSet, name: &str) -> Result<(), 
     Ok(())
 }
 
-fn listed_of(alloc: Global, schema: &Schema, names: &[String]) -> Result<ClassSet, SchemaFault>
-    ensures { Gives OutOfMemory (λ listed. listed) result (through (listed_after schema.now) [] (map string_bytes names.now)) }
+fn space_classes_of(alloc: Global, schema: &Schema, names: &[String]) -> Result<IdSet, SchemaFault>
+    ensures { Gives OutOfMemory (λ listed. listed) result
+        (try_fold (space_class_after schema.now) [] (map string_bytes names.now)) }
 {
-    let mut listed = ClassSet::new(alloc);
+    let mut listed = IdSet::new(alloc);
     for name in names {
-        add_listed(schema, &mut listed, name.as_str())?;
+        add_space_class(schema, &mut listed, name.as_str())?;
     }
     Ok(listed)
 }
@@ -100,7 +100,8 @@ fn add_dim(
     dims: &mut Table<Dim>,
     entry: &DimEntry,
 ) -> Result<(), SchemaFault>
-    ensures { Gives OutOfMemory (λ _. dims.new) result (dim_after schema.now listed.now dims.old (dim_declaration entry.now)) }
+    ensures { Gives OutOfMemory (λ _. dims.new) result
+        (dim_after schema.now listed.now dims.old (dim_declaration entry.now)) }
 {
     let name = entry.name.as_str();
     if !is_name(name) {
@@ -127,7 +128,8 @@ fn dims_of(
     listed: &[ClassId],
     entries: &[DimEntry],
 ) -> Result<Table<Dim>, SchemaFault>
-    ensures { Gives OutOfMemory (λ dims. dims) result (through (dim_after schema.now listed.now) [] (map dim_declaration entries.now)) }
+    ensures { Gives OutOfMemory (λ dims. dims) result
+        (try_fold (dim_after schema.now listed.now) [] (map dim_declaration entries.now)) }
 {
     let mut dims = Table::new(alloc);
     for entry in entries {
@@ -143,7 +145,8 @@ fn add_space(
     spaces: &mut Table<Space>,
     entry: &SpaceEntry,
 ) -> Result<(), SchemaFault>
-    ensures { Gives OutOfMemory (λ _. spaces.new) result (space_after schema.now spaces.old (space_declaration entry.now)) }
+    ensures { Gives OutOfMemory (λ _. spaces.new) result
+        (space_after schema.now spaces.old (space_declaration entry.now)) }
 {
     let name = entry.name.as_str();
     if !is_name(name) {
@@ -155,7 +158,7 @@ fn add_space(
     if spaces.len() >= SPACE_LIMIT {
         return Err(SchemaFault::Limit);
     }
-    let classes = listed_of(alloc, schema, &entry.classes)?;
+    let classes = space_classes_of(alloc, schema, &entry.classes)?;
     let dims = dims_of(alloc, schema, classes.as_slice(), &entry.dims)?;
     let name = Text::from_str(alloc, name)?;
     spaces.push(
@@ -175,7 +178,8 @@ pub(crate) fn spaces_of(
     schema: &Schema,
     entries: &[SpaceEntry],
 ) -> Result<Table<Space>, SchemaFault>
-    ensures { Gives OutOfMemory (λ spaces. spaces) result (through (space_after schema.now) [] (map space_declaration entries.now)) }
+    ensures { Gives OutOfMemory (λ spaces. spaces) result
+        (try_fold (space_after schema.now) [] (map space_declaration entries.now)) }
 {
     let mut spaces = Table::new(alloc);
     for entry in entries {

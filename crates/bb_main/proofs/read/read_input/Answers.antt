@@ -1,14 +1,21 @@
-use Rattle.std.proofs.Common.{◌≤◌, Err, length, ap, ◌∙◌, arith}
+use Rattle.std.proofs.Common.{◌≡◌, ◌≤◌, ◌+◌, ℕ, length, length-take, arith}
 use Rattle.std.proofs.lemmas.Result.{err_from_is_err_and}
-use Rattle.bb_main.proofs.ReadLemmas.{takes-more, reads-failure}
+use Rattle.bb_main.specs.declared.read.TheConstants.{INPUT_LIMIT}
+use Rattle.bb_main.proofs.ReadLemmas.{takes-read}
 use Rattle.bb_main.proofs.read.read_input.Goals as goal
 
-pub returns-in_err-read_more-clause-bytes : goal.returns-in_err-read_more-clause-bytes
-returns-in_err-read_more-clause-bytes g c =
-    let p = err_from_is_err_and c.from_residual.result c.from_residual.ensures.1 in
-    reads-failure (g.R.Read.remaining c.args.reader.now) c.in_err-read_more.field-0.0 c.from_residual.result (p.1 ∙ ap (λ e. Err e) p.2) c.in_err-read_more.ensures.failure
+pub returns-in_err-extend_from_slice-clause-read : goal.returns-in_err-extend_from_slice-clause-read
+returns-in_err-extend_from_slice-clause-read g c =
+    let p = err_from_is_err_and c.from_residual-in_err-extend_from_slice.result c.from_residual-in_err-extend_from_slice.ensures.1 in
+    let count = rw c.in_ok-count.ensures.ok_part at c.read.ensures.count in
+    let bytes = rw c.in_ok-count.ensures.ok_part at c.read.ensures.bytes in
+    let taken = takes-read (g.R.In.remaining c.args.reader.now) (g.R.In.remaining c.loop-input.reader) (g.R.In.remaining c.read.new.self) c.loop-input.input.items c.read.new.buffer c.in_ok-count.count count c.loop-input.invariant.taken bytes in
+    let room : length c.loop-input.input.items + c.in_ok-count.count ≤ INPUT_LIMIT = omega (arith, c.read.auto.buffer, length-take {A = ℕ}) in
+    rw (p.1, p.2) (taken.0, taken.1, omega arith)
 
-pub returns-in_err-read_more-clause-taken : goal.returns-in_err-read_more-clause-taken
-returns-in_err-read_more-clause-taken g c =
-    let within : length c.loop-input.input.items ≤ 16777216 = omega arith in
-    takes-more (g.R.Read.remaining c.args.reader.now) (g.R.Read.remaining c.loop-input.reader) (g.R.Read.remaining c.read_more.new.reader) c.loop-input.input.items _ within (omega arith) c.loop-input.invariant.taken c.in_err-read_more.ensures.err
+pub returns-in-Some-clause-read : goal.returns-in-Some-clause-read
+returns-in-Some-clause-read g c =
+    let taken = takes-read (g.R.In.remaining c.args.reader.now) (g.R.In.remaining c.loop-input.reader) (g.R.In.remaining c.read-2.new.self) c.loop-input.input.items c.read-2.new.buffer c.in-Some.field-0 c.in-Some.ensures.count c.loop-input.invariant.taken c.in-Some.ensures.bytes in
+    let some = c.in-Some.field-0-test.1 in
+    let one : c.in-Some.field-0 ≡ 1 = omega (arith, c.in-Some.ensures.count, c.read-2.auto.buffer, length-take {A = ℕ}) in
+    (taken.0, taken.1, omega arith)

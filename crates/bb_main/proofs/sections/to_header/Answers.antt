@@ -1,6 +1,6 @@
 use Rattle.std.proofs.Common.{rules, ap, sym, ◌∙◌, length}
 use Rattle.std.specs.Option.{is_some}
-use Rattle.bb_main.specs.Cuts.{Begins}
+use Rattle.bb_main.specs.proving.Cuts.{Begins}
 use Rattle.std.proofs.lemmas.Bool.{eqb-true}
 use Rattle.bb_main.proofs.HeaderLemmas.{passed-more, none_from, begins-nil, begins-header, before-cut, cut-at, some_from}
 use Rattle.bb_main.proofs.sections.to_header.Goals as goal

@@ -1,7 +1,17 @@
-use Rattle.bb_main.proofs.ServeLemmas.{serves-unread}
+use Rattle.std.proofs.Common.{refl}
+use Rattle.bb_main.proofs.ServeLemmas.{serves-long, serves-nothing}
 use Rattle.bb_main.proofs.serving.serve.Goals as goal
 
-pub returns-in-Err-clause-answer : goal.returns-in-Err-clause-answer
-returns-in-Err-clause-answer g c =
-    serves-unread c.in-Err.refusal c.args.limit c.args.floor (g.R.Read.remaining c.args.reader.now) (g.O.Out.taken c.args.writer.now) (g.O.Out.taken c.refuse_input.new.writer) c.refuse_input.result
-    c.in-Err.ensures.reading c.in-Err.ensures.bytes c.refuse_input.ensures.memory c.refuse_input.ensures.answer
+pub returns-in-Err-Limit-clause-answer : goal.returns-in-Err-Limit-clause-answer
+returns-in-Err-Limit-clause-answer g c =
+    let read = rw (c.in-Err-Limit.is, c.in-Err-Limit.field-0-is) at c.read_input.ensures.read in
+    let delivers = rw c.line.ensures at c.write_refusal-in-Err-Limit.ensures.answer in
+    rw (c.read_input.ensures.failed, c.in-Err-Limit.is, c.in-Err-Limit.field-0-is) (serves-long c.args.limit c.args.floor (g.R.In.remaining c.args.reader.now) (g.R.In.remaining c.read_input.new.reader) (g.O.Out.taken c.args.writer.now) (g.O.Out.taken c.write_refusal-in-Err-Limit.new.writer) c.write_refusal-in-Err-Limit.result
+    read.0 read.1 read.2 delivers)
+
+pub returns-in-Err-Limit-clause-too_long : goal.returns-in-Err-Limit-clause-too_long
+returns-in-Err-Limit-clause-too_long g c = λ _. rw c.line.ensures at c.write_refusal-in-Err-Limit.ensures.answer
+
+pub returns-in-Err-Memory-clause-answer : goal.returns-in-Err-Memory-clause-answer
+returns-in-Err-Memory-clause-answer g c =
+    rw (c.read_input.ensures.failed, c.in-Err-Memory.is, c.in-Err-Memory.field-0-is) (serves-nothing c.args.limit c.args.floor (g.R.In.remaining c.args.reader.now) (g.O.Out.taken c.args.writer.now) 5 refl)

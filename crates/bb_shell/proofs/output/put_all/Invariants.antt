@@ -1,5 +1,5 @@
 use Rattle.std.proofs.Common.{◌≡◌, false, length}
-use Rattle.bb_shell.specs.Ledger.{Sent}
+use Rattle.bb_shell.proofs.OutLemmas.{Sent}
 use Rattle.bb_shell.proofs.output.put_all.Given as goal
 
 abbrev pub invariant-loop-rest : goal.invariant-loop-rest

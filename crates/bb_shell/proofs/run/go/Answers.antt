@@ -1,17 +1,34 @@
-use Rattle.std.proofs.Common.{ap, string_bytes}
-use Rattle.std.specs.Prelude.{Option}
-use Rattle.bb_shell.specs.declared.finish.Finish.{Finish}
-use Rattle.bb_shell.specs.Agenda.{Agenda}
-use Rattle.bb_shell.specs.Run.{cycles, over, ends_or, events_first}
-use Rattle.bb_shell.proofs.WriteLemmas.{writes_as, writes_then}
+use Rattle.std.proofs.Common.{[], None, Some, Ok, subst}
+use Rattle.std.proofs.lemmas.Result.{err_from_is_err_and}
+use Rattle.bb_agenda.specs.Agenda.{Agenda}
+use Rattle.bb_shell.specs.Run.{cycles, report, start, unfinished}
+use Rattle.bb_shell.specs.proving.Telling.{CutIn, Makes, at}
+use Rattle.bb_shell.proofs.TellLemmas.{nothing_told, makes_last, part_cut, part_made, part_over}
 use Rattle.bb_shell.proofs.run.go.Goals as goal
 
-pub returns-in_ok-finish-in-None-clause-run : goal.returns-in_ok-finish-in-None-clause-run
-returns-in_ok-finish-in-None-clause-run g c =
-    let r = c.args.shell.now in
-    let rest = λ (after : Agenda). cycles r 0 c.args.limit after in
-    let whole = events_first r c.args.events.now c.args.agenda.now rest in
-    let mid = rest c.process_all.new.agenda in
-    writes_then r (g.O.Out.taken c.args.out.now) (g.O.Out.taken c.process_all.new.out) (g.O.Out.taken c.make_cycles.new.out) (string_bytes c.args.page.now) (string_bytes c.process_all.new.page) (string_bytes c.make_cycles.new.page) whole mid (over c.in_ok-finish-in-None.finish)
-    (writes_as r (g.O.Out.taken c.args.out.now) (g.O.Out.taken c.process_all.new.out) (string_bytes c.args.page.now) (string_bytes c.process_all.new.page) whole (ends_or c.in_ok-finish.field-0 mid) mid (ap (λ (f : Option Finish). ends_or f mid) c.in-None.is) (c.in_ok-finish.ensures.run rest))
-    c.in_ok-finish-in-None.ensures.run
+pub returns-in_err-end-clause-made : goal.returns-in_err-end-clause-made
+returns-in_err-end-clause-made g c =
+    let p = err_from_is_err_and c.from_residual.result c.from_residual.ensures.1 in
+    let first = at (g.O.Out.taken c.args.out.now) c.args.page.now in
+    let begun = at (g.O.Out.taken c.report.new.out) c.report.new.page in
+    let whole = unfinished c.args.shell.now c.args.state.now.world c.args.limit in
+    rw (p.1, p.2) (part_cut c.args.shell.now first first begun whole (start c.args.shell.now c.args.state.now.world) (cycles c.args.shell.now 0 c.args.limit) c.in_err-end.field-0.0 (nothing_told c.args.shell.now first whole)
+    (subst (λ (a : Agenda). CutIn c.args.shell.now first begun (report c.args.shell.now c.args.state.now.world a [] None).segments c.in_err-end.field-0.0) c.requires.new c.in_err-end.ensures.made))
+
+pub returns-in-Some-clause-made : goal.returns-in-Some-clause-made
+returns-in-Some-clause-made g c =
+    let first = at (g.O.Out.taken c.args.out.now) c.args.page.now in
+    let begun = at (g.O.Out.taken c.report.new.out) c.report.new.page in
+    let whole = unfinished c.args.shell.now c.args.state.now.world c.args.limit in
+    part_over c.args.shell.now first first begun whole (start c.args.shell.now c.args.state.now.world) (cycles c.args.shell.now 0 c.args.limit) c.report.new.state c.in_ok-end.field-0 c.in-Some.end (nothing_told c.args.shell.now first whole)
+    (subst (λ (a : Agenda). Makes c.args.shell.now first begun (report c.args.shell.now c.args.state.now.world a [] None) c.report.new.state (Ok c.in_ok-end.field-0)) c.requires.new c.in_ok-end.ensures.made) c.in-Some.is
+
+pub returns-clause-made : goal.returns-clause-made
+returns-clause-made g c =
+    let first = at (g.O.Out.taken c.args.out.now) c.args.page.now in
+    let begun = at (g.O.Out.taken c.report.new.out) c.report.new.page in
+    let whole = unfinished c.args.shell.now c.args.state.now.world c.args.limit in
+    makes_last (λ e. Some e) c.args.shell.now first begun (at (g.O.Out.taken c.make_cycles.new.out) c.make_cycles.new.page) whole (cycles c.args.shell.now 0 c.args.limit c.report.new.state) c.make_cycles.new.state c.make_cycles.result
+    (part_made c.args.shell.now first first begun whole (start c.args.shell.now c.args.state.now.world) (cycles c.args.shell.now 0 c.args.limit) c.report.new.state c.in_ok-end.field-0 (nothing_told c.args.shell.now first whole)
+    (subst (λ (a : Agenda). Makes c.args.shell.now first begun (report c.args.shell.now c.args.state.now.world a [] None) c.report.new.state (Ok c.in_ok-end.field-0)) c.requires.new c.in_ok-end.ensures.made) c.in_default.is)
+    c.make_cycles.ensures.made

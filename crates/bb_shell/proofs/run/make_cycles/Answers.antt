@@ -1,43 +1,100 @@
-use Rattle.std.proofs.Common.{ap, ◌+◌, ◌-◌, string_bytes}
-use Rattle.bb_shell.specs.declared.finish.Finish.{Finish}
-use Rattle.bb_shell.specs.declared.finish.Finish.TheVariants as finishes
-use Rattle.bb_shell.specs.declared.run.Turn.{Turn}
-use Rattle.std.specs.Prelude.{Option}
-use Rattle.bb_shell.specs.Run.{cycles, over, ends_or}
-use Rattle.bb_shell.specs.Ledger.{acts_or}
-use Rattle.bb_shell.proofs.WriteLemmas.{writes_as, turn_over, cycle_written, last_over}
+use Rattle.std.proofs.Common.{◌≡◌, ◌+◌, ◌-◌, arith, subst, sym}
+use Rattle.std.proofs.lemmas.Result.{err_from_is_err_and}
+use Rattle.bb_shell.specs.declared.finish.End.TheVariants.{Limit}
+use Rattle.bb_shell.specs.Run.{cycle, cycles}
+use Rattle.bb_shell.specs.Stretch.{over}
+use Rattle.bb_shell.specs.proving.Telling.{at}
+use Rattle.bb_shell.proofs.TellLemmas.{HasTold, at_cycle, at_limit, cycle_then, nothing_told, over_limit, part_cut, part_made, part_over, turn_acts, turn_cut, turn_over}
 use Rattle.bb_shell.proofs.run.make_cycles.Goals as goal
 
-pub returns-in-Over-clause-run : goal.returns-in-Over-clause-run
-returns-in-Over-clause-run g c =
-    turn_over c.args.shell.now c.args.limit c.loop-made.made c.loop-made.agenda c.next_turn.new.agenda (g.O.Out.taken c.args.out.now) (g.O.Out.taken c.loop-made.out) (string_bytes c.args.page.now) (string_bytes c.loop-made.page) (string_bytes c.next_turn.new.page) (cycles c.args.shell.now 0 c.args.limit c.args.agenda.now) c.in_ok-finish.field-0 c.in-Over.finish
-    c.loop-made-test.true c.loop-made.invariant.written c.in_ok-finish.ensures c.in-Over.is
+pub loop-made-init : goal.loop-made-init
+loop-made-init g c =
+    let whole = cycles c.args.shell.now 0 c.args.limit c.args.state.now in
+    let here = at (g.O.Out.taken c.args.out.now) c.args.page.now in
+    let same : c.args.limit - 0 ≡ c.args.limit = omega arith in
+    record {
+      told = subst (λ n. HasTold c.args.shell.now here here whole (cycles c.args.shell.now 0 n c.args.state.now)) (sym same) (nothing_told c.args.shell.now here whole);
+      still_open = c.requires.open;
+    }
 
-pub returns-in-Some-clause-run : goal.returns-in-Some-clause-run
-returns-in-Some-clause-run g c =
-    let rest = cycles c.args.shell.now (c.loop-made.made + 1) (c.args.limit - (c.loop-made.made + 1)) c.act.new.agenda in
-    writes_as c.args.shell.now (g.O.Out.taken c.args.out.now) (g.O.Out.taken c.spill.new.out) (string_bytes c.args.page.now) (string_bytes c.spill.new.page) (cycles c.args.shell.now 0 c.args.limit c.args.agenda.now) (ends_or c.in_ok-over.over rest) (over c.in-Some.finish) (ap (λ (f : Option Finish). ends_or f rest) c.in-Some.is)
-    (cycle_written c.args.shell.now c.args.limit c.loop-made.made c.loop-made.agenda c.next_turn.new.agenda c.act.new.agenda (g.O.Out.taken c.args.out.now) (g.O.Out.taken c.loop-made.out) (g.O.Out.taken c.spill.new.out) (string_bytes c.args.page.now) (string_bytes c.loop-made.page) (string_bytes c.next_turn.new.page) (string_bytes c.act.new.page) (string_bytes c.spill.new.page) (cycles c.args.shell.now 0 c.args.limit c.args.agenda.now) c.in_ok-finish.field-0 c.in-Act.choice c.in_ok-over.over
-    c.loop-made-test.true c.loop-made.invariant.written c.in_ok-finish.ensures c.in-Act.is c.in_ok-over.ensures c.in_ok-spill.ensures.sent)
+pub returns-in_err-activation-clause-made : goal.returns-in_err-activation-clause-made
+returns-in_err-activation-clause-made g c =
+    let p = err_from_is_err_and c.from_residual.result c.from_residual.ensures.1 in
+    let first = at (g.O.Out.taken c.args.out.now) c.args.page.now in
+    let whole = cycles c.args.shell.now 0 c.args.limit c.args.state.now in
+    let now = at (g.O.Out.taken c.loop-made.out) c.loop-made.page in
+    rw (p.1, p.2) (turn_cut c.args.shell.now first now (at (g.O.Out.taken c.next_turn.new.out) c.next_turn.new.page) whole c.loop-made.state c.next_turn.new.state (cycle_then c.args.shell.now c.loop-made.made (c.args.limit - (c.loop-made.made + 1))) c.in_err-activation.field-0.0
+    (at_cycle c.args.shell.now first now whole c.args.limit c.loop-made.made c.loop-made.state c.loop-made-test.true c.loop-made.invariant.told) c.in_err-activation.ensures.waited)
+
+pub returns-in-Over-clause-made : goal.returns-in-Over-clause-made
+returns-in-Over-clause-made g c =
+    let first = at (g.O.Out.taken c.args.out.now) c.args.page.now in
+    let whole = cycles c.args.shell.now 0 c.args.limit c.args.state.now in
+    let now = at (g.O.Out.taken c.loop-made.out) c.loop-made.page in
+    turn_over c.args.shell.now first now (at (g.O.Out.taken c.next_turn.new.out) c.next_turn.new.page) whole c.loop-made.state c.next_turn.new.state (cycle_then c.args.shell.now c.loop-made.made (c.args.limit - (c.loop-made.made + 1))) c.in_ok-activation.field-0 c.in-Over.end
+    (at_cycle c.args.shell.now first now whole c.args.limit c.loop-made.made c.loop-made.state c.loop-made-test.true c.loop-made.invariant.told) c.in_ok-activation.ensures.waited c.in-Over.is
+
+pub returns-in_err-end-clause-made : goal.returns-in_err-end-clause-made
+returns-in_err-end-clause-made g c =
+    let p = err_from_is_err_and c.from_residual-in_err-end.result c.from_residual-in_err-end.ensures.1 in
+    let first = at (g.O.Out.taken c.args.out.now) c.args.page.now in
+    let whole = cycles c.args.shell.now 0 c.args.limit c.args.state.now in
+    let now = at (g.O.Out.taken c.loop-made.out) c.loop-made.page in
+    let turned = at (g.O.Out.taken c.next_turn.new.out) c.next_turn.new.page in
+    rw (p.1, p.2) (part_cut c.args.shell.now first turned (at (g.O.Out.taken c.make_cycle.new.out) c.make_cycle.new.page) whole (cycle c.args.shell.now (c.loop-made.made + 1) c.in-Act.activation c.next_turn.new.state) (cycles c.args.shell.now (c.loop-made.made + 1) (c.args.limit - (c.loop-made.made + 1))) c.in_err-end.field-0.0
+    (turn_acts c.args.shell.now first now turned whole c.loop-made.state c.next_turn.new.state (cycle_then c.args.shell.now c.loop-made.made (c.args.limit - (c.loop-made.made + 1))) c.in_ok-activation.field-0 c.in-Act.activation
+    (at_cycle c.args.shell.now first now whole c.args.limit c.loop-made.made c.loop-made.state c.loop-made-test.true c.loop-made.invariant.told) c.in_ok-activation.ensures.waited c.in-Act.is)
+    c.in_err-end.ensures.made)
+
+pub returns-in-Some-clause-made : goal.returns-in-Some-clause-made
+returns-in-Some-clause-made g c =
+    let first = at (g.O.Out.taken c.args.out.now) c.args.page.now in
+    let whole = cycles c.args.shell.now 0 c.args.limit c.args.state.now in
+    let now = at (g.O.Out.taken c.loop-made.out) c.loop-made.page in
+    let turned = at (g.O.Out.taken c.next_turn.new.out) c.next_turn.new.page in
+    part_over c.args.shell.now first turned (at (g.O.Out.taken c.make_cycle.new.out) c.make_cycle.new.page) whole (cycle c.args.shell.now (c.loop-made.made + 1) c.in-Act.activation c.next_turn.new.state) (cycles c.args.shell.now (c.loop-made.made + 1) (c.args.limit - (c.loop-made.made + 1))) c.make_cycle.new.state c.in_ok-end.field-0 c.in-Some.end
+    (turn_acts c.args.shell.now first now turned whole c.loop-made.state c.next_turn.new.state (cycle_then c.args.shell.now c.loop-made.made (c.args.limit - (c.loop-made.made + 1))) c.in_ok-activation.field-0 c.in-Act.activation
+    (at_cycle c.args.shell.now first now whole c.args.limit c.loop-made.made c.loop-made.state c.loop-made-test.true c.loop-made.invariant.told) c.in_ok-activation.ensures.waited c.in-Act.is)
+    c.in_ok-end.ensures.made c.in-Some.is
 
 pub loop-made-preserved : goal.loop-made-preserved
-loop-made-preserved g c = record {
-  written =
-      let rest = cycles c.args.shell.now (c.loop-made.made + 1) (c.args.limit - (c.loop-made.made + 1)) c.act.new.agenda in
-      writes_as c.args.shell.now (g.O.Out.taken c.args.out.now) (g.O.Out.taken c.spill.new.out) (string_bytes c.args.page.now) (string_bytes c.spill.new.page) (cycles c.args.shell.now 0 c.args.limit c.args.agenda.now) (ends_or c.in_ok-over.over rest) rest (ap (λ (f : Option Finish). ends_or f rest) c.in_default.is)
-      (cycle_written c.args.shell.now c.args.limit c.loop-made.made c.loop-made.agenda c.next_turn.new.agenda c.act.new.agenda (g.O.Out.taken c.args.out.now) (g.O.Out.taken c.loop-made.out) (g.O.Out.taken c.spill.new.out) (string_bytes c.args.page.now) (string_bytes c.loop-made.page) (string_bytes c.next_turn.new.page) (string_bytes c.act.new.page) (string_bytes c.spill.new.page) (cycles c.args.shell.now 0 c.args.limit c.args.agenda.now) c.in_ok-finish.field-0 c.in-Act.choice c.in_ok-over.over
-      c.loop-made-test.true c.loop-made.invariant.written c.in_ok-finish.ensures c.in-Act.is c.in_ok-over.ensures c.in_ok-spill.ensures.sent);
-  still_open = c.in_ok-spill.ensures.failed;
-}
+loop-made-preserved g c =
+    let first = at (g.O.Out.taken c.args.out.now) c.args.page.now in
+    let whole = cycles c.args.shell.now 0 c.args.limit c.args.state.now in
+    let now = at (g.O.Out.taken c.loop-made.out) c.loop-made.page in
+    let turned = at (g.O.Out.taken c.next_turn.new.out) c.next_turn.new.page in
+    record {
+      told =
+          part_made c.args.shell.now first turned (at (g.O.Out.taken c.make_cycle.new.out) c.make_cycle.new.page) whole (cycle c.args.shell.now (c.loop-made.made + 1) c.in-Act.activation c.next_turn.new.state) (cycles c.args.shell.now (c.loop-made.made + 1) (c.args.limit - (c.loop-made.made + 1))) c.make_cycle.new.state c.in_ok-end.field-0
+          (turn_acts c.args.shell.now first now turned whole c.loop-made.state c.next_turn.new.state (cycle_then c.args.shell.now c.loop-made.made (c.args.limit - (c.loop-made.made + 1))) c.in_ok-activation.field-0 c.in-Act.activation
+          (at_cycle c.args.shell.now first now whole c.args.limit c.loop-made.made c.loop-made.state c.loop-made-test.true c.loop-made.invariant.told) c.in_ok-activation.ensures.waited c.in-Act.is)
+          c.in_ok-end.ensures.made c.in_default.is;
+      still_open = c.in_ok-end.ensures.failed;
+    }
 
-pub returns-in-Over-2-clause-run : goal.returns-in-Over-2-clause-run
-returns-in-Over-2-clause-run g c =
-    writes_as c.args.shell.now (g.O.Out.taken c.args.out.now) (g.O.Out.taken c.loop-made.out) (string_bytes c.args.page.now) (string_bytes c.next_turn-2.new.page) (cycles c.args.shell.now 0 c.args.limit c.args.agenda.now) (acts_or c.in_ok-finish-2.field-0 (λ _. over finishes.Limit)) (over c.in-Over-2.finish) (ap (λ (t : Turn). acts_or t (λ _. over finishes.Limit)) c.in-Over-2.is)
-    (last_over c.args.shell.now c.args.limit c.loop-made.made c.loop-made.agenda c.next_turn-2.new.agenda (g.O.Out.taken c.args.out.now) (g.O.Out.taken c.loop-made.out) (string_bytes c.args.page.now) (string_bytes c.loop-made.page) (string_bytes c.next_turn-2.new.page) (cycles c.args.shell.now 0 c.args.limit c.args.agenda.now) c.in_ok-finish-2.field-0
-    c.loop-made-test.false c.loop-made.invariant.written c.in_ok-finish-2.ensures)
+pub returns-in_err-next_turn-clause-made : goal.returns-in_err-next_turn-clause-made
+returns-in_err-next_turn-clause-made g c =
+    let p = err_from_is_err_and c.from_residual-in_err-next_turn.result c.from_residual-in_err-next_turn.ensures.1 in
+    let first = at (g.O.Out.taken c.args.out.now) c.args.page.now in
+    let whole = cycles c.args.shell.now 0 c.args.limit c.args.state.now in
+    let now = at (g.O.Out.taken c.loop-made.out) c.loop-made.page in
+    rw (p.1, p.2) (turn_cut c.args.shell.now first now (at (g.O.Out.taken c.next_turn-2.new.out) c.next_turn-2.new.page) whole c.loop-made.state c.next_turn-2.new.state (λ u a. over Limit u) c.in_err-next_turn.field-0.0
+    (at_limit c.args.shell.now first now whole c.args.limit c.loop-made.made c.loop-made.state c.loop-made-test.false c.loop-made.invariant.told) c.in_err-next_turn.ensures.waited)
 
-pub returns-in-Act-2-clause-run : goal.returns-in-Act-2-clause-run
-returns-in-Act-2-clause-run g c =
-    writes_as c.args.shell.now (g.O.Out.taken c.args.out.now) (g.O.Out.taken c.loop-made.out) (string_bytes c.args.page.now) (string_bytes c.next_turn-2.new.page) (cycles c.args.shell.now 0 c.args.limit c.args.agenda.now) (acts_or c.in_ok-finish-2.field-0 (λ _. over finishes.Limit)) (over finishes.Limit) (ap (λ (t : Turn). acts_or t (λ _. over finishes.Limit)) c.in-Act-2.is)
-    (last_over c.args.shell.now c.args.limit c.loop-made.made c.loop-made.agenda c.next_turn-2.new.agenda (g.O.Out.taken c.args.out.now) (g.O.Out.taken c.loop-made.out) (string_bytes c.args.page.now) (string_bytes c.loop-made.page) (string_bytes c.next_turn-2.new.page) (cycles c.args.shell.now 0 c.args.limit c.args.agenda.now) c.in_ok-finish-2.field-0
-    c.loop-made-test.false c.loop-made.invariant.written c.in_ok-finish-2.ensures)
+pub returns-in-Act-2-clause-made : goal.returns-in-Act-2-clause-made
+returns-in-Act-2-clause-made g c =
+    let first = at (g.O.Out.taken c.args.out.now) c.args.page.now in
+    let whole = cycles c.args.shell.now 0 c.args.limit c.args.state.now in
+    let now = at (g.O.Out.taken c.loop-made.out) c.loop-made.page in
+    let turned = at (g.O.Out.taken c.next_turn-2.new.out) c.next_turn-2.new.page in
+    over_limit c.args.shell.now first turned whole c.next_turn-2.new.state
+    (turn_acts c.args.shell.now first now turned whole c.loop-made.state c.next_turn-2.new.state (λ u a. over Limit u) c.in_ok-next_turn.field-0 _
+    (at_limit c.args.shell.now first now whole c.args.limit c.loop-made.made c.loop-made.state c.loop-made-test.false c.loop-made.invariant.told) c.in_ok-next_turn.ensures.waited c.in-Act-2.is)
+
+pub returns-in-Over-2-clause-made : goal.returns-in-Over-2-clause-made
+returns-in-Over-2-clause-made g c =
+    let first = at (g.O.Out.taken c.args.out.now) c.args.page.now in
+    let whole = cycles c.args.shell.now 0 c.args.limit c.args.state.now in
+    let now = at (g.O.Out.taken c.loop-made.out) c.loop-made.page in
+    turn_over c.args.shell.now first now (at (g.O.Out.taken c.next_turn-2.new.out) c.next_turn-2.new.page) whole c.loop-made.state c.next_turn-2.new.state (λ u a. over Limit u) c.in_ok-next_turn.field-0 c.in-Over-2.end
+    (at_limit c.args.shell.now first now whole c.args.limit c.loop-made.made c.loop-made.state c.loop-made-test.false c.loop-made.invariant.told) c.in_ok-next_turn.ensures.waited c.in-Over-2.is

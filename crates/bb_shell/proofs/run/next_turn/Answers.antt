@@ -1,19 +1,16 @@
-use Rattle.std.proofs.Common.{◌∙◌, ap, sym, ℤ, [], ◌∷◌, ◌++◌, string_bytes, rules}
-use Rattle.std.specs.Int.{w64}
+use Rattle.std.proofs.Common.{◌≡◌, ◌∙◌, None, ap, sym, rules, w64}
 use Rattle.std.proofs.lemmas.Int.{to_z-of_z}
-use Rattle.bb_schema.specs.Schema.{Schema}
-use Rattle.bb_shell.specs.declared.event.Event.TheVariants as events
-use Rattle.bb_shell.specs.Chosen.{chosen}
-use Rattle.bb_shell.specs.TraceText.{event_text}
-use Rattle.bb_shell.proofs.RunLemmas.{rests_over}
+use Rattle.std.proofs.lemmas.Result.{err_from_is_err_and}
+use Rattle.bb_agenda.specs.Chosen.{chosen}
+use Rattle.bb_agenda.specs.Rating.{rating}
+use Rattle.bb_shell.specs.Run.{choice}
+use Rattle.bb_shell.specs.proving.Telling.{at}
+use Rattle.bb_shell.proofs.TellLemmas.{wait_cut}
 use Rattle.bb_shell.proofs.run.next_turn.Goals as goal
 
-pub returns-in-None : goal.returns-in-None
-returns-in-None c act =
-    let floor = to_z-of_z w64 c.floor.result (search rules) ∙ c.floor.ensures in
-    let floor2 = to_z-of_z w64 c.floor-2.result (search rules) ∙ c.floor-2.ensures in
-    rests_over c.args.shell.now c.args.agenda.now c.process.new.agenda c.in_ok-finish.field-0 act (string_bytes c.args.page.now) (string_bytes c.add_event.new.page) (string_bytes c.process.new.page)
-    (ap (λ (z : ℤ). chosen z c.args.agenda.now) (sym floor) ∙ sym c.in_default.ensures)
-    (c.in_ok-add_event.ensures ∙ ap (λ (s : Schema). string_bytes c.args.page.now ++ (event_text s events.Quiescence ++ 10 ∷ [])) c.schema.ensures)
-    c.in_ok-finish.ensures c.in_default-2.is
-    (ap (λ (z : ℤ). chosen z c.process.new.agenda) (sym floor2) ∙ sym c.in-None.ensures)
+pub returns-in_err-end-clause-waited : goal.returns-in_err-end-clause-waited
+returns-in_err-end-clause-waited g c =
+    let p = err_from_is_err_and c.from_residual.result c.from_residual.ensures.1 in
+    let floor = to_z-of_z w64 c.args.shell.now.floor (search rules) in
+    let none : choice c.args.shell.now c.args.state.now ≡ None = ap (λ z. chosen rating z c.args.state.now.agenda.pending) (sym floor) ∙ sym c.in_default.ensures in
+    rw (p.1, p.2) (wait_cut c.args.shell.now (at (g.O.Out.taken c.args.out.now) c.args.page.now) (at (g.O.Out.taken c.quiesce.new.out) c.quiesce.new.page) c.args.state.now c.quiesce.new.state c.in_err-end.field-0.0 none c.in_err-end.ensures.made)

@@ -1,0 +1,84 @@
+//! The agenda. A run (bb_shell) adds to it what events trigger, and takes off it what a cycle executes.
+
+ghost use Rattle.std.specs.Prelude.{◌≡◌, ◌+◌, IfOk, OnOk, OnErr, false, Option};
+ghost use Rattle.bb_agenda.specs.Agenda.{no_activations, is_full, with_activation, new_activation, without};
+ghost use Rattle.bb_agenda.specs.Rating.{rating};
+ghost use Rattle.bb_agenda.specs.Chosen.{chosen};
+
+use crate::activation::{Activation, best};
+use bb_schema::UnitId;
+use std::alloc::{AllocError, Global};
+use std::marker::Model;
+
+/// The greatest number of pending activations.
+pub const PENDING_LIMIT: usize = 65_536;
+
+/// One more than the greatest number of an activation.
+pub const NUMBER_LIMIT: u64 = 1 << 63;
+
+/// The pending activations, each under its number (GBBopen Reference Manual, Agenda Shell).
+#[derive(Drop)]
+pub struct Agenda {
+    next: u64,
+    pending: Vec<Activation>,
+}
+
+impl Model for Agenda {
+    ghost use Rattle.bb_agenda.specs.Agenda.{Agenda as Pending};
+
+    ghost Value = { Pending };
+
+    ghost view = { λ a. record { next = a.next; pending = a.pending.items } };
+}
+
+impl Agenda {
+    /// An agenda with nothing on it, whose first activation gets number 1. It allocates nothing.
+    pub fn new(alloc: Global) -> Agenda
+        ensures { result ≡ no_activations }
+    {
+        Agenda {
+            next: 1,
+            pending: Vec::new(alloc),
+        }
+    }
+
+    /// Whether no activation can be added: `PENDING_LIMIT` are pending, or each number below `NUMBER_LIMIT` was given.
+    pub fn is_full(&self) -> bool
+        ensures { result ≡ is_full self.now }
+    {
+        self.pending.len() >= PENDING_LIMIT || self.next >= NUMBER_LIMIT
+    }
+
+    /// Adds an activation under the next number and returns it. An error changes nothing.
+    pub fn add(&mut self, source: u16, unit: UnitId, base: i64) -> Result<Activation, AllocError>
+        requires { is_full self.old ≡ false }
+        ensures new { IfOk result (λ a. a ≡ new_activation self.old source unit base) }
+        ensures added { OnOk result (self.new ≡ with_activation self.old source unit base) }
+        ensures err { OnErr result (self.new ≡ self.old) }
+    {
+        let activation = Activation {
+            number: self.next,
+            source,
+            unit,
+            base,
+        };
+        self.pending.push(activation)?;
+        self.next += 1;
+        Ok(activation)
+    }
+
+    /// The activation to execute: of those rated at least `floor` the one of the highest rating, of equals the one of
+    /// the lowest number (Hayes-Roth 1985, scheduling).
+    pub fn choose(&self, floor: i64) -> Option<Activation>
+        ensures { result ≡ chosen rating floor self.now.pending }
+    {
+        best(floor, &self.pending)
+    }
+
+    /// Takes the activation of this number off the agenda, since it is executed now.
+    pub fn executed(&mut self, number: u64)
+        ensures { self.new ≡ without self.old number }
+    {
+        self.pending.retain(|a| a.number != number);
+    }
+}

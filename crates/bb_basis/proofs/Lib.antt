@@ -1,0 +1,12 @@
+pub mod ListLemmas
+pub mod NumberLemmas
+pub mod AppendLemmas
+pub mod PositionLemmas
+pub mod SearchLemmas
+pub mod ResultLemmas
+pub mod MadeLemmas
+pub mod IntoMapLemmas
+pub mod SliceLemmas
+pub mod TryMapLemmas
+pub mod TryFoldLemmas
+pub mod SliceFoldLemmas

@@ -1,0 +1,6 @@
+-- what a name is
+pub mod Names
+-- what a call that may fail gives: `>>=`, `try_map`, `try_fold`, `Gives`
+pub mod Results
+-- relations that only invariants and proofs speak of
+pub mod proving

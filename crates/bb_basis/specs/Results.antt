@@ -1,0 +1,34 @@
+-- Words on a call that may fail: what its definition gives, where only memory may come in between.
+use Rattle.std.specs.Prelude.{◌≡◌, ◌⊎◌, List, [], ◌∷◌, Result, Ok, Err}
+pub use Rattle.std.specs.Option.{ok_or}
+
+-- one step after another, up to the first fault
+infixl 10 ◌>>=◌
+abbrev pub ◌>>=◌ : {A B E : Type 0} → Result A E → (A → Result B E) → Result B E
+(Ok x) >>= f = f x
+(Err e) >>= f = Err e
+
+-- the same answer, with another fault in place of the one that was met
+abbrev pub map_err : {X E F : Type 0} → (E → F) → Result X E → Result X F
+map_err f (Ok x) = Ok x
+map_err f (Err e) = Err (f e)
+
+-- what f gives of each item, in order, or the first fault
+unfoldable pub try_map : {A X E : Type 0} → (A → Result X E) → List A → Result (List X) E
+try_map f [] = Ok []
+try_map f (a ∷ as') = do
+  first ← f a
+  others ← try_map f as'
+  Ok (first ∷ others)
+
+-- the state after each item in order, up to the first fault
+unfoldable pub try_fold : {S A E : Type 0} → (S → A → Result S E) → S → List A → Result S E
+try_fold f s [] = Ok s
+try_fold f s (a ∷ as') = do
+  next ← f s a
+  try_fold f next as'
+
+-- what the call returned, seen by view, is what the definition gives, or the call ran out of memory
+abbrev pub Gives : {X Y E : Type 0} → E → (X → Y) → Result X E → Result Y E → Type 0
+Gives memory view (Ok x) given = given ≡ Ok (view x)
+Gives memory view (Err e) given = (e ≡ memory) ⊎ (given ≡ Err e)

@@ -1,0 +1,79 @@
+//! A set of numbers of things, in order. A schema keeps the classes of a space in one.
+
+ghost use Rattle.std.specs.Prelude.{◌≡◌, ◌==◌, [], ◌∷◌, ◌++◌, length, OnOk, OnErr, false};
+ghost use Rattle.std.specs.List.{list_any};
+
+use indexmap::IndexSet;
+use std::alloc::{AllocError, Global};
+use std::marker::Model;
+
+/// Distinct numbers in the order in which they were added, each found without a scan. Contracts see them as their
+/// list.
+#[derive(Drop)]
+pub struct IdSet {
+    set: IndexSet<u16>,
+}
+
+impl Model for IdSet {
+    ghost use Rattle.std.specs.Prelude.{List, ℕ};
+
+    ghost Value = { List ℕ };
+
+    ghost view = { λ s. s.set.keys };
+}
+
+impl PartialEq for IdSet {
+    ghost use Rattle.std.specs.Prelude.{nat_eq};
+    ghost use Rattle.std.specs.Cmp.{partial_equiv_from_equiv};
+    ghost use Rattle.std.specs.Cmp.Lexicographic.{pointwise, nat_list_eq_equiv};
+
+    ghost eq = { pointwise nat_eq };
+
+    ghost laws = { partial_equiv_from_equiv nat_list_eq_equiv };
+
+    fn eq(&self, other: &Self) -> bool {
+        self.as_slice() == other.as_slice()
+    }
+}
+
+impl IdSet {
+    /// An empty set. It allocates nothing.
+    pub fn new(alloc: Global) -> IdSet
+        ensures { result ≡ [] }
+    {
+        IdSet {
+            set: IndexSet::new(alloc),
+        }
+    }
+
+    /// The numbers, in the order in which they were added.
+    pub fn as_slice(&self) -> &[u16]
+        ensures { result.now ≡ self.now }
+    {
+        self.set.as_slice()
+    }
+
+    /// The number of numbers.
+    pub fn len(&self) -> usize
+        ensures { result ≡ length self.now }
+    {
+        self.set.len()
+    }
+
+    /// Whether a number is in the set.
+    pub fn contains(&self, id: u16) -> bool
+        ensures { result ≡ list_any (λ d. d == id) self.now }
+    {
+        self.set.contains(&id)
+    }
+
+    /// Appends a number that is not in the set. An error changes nothing.
+    pub fn push(&mut self, id: u16) -> Result<(), AllocError>
+        requires { list_any (λ d. d == id) self.old ≡ false }
+        ensures ok { OnOk result (self.new ≡ self.old ++ id ∷ []) }
+        ensures err { OnErr result (self.new ≡ self.old) }
+    {
+        self.set.insert(id)?;
+        Ok(())
+    }
+}

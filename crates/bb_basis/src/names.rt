@@ -1,0 +1,74 @@
+//! Names, each found by its text. Whoever reads names one after another and looks them up keeps them in it.
+
+ghost use Rattle.std.specs.Prelude.{◌≡◌, [], ◌∷◌, ◌++◌, length, position, slice_get, option_map, IsTrue, OnErr, IfOk, not, if◌then◌else◌};
+ghost use Rattle.std.specs.List.{list_any};
+ghost use Rattle.std.specs.Str.{bytes_eq};
+
+use indexmap::IndexSet;
+use std::alloc::{AllocError, Global};
+use std::marker::Model;
+
+/// Distinct names in the order in which they were added, each found by its text without a scan.
+pub struct Names {
+    set: IndexSet<String>,
+}
+
+// By hand, so that a proof meets one call where names are dropped, and not the parts of an index.
+impl Drop for Names {
+    fn drop(self) {
+        let Names { set: _ } = self;
+    }
+}
+
+impl Model for Names {
+    ghost use Rattle.std.specs.Prelude.{List, ℕ, map, string_bytes};
+
+    ghost Value = { List (List ℕ) };
+
+    ghost view = { λ n. map string_bytes n.set.keys };
+}
+
+impl Names {
+    /// An empty list of names. It allocates nothing.
+    pub fn new(alloc: Global) -> Names
+        ensures { result ≡ [] }
+    {
+        Names {
+            set: IndexSet::new(alloc),
+        }
+    }
+
+    /// The number of names.
+    pub fn len(&self) -> usize
+        ensures { result ≡ length self.now }
+    {
+        self.set.len()
+    }
+
+    /// The index of a name, if it is there.
+    pub fn index_of(&self, name: &str) -> Option<usize>
+        ensures { result ≡ position (bytes_eq name.now) self.now }
+    {
+        self.set.get_index_of(name)
+    }
+
+    /// Whether a name is there.
+    pub fn contains(&self, name: &str) -> bool
+        ensures { result ≡ list_any (bytes_eq name.now) self.now }
+    {
+        self.set.contains(name)
+    }
+
+    /// Appends a name that is not there yet, and answers whether it was. A name that is there keeps its index.
+    pub fn insert(&mut self, alloc: Global, name: &str) -> Result<bool, AllocError>
+        ensures fresh { IfOk result (λ fresh. fresh ≡ not (list_any (bytes_eq name.now) self.old)) }
+        ensures added { IfOk result (λ fresh. self.new ≡ if fresh then self.old ++ name.now ∷ [] else self.old) }
+        ensures err { OnErr result (self.new ≡ self.old) }
+    {
+        if self.contains(name) {
+            return Ok(false);
+        }
+        self.set.insert(String::from_str(alloc, name)?)?;
+        Ok(true)
+    }
+}

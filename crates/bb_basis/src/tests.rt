@@ -1,0 +1,70 @@
+use super::*;
+use std::test::Fail;
+
+#[test]
+fn names_and_others(rt: HostRuntime) -> Result<(), Fail> {
+    let _ = &rt;
+    for name in ["a", "z9_", "a234567890123456789012345678901"] {
+        assert!(rt; is_name(name), "{name}");
+    }
+    for other in [
+        "",
+        "_",
+        "9a",
+        "A",
+        "aB",
+        "a-b",
+        "é",
+        "a2345678901234567890123456789012",
+    ] {
+        assert!(rt; !is_name(other), "{other}");
+    }
+    Ok(())
+}
+
+#[test]
+fn texts(rt: HostRuntime) -> Result<(), Fail> {
+    let text = Text::from_str(rt.alloc(), "hail")?;
+    assert_eq!(rt; text.as_str(), "hail");
+    assert_eq!(rt; text.len(), 4);
+    assert!(rt; !text.is_empty());
+    let copy = Text::new(text.clone()?.into_string());
+    assert!(rt; copy == text);
+    assert_eq!(rt; copy.into_string().as_str(), "hail");
+    Ok(())
+}
+
+#[test]
+fn lists(rt: HostRuntime) -> Result<(), Fail> {
+    let mut items: Items<u16> = Items::new(rt.alloc());
+    items.push(3)?;
+    items.push(3)?;
+    let copy = items.clone()?;
+    assert!(rt; copy == items);
+    assert_eq!(rt; copy.as_slice(), [3, 3].as_slice());
+    let others = Items::from([3, 4].as_slice().to_vec(rt.alloc())?);
+    assert!(rt; others != items);
+    let mut set = IdSet::new(rt.alloc());
+    set.push(9)?;
+    set.push(2)?;
+    assert!(rt; set.contains(2));
+    assert!(rt; !set.contains(3));
+    assert_eq!(rt; set.as_slice(), [9, 2].as_slice());
+    Ok(())
+}
+
+#[test]
+fn named_items(rt: HostRuntime) -> Result<(), Fail> {
+    let mut names = Names::new(rt.alloc());
+    assert!(rt; names.insert(rt.alloc(), "red")?);
+    assert!(rt; names.insert(rt.alloc(), "green")?);
+    assert!(rt; !names.insert(rt.alloc(), "red")?);
+    assert_eq!(rt; names.index_of("green"), Some(1));
+    assert_eq!(rt; names.len(), 2);
+    let mut table = Table::new(rt.alloc());
+    table.push(rt.alloc(), Text::from_str(rt.alloc(), "red")?)?;
+    assert_eq!(rt; table.index_of("red"), Some(0));
+    assert_eq!(rt; table.index_of("green"), None);
+    assert!(rt; table.contains("red"));
+    Ok(())
+}

@@ -1,0 +1,41 @@
+-- What one unit more makes of a blackboard, by what the units' own call answers.
+use Rattle.std.proofs.Common.{◌≡◌, ℕ, ◌<◌, List, map, length, Some, arith, ◌⊎◌, inl, inr, Bool, true, false, cond, Result, Ok, Err, refl, ap}
+use Rattle.std.specs.Str.{bytes_eq}
+use Rattle.std.proofs.lemmas.List.{length-map}
+use Rattle.bb_basis.proofs.PositionLemmas.{position_within}
+use Rattle.bb_schema.specs.declared.class.Class.{Class}
+use Rattle.bb_schema.specs.Schema.{Schema, class_named}
+use Rattle.bb_units.specs.Layout.{layout_of}
+use Rattle.bb_units.specs.declared.fault.CreateFault.{CreateFault}
+use Rattle.bb_units.specs.declared.fault.CreateFault.TheVariants.{Full as NoMoreUnits, Memory as NoMemory}
+use Rattle.bb_units.specs.Units.{next_number, is_full}
+use Rattle.bb_board.specs.declared.units_fault.UnitsFault.{UnitsFault}
+use Rattle.bb_board.specs.declared.units_fault.UnitsFault.TheVariants.{Full, Memory}
+use Rattle.bb_board.specs.declared.world.World.{World}
+use Rattle.bb_board.specs.UnitsFaults.{of_create_fault}
+use Rattle.bb_board.specs.World.{after_create}
+use Rattle.bb_board.specs.Load.{with_unit}
+
+-- the same test decides whether there is a number and whether a unit is made
+where_room : {X : Type 0} (full : Bool) (next n : ℕ) (x : X) → (let r : Result ℕ CreateFault = cond full (Err NoMoreUnits) (Ok next) in r) ≡ Ok n → (let r : Result X UnitsFault = cond full (Err Full) (Ok x) in r) ≡ Ok x
+where_room true next n x given = absurd cc
+where_room false next n x given = refl
+
+where_full : {X : Type 0} (full : Bool) (next : ℕ) (x : X) (e : CreateFault) → (let r : Result ℕ CreateFault = cond full (Err NoMoreUnits) (Ok next) in r) ≡ Err e → (let r : Result X UnitsFault = cond full (Err Full) (Ok x) in r) ≡ Err (of_create_fault e)
+where_full true next x e given = let same : NoMoreUnits ≡ e = cc in ap (λ f. Err (of_create_fault f)) same
+where_full false next x e given = absurd cc
+
+pub with_unit-ok : (w : World) (class n : ℕ) → next_number w.units ≡ Ok n → with_unit w class ≡ Ok (after_create w class)
+unfolding with_unit
+with_unit-ok w class n given = where_room (is_full w.units) w.units.next n (after_create w class) given
+
+pub with_unit-err : (w : World) (class : ℕ) (e : CreateFault) → (e ≡ NoMemory) ⊎ (next_number w.units ≡ Err e) → (of_create_fault e ≡ Memory) ⊎ (with_unit w class ≡ Err (of_create_fault e))
+unfolding with_unit
+with_unit-err w class e (inl m) = inl (ap of_create_fault m)
+with_unit-err w class e (inr given) = inr (where_full (is_full w.units) w.units.next (after_create w class) e given)
+
+-- the class of a name has slots
+pub class_within : (s : Schema) (name : List ℕ) (class : ℕ) → class_named s name ≡ Some class → class < length (layout_of s).slots
+class_within s name class is =
+    let within = position_within (bytes_eq name) (map (λ (k : Class). k.name) s.classes) class is in
+    omega (arith, within, length-map s.classes (λ (k : Class). k.name), length-map s.classes (λ (k : Class). k.slots))

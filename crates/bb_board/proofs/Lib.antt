@@ -1,0 +1,2 @@
+pub mod CreateLemmas
+pub mod NameLemmas

@@ -1,0 +1,29 @@
+-- The state of a blackboard, and what each change makes of it: a change notes what happened, in order.
+use Rattle.std.specs.Prelude.{ℕ, List, [], ◌∷◌, ◌++◌}
+use Rattle.bb_schema.specs.Schema.{Schema}
+use Rattle.bb_units.specs.Layout.{layout_of}
+use Rattle.bb_units.specs.Units.{no_units, after_create as with_new_unit}
+use Rattle.bb_board.specs.declared.event.Event.TheVariants.{Change}
+use Rattle.bb_board.specs.declared.event.ChangeKind.TheVariants.{Create}
+use Rattle.bb_board.specs.declared.note.Note.TheVariants as notes
+use Rattle.bb_board.specs.declared.note.Said.{Said}
+use Rattle.bb_board.specs.declared.world.World.{World}
+
+-- the blackboard of a schema, before anything was created
+abbrev pub empty_world : Schema → World
+empty_world s = record { units = no_units (layout_of s); notes = [] }
+
+-- one unit more, of this class, under the next number (GBBopen Reference Manual, unit instances)
+abbrev pub after_create : World → ℕ → World
+after_create w class = record {
+  units = with_new_unit w.units class;
+  notes = w.notes ++ notes.Event (Change Create w.units.next class) ∷ [];
+}
+
+-- these values were said
+abbrev pub after_say : World → List Said → World
+after_say w values = record { units = w.units; notes = w.notes ++ notes.Said values ∷ [] }
+
+-- its notes were taken
+abbrev pub after_take : World → World
+after_take w = record { units = w.units; notes = [] }

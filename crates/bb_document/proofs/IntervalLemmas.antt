@@ -1,0 +1,126 @@
+-- What has the form of a document declares intervals in order.
+use Rattle.std.proofs.Common.{◌≡◌, ℕ, ℤ, pos, Bool, true, false, cond, List, [], ◌∷◌, Option, Some, None, Result, Ok, Err, refl, ap, sym, subst}
+use Rattle.std.specs.Prelude.{All, IfOk, codes, int_le, option_map, option_and_then, if◌then◌else◌}
+use Rattle.std.specs.Option.{option_map_or}
+use Rattle.std.specs.Str.{bytes_eq}
+use Rattle.std.proofs.lemmas.List.Elements.{All-nil, All-cons}
+use Rattle.serde_json.specs.Data.{Data}
+use Rattle.serde_json.specs.Find.{get, as_bool, as_str}
+use Rattle.bb_basis.specs.Results.{◌>>=◌, ok_or, try_map, Gives}
+use Rattle.bb_basis.proofs.ResultLemmas.{bind_ok, ok_or_ok, same_ok}
+use Rattle.bb_document.specs.declared.fault.DocumentFault.{DocumentFault}
+use Rattle.bb_document.specs.declared.fault.DocumentFault.TheVariants.{Shape, Memory}
+use Rattle.bb_document.specs.Shapes.{is_object_with, as_whole, as_list, text_at, list_at, optional_text_at}
+use Rattle.bb_document.specs.declared.document.Document.{Document}
+use Rattle.bb_document.specs.Document.{declarations, Declarations, SlotDeclaration, LinkDeclaration, ClassDeclaration, DefaultDeclaration, int_default, text_default, bool_default, label_default, interval_default}
+use Rattle.bb_document.specs.Form.{ends_of, as_interval, plain_default_of, label_default_of, default_of, slot_of, link_of, label_set_of, class_of, space_of, declarations_of}
+use Rattle.bb_document.specs.Intervals.{IsOrdered, HasOrderedDefaults, HasOrderedIntervals}
+
+-- ---- an answer without a fault, by its parts
+
+by_test : {X E : Type 0} (P : X → Type 0) (b : Bool) (r s : Result X E) (y : X) → (r ≡ Ok y → P y) → (s ≡ Ok y → P y) → (if b then r else s) ≡ Ok y → P y
+by_test P true r s y first second h = first h
+by_test P false r s y first second h = second h
+
+passes : {X E : Type 0} (b : Bool) (r : Result X E) (e : E) (y : X) → (if b then r else Err e) ≡ Ok y → r ≡ Ok y
+passes true r e y h = h
+passes false r e y h = absurd cc
+
+mapped : {X Y : Type 0} (P : Y → Type 0) (f : X → Y) (o : Option X) (y : Y) → ((x : X) → o ≡ Some x → P (f x)) → option_map f o ≡ Some y → P y
+mapped P f None y each h = absurd cc
+mapped P f (Some x) y each h = subst P (let e : f x ≡ y = cc in e) (each x refl)
+
+given_as : {X Y E : Type 0} (P : Y → Type 0) (f : X → Y) (o : Option X) (e : E) (y : Y) → ((x : X) → o ≡ Some x → P (f x)) → ok_or (option_map f o) e ≡ Ok y → P y
+given_as P f o e y each h = mapped P f o y each (ok_or_ok e (option_map f o) y h)
+
+All-made : {A X E : Type 0} (P : X → Type 0) (f : A → Result X E) → ((a : A) (x : X) → f a ≡ Ok x → P x) → (items : List A) (made : List X) → try_map f items ≡ Ok made → All P made
+unfolding try_map
+All-made P f each [] made h = subst (All P) (same_ok [] made h) (All-nil P)
+All-made P f each (a ∷ more) made h =
+    let one = bind_ok (f a) (λ first. try_map f more >>= λ others. Ok (first ∷ others)) made h in
+    let rest = bind_ok (try_map f more) (λ others. Ok (one.0 ∷ others)) made one.2 in
+    subst (All P) (same_ok (one.0 ∷ rest.0) made rest.2) (All-cons P one.0 rest.0 (each a one.0 one.1) (All-made P f each more rest.0 rest.1))
+
+-- ---- an interval
+
+pair_ordered : (lo hi : ℤ) (b : Bool) → int_le lo hi ≡ b → (z : ℤ × ℤ) → (if b then Some (lo, hi) else None) ≡ Some z → int_le z.0 z.1 ≡ true
+pair_ordered lo hi true is z h = subst (λ (p : ℤ × ℤ). int_le p.0 p.1 ≡ true) (let e : (lo, hi) ≡ z = cc in e) is
+pair_ordered lo hi false is z h = absurd cc
+
+both_ordered : (x y : Option ℤ) (z : ℤ × ℤ) → option_and_then (λ lo. option_and_then (λ hi. if int_le lo hi then Some (lo, hi) else None) y) x ≡ Some z → int_le z.0 z.1 ≡ true
+both_ordered None y z h = absurd cc
+both_ordered (Some lo) None z h = absurd cc
+both_ordered (Some lo) (Some hi) z h = pair_ordered lo hi (int_le lo hi) refl z h
+
+ends_ordered : (ds : List Data) (z : ℤ × ℤ) → ends_of ds ≡ Some z → int_le z.0 z.1 ≡ true
+ends_ordered [] z h = absurd cc
+ends_ordered (a ∷ []) z h = absurd cc
+ends_ordered (a ∷ b ∷ []) z h = both_ordered (as_whole a) (as_whole b) z h
+ends_ordered (a ∷ b ∷ c ∷ ds) z h = absurd cc
+
+list_ordered : (o : Option (List Data)) (z : ℤ × ℤ) → option_and_then ends_of o ≡ Some z → int_le z.0 z.1 ≡ true
+list_ordered None z h = absurd cc
+list_ordered (Some ds) z h = ends_ordered ds z h
+
+interval_ordered : (given : Option Data) (z : ℤ × ℤ) → option_map_or as_interval given (Some (pos 0, pos 0)) ≡ Some z → int_le z.0 z.1 ≡ true
+interval_ordered None z h = subst (λ (p : ℤ × ℤ). int_le p.0 p.1 ≡ true) (let e : (pos 0, pos 0) ≡ z = cc in e) refl
+interval_ordered (Some d) z h = list_ordered (as_list d) z h
+
+-- ---- a default, a slot, a class
+
+plain_ordered : (kind : List ℕ) (given : Option Data) (y : DefaultDeclaration) → plain_default_of kind given ≡ Ok y → IsOrdered y
+unfolding plain_default_of
+plain_ordered kind given y h =
+    by_test IsOrdered (bytes_eq kind (codes "int")) _ _ y (λ e. given_as IsOrdered int_default (option_map_or as_whole given (Some (pos 0))) Shape y (λ x _. tt) e)
+    (λ h. by_test IsOrdered (bytes_eq kind (codes "text")) _ _ y (λ e. given_as IsOrdered text_default (option_map_or as_str given (Some [])) Shape y (λ x _. tt) e)
+    (λ h. by_test IsOrdered (bytes_eq kind (codes "bool")) _ _ y (λ e. given_as IsOrdered bool_default (option_map_or as_bool given (Some false)) Shape y (λ x _. tt) e)
+    (λ h. by_test IsOrdered (bytes_eq kind (codes "interval")) _ _ y (λ e. given_as IsOrdered (λ (z : ℤ × ℤ). interval_default z.0 z.1) (option_map_or as_interval given (Some (pos 0, pos 0))) Shape y (λ z is. interval_ordered given z is) e)
+    (λ h. absurd cc) h) h) h) h
+
+label_ordered : (set : List ℕ) (given : Option Data) (y : DefaultDeclaration) → label_default_of set given ≡ Ok y → IsOrdered y
+unfolding label_default_of
+label_ordered set given y h = given_as IsOrdered (label_default set) _ Shape y (λ x _. tt) h
+
+default_ordered : (kind : List ℕ) (set : Option (List ℕ)) (given : Option Data) (y : DefaultDeclaration) → default_of kind set given ≡ Ok y → IsOrdered y
+unfolding default_of
+default_ordered kind None given y h = plain_ordered kind given y h
+default_ordered kind (Some set) given y h = label_ordered set given y (passes (bytes_eq kind (codes "label")) (label_default_of set given) Shape y h)
+
+slot_ordered : (d : Data) (s : SlotDeclaration) → slot_of d ≡ Ok s → IsOrdered s.default
+unfolding slot_of
+slot_ordered d s h =
+    let name = bind_ok (ok_or (text_at (codes "name") d) Shape) _ s (passes (is_object_with (codes "name" ∷ codes "kind" ∷ codes "of" ∷ codes "default" ∷ []) d) _ Shape s h) in
+    let kind = bind_ok (ok_or (text_at (codes "kind") d) Shape) _ s name.2 in
+    let set = bind_ok (ok_or (optional_text_at (codes "of") d) Shape) _ s kind.2 in
+    let default = bind_ok (default_of kind.0 set.0 (get (codes "default") d)) _ s set.2 in
+    subst (λ (e : SlotDeclaration). IsOrdered e.default) (same_ok (record { name = name.0; default = default.0 }) s default.2) (default_ordered kind.0 set.0 (get (codes "default") d) default.0 default.1)
+
+class_ordered : (d : Data) (k : ClassDeclaration) → class_of d ≡ Ok k → HasOrderedDefaults k
+unfolding class_of
+class_ordered d k h =
+    let name = bind_ok (ok_or (text_at (codes "name") d) Shape) _ k (passes (is_object_with (codes "name" ∷ codes "parent" ∷ codes "slots" ∷ codes "links" ∷ []) d) _ Shape k h) in
+    let parent = bind_ok (ok_or (optional_text_at (codes "parent") d) Shape) _ k name.2 in
+    let given_slots = bind_ok (ok_or (list_at (codes "slots") d) Shape) _ k parent.2 in
+    let slots = bind_ok (try_map slot_of given_slots.0) _ k given_slots.2 in
+    let given_links = bind_ok (ok_or (list_at (codes "links") d) Shape) _ k slots.2 in
+    let links = bind_ok (try_map link_of given_links.0) _ k given_links.2 in
+    subst HasOrderedDefaults (same_ok (record { name = name.0; parent = parent.0; slots = slots.0; links = links.0 }) k links.2)
+    (All-made (λ s. IsOrdered s.default) slot_of (λ d s h. slot_ordered d s h) given_slots.0 slots.0 slots.1)
+
+-- ---- the document
+
+declarations_ordered : (d : Data) (all : Declarations) → declarations_of d ≡ Ok all → HasOrderedIntervals all
+unfolding declarations_of
+declarations_ordered d all h =
+    let given_sets = bind_ok (ok_or (list_at (codes "labels") d) Shape) _ all (passes (is_object_with (codes "labels" ∷ codes "classes" ∷ codes "spaces" ∷ []) d) _ Shape all h) in
+    let label_sets = bind_ok (try_map label_set_of given_sets.0) _ all given_sets.2 in
+    let given_classes = bind_ok (ok_or (list_at (codes "classes") d) Shape) _ all label_sets.2 in
+    let classes = bind_ok (try_map class_of given_classes.0) _ all given_classes.2 in
+    let given_spaces = bind_ok (ok_or (list_at (codes "spaces") d) Shape) _ all classes.2 in
+    let spaces = bind_ok (try_map space_of given_spaces.0) _ all given_spaces.2 in
+    subst HasOrderedIntervals (same_ok (record { label_sets = label_sets.0; classes = classes.0; spaces = spaces.0 }) all spaces.2)
+    (All-made HasOrderedDefaults class_of (λ d k h. class_ordered d k h) given_classes.0 classes.0 classes.1)
+
+pub read_ordered : (d : Data) (r : Result Document DocumentFault) → Gives Memory declarations r (declarations_of d) → IfOk r (λ document. HasOrderedIntervals (declarations document))
+read_ordered d (Ok document) gives = declarations_ordered d (declarations document) gives
+read_ordered d (Err e) gives = tt

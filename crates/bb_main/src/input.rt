@@ -1,0 +1,85 @@
+//! Where an input comes from: `In`, and a reader of std's as one. Callers of `serve` and `program` make it.
+
+ghost use Rattle.std.specs.Prelude.{◌≡◌, ◌<◌, ◌≤◌, ℕ, List, Option, Bool, false, length, take};
+ghost use Rattle.std.specs.Prelude.{IfNone, IfSome, is_none};
+ghost use Rattle.std.specs.Io.KnownBytes.{Consumes, IsAtEnd, Keeps};
+
+use std::io::{ErrorKind, Read};
+
+/// The most tries of one read that is interrupted.
+const TRY_LIMIT: usize = 64;
+
+/// Where an input is read from. It tells the bytes that are left to read, and whether it has failed.
+pub trait In {
+    /// The bytes that are left to read, where it tells them.
+    ghost remaining: { Self → Option (List ℕ) };
+
+    /// Whether it has failed.
+    ghost has_failed: { Self → Bool };
+
+    /// Reads bytes into the front of the buffer, and answers how many: none at the end alone. Or takes none, answers
+    /// `None` and has failed.
+    fn read(&mut self, buffer: &mut [u8]) -> Option<usize>
+        requires room { 0 < length buffer.old }
+        requires open { has_failed self.old ≡ false }
+        ensures count { IfSome result (λ n. n ≤ length buffer.new) }
+        ensures bytes { IfSome result (λ n. Consumes (remaining self.old) (remaining self.new) (take n buffer.new)) }
+        ensures end { IfSome result (λ n. n ≡ 0 → IsAtEnd (remaining self.new)) }
+        ensures none { IfNone result (Keeps (remaining self.old) (remaining self.new)) }
+        ensures failed { has_failed self.new ≡ is_none result };
+
+    /// Whether it has failed.
+    fn failed(&self) -> bool
+        ensures { result ≡ has_failed self.now };
+}
+
+/// A reader as an `In`. A read that was interrupted is tried again; any other error, or too many interrupted tries, is
+/// its failure.
+#[derive(Drop)]
+pub struct Intake<R: Read> {
+    reader: R,
+    failed: bool,
+}
+
+impl<R: Read> Intake<R> {
+    /// Reads from a reader from now on.
+    pub fn new(reader: R) -> Intake<R>
+        ensures reader { result.reader ≡ reader }
+        ensures open { result.failed ≡ false }
+    {
+        Intake {
+            reader,
+            failed: false,
+        }
+    }
+
+    /// The reader.
+    pub fn into_inner(self) -> R
+        ensures { result ≡ self.reader }
+    {
+        let Intake { reader, failed: _ } = self;
+        reader
+    }
+}
+
+impl<R: Read> In for Intake<R> {
+    ghost remaining = { λ i. R.remaining i.reader };
+
+    ghost has_failed = { λ i. i.failed };
+
+    fn read(&mut self, buffer: &mut [u8]) -> Option<usize> {
+        for _ in 0..TRY_LIMIT {
+            match self.reader.read(buffer) {
+                Ok(count) => return Some(count),
+                Err(error) if error.kind() == ErrorKind::Interrupted => {}
+                Err(_) => break,
+            }
+        }
+        self.failed = true;
+        None
+    }
+
+    fn failed(&self) -> bool {
+        self.failed
+    }
+}

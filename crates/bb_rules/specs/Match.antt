@@ -1,0 +1,25 @@
+-- When a clause names an event, and when an event triggers a source (GBBopen Reference Manual, trigger events of a KS).
+use Rattle.std.specs.Prelude.{Bool, true, false, ◌&&◌}
+use Rattle.std.specs.List.{list_any}
+use Rattle.bb_schema.specs.Schema.{Schema, descends}
+use Rattle.bb_board.specs.declared.event.ChangeKind.{ChangeKind}
+use Rattle.bb_board.specs.declared.event.ChangeKind.TheVariants.{Create}
+use Rattle.bb_board.specs.declared.event.Event.{Event}
+use Rattle.bb_board.specs.declared.event.Event.TheVariants as events
+use Rattle.bb_rules.specs.declared.clause.Clause.{Clause}
+use Rattle.bb_rules.specs.declared.clause.Clause.TheVariants as clauses
+use Rattle.bb_rules.specs.declared.source.Source.{Source}
+
+-- the two kinds of change are one
+abbrev pub is_same_kind : ChangeKind → ChangeKind → Bool
+is_same_kind Create Create = true
+
+-- both are quiescence, or both are changes of one kind and the event's class descends from the clause's
+abbrev pub matches : Schema → Clause → Event → Bool
+matches s clauses.Quiescence events.Quiescence = true
+matches s (clauses.Change kind class) (events.Change changed unit of) = is_same_kind kind changed && descends s of class
+matches s _ _ = false
+
+-- one clause of the source or more names the event
+abbrev pub is_triggered : Schema → Source → Event → Bool
+is_triggered s source event = list_any (λ c. matches s c event) source.triggers

@@ -1,0 +1,36 @@
+//! A clause of a source: which events trigger it. `Source` has them.
+
+ghost use Rattle.std.specs.Prelude.{◌≡◌};
+ghost use Rattle.bb_rules.specs.Match.{matches};
+
+use bb_board::{ChangeKind, Event};
+use bb_schema::{ClassId, Schema};
+
+/// Which events a clause of a source names (GBBopen Reference Manual, trigger events of a KS).
+#[derive(Clone, Copy, Debug, PartialEq, Eq)]
+pub enum Clause {
+    /// A change of this kind, of a unit whose class is this one or descends from it.
+    Change { kind: ChangeKind, class: ClassId },
+    /// No activation could be chosen.
+    Quiescence,
+}
+
+impl Clause {
+    /// Whether the clause names an event.
+    pub fn matches(self, schema: &Schema, event: Event) -> bool
+        ensures { result ≡ matches schema.now self event }
+    {
+        match (self, event) {
+            (
+                Clause::Change { kind, class },
+                Event::Change {
+                    kind: changed,
+                    class: of,
+                    ..
+                },
+            ) => kind == changed && schema.descends(of, class),
+            (Clause::Quiescence, Event::Quiescence) => true,
+            _ => false,
+        }
+    }
+}

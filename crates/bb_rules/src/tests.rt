@@ -1,0 +1,74 @@
+use super::*;
+use bb_board::{ChangeKind, Event};
+use bb_compile::unbundle;
+use bb_schema::{ClassId, Schema};
+use bb_verify::verify;
+use std::alloc::Global;
+use std::test::Fail;
+
+// Class 0 is `focus`, so these are 1 to 3.
+const SCHEMA: &str =
+    r#"{"classes":[{"name":"note"},{"name":"memo","parent":"note"},{"name":"word"}]}"#;
+
+// A source of these clauses, whose code does nothing.
+fn source_of(
+    alloc: Global,
+    schema: &Schema,
+    class: &str,
+    triggers: &[&str],
+) -> Result<Result<Source, RuleFault>, Fail> {
+    let mut text = format!(in alloc; "source hail {class} 7\n")?;
+    for trigger in triggers {
+        text.push_str("when create ")?;
+        text.push_str(trigger)?;
+        text.push('\n')?;
+    }
+    text.push_str("do 4242430101000000000000000000012e")?;
+    let mut sources = unbundle(alloc, &text)?;
+    let source = sources.pop().ok_or("one source is written")?;
+    let body = verify(1, source.body)?;
+    Ok(Source::new(alloc, schema, source.header, body))
+}
+
+fn created(class: ClassId) -> Event {
+    Event::Change {
+        kind: ChangeKind::Create,
+        unit: 1,
+        class,
+    }
+}
+
+#[test]
+fn triggered_by_classes_below(rt: HostRuntime) -> Result<(), Fail> {
+    let schema = Schema::read(rt.alloc(), SCHEMA)?;
+    let source = source_of(rt.alloc(), &schema, "note", &["memo"])??;
+    assert_eq!(rt; source.name.as_str(), "hail");
+    assert_eq!(rt; source.class, 1);
+    assert_eq!(rt; source.rate, 7);
+    assert!(rt; source.is_triggered(&schema, created(2)));
+    assert!(rt; !source.is_triggered(&schema, created(1)));
+    assert!(rt; !source.is_triggered(&schema, Event::Quiescence));
+    let source = source_of(rt.alloc(), &schema, "note", &["memo", "note"])??;
+    assert!(rt; source.is_triggered(&schema, created(2)));
+    assert!(rt; source.is_triggered(&schema, created(1)));
+    assert!(rt; !source.is_triggered(&schema, created(3)));
+    assert!(rt; Clause::Quiescence.matches(&schema, Event::Quiescence));
+    assert!(rt; !Clause::Quiescence.matches(&schema, created(1)));
+    Ok(())
+}
+
+#[test]
+fn refused_classes(rt: HostRuntime) -> Result<(), Fail> {
+    let schema = Schema::read(rt.alloc(), SCHEMA)?;
+    let table = [
+        ("memos", ["memo"]),
+        ("note", ["memos"]),
+        ("note", ["word"]),
+        ("memo", ["note"]),
+    ];
+    for (class, triggers) in table {
+        let fault = source_of(rt.alloc(), &schema, class, &triggers)?.err();
+        assert_eq!(rt; fault, Some(RuleFault::Class), "{class}");
+    }
+    Ok(())
+}

@@ -1,7 +1,0 @@
-use Rattle.std.proofs.Common.{◌∙◌, sym, string_bytes}
-use Rattle.std.specs.Str.{bytes_eq}
-use Rattle.bb_schema.proofs.ListLemmas.{position-map}
-use Rattle.bb_schema.proofs.names.Names.number.Goals as goal
-
-pub returns : goal.returns
-returns c = rw (← c.self.view_is) (c.get_index_of.ensures.index ∙ sym (position-map (bytes_eq c.args.name.now) string_bytes c.self.inside.set.keys))

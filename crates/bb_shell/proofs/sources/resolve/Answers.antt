@@ -1,0 +1,11 @@
+use Rattle.std.proofs.Common.{rules, sym, inl, inr, ap, ◌∙◌, Err}
+use Rattle.bb_basis.specs.Results.{map_err}
+use Rattle.bb_shell.specs.declared.input_fault.InputFault.TheVariants.{Rule}
+use Rattle.bb_shell.proofs.sources.resolve.Goals as goal
+
+pub returns-in-Err : goal.returns-in-Err
+returns-in-Err c =
+    elim c.in-Err.ensures [
+      | inl memory ↦ search rules
+      | inr failed ↦ inr (ap (map_err (Rule c.args.source.header.name)) failed ∙ ap (λ n. Err (Rule n c.in-Err.fault)) (sym (c.in_ok-name.ensures ∙ c.as_str.ensures)))
+    ]

@@ -1,0 +1,2 @@
+-- what a part of the run's code tells, against the definitions
+pub mod Telling

@@ -1,0 +1,19 @@
+-- The numbers by which refusals name what is wrong with a code.
+use Rattle.std.specs.Prelude.{ℕ}
+use Rattle.bb_verify.specs.declared.flaw.Flaw.{Flaw}
+use Rattle.bb_verify.specs.declared.flaw.Flaw.TheVariants.{Table, Jump, Loop, Frame, Depth, Kind, Dead, Slot, LinkClass, Space, Query, Effect, End}
+
+abbrev pub fault_number : Flaw → ℕ
+fault_number Table = 1
+fault_number Jump = 2
+fault_number Loop = 3
+fault_number Frame = 4
+fault_number Depth = 5
+fault_number Kind = 6
+fault_number Dead = 7
+fault_number Slot = 8
+fault_number LinkClass = 9
+fault_number Space = 10
+fault_number Query = 11
+fault_number Effect = 12
+fault_number End = 13
