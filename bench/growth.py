@@ -1,0 +1,246 @@
+#!/usr/bin/env python3
+"""Runs the program on inputs of growing size, and prints what each took as the tables of docs/PERFORMANCE.md.
+
+    bench/growth.py crates/bb/out/bb [--runs N] [--only WORD] [--seconds S]
+
+Each kind of input doubles from row to row. `colliding` names have one hash in the standard library's default hasher,
+whose seed is fixed; `others` are names of the same length that have not. The status is 1 where names that collide cost
+more than three times what others cost, or where an input costs more than twice its share, by its size, of what the
+least input costs that takes a twentieth of a second. Lesser times are not compared.
+"""
+
+import argparse
+import os
+import subprocess
+import sys
+import tempfile
+import time
+
+# ---- names that have one hash
+
+WORD = (1 << 64) - 1
+# The seed and the multiplier of the standard library's `FoldHasher`.
+SEED = 0x243F6A8885A308D3
+MULTIPLIER = 0x9E3779B97F4A7C15
+
+LETTERS = b"abcdefghijklmnopqrstuvwxyz"
+# What may be in a JSON text as it is.
+PLAIN = set(range(0x20, 0x7F)) - set(b'"\\')
+
+
+def folded(a, b):
+    """The halves of a product, joined: the hasher's one step."""
+    product = a * b
+    return (product & WORD) ^ (product >> 64)
+
+
+def little(part):
+    return int.from_bytes(part, "little")
+
+
+def digits(number, length):
+    """A number in letters, the last letter counting fastest."""
+    out = bytearray()
+    for _ in range(length):
+        number, digit = divmod(number, len(LETTERS))
+        out.append(LETTERS[digit])
+    return bytes(reversed(out))
+
+
+def colliding_front():
+    """24 bytes with which each name of 32 bytes has one hash.
+
+    The state after 16 bytes is looked for that is itself a text of 8 bytes. With these next the hasher multiplies
+    the last 8 bytes by 0.
+    """
+    number = 0
+    while True:
+        half = digits(number, 16)
+        state = folded(little(half[:8]) ^ (SEED + 32 & WORD), little(half[8:]) ^ MULTIPLIER)
+        third = state.to_bytes(8, "little")
+        if all(byte in PLAIN for byte in third):
+            return half + third
+        number += 1
+
+
+def hash_of(name):
+    """The hasher's state after a name of 32 bytes."""
+    first = folded(little(name[:8]) ^ (SEED + 32 & WORD), little(name[8:16]) ^ MULTIPLIER)
+    return folded(little(name[16:24]) ^ first, little(name[24:]) ^ MULTIPLIER)
+
+
+FRONT = colliding_front()
+assert hash_of(FRONT + b"aaaaaaaa") == hash_of(FRONT + b"zebra123") == 0
+
+
+def colliding(number):
+    return (FRONT + digits(number, 8)).decode()
+
+
+def other(number):
+    """A name of the same length, with a hash of its own."""
+    return "name_that_has_a_hash_of_" + digits(number, 8).decode()
+
+
+# ---- inputs, piece by piece: what a process held before it runs another counts as the other's memory
+
+
+def separated(pieces):
+    between = ""
+    for piece in pieces:
+        yield between + piece
+        between = ","
+
+
+def units(name, count):
+    yield '%schema\n{"classes":[{"name":"note"}]}\n%units\n{"units":['
+    yield from separated('{"name":"%s","class":"note"}' % name(i) for i in range(count))
+    yield "]}\n"
+
+
+def classes(name, count):
+    yield '%schema\n{"classes":['
+    yield from separated('{"name":"%s"}' % name(i) for i in range(count))
+    yield "]}\n"
+
+
+LINKING_CLASSES = 255
+LINKS_OF_A_CLASS = 59
+
+
+def link(name, to, inverse):
+    return '{"name":"%s","to":"%s","many":true,"inverse":"%s"}' % (name, to, inverse)
+
+
+def inverses(name, count):
+    """15,045 links to one class of so many slots, each with its inverse there. That class comes last."""
+    yield '%schema\n{"classes":['
+    for i in range(LINKING_CLASSES):
+        there = separated(link("to_%d" % j, "all", "from_%d_%d" % (i, j)) for j in range(LINKS_OF_A_CLASS))
+        yield '{"name":"c%d","links":[%s]},' % (i, "".join(there))
+    yield '{"name":"all","slots":['
+    yield from separated('{"name":"%s","kind":"int"}' % name(i) for i in range(count))
+    yield '],"links":['
+    yield from separated(
+        link("from_%d_%d" % (i, j), "c%d" % i, "to_%d" % j)
+        for i in range(LINKING_CLASSES)
+        for j in range(LINKS_OF_A_CLASS)
+    )
+    yield "]}]}\n"
+
+
+def keys(name, count):
+    yield "%schema\n{"
+    yield from separated('"%s":0' % name(i) for i in range(count))
+    yield "}\n"
+
+
+def short(number):
+    return "c%d" % number
+
+
+KINDS = [
+    ("Units", "units", units, [("others", other), ("colliding", colliding)], 4_096, 65_536),
+    ("Class entries", "classes", classes, [("others", other), ("colliding", colliding)], 10_000, 320_000),
+    ("Links to a class of many slots", "slots", inverses, [("short", short)], 18_750, 300_000),
+    ("The same, with longer names", "slots", inverses, [("others", other), ("colliding", colliding)], 10_000, 160_000),
+    ("Keys that no document has", "keys", keys, [("others", other), ("colliding", colliding)], 12_500, 400_000),
+    ("A document of many classes", "classes", classes, [("short", short)], 25_000, 400_000),
+]
+
+# ---- runs
+
+# How many times what others cost colliding names may cost, and how many times its share a larger input may.
+COLLIDING_LIMIT = 3.0
+GROWTH_LIMIT = 2.0
+# Below this a time says more about the machine than about the program.
+FLOOR = 0.05
+
+
+def run_once(program, path):
+    """The seconds, the megabytes and the first line of the answer."""
+    with open(path, "rb") as stdin, tempfile.TemporaryFile() as stdout:
+        begun = time.perf_counter()
+        child = subprocess.Popen([program], stdin=stdin, stdout=stdout)
+        _, _, used = os.wait4(child.pid, 0)
+        seconds = time.perf_counter() - begun
+        child.returncode = 0
+        stdout.seek(0)
+        answer = stdout.readline(80).decode(errors="replace").strip()
+    return seconds, used.ru_maxrss / 1024, answer
+
+
+def measure(program, pieces, runs):
+    """The bytes of an input, and the least time of some runs of it with memory and answer."""
+    with tempfile.NamedTemporaryFile("w", encoding="utf-8") as file:
+        file.writelines(pieces)
+        file.flush()
+        return os.path.getsize(file.name), *min(run_once(program, file.name) for _ in range(runs))
+
+
+def grows_wrongly(rows):
+    """The rows that cost more than their share of what the least one costs that can be compared."""
+    compared = [row for row in rows if row[2] >= FLOOR]
+    for count, size, took in compared[1:]:
+        _, base_size, base = compared[0]
+        times = took / base / (size / base_size)
+        if times > GROWTH_LIMIT:
+            yield "%d take %.1f times their share" % (count, times)
+
+
+def collide_wrongly(rows, others):
+    """The rows of colliding names that cost more than others do."""
+    plain = {count: took for count, _, took in others}
+    for count, _, took in rows:
+        times = took / max(plain.get(count, took), FLOOR)
+        if times > COLLIDING_LIMIT:
+            yield "%d take %.1f times what others take" % (count, times)
+
+
+def table(program, kind, runs, seconds):
+    """Prints the table of a kind, and gives what is not allowed in it."""
+    title, unit, make, names, least, most = kind
+    print("\n### %s\n" % title)
+    print("| Names | Number of %s | Input, MB | Seconds | Memory, MB | Answer |" % unit)
+    print("|---|---|---|---|---|---|")
+    refused = []
+    tables = {}
+    for label, name in names:
+        rows = tables[label] = []
+        count = least
+        while count <= most:
+            size, took, memory, answer = measure(program, make(name, count), runs)
+            row = (label, count, size / 1e6, took, memory, answer)
+            print("| %s | %d | %.1f | %.2f | %.0f | `%s` |" % row, flush=True)
+            rows.append((count, size, took))
+            if took > seconds:
+                refused.append("%s, %s: stopped at %d" % (title, label, count))
+                break
+            count *= 2
+        refused += ["%s, %s: %s" % (title, label, text) for text in grows_wrongly(rows)]
+    colliding, others = tables.get("colliding", []), tables.get("others", [])
+    refused += ["%s, colliding: %s" % (title, text) for text in collide_wrongly(colliding, others)]
+    return refused
+
+
+def main():
+    parser = argparse.ArgumentParser(description=__doc__, formatter_class=argparse.RawDescriptionHelpFormatter)
+    parser.add_argument("program", help="the built program, crates/bb/out/bb")
+    parser.add_argument("--runs", type=int, default=3, help="runs of each input, of which the fastest counts")
+    parser.add_argument("--only", default="", help="the kinds whose title has this word")
+    parser.add_argument("--seconds", type=float, default=60, help="no larger input after one that takes longer")
+    options = parser.parse_args()
+    refused = []
+    for kind in KINDS:
+        if options.only.lower() in kind[0].lower():
+            refused += table(options.program, kind, options.runs, options.seconds)
+    print()
+    for line in refused:
+        print("NOT IN PROPORTION: " + line)
+    if not refused:
+        print("All grow in proportion, and names that collide cost what others cost.")
+    return 1 if refused else 0
+
+
+if __name__ == "__main__":
+    sys.exit(main())
