@@ -17,5 +17,5 @@ pub use items::Items;
 pub use memory::Memory;
 pub use name::{NAME_LIMIT, is_name};
 pub use names::Names;
-pub use table::{Named, Table};
+pub use table::{ITEM_LIMIT, Named, Table};
 pub use text::Text;

@@ -3,11 +3,15 @@
 ghost use Rattle.std.specs.Prelude.{◌≡◌, ◌<◌, [], ◌∷◌, ◌++◌, false, length, map, position, slice_get, option_map, OnOk, OnErr};
 ghost use Rattle.std.specs.List.{list_any};
 ghost use Rattle.std.specs.Str.{bytes_eq};
+ghost use Rattle.bb_basis.specs.declared.table.TheConstants.{ITEM_LIMIT};
 
 use crate::names::Names;
 use crate::text::Text;
 use std::alloc::{AllocError, Global};
 use std::marker::Model;
+
+/// The greatest number of items in a table.
+pub const ITEM_LIMIT: usize = 65_536;
 
 /// A named item.
 pub trait Named: Drop {
@@ -28,7 +32,7 @@ impl Named for Text {
     }
 }
 
-/// At most 65,536 named items in the order in which they were added, each found by its name without a scan.
+/// At most `ITEM_LIMIT` named items in the order in which they were added, each found by its name without a scan.
 #[derive(Drop)]
 pub struct Table<T: Named> {
     items: Vec<T>,
@@ -108,7 +112,7 @@ impl<T: Named> Table<T> {
 
     /// Appends an item whose name no other has. An error changes nothing.
     pub fn push(&mut self, alloc: Global, item: T) -> Result<(), AllocError>
-        requires room { length self.old < 65536 }
+        requires room { length self.old < ITEM_LIMIT }
         requires fresh { list_any (bytes_eq (T.name_of item)) (map T.name_of self.old) ≡ false }
         ensures ok { OnOk result (self.new ≡ self.old ++ item ∷ []) }
         ensures err { OnErr result (self.new ≡ self.old) }

@@ -7,6 +7,7 @@ use Rattle.bb_units.specs.declared.unit.Unit.{Unit}
 use Rattle.bb_units.specs.Values.{value_at}
 use Rattle.bb_units.specs.Layout.{Layout, default_at, can_hold, blank}
 use Rattle.bb_units.specs.Units.{Units, is_live}
+use Rattle.bb_units.specs.declared.units.TheConstants.{UNIT_LIMIT}
 
 -- an ordinary slot can hold its default
 abbrev pub HoldsDefaults : Layout → Type 0
@@ -23,7 +24,7 @@ pub record Fits (u : Units) : Type 0 where
   pub numbers : (n : ℕ) → is_live u n ≡ true → (0 < n) × (n < u.next)
   pub begun : 0 < u.next
   pub last : u.next ≤ 2 ^ 63
-  pub few : map.len u.units ≤ 65536
+  pub few : map.len u.units ≤ UNIT_LIMIT
   -- what new units begin with
   pub defaults : HoldsDefaults u.layout
   pub units : (n : ℕ) (x : Unit) → map.get u.units n ≡ Some x → IsUnitOf u.layout x
