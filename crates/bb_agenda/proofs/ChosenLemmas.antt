@@ -15,7 +15,7 @@ use Rattle.bb_agenda.specs.declared.activation.Activation.{Activation}
 use Rattle.bb_agenda.specs.Chosen.{is_before, is_best, chosen, IsChosen}
 
 module _ {X : Type 0} where
-  find_none : (p : X → Bool) (xs : List X) → AllByRecursion (λ x. p x ≡ false) xs → find p xs ≡ None
+  pub find_none : (p : X → Bool) (xs : List X) → AllByRecursion (λ x. p x ≡ false) xs → find p xs ≡ None
   find_none p [] h = refl
   find_none p (x ∷ xs) h = ap (λ b. cond b (Some x) (find p xs)) h.0 ∙ find_none p xs h.1
 
@@ -23,7 +23,7 @@ module _ {X : Type 0} where
   find_same p q h [] = refl
   find_same p q h (x ∷ xs) = ap (λ b. cond b (Some x) (find p xs)) (h x) ∙ ap (λ r. cond (q x) (Some x) r) (find_same p q h xs)
 
-  each_weaker : (P Q : X → Type 0) → ((x : X) → P x → Q x) → (xs : List X) → AllByRecursion P xs → AllByRecursion Q xs
+  pub each_weaker : (P Q : X → Type 0) → ((x : X) → P x → Q x) → (xs : List X) → AllByRecursion P xs → AllByRecursion Q xs
   each_weaker P Q h [] all = tt
   each_weaker P Q h (x ∷ xs) all = (h x all.0, each_weaker P Q h xs all.1)
 

@@ -1,7 +1,8 @@
 //! The agenda. A run (bb_shell) adds to it what events trigger, and takes off it what a cycle executes.
 
-ghost use Rattle.std.specs.Prelude.{◌≡◌, ◌+◌, IfOk, OnOk, OnErr, false, Option};
-ghost use Rattle.bb_agenda.specs.Agenda.{no_activations, is_full, with_activation, new_activation, without};
+ghost use Rattle.std.specs.Prelude.{◌≡◌, IfOk, OnOk, OnErr, false};
+ghost use Rattle.bb_agenda.specs.Agenda.{no_activations, pending_of, is_full, with_activation, new_activation};
+ghost use Rattle.bb_agenda.specs.Agenda.{with_executed};
 ghost use Rattle.bb_agenda.specs.Rating.{rating};
 ghost use Rattle.bb_agenda.specs.Chosen.{chosen};
 
@@ -13,22 +14,28 @@ use std::marker::Model;
 /// The greatest number of pending activations.
 pub const PENDING_LIMIT: usize = 65_536;
 
-/// One more than the greatest number of an activation.
-pub const NUMBER_LIMIT: u64 = 1 << 63;
+/// The greatest number of an activation.
+pub const NUMBER_LIMIT: u64 = (1 << 63) - 1;
 
-/// The pending activations, each under its number (GBBopen Reference Manual, Agenda Shell).
+/// All activations that were ever given, each under its number, and what is pending of them (GBBopen Reference Manual,
+/// Agenda Shell). Of those that are over it keeps no more than how many there were.
 #[derive(Drop)]
 pub struct Agenda {
-    next: u64,
+    // The number of activations that were given.
+    given: u64,
     pending: Vec<Activation>,
 }
 
 impl Model for Agenda {
-    ghost use Rattle.bb_agenda.specs.Agenda.{Agenda as Pending};
+    ghost use Rattle.bb_agenda.specs.Agenda.{Agenda as Given};
 
-    ghost Value = { Pending };
+    ghost Value = { Given };
 
-    ghost view = { λ a. record { next = a.next; pending = a.pending.items } };
+    ghost use Rattle.bb_agenda.specs.proving.Kept.{IsKept, agenda_of};
+
+    ghost view = { λ a. agenda_of a.given a.pending.items };
+
+    ghost invariant = { λ a. IsKept a.given a.pending.items };
 }
 
 impl Agenda {
@@ -37,16 +44,16 @@ impl Agenda {
         ensures { result ≡ no_activations }
     {
         Agenda {
-            next: 1,
+            given: 0,
             pending: Vec::new(alloc),
         }
     }
 
-    /// Whether no activation can be added: `PENDING_LIMIT` are pending, or each number below `NUMBER_LIMIT` was given.
+    /// Whether no activation can be added: `PENDING_LIMIT` are pending, or each number up to `NUMBER_LIMIT` was given.
     pub fn is_full(&self) -> bool
         ensures { result ≡ is_full self.now }
     {
-        self.pending.len() >= PENDING_LIMIT || self.next >= NUMBER_LIMIT
+        self.pending.len() >= PENDING_LIMIT || self.given >= NUMBER_LIMIT
     }
 
     /// Adds an activation under the next number and returns it. An error changes nothing.
@@ -57,27 +64,27 @@ impl Agenda {
         ensures err { OnErr result (self.new ≡ self.old) }
     {
         let activation = Activation {
-            number: self.next,
+            number: self.given + 1,
             source,
             unit,
             base,
         };
         self.pending.push(activation)?;
-        self.next += 1;
+        self.given += 1;
         Ok(activation)
     }
 
     /// The activation to execute: of those rated at least `floor` the one of the highest rating, of equals the one of
     /// the lowest number (Hayes-Roth 1985, scheduling).
     pub fn choose(&self, floor: i64) -> Option<Activation>
-        ensures { result ≡ chosen rating floor self.now.pending }
+        ensures { result ≡ chosen rating floor (pending_of self.now) }
     {
         best(floor, &self.pending)
     }
 
-    /// Takes the activation of this number off the agenda, since it is executed now.
+    /// The activation of this number is executed now, so it is no longer pending.
     pub fn executed(&mut self, number: u64)
-        ensures { self.new ≡ without self.old number }
+        ensures { self.new ≡ with_executed self.old number }
     {
         self.pending.retain(|a| a.number != number);
     }

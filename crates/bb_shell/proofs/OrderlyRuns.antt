@@ -12,7 +12,7 @@ use Rattle.bb_board.specs.declared.note.Note.TheVariants.{Event as happened}
 use Rattle.bb_board.specs.declared.world.World.{World}
 use Rattle.bb_board.specs.Event.{unit_of}
 use Rattle.bb_agenda.specs.declared.activation.Activation.{Activation}
-use Rattle.bb_agenda.specs.Agenda.{Agenda, is_full, new_activation, with_activation, no_activations, without}
+use Rattle.bb_agenda.specs.Agenda.{Agenda, is_full, new_activation, next_number, pending_of, with_activation, no_activations, with_executed}
 use Rattle.bb_agenda.specs.Rating.{rating}
 use Rattle.bb_agenda.proofs.ChosenLemmas.{chosen_some}
 use Rattle.bb_code.specs.Code.{Code}
@@ -256,13 +256,13 @@ module _ (shell : Shell) (world : World) where
   acts_at (Some source) a s past made is lt stands = acts_by source.act a s past made stands
 
   -- the choice, and what its source does
-  cycles_once : (a : Activation) (s : State) (past : List Note) (made : ℕ) → MayChoose past (made + 1) a (rating a) → Contains s.agenda.pending a → Agrees past made made s.agenda → Tells past (made + 1) (made + 1) (cycle shell (made + 1) a s)
+  cycles_once : (a : Activation) (s : State) (past : List Note) (made : ℕ) → MayChoose past (made + 1) a (rating a) → Contains (pending_of s.agenda) a → Agrees past made made s.agenda → Tells past (made + 1) (made + 1) (cycle shell (made + 1) a s)
   cycles_once a s past made may there stands =
       let note : Note = Chosen (made + 1) a (rating a) in
-      let later : State = record { world = s.world; agenda = without s.agenda a.number } in
+      let later : State = record { world = s.world; agenda = with_executed s.agenda a.number } in
       let p = acting_at shell (slice_get shell.sources a.source) a later in
       keeps_more past (note ∷ []) (notes_of p) (made + 1) (made + 1) p.state p.end (comes_one May past note may)
-      (acts_at (slice_get shell.sources a.source) a later (past ++ note ∷ []) made refl (All-contains (IsKnown s.agenda.next (length shell.sources)) s.agenda.pending a stands.known there).source
+      (acts_at (slice_get shell.sources a.source) a later (past ++ note ∷ []) made refl (All-contains (IsKnown (next_number s.agenda) (length shell.sources)) (pending_of s.agenda) a stands.known there).source
       (stands_chosen (length shell.sources) past made made s.agenda stands (made + 1) a (rating a) there))
 
   -- ---- the run so far
@@ -322,7 +322,7 @@ module _ (shell : Shell) (world : World) where
         agenda = stands.pending;
         choice_is = chosen;
         rated = refl;
-        best = chosen_some rating shell.floor t.agenda.pending a chosen;
+        best = chosen_some rating shell.floor (pending_of t.agenda) a chosen;
       })
 
   -- a cycle may choose what is chosen after the wait
@@ -330,7 +330,7 @@ module _ (shell : Shell) (world : World) where
       → Agrees (past ++ notes_of (wait shell s)) made made (wait shell s).state.agenda → MayChoose (past ++ notes_of (wait shell s)) (made + 1) a (rating a)
   may_choose past told made s a begins before goes chosen stands =
       let p = wait shell s in
-      let best = chosen_some rating shell.floor p.state.agenda.pending a chosen in
+      let best = chosen_some rating shell.floor (pending_of p.state.agenda) a chosen in
       let count : made + 1 - 1 ≡ made + zero = omega arith in
       record {
         counted = ap (λ n. n + 1) stands.cycles;
@@ -420,7 +420,7 @@ module _ (shell : Shell) (world : World) where
   ends_cycle past made left limit t None is le stands may rest = ends_quiet past made made limit t (omega arith) is stands
   ends_cycle past made left limit t (Some a) is le stands may rest =
       let p = cycle shell (made + 1) a t in
-      let there = (chosen_some rating shell.floor t.agenda.pending a is).waits in
+      let there = (chosen_some rating shell.floor (pending_of t.agenda) a is).waits in
       ends_then past (made + 1) (made + 1) limit p (cycles shell (made + 1) left) p.end refl le (cycles_once a t past made (may a is) there stands) (rest a is)
 
   waits : (past : List Note) (made : ℕ) (s : State) → Agrees past made made s.agenda → Tells past made made (wait shell s)

@@ -8,7 +8,8 @@ use Rattle.std.proofs.lemmas.List.Elements.{All-append, All-cons, All-contains, 
 use Rattle.std.proofs.lemmas.List.Folds.{list_any-append, list_any_none}
 use Rattle.std.proofs.lemmas.List.Sums.{sum_by-append}
 use Rattle.bb_agenda.specs.declared.activation.Activation.{Activation}
-use Rattle.bb_agenda.specs.Agenda.{Agenda, no_activations, new_activation, with_activation, without}
+use Rattle.bb_agenda.specs.Agenda.{Agenda, no_activations, pending_of, next_number, new_activation, with_activation, with_executed}
+use Rattle.bb_agenda.proofs.KeptLemmas.{pending_added, pending_executed, given_added, given_executed}
 use Rattle.bb_shell.specs.declared.note.Note.{Note}
 use Rattle.bb_shell.specs.declared.note.Note.TheVariants.{Triggered, Chosen}
 use Rattle.bb_shell.specs.Order.{triggered_by, chosen_by, is_end, triggered_in, chosen_in, ends_in, has_number, pending_after}
@@ -62,12 +63,12 @@ pub record IsKnown (next sources : ℕ) (a : Activation) : Type 0 where
 
 -- after these notes, with so many cycles made and so many of them executed, the agenda is what is pending
 pub record Stands (sources : ℕ) (past : List Note) (made executed : ℕ) (agenda : Agenda) : Type 0 where
-  pub numbers : agenda.next ≡ length (triggered_in past) + 1
+  pub numbers : next_number agenda ≡ length (triggered_in past) + 1
   pub cycles : made ≡ length (chosen_in past)
   pub executions : executed ≡ ends_in past
-  pub pending : agenda.pending ≡ pending_after past
-  pub known : All (IsKnown agenda.next sources) agenda.pending
-  pub chosen_before : All (λ a. a.number < agenda.next) (chosen_in past)
+  pub pending : pending_of agenda ≡ pending_after past
+  pub known : All (IsKnown (next_number agenda) sources) (pending_of agenda)
+  pub chosen_before : All (λ a. a.number < next_number agenda) (chosen_in past)
 
 pub stands_first : (sources : ℕ) → Stands sources [] 0 0 no_activations
 stands_first sources = record { numbers = refl; cycles = refl; executions = refl; pending = refl; known = All-nil (IsKnown 1 sources); chosen_before = All-nil (λ a. a.number < 1) }
@@ -89,7 +90,7 @@ module _ (sources : ℕ) (past : List Note) (made executed : ℕ) (agenda : Agen
         executions = ap (λ n. n + more) s.executions ∙ ap (λ n. ends_in past + n) (sym ended) ∙ sym (ends_then past notes);
         pending = s.pending ∙ ap (λ l. left_of l (triggered_in past)) (sym chosen) ∙ ap (left_of (chosen_in (past ++ notes))) (sym triggered);
         known = s.known;
-        chosen_before = subst (All (λ a. a.number < agenda.next)) (sym chosen) s.chosen_before;
+        chosen_before = subst (All (λ a. a.number < next_number agenda)) (sym chosen) s.chosen_before;
       }
 
   no_end : (note : Note) → ends_in (note ∷ []) ≡ 0 → executed ≡ ends_in (past ++ note ∷ [])
@@ -99,37 +100,42 @@ module _ (sources : ℕ) (past : List Note) (made executed : ℕ) (agenda : Agen
   pub stands_triggered : (source unit : ℕ) (base : ℤ) → source < sources → Stands sources (past ++ Triggered (new_activation agenda source unit base) ∷ []) made executed (with_activation agenda source unit base)
   stands_triggered source unit base lt =
       let a = new_activation agenda source unit base in
+      let later = with_activation agenda source unit base in
+      let grown = given_added agenda source unit base in
       let note : List Note = Triggered a ∷ [] in
       let triggered : triggered_in (past ++ note) ≡ triggered_in past ++ a ∷ [] = triggered_then past note in
       let chosen : chosen_in (past ++ note) ≡ chosen_in past = chosen_then past note ∙ append-nil (chosen_in past) in
       let new : has_number (chosen_in past) a.number ≡ false =
-      list_any_none (λ b. agenda.next == b.number) (chosen_in past) (All-weaker (λ b. b.number < agenda.next) (λ b. (agenda.next == b.number) ≡ false) (λ b under. ne_eqb agenda.next b.number (λ e. omega (arith, e))) (chosen_in past) s.chosen_before) in
+      list_any_none (λ b. next_number agenda == b.number) (chosen_in past) (All-weaker (λ b. b.number < next_number agenda) (λ b. (next_number agenda == b.number) ≡ false) (λ b under. ne_eqb (next_number agenda) b.number (λ e. omega (arith, e))) (chosen_in past) s.chosen_before) in
       let last : left_of (chosen_in past) (a ∷ []) ≡ a ∷ [] = ap (λ t. cond (not t) (a ∷ []) []) new in
       record {
-        numbers = ap (λ n. n + 1) s.numbers ∙ ap (λ n. n + 1) (sym (length-append (triggered_in past) (a ∷ []))) ∙ ap (λ l. length l + 1) (sym triggered);
+        numbers = ap (λ n. n + 1) (given_added agenda source unit base ∙ s.numbers) ∙ ap (λ n. n + 1) (sym (length-append (triggered_in past) (a ∷ []))) ∙ ap (λ l. length l + 1) (sym triggered);
         cycles = s.cycles ∙ ap length (sym chosen);
         executions = no_end (Triggered a) refl;
-        pending = ap (λ l. l ++ a ∷ []) s.pending ∙ ap (λ l. left_of (chosen_in past) (triggered_in past) ++ l) (sym last)
+        pending = pending_added agenda source unit base ∙ ap (λ l. l ++ a ∷ []) s.pending ∙ ap (λ l. left_of (chosen_in past) (triggered_in past) ++ l) (sym last)
             ∙ sym (filter-append (λ b. not (has_number (chosen_in past) b.number)) (triggered_in past) (a ∷ []))
             ∙ ap (left_of (chosen_in past)) (sym triggered) ∙ ap (λ l. left_of l (triggered_in (past ++ note))) (sym chosen);
-        known = All-last (IsKnown (agenda.next + 1) sources) agenda.pending a
-            (All-weaker (IsKnown agenda.next sources) (IsKnown (agenda.next + 1) sources) (λ b k. let under = k.number in record { number = omega arith; source = k.source }) agenda.pending s.known)
-            (record { number = omega arith; source = lt });
-        chosen_before = subst (All (λ b. b.number < agenda.next + 1)) (sym chosen) (All-weaker (λ b. b.number < agenda.next) (λ b. b.number < agenda.next + 1) (λ b under. omega arith) (chosen_in past) s.chosen_before);
+        known = subst (All (IsKnown (next_number later) sources)) (sym (pending_added agenda source unit base)) (All-last (IsKnown (next_number later) sources) (pending_of agenda) a
+            (All-weaker (IsKnown (next_number agenda) sources) (IsKnown (next_number later) sources) (λ b k. let under = k.number in record { number = omega (arith, grown); source = k.source }) (pending_of agenda) s.known)
+            (record { number = omega (arith, grown); source = lt }));
+        chosen_before = subst (All (λ b. b.number < next_number later)) (sym chosen) (All-weaker (λ b. b.number < next_number agenda) (λ b. b.number < next_number later) (λ b under. omega (arith, grown)) (chosen_in past) s.chosen_before);
       }
 
   -- after a choice of what is pending
-  pub stands_chosen : (number : ℕ) (a : Activation) (r : ℤ) → Contains agenda.pending a → Stands sources (past ++ Chosen number a r ∷ []) (made + 1) executed (without agenda a.number)
+  pub stands_chosen : (number : ℕ) (a : Activation) (r : ℤ) → Contains (pending_of agenda) a → Stands sources (past ++ Chosen number a r ∷ []) (made + 1) executed (with_executed agenda a.number)
   stands_chosen number a r there =
+      let same = given_executed agenda a.number in
       let note : List Note = Chosen number a r ∷ [] in
       let triggered : triggered_in (past ++ note) ≡ triggered_in past = triggered_then past note ∙ append-nil (triggered_in past) in
       let chosen : chosen_in (past ++ note) ≡ chosen_in past ++ a ∷ [] = chosen_then past note in
       record {
-        numbers = s.numbers ∙ ap (λ l. length l + 1) (sym triggered);
+        numbers = ap (λ n. n + 1) same ∙ s.numbers ∙ ap (λ l. length l + 1) (sym triggered);
         cycles = ap (λ n. n + 1) s.cycles ∙ sym (length-append (chosen_in past) (a ∷ [])) ∙ ap length (sym chosen);
         executions = no_end (Chosen number a r) refl;
-        pending = ap (filter (λ b. not (b.number == a.number))) s.pending ∙ sym (left_without (chosen_in past) (triggered_in past) a)
+        pending = pending_executed agenda a.number ∙ ap (filter (λ b. not (b.number == a.number))) s.pending ∙ sym (left_without (chosen_in past) (triggered_in past) a)
             ∙ ap (λ l. left_of l (triggered_in past)) (sym chosen) ∙ ap (left_of (chosen_in (past ++ note))) (sym triggered);
-        known = All-filter (λ b. not (b.number == a.number)) (IsKnown agenda.next sources) agenda.pending s.known;
-        chosen_before = subst (All (λ b. b.number < agenda.next)) (sym chosen) (All-last (λ b. b.number < agenda.next) (chosen_in past) a s.chosen_before (All-contains (IsKnown agenda.next sources) agenda.pending a s.known there).number);
+        known = subst (λ n. All (IsKnown (n + 1) sources) (pending_of (with_executed agenda a.number))) (sym same)
+            (subst (All (IsKnown (next_number agenda) sources)) (sym (pending_executed agenda a.number)) (All-filter (λ b. not (b.number == a.number)) (IsKnown (next_number agenda) sources) (pending_of agenda) s.known));
+        chosen_before = subst (λ n. All (λ b. b.number < n + 1) (chosen_in (past ++ note))) (sym same) (subst (All (λ b. b.number < next_number agenda)) (sym chosen)
+            (All-last (λ b. b.number < next_number agenda) (chosen_in past) a s.chosen_before (All-contains (IsKnown (next_number agenda) sources) (pending_of agenda) a s.known there).number));
       }

@@ -10,7 +10,7 @@ use Rattle.bb_basis.proofs.IntoMapLemmas.{next_one}
 use Rattle.bb_board.specs.declared.event.Event.{Event}
 use Rattle.bb_board.specs.declared.world.World.{World}
 use Rattle.bb_agenda.specs.declared.activation.Activation.{Activation}
-use Rattle.bb_agenda.specs.Agenda.{Agenda, without}
+use Rattle.bb_agenda.specs.Agenda.{Agenda}
 use Rattle.bb_agenda.specs.Rating.{rating}
 use Rattle.bb_code.specs.Code.{Code}
 use Rattle.bb_verify.specs.Budget.{budget}

@@ -2,6 +2,7 @@
 use Rattle.std.specs.Prelude.{◌≡◌, ℕ, ◌+◌, ◌≤◌, ℤ, ◌≤ℤ◌, Bool, true, false, not, ◌==◌, List, [], ◌∷◌, ◌++◌, length, filter, Some, None, Contains}
 use Rattle.std.specs.List.{count_by, flat_map, list_any}
 use Rattle.bb_agenda.specs.declared.activation.Activation.{Activation}
+use Rattle.bb_agenda.specs.Agenda.{pending_of}
 use Rattle.bb_agenda.specs.Chosen.{IsChosen}
 use Rattle.bb_agenda.specs.Rating.{rating}
 use Rattle.bb_shell.specs.declared.finish.End.{End}
@@ -126,10 +127,10 @@ pub record IsChosenAfter (shell : Shell) (run : Stretch) (before : List Note) (a
   -- that run tells these notes, and then ends by its limit
   pub told : notes_of run ≡ before ++ Finished ends.Limit ∷ []
   -- what is pending in its last state is what is pending by the notes
-  pub agenda : run.state.agenda.pending ≡ pending_after before
+  pub agenda : pending_of run.state.agenda ≡ pending_after before
   -- the activation is the choice in that state
   pub choice_is : choice shell run.state ≡ Some a
   -- the line prints the rating that it has there
   pub rated : r ≡ rating a
   -- nothing that is pending there is rated higher, and of equals it is the earliest
-  pub best : IsChosen rating shell.floor run.state.agenda.pending a
+  pub best : IsChosen rating shell.floor (pending_of run.state.agenda) a

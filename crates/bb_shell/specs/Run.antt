@@ -5,7 +5,7 @@ use Rattle.bb_board.specs.declared.note.Note.TheVariants.{Event as happened}
 use Rattle.bb_board.specs.declared.world.World.{World}
 use Rattle.bb_board.specs.World.{after_take}
 use Rattle.bb_agenda.specs.declared.activation.Activation.{Activation}
-use Rattle.bb_agenda.specs.Agenda.{Agenda, no_activations, without}
+use Rattle.bb_agenda.specs.Agenda.{Agenda, no_activations, pending_of, with_executed}
 use Rattle.bb_agenda.specs.Rating.{rating}
 use Rattle.bb_agenda.specs.Chosen.{chosen}
 use Rattle.bb_code.specs.Code.{Code}
@@ -29,7 +29,7 @@ use Rattle.bb_shell.specs.Processing.{response, processing_all, events_in}
 
 -- the activation that is chosen, if one can be
 abbrev pub choice : Shell → State → Option Activation
-choice shell s = chosen rating shell.floor s.agenda.pending
+choice shell s = chosen rating shell.floor (pending_of s.agenda)
 
 -- quiescence is told, and the sources respond to it
 abbrev pub quiet : Shell → State → Stretch
@@ -74,7 +74,7 @@ acting_at shell (Some source) a s = acting shell source.act a s
 
 -- the chosen activation is no longer pending
 abbrev pub after_choice : State → Activation → State
-after_choice s a = record { world = s.world; agenda = without s.agenda a.number }
+after_choice s a = record { world = s.world; agenda = with_executed s.agenda a.number }
 
 -- a cycle: the choice is told, and its source acts
 abbrev pub cycle : Shell → ℕ → Activation → State → Stretch

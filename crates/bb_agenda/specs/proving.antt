@@ -1,0 +1,2 @@
+-- how the code keeps an agenda
+pub mod Kept
