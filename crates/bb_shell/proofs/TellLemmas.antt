@@ -28,8 +28,8 @@ use Rattle.bb_shell.specs.declared.halt.Halt.{Halt}
 use Rattle.bb_shell.specs.declared.halt.Halt.TheVariants as halts
 use Rattle.bb_shell.specs.declared.note.Note.{Note}
 use Rattle.bb_shell.specs.declared.note.Note.TheVariants.{Board, Chosen, Finished}
-use Rattle.bb_shell.specs.declared.run.Turn.{Turn}
-use Rattle.bb_shell.specs.declared.run.Turn.TheVariants.{Act, Over}
+use Rattle.bb_shell.specs.declared.run.Decision.{Decision}
+use Rattle.bb_shell.specs.declared.run.Decision.TheVariants.{Act, Over}
 use Rattle.bb_shell.specs.declared.shell.Shell.{Shell}
 use Rattle.bb_shell.specs.declared.state.State.{State}
 use Rattle.bb_shell.specs.Finish.{WritesFront, end_of, is_write}
@@ -37,7 +37,7 @@ use Rattle.bb_shell.specs.Stretch.{Stretch, after_segments, and_then, and_then_u
 use Rattle.bb_shell.specs.Processing.{Response, events_in, processing, processing_all}
 use Rattle.bb_shell.specs.Run.{acting, acting_at, after_choice, after_execution, choice, cycle, cycles, finish_segments, if_chosen, quiet, report, wait, wait_for, with_finish, with_notes_taken}
 use Rattle.bb_shell.specs.TraceText.{segment_text, trace_text}
-use Rattle.bb_shell.specs.proving.Telling.{CutIn, Finishes, Flushes, HasWritten, IsResponse, Leaves, Makes, MakesBy, Place, Spills, Tells, Told, Waited, Writes, WroteFirst, WroteFront, WroteUntil, at, flushed, kept, turn_after, turn_by}
+use Rattle.bb_shell.specs.proving.Telling.{CutIn, Finishes, Flushes, HasWritten, IsResponse, Leaves, Makes, MakesBy, Place, Spills, Tells, Told, Waited, Writes, WroteFirst, WroteFront, WroteUntil, at, flushed, kept, decision_after, decision_by}
 use Rattle.bb_shell.proofs.OutLemmas.{appends_none, appends_then}
 
 -- ---- the text of segments
@@ -304,14 +304,14 @@ module _ (shell : Shell) (a b : Place) (number : ℕ) (x : Activation) (s : Stat
       (part_told shell a a b (cycle shell number x s) (telling (Chosen number x (rating x) ∷ []) (after_choice s x) None) (acting_at shell (slice_get shell.sources x.source) x) t (nothing_told shell a (cycle shell number x s))
       (subst (λ z. Told shell a b ((Chosen number x z ∷ []) ∷ [])) is told) (record { state = left; end = refl }))
 
--- ---- turns
+-- ---- decisions
 
-act_by : (e : Option End) (choice : Option Activation) (a : Activation) → Act a ≡ turn_by e choice → (None ≡ e) × (choice ≡ Some a)
+act_by : (e : Option End) (choice : Option Activation) (a : Activation) → Act a ≡ decision_by e choice → (None ≡ e) × (choice ≡ Some a)
 act_by (Some end) choice a is = absurd cc
 act_by None None a is = absurd cc
 act_by None (Some b) a is = (refl, let same : a ≡ b = cc in ap (λ x. Some x) (sym same))
 
-over_by : (e : Option End) (choice : Option Activation) (end : End) → Over end ≡ turn_by e choice → (Some end ≡ e) ⊎ ((None ≡ e) × (choice ≡ None) × (end ≡ Quiescence))
+over_by : (e : Option End) (choice : Option Activation) (end : End) → Over end ≡ decision_by e choice → (Some end ≡ e) ⊎ ((None ≡ e) × (choice ≡ None) × (end ≡ Quiescence))
 over_by (Some last) choice end is = inl (let same : end ≡ last = cc in ap (λ x. Some x) same)
 over_by None None end is = inr (refl, refl, let same : end ≡ Quiescence = cc in same)
 over_by None (Some b) end is = absurd cc
@@ -320,38 +320,38 @@ module _ (shell : Shell) (a b : Place) (s t : State) where
   pub wait_cut : (halt : Halt) → choice shell s ≡ None → CutIn shell a b (quiet shell s).segments halt → CutIn shell a b (wait shell s).segments halt
   wait_cut halt none t = subst (λ o. CutIn shell a b (wait_for shell s o).segments halt) (sym none) t
 
-  waited_for : (turn : Turn) (o : Option Activation) → choice shell s ≡ o → Told shell a b (wait_for shell s o).segments → t ≡ (wait_for shell s o).state → turn ≡ turn_after shell (wait_for shell s o) → Waited shell a b s t turn
-  waited_for turn o is told left turn_is =
-      let waits : (p : Stretch) → wait shell s ≡ p → Told shell a b p.segments → t ≡ p.state → turn ≡ turn_after shell p → Waited shell a b s t turn = λ p same told left turn_is.
+  waited_for : (decision : Decision) (o : Option Activation) → choice shell s ≡ o → Told shell a b (wait_for shell s o).segments → t ≡ (wait_for shell s o).state → decision ≡ decision_after shell (wait_for shell s o) → Waited shell a b s t decision
+  waited_for decision o is told left decision_is =
+      let waits : (p : Stretch) → wait shell s ≡ p → Told shell a b p.segments → t ≡ p.state → decision ≡ decision_after shell p → Waited shell a b s t decision = λ p same told left decision_is.
       record {
         told = subst (λ q. Told shell a b q.segments) (sym same) told;
         state = left ∙ ap (λ q. q.state) (sym same);
-        turn_is = turn_is ∙ ap (turn_after shell) (sym same);
+        decision_is = decision_is ∙ ap (decision_after shell) (sym same);
       } in
-      waits (wait_for shell s o) (ap (wait_for shell s) is) told left turn_is
+      waits (wait_for shell s o) (ap (wait_for shell s) is) told left decision_is
 
   pub wait_over : (o : Option End) (end : End) → choice shell s ≡ None → Makes shell a b (quiet shell s) t (Ok o) → o ≡ Some end → Waited shell a b s t (Over end)
-  wait_over o end none m some = waited_for (Over end) None none m.0 m.1.state (ap (λ e. turn_by e (choice shell (quiet shell s).state)) (sym some ∙ m.1.end))
+  wait_over o end none m some = waited_for (Over end) None none m.0 m.1.state (ap (λ e. decision_by e (choice shell (quiet shell s).state)) (sym some ∙ m.1.end))
 
-  pub wait_then : (o : Option End) (later : Option Activation) → choice shell s ≡ None → Makes shell a b (quiet shell s) t (Ok o) → o ≡ None → choice shell t ≡ later → Waited shell a b s t (turn_by None later)
+  pub wait_then : (o : Option End) (later : Option Activation) → choice shell s ≡ None → Makes shell a b (quiet shell s) t (Ok o) → o ≡ None → choice shell t ≡ later → Waited shell a b s t (decision_by None later)
   wait_then o later none m on is =
-      waited_for (turn_by None later) None none m.0 m.1.state (ap (turn_by None) (sym is ∙ ap (choice shell) m.1.state) ∙ ap (λ e. turn_by e (choice shell (quiet shell s).state)) (sym on ∙ m.1.end))
+      waited_for (decision_by None later) None none m.0 m.1.state (ap (decision_by None) (sym is ∙ ap (choice shell) m.1.state) ∙ ap (λ e. decision_by e (choice shell (quiet shell s).state)) (sym on ∙ m.1.end))
 
 pub wait_acts : (shell : Shell) (a : Place) (s : State) (x : Activation) → choice shell s ≡ Some x → Waited shell a a s s (Act x)
-wait_acts shell a s x some = waited_for shell a a s s (Act x) (Some x) some (told_nothing shell a) refl (ap (turn_by None) (sym some))
+wait_acts shell a s x some = waited_for shell a a s s (Act x) (Some x) some (told_nothing shell a) refl (ap (decision_by None) (sym some))
 
 module _ (shell : Shell) (a b c : Place) (whole : Stretch) (s t : State) (next : State → Activation → Stretch) where
   -- an activation is chosen
-  pub turn_acts : (turn : Turn) (x : Activation) → HasTold shell a b whole (and_then (wait shell s) (λ u. if_chosen u (choice shell u) (next u))) → Waited shell b c s t turn → turn ≡ Act x → HasTold shell a c whole (next t x)
-  turn_acts turn x h w is =
-      let by = act_by (wait shell s).end (choice shell (wait shell s).state) x (sym is ∙ w.turn_is) in
+  pub decision_acts : (decision : Decision) (x : Activation) → HasTold shell a b whole (and_then (wait shell s) (λ u. if_chosen u (choice shell u) (next u))) → Waited shell b c s t decision → decision ≡ Act x → HasTold shell a c whole (next t x)
+  decision_acts decision x h w is =
+      let by = act_by (wait shell s).end (choice shell (wait shell s).state) x (sym is ∙ w.decision_is) in
       let here = part_told shell a b c whole (wait shell s) (λ u. if_chosen u (choice shell u) (next u)) t h w.told (record { state = w.state; end = by.0 }) in
       subst (λ o. HasTold shell a c whole (if_chosen t o (next t))) (ap (choice shell) w.state ∙ by.1) here
 
   -- the run is over
-  pub turn_over : (turn : Turn) (end : End) → HasTold shell a b whole (and_then (wait shell s) (λ u. if_chosen u (choice shell u) (next u))) → Waited shell b c s t turn → turn ≡ Over end → Finishes shell a c whole t (Ok end)
-  turn_over turn end h w is =
-      elim (over_by (wait shell s).end (choice shell (wait shell s).state) end (sym is ∙ w.turn_is)) [
+  pub decision_over : (decision : Decision) (end : End) → HasTold shell a b whole (and_then (wait shell s) (λ u. if_chosen u (choice shell u) (next u))) → Waited shell b c s t decision → decision ≡ Over end → Finishes shell a c whole t (Ok end)
+  decision_over decision end h w is =
+      elim (over_by (wait shell s).end (choice shell (wait shell s).state) end (sym is ∙ w.decision_is)) [
         | inl ends ↦ part_ends shell a b c whole (wait shell s) (λ u. if_chosen u (choice shell u) (next u)) t end h w.told (record { state = w.state; end = ends })
         | inr quiet' ↦
             let here = part_told shell a b c whole (wait shell s) (λ u. if_chosen u (choice shell u) (next u)) t h w.told (record { state = w.state; end = quiet'.0 }) in
@@ -360,8 +360,8 @@ module _ (shell : Shell) (a b c : Place) (whole : Stretch) (s t : State) (next :
       ]
 
   -- the run is cut short
-  pub turn_cut : (halt : Halt) → HasTold shell a b whole (and_then (wait shell s) (λ u. if_chosen u (choice shell u) (next u))) → CutIn shell b c (wait shell s).segments halt → CutIn shell a c whole.segments halt
-  turn_cut halt h w = part_cut shell a b c whole (wait shell s) (λ u. if_chosen u (choice shell u) (next u)) halt h w
+  pub decision_cut : (halt : Halt) → HasTold shell a b whole (and_then (wait shell s) (λ u. if_chosen u (choice shell u) (next u))) → CutIn shell b c (wait shell s).segments halt → CutIn shell a c whole.segments halt
+  decision_cut halt h w = part_cut shell a b c whole (wait shell s) (λ u. if_chosen u (choice shell u) (next u)) halt h w
 
 -- ---- cycles
 

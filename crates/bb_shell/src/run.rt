@@ -32,7 +32,7 @@ use std::alloc::{AllocError, Global};
 
 /// What comes before a cycle: an activation is chosen, or the run is over.
 #[derive(Clone, Copy, Debug)]
-pub(crate) enum Turn {
+pub(crate) enum Decision {
     Act(Activation),
     Over(End),
 }
@@ -121,13 +121,13 @@ fn quiesce<O: Out>(
 
 // Chooses an activation, after quiescence where none can be chosen at once. The run is over where none can be chosen
 // after it either.
-fn next_turn<O: Out>(
+fn decide<O: Out>(
     alloc: Global,
     out: &mut O,
     page: &mut Page,
     shell: &Shell,
     state: &mut State,
-) -> Result<Turn, Halt>
+) -> Result<Decision, Halt>
     requires open { O.has_failed out.old ≡ false }
     requires few { length shell.now.sources ≤ SOURCE_LIMIT }
     ensures waited { Waits shell.now (at (O.taken out.old) page.old) (at (O.taken out.new) page.new)
@@ -135,14 +135,14 @@ fn next_turn<O: Out>(
     ensures failed { O.has_failed out.new ≡ stopped_by_write result }
 {
     if let Some(activation) = state.agenda.choose(shell.floor) {
-        return Ok(Turn::Act(activation));
+        return Ok(Decision::Act(activation));
     }
     if let Some(end) = quiesce(alloc, out, page, shell, state)? {
-        return Ok(Turn::Over(end));
+        return Ok(Decision::Over(end));
     }
     match state.agenda.choose(shell.floor) {
-        Some(activation) => Ok(Turn::Act(activation)),
-        None => Ok(Turn::Over(End::Quiescence)),
+        Some(activation) => Ok(Decision::Act(activation)),
+        None => Ok(Decision::Over(End::Quiescence)),
     }
 }
 
@@ -307,22 +307,22 @@ fn make_cycles<O: Out>(
     ensures failed { O.has_failed out.new ≡ stopped_by_write result }
 {
     for made in 0..limit {
-        let activation = match next_turn(alloc, out, page, shell, state)? {
-            Turn::Act(activation) => activation,
-            Turn::Over(end) => return Ok(end),
+        let activation = match decide(alloc, out, page, shell, state)? {
+            Decision::Act(activation) => activation,
+            Decision::Over(end) => return Ok(end),
         };
         if let Some(end) = make_cycle(alloc, out, page, shell, made + 1, activation, state)? {
             return Ok(end);
         }
     }
-    match next_turn(alloc, out, page, shell, state)? {
-        Turn::Act(_) => Ok(End::Limit),
-        Turn::Over(end) => Ok(end),
+    match decide(alloc, out, page, shell, state)? {
+        Decision::Act(_) => Ok(End::Limit),
+        Decision::Over(end) => Ok(end),
     }
 }
 
 // Makes the whole run but for its last segment.
-fn go<O: Out>(
+fn run_unfinished<O: Out>(
     alloc: Global,
     out: &mut O,
     page: &mut Page,
@@ -362,7 +362,7 @@ fn write_run<O: Out>(
         world,
         agenda: Agenda::new(alloc),
     };
-    let end = go(alloc, out, &mut page, shell, limit, &mut state)?;
+    let end = run_unfinished(alloc, out, &mut page, shell, limit, &mut state)?;
     page.add_segment(alloc, shell, &[Note::Finished(end)])?;
     page.flush(out)?;
     Ok(end)

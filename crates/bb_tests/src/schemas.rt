@@ -5,7 +5,7 @@ use crate::input::{FIRST, Input, run_input};
 use std::alloc::Global;
 use std::test::Fail;
 
-/// A schema with each thing that a schema can have: `word` stands below `thing`.
+/// A schema with each thing that a schema can have: `word` is below `thing`.
 const THING_SCHEMA: &str = r#"{"labels":[{"name":"hue","values":["red","green"]}],
     "classes":[
         {"name":"thing",

@@ -94,7 +94,7 @@ fn first_faults(rt: HostRuntime) -> Result<(), Fail> {
             r#"{"units":[{"name":"a","class":"note"},{"name":"a","class":"note"},1]}"#,
             2,
         ),
-        // A name that stands comes before the class.
+        // A name that is taken comes before the class.
         (
             r#"{"units":[{"name":"a","class":"note"},{"name":"a","class":"x"}]}"#,
             4,

@@ -7,8 +7,8 @@ use Rattle.bb_shell.specs.declared.finish.End.TheVariants.{Quiescence}
 use Rattle.bb_shell.specs.declared.halt.Halt.{Halt}
 use Rattle.bb_shell.specs.declared.halt.Halt.TheVariants as halts
 use Rattle.bb_shell.specs.declared.note.Note.{Note}
-use Rattle.bb_shell.specs.declared.run.Turn.{Turn}
-use Rattle.bb_shell.specs.declared.run.Turn.TheVariants.{Act, Over}
+use Rattle.bb_shell.specs.declared.run.Decision.{Decision}
+use Rattle.bb_shell.specs.declared.run.Decision.TheVariants.{Act, Over}
 use Rattle.bb_shell.specs.declared.shell.Shell.{Shell}
 use Rattle.bb_shell.specs.declared.state.State.{State}
 use Rattle.bb_shell.specs.Stretch.{Stretch}
@@ -125,25 +125,25 @@ abbrev pub Writes : {X : Type 0} → Shell → (taken given : Option (List ℕ))
 Writes shell taken given segments (Ok x) = Appends taken given (trace_text shell segments)
 Writes shell taken given segments (Err halt) = WroteUntil shell taken given segments halt
 
--- ---- turns
+-- ---- decisions
 
 -- what a choice after quiescence comes to
-abbrev pub turn_by : Option End → Option Activation → Turn
-turn_by (Some end) choice = Over end
-turn_by None None = Over Quiescence
-turn_by None (Some a) = Act a
+abbrev pub decision_by : Option End → Option Activation → Decision
+decision_by (Some end) choice = Over end
+decision_by None None = Over Quiescence
+decision_by None (Some a) = Act a
 
 -- what comes after the wait before a cycle
-abbrev pub turn_after : Shell → Stretch → Turn
-turn_after shell p = turn_by p.end (choice shell p.state)
+abbrev pub decision_after : Shell → Stretch → Decision
+decision_after shell p = decision_by p.end (choice shell p.state)
 
--- the wait before a cycle was told, with this state after it, and this turn comes
-pub record Waited (shell : Shell) (old new : Place) (s t : State) (turn : Turn) : Type 0 where
+-- the wait before a cycle was told, with this state after it, and this decision comes
+pub record Waited (shell : Shell) (old new : Place) (s t : State) (decision : Decision) : Type 0 where
   pub told : Told shell old new (wait shell s).segments
   pub state : t ≡ (wait shell s).state
-  pub turn_is : turn ≡ turn_after shell (wait shell s)
+  pub decision_is : decision ≡ decision_after shell (wait shell s)
 
 -- the same, or the run was cut short in the wait
-abbrev pub Waits : Shell → Place → Place → (s t : State) → Result Turn Halt → Type 0
-Waits shell old new s t (Ok turn) = Waited shell old new s t turn
+abbrev pub Waits : Shell → Place → Place → (s t : State) → Result Decision Halt → Type 0
+Waits shell old new s t (Ok decision) = Waited shell old new s t decision
 Waits shell old new s t (Err halt) = CutIn shell old new (wait shell s).segments halt

@@ -7,7 +7,7 @@ use Rattle.bb_agenda.specs.Rating.{rating}
 use Rattle.bb_shell.specs.Run.{choice}
 use Rattle.bb_shell.specs.proving.Telling.{at}
 use Rattle.bb_shell.proofs.TellLemmas.{wait_cut}
-use Rattle.bb_shell.proofs.run.next_turn.Goals as goal
+use Rattle.bb_shell.proofs.run.decide.Goals as goal
 
 pub returns-in_err-end-clause-waited : goal.returns-in_err-end-clause-waited
 returns-in_err-end-clause-waited g c =

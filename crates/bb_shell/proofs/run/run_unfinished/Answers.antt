@@ -4,7 +4,7 @@ use Rattle.bb_agenda.specs.Agenda.{Agenda}
 use Rattle.bb_shell.specs.Run.{cycles, report, start, unfinished}
 use Rattle.bb_shell.specs.proving.Telling.{CutIn, Makes, at}
 use Rattle.bb_shell.proofs.TellLemmas.{nothing_told, makes_last, part_cut, part_made, part_over}
-use Rattle.bb_shell.proofs.run.go.Goals as goal
+use Rattle.bb_shell.proofs.run.run_unfinished.Goals as goal
 
 pub returns-in_err-end-clause-made : goal.returns-in_err-end-clause-made
 returns-in_err-end-clause-made g c =
