@@ -1,2 +1,3 @@
+pub mod AgendaLemmas
 pub mod ChosenLemmas
 pub mod KeptLemmas

@@ -9,7 +9,7 @@ use Rattle.std.proofs.lemmas.List.Folds.{list_any-append, list_any_none}
 use Rattle.std.proofs.lemmas.List.Sums.{sum_by-append}
 use Rattle.bb_agenda.specs.declared.activation.Activation.{Activation}
 use Rattle.bb_agenda.specs.Agenda.{Agenda, no_activations, pending_of, next_number, new_activation, with_activation, with_executed}
-use Rattle.bb_agenda.proofs.KeptLemmas.{pending_added, pending_executed, given_added, given_executed}
+use Rattle.bb_agenda.proofs.AgendaLemmas.{pending_added, pending_executed, given_added, given_executed}
 use Rattle.bb_shell.specs.declared.note.Note.{Note}
 use Rattle.bb_shell.specs.declared.note.Note.TheVariants.{Triggered, Chosen}
 use Rattle.bb_shell.specs.Order.{triggered_by, chosen_by, is_end, triggered_in, chosen_in, ends_in, has_number, pending_after}
