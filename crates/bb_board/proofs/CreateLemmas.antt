@@ -3,7 +3,7 @@ use Rattle.std.proofs.Common.{◌≡◌, ℕ, ◌<◌, List, map, length, Some, 
 use Rattle.std.specs.Str.{bytes_eq}
 use Rattle.std.proofs.lemmas.List.{length-map}
 use Rattle.bb_basis.proofs.PositionLemmas.{position_within}
-use Rattle.bb_schema.specs.declared.class.Class.{Class}
+use Rattle.bb_classes.specs.declared.class.Class.{Class}
 use Rattle.bb_schema.specs.Schema.{Schema, class_named}
 use Rattle.bb_units.specs.Layout.{layout_of}
 use Rattle.bb_units.specs.declared.fault.CreateFault.{CreateFault}

@@ -9,45 +9,50 @@ use Rattle.std.proofs.lemmas.Bool.{eqb-true, eqb-false, or_parts}
 use Rattle.std.proofs.lemmas.Cmp.{nat_eq_equiv}
 use Rattle.std.proofs.lemmas.Map.Keys.{IsDistinct-push}
 use Rattle.bb_basis.proofs.ListLemmas.{map-last, list_all_same}
-use Rattle.bb_schema.specs.Naming.{AreNames}
-use Rattle.bb_schema.proofs.NamingLemmas.{not_false, distinct_nil, no_names, one_more_name}
+use Rattle.bb_classes.specs.declared.draft.TheConstants.{SLOT_LIMIT}
+use Rattle.bb_schema.specs.declared.read.spaces.TheConstants.{DIM_LIMIT, SPACE_LIMIT}
+use Rattle.bb_classes.specs.Naming.{AreNames}
+use Rattle.bb_classes.proofs.NamingLemmas.{not_false, distinct_nil, no_names, one_more_name}
 use Rattle.bb_basis.specs.Results.{ok_or, try_map, try_fold}
 use Rattle.bb_document.specs.Document.{SpaceDeclaration, DimDeclaration}
-use Rattle.bb_schema.specs.declared.fault.SchemaFault.TheVariants as faults
-use Rattle.bb_schema.specs.declared.label_set.LabelSet.{LabelSet}
-use Rattle.bb_schema.specs.declared.class.Class.{Class}
-use Rattle.bb_schema.specs.declared.value.Value.{Value}
+use Rattle.bb_classes.specs.declared.fault.SchemaFault.TheVariants as faults
+use Rattle.bb_classes.specs.declared.label_set.LabelSet.{LabelSet}
+use Rattle.bb_classes.specs.declared.class.Class.{Class}
+use Rattle.bb_classes.specs.declared.value.Value.{Value}
 use Rattle.bb_schema.specs.declared.slot.Slot.{Slot}
-use Rattle.bb_schema.specs.declared.slot.Link.{Link}
 use Rattle.bb_schema.specs.declared.slot.Content.{Content}
 use Rattle.bb_schema.specs.declared.slot.Content.TheVariants as contents
-use Rattle.bb_schema.specs.declared.draft.Draft.{Draft}
-use Rattle.bb_schema.specs.declared.draft.DraftContent.{DraftContent}
-use Rattle.bb_schema.specs.declared.draft.DraftContent.TheVariants as drafts
+use Rattle.bb_classes.specs.declared.draft.Draft.{Draft}
+use Rattle.bb_classes.specs.declared.draft.DraftContent.{DraftContent}
+use Rattle.bb_classes.specs.declared.draft.DraftContent.TheVariants as drafts
 use Rattle.bb_schema.specs.declared.space.Space.{Space}
 use Rattle.bb_schema.specs.declared.space.Dim.{Dim}
 use Rattle.bb_basis.specs.Names.{is_name}
-use Rattle.bb_schema.specs.Schema.{Schema, class_named, label_set_named, link_of, default_in}
-use Rattle.bb_schema.specs.Drafts.{SchemaDraft}
-use Rattle.bb_schema.specs.Resolution.{resolved_link, resolved_content, resolved_slot}
-use Rattle.bb_schema.specs.SpaceReading.{is_among, space_class_after, has_slot_for, set_number, dim_after, space_after}
-use Rattle.bb_schema.specs.Fits.{AreLabelSets, IsHeld, IsSlot, IsSpace, AreSpaces, IsCoupled, Fits}
-use Rattle.bb_schema.proofs.FocusLemmas.{HasFocus, slots_focus}
-use Rattle.bb_schema.proofs.SlotNameLemmas.{AreNamedApart, slots_named_apart}
-use Rattle.bb_schema.proofs.OwnerLemmas.{OwnsDrafts, slots_owned}
-use Rattle.bb_schema.proofs.ClassesFit.{draft_default, IsDraft, ClassesFit}
+use Rattle.bb_schema.specs.Schema.{Schema, class_named, label_set_named, default_in}
+use Rattle.bb_classes.specs.declared.draft.SchemaDraft.{SchemaDraft}
+use Rattle.bb_classes.specs.Resolution.{resolved_link}
+use Rattle.bb_schema.specs.Resolution.{resolved_content, resolved_slot}
+use Rattle.bb_classes.specs.Inheritance.{is_among}
+use Rattle.bb_schema.specs.SpaceReading.{space_class_after, has_slot_for, set_number, dim_after, space_after}
+use Rattle.bb_schema.specs.Fits.{IsSlot, IsSpace, AreSpaces, Fits}
+use Rattle.bb_classes.specs.declared.read.Walked.{Walked}
+use Rattle.bb_classes.specs.Fits.{IsHeld, draft_default, IsDraft, IsWalked}
+use Rattle.bb_schema.proofs.SlotLemmas.{slots_focus, slots_owned, slots_named_apart}
+use Rattle.bb_schema.proofs.LinkLemmas.{links_couple}
 use Rattle.bb_basis.proofs.ResultLemmas.{bind_ok, guard_ok, ok_or_ok, same_ok, try_fold_keeps, length-try_map, All-try_map}
 use Rattle.bb_basis.proofs.PositionLemmas.{position_within}
 
 -- ---- links with numbers
 
-content_kept : (P : Value → Type 0) (classes : List Class) (slots : List Draft) (d : DraftContent) (content : Content) → IfSome (draft_default d) P → resolved_content classes slots d ≡ Ok content → IfSome (default_in content) P
+content_kept : (P : Value → Type 0) (classes : List Class) (slots : List Draft) (d : DraftContent) (content : Content)
+    → IfSome (draft_default d) P → resolved_content classes slots d ≡ Ok content → IfSome (default_in content) P
 content_kept P classes slots (drafts.Default v) content p h = subst (λ (c : Content). IfSome (default_in c) P) (same_ok (contents.Default v) content h) p
 content_kept P classes slots (drafts.Link to many inverse) content p h =
     let link = bind_ok (resolved_link classes slots to many inverse) (λ l. Ok (contents.Link l)) content h in
     subst (λ (c : Content). IfSome (default_in c) P) (same_ok (contents.Link link.0) content link.2) tt
 
-slot_kept : (sets : List LabelSet) (count : ℕ) (classes : List Class) (slots : List Draft) (d : Draft) (t : Slot) → IsDraft sets count d → resolved_slot classes slots d ≡ Ok t → IsSlot sets count t
+slot_kept : (sets : List LabelSet) (count : ℕ) (classes : List Class) (slots : List Draft) (d : Draft) (t : Slot)
+    → IsDraft sets count d → resolved_slot classes slots d ≡ Ok t → IsSlot sets count t
 unfolding resolved_slot
 slot_kept sets count classes slots d t fit made =
     let content = bind_ok (resolved_content classes slots d.content) (λ content. Ok (record { name = d.name; owner = d.owner; content = content })) t made in
@@ -55,30 +60,35 @@ slot_kept sets count classes slots d t fit made =
     (record { name = fit.name; owner = fit.owner; default = content_kept (IsHeld sets) classes slots d.content content.0 fit.default content.1 })
 
 no_spaces : (s : Schema) → AreSpaces s []
-no_spaces s = record { named = no_names 256; each = All-nil (IsSpace s) }
+no_spaces s = record { named = no_names SPACE_LIMIT; each = All-nil (IsSpace s) }
 
 -- the schema without spaces
-pub bare_fits : (sets : List LabelSet) (s : SchemaDraft) (slots : List Slot) → AreLabelSets sets → HasFocus s → OwnsDrafts s.classes s.slots → AreNamedApart s.classes s.slots → ClassesFit sets s → try_map (resolved_slot s.classes s.slots) s.slots ≡ Ok slots → ((n : ℕ) (l : Link) → link_of slots n ≡ Some l → IsCoupled slots n l) → Fits (record { label_sets = sets; classes = s.classes; slots = slots; spaces = [] })
-bare_fits sets s slots labels focus owned apart fit made coupled =
-    let long : length slots ≡ length s.slots = length-try_map (resolved_slot s.classes s.slots) s.slots slots made in
+pub bare_fits : (w : Walked) (slots : List Slot) → IsWalked w
+    → try_map (resolved_slot w.draft.classes w.draft.slots) w.draft.slots ≡ Ok slots
+    → Fits (record { label_sets = w.label_sets; classes = w.draft.classes; slots = slots; spaces = [] })
+bare_fits w slots fit made =
+    let resolved = resolved_slot w.draft.classes w.draft.slots in
+    let count = length w.draft.classes in
+    let long : length slots ≡ length w.draft.slots = length-try_map resolved w.draft.slots slots made in
     record {
-      label_sets = labels;
-      focus = focus.class;
-      focus_slots = slots_focus s.classes s.slots slots focus.slots made;
+      label_sets = fit.label_sets;
+      focus = fit.focus;
+      focus_slots = slots_focus w.draft.classes w.draft.slots slots fit.focus_slots made;
       few_classes = fit.few_classes;
       few_slots = rw long fit.few_slots;
       class_names = fit.class_names;
       parents = fit.parents;
       heirs = fit.heirs;
       classes = rw long fit.classes;
-      owned = slots_owned s.classes s.slots slots owned made;
-      slot_names = slots_named_apart s.classes s.slots slots apart made;
-      slots = All-try_map (IsDraft sets (length s.classes)) (IsSlot sets (length s.classes)) (resolved_slot s.classes s.slots) (λ d t h. slot_kept sets (length s.classes) s.classes s.slots d t h) s.slots slots fit.slots made;
-      coupled = coupled;
-      spaces = no_spaces (record { label_sets = sets; classes = s.classes; slots = slots; spaces = [] });
+      owned = slots_owned w.draft.classes w.draft.slots slots fit.owned made;
+      slot_names = slots_named_apart w.draft.classes w.draft.slots slots fit.slot_names made;
+      slots = All-try_map (IsDraft w.label_sets count) (IsSlot w.label_sets count) resolved (λ d t h. slot_kept w.label_sets count w.draft.classes w.draft.slots d t h) w.draft.slots slots fit.slots made;
+      coupled = links_couple w.draft slots fit.paired made;
+      spaces = no_spaces (record { label_sets = w.label_sets; classes = w.draft.classes; slots = slots; spaces = [] });
     }
 
-pub few_resolved : (s : SchemaDraft) (slots : List Slot) → length s.slots ≤ 65536 → try_map (resolved_slot s.classes s.slots) s.slots ≡ Ok slots → length slots ≤ 65536
+pub few_resolved : (s : SchemaDraft) (slots : List Slot) → length s.slots ≤ SLOT_LIMIT
+    → try_map (resolved_slot s.classes s.slots) s.slots ≡ Ok slots → length slots ≤ SLOT_LIMIT
 few_resolved s slots few made = rw (length-try_map (resolved_slot s.classes s.slots) s.slots slots made) few
 
 -- ---- spaces
@@ -99,7 +109,8 @@ flipped c (d ∷ ds) h =
     let parts = or_parts (d == c) (list_any (λ d. d == c) ds) h in
     rw (apart c d (nat_eq c d) refl parts.0) (flipped c ds parts.1)
 
-listed_keeps : (s : Schema) (listed more : List ℕ) (name : List ℕ) → AreListed s listed → space_class_after s listed name ≡ Ok more → AreListed s more
+listed_keeps : (s : Schema) (listed more : List ℕ) (name : List ℕ) → AreListed s listed
+    → space_class_after s listed name ≡ Ok more → AreListed s more
 unfolding space_class_after
 listed_keeps s listed more name all made =
     let class = bind_ok (ok_or (class_named s name) faults.Unknown) (λ c. if is_among listed c then Err faults.Twice else Ok (listed ++ c ∷ [])) more made in
@@ -110,7 +121,8 @@ listed_keeps s listed more name all made =
       distinct = IsDistinct-push nat_eq_equiv listed class.0 all.distinct (flipped class.0 listed fresh.0);
     })
 
-set_within : (s : Schema) (of : Option (List ℕ)) (set : Option ℕ) → set_number s of ≡ Ok set → IfSome set (λ n. n < length s.label_sets)
+set_within : (s : Schema) (of : Option (List ℕ)) (set : Option ℕ) → set_number s of ≡ Ok set
+    → IfSome set (λ n. n < length s.label_sets)
 set_within s None set h = subst (λ (o : Option ℕ). IfSome o (λ n. n < length s.label_sets)) (same_ok None set h) tt
 set_within s (Some name) set h =
     let found = bind_ok (ok_or (label_set_named s name) faults.Unknown) (λ n. Ok (Some n)) set h in
@@ -125,46 +137,50 @@ IsRead s listed d = list_all (has_slot_for s d.name d.set) listed ≡ true
 
 -- the dimensions of a space so far
 record AreDims (s : Schema) (listed : List ℕ) (dims : List Dim) : Type 0 where
-  named : AreNames 16 (map (λ d. d.name) dims)
+  named : AreNames DIM_LIMIT (map (λ d. d.name) dims)
   sets : All (SetIsThere s) dims
   slots : All (IsRead s listed) dims
 
-dim_keeps : (s : Schema) (listed : List ℕ) (dims more : List Dim) (e : DimDeclaration) → AreDims s listed dims → dim_after s listed dims e ≡ Ok more → AreDims s listed more
+dim_keeps : (s : Schema) (listed : List ℕ) (dims more : List Dim) (e : DimDeclaration) → AreDims s listed dims
+    → dim_after s listed dims e ≡ Ok more → AreDims s listed more
 unfolding dim_after
 dim_keeps s listed dims more e all made =
     let named = guard_ok (not (is_name e.name)) faults.Name _ more made in
     let fresh = guard_ok (list_any (bytes_eq e.name) (map (λ (d : Dim). d.name) dims)) faults.Twice _ more named.1 in
     let set = bind_ok (set_number s e.of) _ more fresh.1 in
     let fitting = guard_ok (not (list_all (has_slot_for s e.name set.0) listed)) faults.Dimension _ more set.2 in
-    let room = guard_ok (nat_le 16 (length dims)) faults.Limit _ more fitting.1 in
+    let room = guard_ok (nat_le DIM_LIMIT (length dims)) faults.Limit _ more fitting.1 in
     let dim : Dim = record { name = e.name; set = set.0 } in
     subst (AreDims s listed) (same_ok (dims ++ dim ∷ []) more room.1) (record {
-      named = rw (map-last (λ (d : Dim). d.name) dims dim) (one_more_name 16 (map (λ (d : Dim). d.name) dims) e.name all.named named.0 fresh.0 (rw (length-map dims (λ (d : Dim). d.name)) room.0));
+      named = rw (map-last (λ (d : Dim). d.name) dims dim) (one_more_name DIM_LIMIT (map (λ (d : Dim). d.name) dims) e.name all.named named.0 fresh.0 (rw (length-map dims (λ (d : Dim). d.name)) room.0));
       sets = All-push (SetIsThere s) dims dim all.sets (set_within s e.of set.0 set.1);
       slots = All-push (IsRead s listed) dims dim all.slots (not_false (list_all (has_slot_for s e.name set.0) listed) fitting.0);
     })
 
-space_keeps : (s : Schema) (spaces more : List Space) (e : SpaceDeclaration) → AreSpaces s spaces → space_after s spaces e ≡ Ok more → AreSpaces s more
+space_keeps : (s : Schema) (spaces more : List Space) (e : SpaceDeclaration) → AreSpaces s spaces
+    → space_after s spaces e ≡ Ok more → AreSpaces s more
 unfolding space_after
 space_keeps s spaces more e all made =
     let named = guard_ok (not (is_name e.name)) faults.Name _ more made in
     let fresh = guard_ok (list_any (bytes_eq e.name) (map (λ (p : Space). p.name) spaces)) faults.Twice _ more named.1 in
-    let room = guard_ok (nat_le 256 (length spaces)) faults.Limit _ more fresh.1 in
+    let room = guard_ok (nat_le SPACE_LIMIT (length spaces)) faults.Limit _ more fresh.1 in
     let listed = bind_ok (try_fold (space_class_after s) [] e.classes) _ more room.1 in
     let dims = bind_ok (try_fold (dim_after s listed.0) [] e.dims) _ more listed.2 in
     let classes = try_fold_keeps (AreListed s) (space_class_after s) (λ a b n. listed_keeps s a b n) [] listed.0 e.classes (record { within = All-nil (λ c. c < length s.classes); distinct = distinct_nil nat_eq }) listed.1 in
-    let read = try_fold_keeps (AreDims s listed.0) (dim_after s listed.0) (λ a b d. dim_keeps s listed.0 a b d) [] dims.0 e.dims (record { named = no_names 16; sets = All-nil (SetIsThere s); slots = All-nil (IsRead s listed.0) }) dims.1 in
+    let read = try_fold_keeps (AreDims s listed.0) (dim_after s listed.0) (λ a b d. dim_keeps s listed.0 a b d) [] dims.0 e.dims (record { named = no_names DIM_LIMIT; sets = All-nil (SetIsThere s); slots = All-nil (IsRead s listed.0) }) dims.1 in
     let space : Space = record { name = e.name; classes = listed.0; dims = dims.0 } in
     subst (AreSpaces s) (same_ok (spaces ++ space ∷ []) more dims.2) (record {
-      named = rw (map-last (λ (p : Space). p.name) spaces space) (one_more_name 256 (map (λ (p : Space). p.name) spaces) e.name all.named named.0 fresh.0 (rw (length-map spaces (λ (p : Space). p.name)) room.0));
+      named = rw (map-last (λ (p : Space). p.name) spaces space) (one_more_name SPACE_LIMIT (map (λ (p : Space). p.name) spaces) e.name all.named named.0 fresh.0 (rw (length-map spaces (λ (p : Space). p.name)) room.0));
       each = All-push (IsSpace s) spaces space all.each (record { classes = classes.within; distinct = classes.distinct; named = read.named; sets = read.sets; slots = read.slots });
     })
 
-pub spaces_fit : (s : Schema) (entries : List SpaceDeclaration) (spaces : List Space) → try_fold (space_after s) [] entries ≡ Ok spaces → AreSpaces s spaces
+pub spaces_fit : (s : Schema) (entries : List SpaceDeclaration) (spaces : List Space)
+    → try_fold (space_after s) [] entries ≡ Ok spaces → AreSpaces s spaces
 spaces_fit s entries spaces made = try_fold_keeps (AreSpaces s) (space_after s) (λ a b e. space_keeps s a b e) [] spaces entries (no_spaces s) made
 
 -- spaces ask for label sets, classes and slots alone
-same_slots : (s : Schema) (spaces : List Space) (name : List ℕ) (set : Option ℕ) (c : ℕ) → has_slot_for s name set c ≡ has_slot_for (record s { spaces = spaces }) name set c
+same_slots : (s : Schema) (spaces : List Space) (name : List ℕ) (set : Option ℕ) (c : ℕ)
+    → has_slot_for s name set c ≡ has_slot_for (record s { spaces = spaces }) name set c
 unfolding has_slot_for
 same_slots s spaces name set c = refl
 
@@ -177,7 +193,8 @@ space_same s spaces p is = record {
   slots = All-weaker (IsRead s p.classes) (IsRead (record s { spaces = spaces }) p.classes) (λ d h. sym (list_all_same (has_slot_for s d.name d.set) (has_slot_for (record s { spaces = spaces }) d.name d.set) (λ c. same_slots s spaces d.name d.set c) p.classes) ∙ h) p.dims is.slots;
 }
 
-pub spaced_fits : (s : Schema) (spaces : List Space) → Fits s → AreSpaces s spaces → Fits (record s { spaces = spaces })
+pub spaced_fits : (s : Schema) (spaces : List Space) → Fits s → AreSpaces s spaces
+    → Fits (record s { spaces = spaces })
 spaced_fits s spaces fit all = record {
   label_sets = fit.label_sets;
   focus = fit.focus;

@@ -1,34 +1,22 @@
 -- What holds of every schema.
-use Rattle.std.specs.Prelude.{◌≡◌, ◌≢◌, ◌<◌, ◌≤◌, ◌++◌, [], ◌∷◌, ℕ, List, map, length, slice_get, option_map, Some, All, IfSome, IsTrue, true, nat_eq}
+use Rattle.std.specs.Prelude.{◌≡◌, ◌≢◌, ◌<◌, ◌≤◌, [], ◌∷◌, ℕ, List, map, length, slice_get, option_map, Some, All, IfSome, IsTrue, true, nat_eq}
 use Rattle.std.specs.List.{IsDistinct, list_all}
 use Rattle.bb_basis.specs.Names.{is_name}
-use Rattle.bb_schema.specs.declared.read.labels.TheConstants.{LABEL_SET_LIMIT}
-use Rattle.bb_schema.specs.declared.label_set.TheConstants.{LABEL_LIMIT}
-use Rattle.bb_schema.specs.declared.label_set.LabelSet.{LabelSet}
-use Rattle.bb_schema.specs.declared.draft.TheConstants.{CLASS_SLOT_LIMIT, SLOT_LIMIT}
-use Rattle.bb_schema.specs.declared.read.classes.TheConstants.{CLASS_LIMIT}
-use Rattle.bb_schema.specs.declared.class.Class.{Class}
-use Rattle.bb_schema.specs.declared.value.Value.{Value}
+use Rattle.bb_classes.specs.declared.label_set.LabelSet.{LabelSet}
+use Rattle.bb_classes.specs.declared.draft.TheConstants.{SLOT_LIMIT}
+use Rattle.bb_classes.specs.declared.read.classes.TheConstants.{CLASS_LIMIT}
+use Rattle.bb_classes.specs.declared.class.Class.{Class}
+use Rattle.bb_classes.specs.declared.kind.Link.{Link}
+use Rattle.bb_classes.specs.Inheritance.{ParentsAreEarlier, parent_of, descends_in, slots_in, is_among}
+use Rattle.bb_classes.specs.Naming.{AreNames}
+use Rattle.bb_classes.specs.Focus.{focus_class}
+use Rattle.bb_classes.specs.Fits.{AreLabelSets, IsHeld, IsClass, StartsWith}
 use Rattle.bb_schema.specs.declared.slot.Slot.{Slot}
-use Rattle.bb_schema.specs.declared.slot.Link.{Link}
 use Rattle.bb_schema.specs.declared.read.spaces.TheConstants.{DIM_LIMIT, SPACE_LIMIT}
 use Rattle.bb_schema.specs.declared.space.Space.{Space}
-use Rattle.bb_schema.specs.SpaceReading.{is_among, has_slot_for}
-use Rattle.bb_schema.specs.Inheritance.{ParentsAreEarlier, parent_of, descends_in}
-use Rattle.bb_schema.specs.Naming.{AreNames}
-use Rattle.bb_schema.specs.Focus.{focus_class, focus_slots}
-use Rattle.bb_schema.specs.Schema.{Schema, link_of, default_in, slots_in}
-use Rattle.bb_schema.specs.Kinds.{kind_of_value}
-use Rattle.bb_schema.specs.Values.{label_counts, value_fits}
-
--- the label sets are named, and so are the labels of each
-pub record AreLabelSets (sets : List LabelSet) : Type 0 where
-  pub named : AreNames LABEL_SET_LIMIT (map (λ l. l.name) sets)
-  pub labels : All (λ l. AreNames LABEL_LIMIT l.values) sets
-
--- a slot can hold the value, by the value's own kind
-abbrev pub IsHeld : List LabelSet → Value → Type 0
-IsHeld sets v = IsTrue (value_fits (label_counts sets) (kind_of_value v) v)
+use Rattle.bb_schema.specs.SpaceReading.{has_slot_for}
+use Rattle.bb_schema.specs.Focus.{focus_slots}
+use Rattle.bb_schema.specs.Schema.{Schema, link_of, default_in}
 
 -- a slot has a name, is of one of so many classes, and can hold its default
 pub record IsSlot (sets : List LabelSet) (class_count : ℕ) (t : Slot) : Type 0 where
@@ -36,14 +24,8 @@ pub record IsSlot (sets : List LabelSet) (class_count : ℕ) (t : Slot) : Type 0
   pub owner : t.owner < class_count
   pub default : IfSome (default_in t.content) (IsHeld sets)
 
--- a class has at most 64 slots, each of so many, and none twice
-pub record IsClass (slot_count : ℕ) (k : Class) : Type 0 where
-  pub few : length k.slots ≤ CLASS_SLOT_LIMIT
-  pub distinct : IsDistinct nat_eq k.slots
-  pub slots : All (λ n. n < slot_count) k.slots
-
--- the classes that a space lists are there, and none twice; it has named dimensions, whose label sets are there, and for
--- each of which each of its classes has a slot of that name and of a kind that suits it
+-- the classes that a space lists are there, and none twice; it has named dimensions, whose label sets are there, and
+-- for each of which each of its classes has a slot of that name and of a kind that suits it
 pub record IsSpace (s : Schema) (p : Space) : Type 0 where
   pub classes : All (λ c. c < length s.classes) p.classes
   pub distinct : IsDistinct nat_eq p.classes
@@ -56,17 +38,15 @@ pub record AreSpaces (s : Schema) (spaces : List Space) : Type 0 where
   pub named : AreNames SPACE_LIMIT (map (λ p. p.name) spaces)
   pub each : All (IsSpace s) spaces
 
--- the first ones are those of front
-abbrev pub StartsWith : {X : Type 0} → List X → List X → Type 0
-StartsWith {X} xs front = (rest : List X) × (xs ≡ front ++ rest)
-
 -- a slot is among those of a class exactly where the class descends from the one that declares the slot
 abbrev pub OwnsSlots : List Class → List Slot → Type 0
-OwnsSlots classes slots = (c n : ℕ) (t : Slot) → c < length classes → slice_get slots n ≡ Some t → is_among (slots_in classes c) n ≡ descends_in classes c t.owner
+OwnsSlots classes slots = (c n : ℕ) (t : Slot) → c < length classes → slice_get slots n ≡ Some t
+    → is_among (slots_in classes c) n ≡ descends_in classes c t.owner
 
 -- no two slots of a class have one name
 abbrev pub HasOwnNames : List Class → List Slot → Type 0
-HasOwnNames classes slots = (c m n : ℕ) (t u : Slot) → c < length classes → is_among (slots_in classes c) m ≡ true → is_among (slots_in classes c) n ≡ true
+HasOwnNames classes slots = (c m n : ℕ) (t u : Slot) → c < length classes
+    → is_among (slots_in classes c) m ≡ true → is_among (slots_in classes c) n ≡ true
     → slice_get slots m ≡ Some t → slice_get slots n ≡ Some u → t.name ≡ u.name → m ≡ n
 
 -- the inverse of a link slot is another slot, of the class it leads to, and leads back

@@ -2,18 +2,18 @@
 use Rattle.std.specs.Prelude.{ℕ, Bool, false, List, [], map, slice_get, Option, Some, None, option_and_then, option_map, position, find}
 use Rattle.std.specs.Option.{option_map_or}
 use Rattle.std.specs.Str.{bytes_eq}
-use Rattle.bb_schema.specs.declared.label_set.LabelSet.{LabelSet}
-use Rattle.bb_schema.specs.declared.class.Class.{Class}
-use Rattle.bb_schema.specs.declared.value.Value.{Value}
+use Rattle.bb_classes.specs.declared.label_set.LabelSet.{LabelSet}
+use Rattle.bb_classes.specs.declared.class.Class.{Class}
+use Rattle.bb_classes.specs.declared.value.Value.{Value}
 use Rattle.bb_schema.specs.declared.slot.Slot.{Slot}
-use Rattle.bb_schema.specs.declared.slot.Link.{Link}
-use Rattle.bb_schema.specs.declared.slot.Kind.{Kind}
+use Rattle.bb_classes.specs.declared.kind.Link.{Link}
+use Rattle.bb_classes.specs.declared.kind.Kind.{Kind}
 use Rattle.bb_schema.specs.declared.slot.Content.{Content}
 use Rattle.bb_schema.specs.declared.slot.Content.TheVariants as contents
 use Rattle.bb_schema.specs.declared.space.Space.{Space}
 use Rattle.bb_schema.specs.declared.space.Dim.{Dim}
 use Rattle.bb_schema.specs.Kinds.{kind_of}
-use Rattle.bb_schema.specs.Inheritance.{descends_in}
+use Rattle.bb_classes.specs.Inheritance.{descends_in, slots_in}
 
 -- all parts by their numbers: class 0 is `focus`
 pub record Schema : Type 0 where
@@ -37,9 +37,6 @@ abbrev pub label_named : Schema → ℕ → List ℕ → Option ℕ
 label_named s set name = option_and_then (λ l. position (bytes_eq name) l.values) (slice_get s.label_sets set)
 
 -- all slots of a class, in class order
-abbrev pub slots_in : List Class → ℕ → List ℕ
-slots_in classes c = option_map_or (λ k. k.slots) (slice_get classes c) []
-
 abbrev pub slots_of : Schema → ℕ → List ℕ
 slots_of s c = slots_in s.classes c
 

@@ -6,18 +6,15 @@ use Rattle.std.specs.Str.{bytes_eq}
 use Rattle.bb_basis.specs.Results.{◌>>=◌, ok_or, try_fold}
 use Rattle.bb_document.specs.Document.{SpaceDeclaration, DimDeclaration}
 use Rattle.bb_schema.specs.declared.read.spaces.TheConstants.{DIM_LIMIT, SPACE_LIMIT}
-use Rattle.bb_schema.specs.declared.fault.SchemaFault.{SchemaFault}
-use Rattle.bb_schema.specs.declared.fault.SchemaFault.TheVariants as faults
-use Rattle.bb_schema.specs.declared.slot.Kind.{Kind}
-use Rattle.bb_schema.specs.declared.slot.Kind.TheVariants.{Int, Label, Interval}
+use Rattle.bb_classes.specs.declared.fault.SchemaFault.{SchemaFault}
+use Rattle.bb_classes.specs.declared.fault.SchemaFault.TheVariants as faults
+use Rattle.bb_classes.specs.declared.kind.Kind.{Kind}
+use Rattle.bb_classes.specs.declared.kind.Kind.TheVariants.{Int, Label, Interval}
 use Rattle.bb_schema.specs.declared.space.Space.{Space}
 use Rattle.bb_schema.specs.declared.space.Dim.{Dim}
 use Rattle.bb_basis.specs.Names.{is_name}
+use Rattle.bb_classes.specs.Inheritance.{is_among}
 use Rattle.bb_schema.specs.Schema.{Schema, class_named, label_set_named, slot_named, kind_of_slot}
-
--- the class is one of these
-unfoldable pub is_among : List ℕ → ℕ → Bool
-is_among listed c = list_any (λ d. d == c) listed
 
 -- the classes of a space with one more, or what is wrong with it
 unfoldable pub space_class_after : Schema → List ℕ → List ℕ → Result (List ℕ) SchemaFault
@@ -33,7 +30,8 @@ suits _ _ = false
 
 -- the class has a slot for the dimension of the name
 unfoldable pub has_slot_for : Schema → List ℕ → Option ℕ → ℕ → Bool
-has_slot_for s name set c = option_map_or (λ n. option_map_or (suits set) (kind_of_slot s n) false) (slot_named s c name) false
+has_slot_for s name set c =
+    option_map_or (λ n. option_map_or (suits set) (kind_of_slot s n) false) (slot_named s c name) false
 
 -- the label set of a dimension
 abbrev pub set_number : Schema → Option (List ℕ) → Result (Option ℕ) SchemaFault

@@ -1,5 +1,3 @@
 -- Relations that only the invariants of models and the proofs speak of.
 -- what holds of the parts of every schema
 pub mod WellFormed
--- what an index of entries by name keeps
-pub mod Entries

@@ -1,33 +1,22 @@
-//! `Schema::read`: the document, one walk over its entries, and the schema that they mean.
+//! `Schema::read`: the document, one walk over its entries, begun by `Walked::of`, and the schema that they mean.
 
 ghost use Rattle.std.specs.Prelude.{◌≡◌, IfErr, IfOk, map};
 ghost use Rattle.bb_basis.specs.Results.{Gives, map_err};
 ghost use Rattle.bb_document.specs.Document.{declarations, space_declaration};
 ghost use Rattle.bb_document.specs.Form.{document_of};
 ghost use Rattle.bb_document.specs.Intervals.{HasOrderedIntervals};
-ghost use Rattle.bb_schema.specs.declared.fault.SchemaFault.TheVariants.{Memory as OutOfMemory};
-ghost use Rattle.bb_schema.specs.Reading.{IsWalked, fault_of, bare_schema, schema_with_spaces, declared_schema, schema_of};
+ghost use Rattle.bb_classes.specs.declared.fault.SchemaFault.TheVariants.{Memory as OutOfMemory};
+ghost use Rattle.bb_classes.specs.Fits.{IsWalked};
+ghost use Rattle.bb_schema.specs.Reading.{fault_of, bare_schema, schema_with_spaces, declared_schema, schema_of};
 
-mod classes;
-mod entries;
-mod focus;
-mod index;
-mod labels;
-mod links;
 mod resolve;
-mod slots;
 mod spaces;
 
 use crate::couple::count_couples;
-use crate::draft::SchemaDraft;
-use crate::fault::SchemaFault;
-use crate::label_set::LabelSet;
 use crate::schema::Schema;
 use bb_basis::Table;
+use bb_classes::{SchemaFault, Walked};
 use bb_document::{Document, DocumentFault, SpaceEntry};
-use classes::classes_of;
-use focus::with_focus;
-use labels::label_sets_of;
 use resolve::resolve_slots;
 use spaces::spaces_of;
 use std::alloc::Global;
@@ -44,18 +33,15 @@ fn document(alloc: Global, text: &str) -> Result<Document, SchemaFault>
     }
 }
 
-/// The schema of the classes, with numbers for the names of their links, and without spaces.
+/// The schema of what the walk left, with numbers for the names of its links, and without spaces.
 #[tactic(auto, unfolding(crate::specs::Reading::bare_schema))]
-fn bare_schema(
-    alloc: Global,
-    label_sets: Table<LabelSet>,
-    draft: SchemaDraft,
-) -> Result<Schema, SchemaFault>
-    requires { IsWalked label_sets draft }
-    ensures gives { Gives OutOfMemory (λ s. s) result (bare_schema label_sets draft) }
+fn bare_schema(alloc: Global, walked: Walked) -> Result<Schema, SchemaFault>
+    requires { IsWalked walked }
+    ensures gives { Gives OutOfMemory (λ s. s) result (bare_schema walked) }
     // The walk has refused whatever could be refused here.
     ensures only { IfErr result (λ e. e ≡ OutOfMemory) }
 {
+    let Walked { label_sets, draft } = walked;
     let slots = resolve_slots(alloc, &draft.classes, draft.slots.as_slice())?;
     let (couples_before, couple_count) = count_couples(alloc, &slots)?;
     Ok(Schema {
@@ -87,11 +73,14 @@ fn declared_schema(alloc: Global, document: Document) -> Result<Schema, SchemaFa
     requires { HasOrderedIntervals (declarations document) }
     ensures { Gives OutOfMemory (λ s. s) result (declared_schema (declarations document)) }
 {
-    let label_sets = label_sets_of(alloc, &document.label_sets)?;
-    let classes = with_focus(alloc, document.classes)?;
-    let draft = classes_of(alloc, &label_sets, &classes)?;
-    let bare = bare_schema(alloc, label_sets, draft)?;
-    schema_with_spaces(alloc, bare, &document.spaces)
+    let Document {
+        label_sets,
+        classes,
+        spaces,
+    } = document;
+    let walked = Walked::of(alloc, &label_sets, classes)?;
+    let bare = bare_schema(alloc, walked)?;
+    schema_with_spaces(alloc, bare, &spaces)
 }
 
 impl Schema {

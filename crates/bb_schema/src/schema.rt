@@ -2,19 +2,20 @@
 
 ghost use Rattle.std.specs.Prelude.{◌≡◌, ◌<◌, ◌≤◌, ◌↔◌, Some, IsSome, is_some, IsTrue, length, min, slice_get, option_map, ◌⊎◌};
 ghost use Rattle.bb_schema.specs.Schema.{class_named, space_named, label_set_named, label_named, slot_named, name_of_class, name_of_slot, name_of_space, name_of_label, slots_of, owner_of, kind_of_slot, default_of, link_of, dims_of, descends};
-ghost use Rattle.bb_schema.specs.Inheritance.{parent_of, Descends};
+ghost use Rattle.bb_classes.specs.Inheritance.{parent_of, Descends};
 ghost use Rattle.bb_schema.specs.Couples.{couples, couple_of};
 ghost use Rattle.bb_schema.specs.Fits.{Fits, AreSpaces};
-ghost use Rattle.bb_schema.specs.Values.{label_counts};
+ghost use Rattle.bb_classes.specs.Values.{label_counts};
 ghost use Rattle.bb_schema.specs.Spaces.{allowed, IsAllowed};
 
-use crate::class::{Class, ClassId, descends_from_any, descends_in, parent};
 use crate::couple::{CoupleId, Side, couple_end};
-use crate::label_set::{LabelId, LabelSet, LabelSetId};
-use crate::slot::{Content, Kind, Slot, SlotId, find_slot, link_at};
+use crate::slot::{Content, Slot, find_slot, link_at};
 use crate::space::{Dim, Space, SpaceId};
-use crate::value::Value;
 use bb_basis::Table;
+use bb_classes::{
+    Class, ClassId, Kind, LabelId, LabelSet, LabelSetId, SlotId, Value, descends_from_any,
+    descends_in, parent,
+};
 use std::marker::Model;
 
 /// The classes of units, their slots, the label sets of these, and the spaces (GBBopen Reference Manual, unit classes

@@ -1,39 +1,12 @@
-//! Slots: what they hold in a new unit, and what they can hold.
+//! Slots: what they hold in a new unit. The schema keeps them in a list.
 
 ghost use Rattle.std.specs.Prelude.{◌≡◌};
 ghost use Rattle.std.specs.List.{find};
 ghost use Rattle.bb_schema.specs.Kinds.{kind_of};
 ghost use Rattle.bb_schema.specs.Schema.{has_name, link_in, link_of};
 
-use crate::class::ClassId;
-use crate::label_set::LabelSetId;
-use crate::value::Value;
 use bb_basis::Text;
-
-/// The number of a slot: 0 to 3 are those of `focus`, then class by class the own ordinary slots and the own link
-/// slots. An inherited slot keeps its number.
-pub type SlotId = u16;
-
-/// What a slot can hold.
-#[derive(Clone, Copy, Debug, PartialEq, Drop)]
-pub enum Kind {
-    Int,
-    Text,
-    Bool,
-    /// A label of a set.
-    Label(LabelSetId),
-    Interval,
-    Link(Link),
-}
-
-/// A link slot leads to units of a class. Its inverse is a slot of that class, and leads back.
-#[derive(Clone, Copy, Debug, PartialEq, Drop)]
-pub struct Link {
-    pub to: ClassId,
-    /// Whether it may hold more than one unit.
-    pub many: bool,
-    pub inverse: SlotId,
-}
+use bb_classes::{ClassId, Kind, Link, SlotId, Value};
 
 /// What a slot holds in a new unit: an ordinary one its default, a link slot no unit.
 #[derive(Debug, PartialEq, Drop)]

@@ -1,7 +1,7 @@
 //! Spaces and their dimensions. The schema keeps them in a table.
 
-use crate::label_set::LabelSetId;
 use bb_basis::{IdSet, Named, Table, Text};
+use bb_classes::LabelSetId;
 
 /// The number of a space, in the order of the document.
 pub type SpaceId = u16;

@@ -2,9 +2,9 @@
 use Rattle.std.proofs.Common.{◌≡◌, [], ◌∷◌, None, refl, codes, true}
 use Rattle.std.specs.Prelude.{pos, ℤ}
 use Rattle.bb_schema.specs.Schema.{Schema}
-use Rattle.bb_schema.specs.Inheritance.{climbs}
+use Rattle.bb_classes.specs.Inheritance.{climbs}
 use Rattle.bb_schema.specs.declared.slot.Content.TheVariants.{Default}
-use Rattle.bb_schema.specs.declared.value.Value.TheVariants.{Int, Text, Bool}
+use Rattle.bb_classes.specs.declared.value.Value.TheVariants.{Int, Text, Bool}
 use Rattle.bb_code.specs.declared.op.Op.TheVariants.{PushText, Say, Done}
 use Rattle.bb_board.specs.declared.event.ChangeKind.TheVariants.{Create}
 use Rattle.bb_board.specs.declared.event.Event.TheVariants.{Change as happens, Quiescence}

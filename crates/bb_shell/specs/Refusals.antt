@@ -1,7 +1,7 @@
 -- The line that tells why an input is refused.
 use Rattle.std.specs.Prelude.{ℕ, List, [], ◌++◌, codes}
 use Rattle.std.specs.Fmt.{decimal}
-use Rattle.bb_schema.specs.Faults.{fault_number as schema_number}
+use Rattle.bb_classes.specs.Faults.{fault_number as schema_number}
 use Rattle.bb_code.specs.CodeFault.{fault_number as code_number}
 use Rattle.bb_compile.specs.declared.fault.BundleFault.{BundleFault}
 use Rattle.bb_compile.specs.declared.fault.BundleFault.TheVariants as bundles

@@ -5,8 +5,8 @@ use Rattle.std.specs.Fmt.{decimal, signed_decimal}
 use Rattle.serde_json.specs.Data.{string}
 use Rattle.serde_json.specs.Written.{compact_text}
 use Rattle.bb_schema.specs.Schema.{Schema, name_of_class, name_of_label}
-use Rattle.bb_schema.specs.declared.value.Value.{Value}
-use Rattle.bb_schema.specs.declared.value.Value.TheVariants as values
+use Rattle.bb_classes.specs.declared.value.Value.{Value}
+use Rattle.bb_classes.specs.declared.value.Value.TheVariants as values
 use Rattle.bb_board.specs.declared.event.ChangeKind.{ChangeKind}
 use Rattle.bb_board.specs.declared.event.ChangeKind.TheVariants.{Create}
 use Rattle.bb_board.specs.declared.event.Event.{Event}

@@ -5,8 +5,9 @@ use Rattle.std.specs.Option.{option_map_or}
 use Rattle.std.specs.Ordering.{nat_cmp, eq_by_cmp}
 use Rattle.std.specs.Cmp.{nat_cmp_total, Equal-is}
 use Rattle.std.specs.FinMap.{get, insert, remove, len, contains_key, get-empty, get-insert, get-remove, len-insert, len-remove, len-empty, nat_cmp-IsAntisymmetric}
-use Rattle.bb_schema.specs.declared.value.Value.{Value}
+use Rattle.bb_classes.specs.declared.value.Value.{Value}
 use Rattle.bb_units.specs.declared.unit.Unit.{Unit}
+use Rattle.bb_units.specs.declared.units.TheConstants.{UNIT_LIMIT}
 use Rattle.bb_units.specs.Layout.{Layout, can_hold}
 use Rattle.bb_units.specs.Units.{Units, no_units, new_unit, after_create, after_delete, with_slot, after_set}
 use Rattle.bb_units.specs.Fits.{HoldsDefaults, IsUnitOf, Fits}
@@ -41,7 +42,7 @@ module _ (u : Units) (fits : Fits u) where
   pub next_is_new : contains_key u.units u.next ≡ false
   next_is_new = not_live (contains_key u.units u.next) refl
 
-  pub created_fit : (class : ℕ) → class < length u.layout.slots → len u.units < 65536 → u.next < 2 ^ 63 → Fits (after_create u class)
+  pub created_fit : (class : ℕ) → class < length u.layout.slots → len u.units < UNIT_LIMIT → u.next < 2 ^ 63 → Fits (after_create u class)
   created_fit class there room number = record {
     numbers = λ n live. number_new class n (eq_by_cmp nat_cmp n u.next) refl (sym (ap is_some (get-insert nat_cmp_total u.units u.next (new_unit u.layout class) n)) ∙ live);
     begun = omega arith;
@@ -55,7 +56,7 @@ module _ (u : Units) (fits : Fits u) where
   kept n k true x is live = absurd (let e : is_some x ≡ false = sym (ap is_some is) in let f : false ≡ true = sym e ∙ live in cc)
   kept n k false x is live = is
 
-  fewer : (b : Bool) → cond b (len u.units - 1) (len u.units) ≤ 65536
+  fewer : (b : Bool) → cond b (len u.units - 1) (len u.units) ≤ UNIT_LIMIT
   fewer true = omega (arith, fits.few)
   fewer false = fits.few
 

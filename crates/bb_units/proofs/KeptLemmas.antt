@@ -5,8 +5,9 @@ use Rattle.std.specs.Option.{option_map_or}
 use Rattle.std.specs.Ordering.{nat_cmp}
 use Rattle.std.specs.Cmp.{nat_cmp_total}
 use Rattle.std.specs.FinMap.{FinMap, get, insert, remove, len, len-insert, len-remove, len-empty}
-use Rattle.bb_schema.specs.declared.value.Value.{Value}
+use Rattle.bb_classes.specs.declared.value.Value.{Value}
 use Rattle.bb_units.specs.declared.unit.Unit.{Unit}
+use Rattle.bb_units.specs.declared.units.TheConstants.{UNIT_LIMIT}
 use Rattle.bb_units.specs.Layout.{Layout, can_hold}
 use Rattle.bb_units.specs.Units.{Units, units_of, new_unit, with_slot, with_value_of}
 use Rattle.bb_units.specs.Fits.{HoldsDefaults, Fits}
@@ -23,7 +24,7 @@ module _ (next : ℕ) (l : Layout) (es fs : List (ℕ × Unit)) (kept : AreKept 
   abbrev m : FinMap nat_cmp Unit
   m = units_of es
 
-  pub kept_more : (class : ℕ) (x : Unit) (old : Option Unit) → class < length l.slots → x ≡ new_unit l class → units_of fs ≡ insert m next x → old ≡ get m next → length fs ≡ length es + cond (is_some old) 0 1 → length es < 65536 → next < 2 ^ 63 → AreKept (next + 1) fs l
+  pub kept_more : (class : ℕ) (x : Unit) (old : Option Unit) → class < length l.slots → x ≡ new_unit l class → units_of fs ≡ insert m next x → old ≡ get m next → length fs ≡ length es + cond (is_some old) 0 1 → length es < UNIT_LIMIT → next < 2 ^ 63 → AreKept (next + 1) fs l
   kept_more class x old there new made was grown room number =
       let made_new : units_of fs ≡ insert m next (new_unit l class) = made ∙ ap (insert m next) new in
       let fresh = next_is_new (seen next m l) kept.fits in

@@ -1,50 +1,13 @@
 //! Links get numbers in place of names, once all classes are read. `read.rt` calls it.
 
-ghost use Rattle.std.specs.Prelude.{◌≡◌, find};
 ghost use Rattle.bb_basis.specs.Results.{Gives, try_map};
-ghost use Rattle.bb_schema.specs.declared.fault.SchemaFault.TheVariants.{Memory as OutOfMemory};
-ghost use Rattle.bb_schema.specs.Schema.{slots_in};
-ghost use Rattle.bb_schema.specs.Drafts.{draft_has_name};
-ghost use Rattle.bb_schema.specs.Resolution.{resolved_link, resolved_content, resolved_slot};
+ghost use Rattle.bb_classes.specs.declared.fault.SchemaFault.TheVariants.{Memory as OutOfMemory};
+ghost use Rattle.bb_schema.specs.Resolution.{resolved_content, resolved_slot};
 
-use crate::class::{Class, ClassId};
-use crate::draft::{Draft, DraftContent, draft_has_name};
-use crate::fault::SchemaFault;
-use crate::slot::{Content, Link, Slot, SlotId};
+use crate::slot::{Content, Slot};
 use bb_basis::Table;
+use bb_classes::{Class, Draft, DraftContent, SchemaFault, resolve_link};
 use std::alloc::Global;
-
-/// The slot that a name refers to in a class.
-fn slot_named(classes: &Table<Class>, slots: &[Draft], class: ClassId, name: &str) -> Option<SlotId>
-    ensures { result ≡ find (draft_has_name slots.now name.now) (slots_in classes.now class) }
-{
-    let found = classes.get(class as usize)?;
-    find_draft(slots, found.slots.as_slice(), name)
-}
-
-fn find_draft(slots: &[Draft], numbers: &[SlotId], name: &str) -> Option<SlotId>
-    ensures { result ≡ find (draft_has_name slots.now name.now) numbers.now }
-{
-    numbers
-        .iter()
-        .copied()
-        .find(|number| draft_has_name(slots, *number, name))
-}
-
-#[tactic(auto, unfolding(crate::specs::Resolution::resolved_link))]
-fn resolve_link(
-    classes: &Table<Class>,
-    slots: &[Draft],
-    to: &str,
-    many: bool,
-    inverse: &str,
-) -> Result<Link, SchemaFault>
-    ensures { Gives OutOfMemory (λ l. l) result (resolved_link classes.now slots.now to.now many inverse.now) }
-{
-    let to = classes.index_of(to).ok_or(SchemaFault::Unknown)?;
-    let inverse = slot_named(classes, slots, to, inverse).ok_or(SchemaFault::Inverse)?;
-    Ok(Link { to, many, inverse })
-}
 
 fn resolve_content(
     classes: &Table<Class>,

@@ -4,16 +4,13 @@ ghost use Rattle.std.specs.Prelude.{◌≡◌, [], map, option_map, string_bytes
 ghost use Rattle.std.specs.List.{list_all};
 ghost use Rattle.bb_basis.specs.Results.{Gives, try_fold};
 ghost use Rattle.bb_document.specs.Document.{dim_declaration, space_declaration};
-ghost use Rattle.bb_schema.specs.declared.fault.SchemaFault.TheVariants.{Memory as OutOfMemory};
+ghost use Rattle.bb_classes.specs.declared.fault.SchemaFault.TheVariants.{Memory as OutOfMemory};
 ghost use Rattle.bb_schema.specs.SpaceReading.{space_class_after, suits, has_slot_for, set_number, dim_after, space_after};
 
-use crate::class::ClassId;
-use crate::fault::SchemaFault;
-use crate::label_set::LabelSetId;
 use crate::schema::Schema;
-use crate::slot::Kind;
 use crate::space::{Dim, Space};
 use bb_basis::{IdSet, Table, Text, is_name};
+use bb_classes::{ClassId, Kind, LabelSetId, SchemaFault};
 use bb_document::{DimEntry, SpaceEntry};
 use std::alloc::Global;
 
@@ -23,7 +20,7 @@ pub(crate) const SPACE_LIMIT: usize = 256;
 /// The greatest number of dimensions of a space.
 pub(crate) const DIM_LIMIT: usize = 16;
 
-#[tactic(auto, unfolding(crate::specs::SpaceReading::space_class_after, crate::specs::SpaceReading::is_among))]
+#[tactic(auto, unfolding(crate::specs::SpaceReading::space_class_after, bb_classes::specs::Inheritance::is_among))]
 fn add_space_class(schema: &Schema, listed: &mut IdSet, name: &str) -> Result<(), SchemaFault>
     ensures { Gives OutOfMemory (λ _. listed.new) result (space_class_after schema.now listed.old name.now) }
 {
@@ -81,7 +78,7 @@ fn have_slots_for(schema: &Schema, name: &str, set: Option<LabelSetId>, listed: 
 }
 
 fn set_number(schema: &Schema, of: &Option<String>) -> Result<Option<LabelSetId>, SchemaFault>
-    ensures { Gives OutOfMemory (λ set. set) result (set_number schema.now (option_map string_bytes of.now)) }
+    ensures { result ≡ set_number schema.now (option_map string_bytes of.now) }
 {
     match of {
         None => Ok(None),

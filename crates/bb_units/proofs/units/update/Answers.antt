@@ -1,7 +1,7 @@
 use Rattle.std.proofs.Common.{◌≡◌, refl, ◌∙◌, sym, ap, Some, None, List, ℕ}
 use Rattle.std.specs.Prelude.{is_some, option_map}
 use Rattle.std.specs.FinMap as map
-use Rattle.bb_schema.specs.declared.value.Value.{Value}
+use Rattle.bb_classes.specs.declared.value.Value.{Value}
 use Rattle.bb_units.specs.declared.unit.Unit.{Unit}
 use Rattle.bb_units.specs.Units.{units_of}
 use Rattle.bb_units.proofs.MapLemmas.{get_is_lookup, one_set}

@@ -1,7 +1,7 @@
 use Rattle.std.proofs.lemmas.Result.{err_from_is_err_and}
 use Rattle.bb_document.specs.Document.{space_declaration}
 use Rattle.bb_schema.specs.SpaceReading.{space_after}
-use Rattle.bb_schema.specs.declared.fault.SchemaFault.TheVariants.{Memory}
+use Rattle.bb_classes.specs.declared.fault.SchemaFault.TheVariants.{Memory}
 use Rattle.bb_basis.proofs.SliceFoldLemmas.{slice_fold_next, slice_fold_error, slice_fold_end}
 use Rattle.bb_schema.proofs.read.spaces.spaces_of.Goals as goal
 

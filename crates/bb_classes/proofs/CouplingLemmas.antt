@@ -1,0 +1,439 @@
+-- The walk has refused each link whose inverse does not lead back.
+use Rattle.std.proofs.Common.{◌&&◌, ◌≡◌, ℕ, ◌+◌, ◌<◌, ◌≤◌, inl, inr, ◌||◌, Bool, true, false, not, cond, List, [], ◌∷◌, ◌++◌, length, map, Option, Some, None, Ok, Err, refl, ap, sym, subst, ◌∙◌, arith, length-append}
+use Rattle.std.specs.Prelude.{All, nat_le, slice_get, position, find, if◌then◌else◌}
+use Rattle.std.specs.Str.{bytes_eq}
+use Rattle.std.specs.List.{list_any, AllByRecursion}
+use Rattle.std.specs.Option.{option_map_or}
+use Rattle.std.specs.Cmp.Lexicographic.{bytes_decides}
+use Rattle.std.proofs.lemmas.Bool.{and_parts, cases_lt}
+use Rattle.std.proofs.lemmas.List.Elements.{All-nil, All-push, All-weaker}
+use Rattle.bb_basis.specs.Results.{ok_or, try_fold}
+use Rattle.bb_document.specs.Document.{SlotDeclaration, LinkDeclaration, ClassDeclaration}
+use Rattle.bb_classes.specs.declared.read.classes.TheConstants.{CLASS_LIMIT}
+use Rattle.bb_classes.specs.declared.fault.SchemaFault.TheVariants as faults
+use Rattle.bb_classes.specs.declared.label_set.LabelSet.{LabelSet}
+use Rattle.bb_classes.specs.declared.class.Class.{Class}
+use Rattle.bb_classes.specs.declared.draft.Draft.{Draft}
+use Rattle.bb_classes.specs.declared.draft.DraftContent.{DraftContent}
+use Rattle.bb_classes.specs.declared.draft.DraftContent.TheVariants as drafts
+use Rattle.bb_basis.specs.Names.{is_name}
+use Rattle.bb_classes.specs.Inheritance.{slots_in}
+use Rattle.bb_classes.specs.Drafts.{ClassDraft, SchemaDraft, draft_has_name, has_slot_named, is_full, with_slot}
+use Rattle.bb_classes.specs.SlotReading.{default_value, is_long, slot_after}
+use Rattle.bb_classes.specs.LinkReading.{first_named, link_entry, leads_to, is_back, leads_back, link_after}
+use Rattle.bb_classes.specs.ClassReading.{parent_number, inherited_slots, class_after}
+use Rattle.bb_classes.specs.Resolution.{resolved_link}
+use Rattle.bb_classes.specs.Fits.{IsPaired, ArePaired}
+use Rattle.bb_basis.proofs.ResultLemmas.{bind_ok, guard_ok, ok_or_ok, same_ok, try_fold_keeps}
+use Rattle.bb_basis.proofs.AppendLemmas.{some_within, snoc_old, snoc_new, snoc_cases}
+use Rattle.bb_basis.proofs.PositionLemmas.{spot, position_spot, or_last, spot_snoc, none_spot}
+use Rattle.bb_basis.proofs.SearchLemmas.{find_front, find_after, find_same, any_same}
+use Rattle.bb_basis.proofs.MadeLemmas.{Marked, try_fold_marks}
+use Rattle.bb_basis.proofs.ListLemmas.{map-last}
+use Rattle.std.proofs.lemmas.List.{length-map}
+
+-- ---- searches
+
+same_text : (a b : List ℕ) → bytes_eq a b ≡ true → a ≡ b
+same_text a b h = (bytes_decides a b).0 h
+
+not_false : (b : Bool) → not b ≡ false → b ≡ true
+not_false true h = refl
+not_false false h = absurd cc
+
+itself : (a : List ℕ) → bytes_eq a a ≡ true
+itself a = (bytes_decides a a).1 refl
+
+old_name : (slots : List Draft) (d : Draft) (name : List ℕ) (n : ℕ) → n < length slots
+    → draft_has_name (slots ++ d ∷ []) name n ≡ draft_has_name slots name n
+unfolding draft_has_name
+old_name slots d name n lt = ap (λ (o : Option Draft). option_map_or (λ t. bytes_eq name t.name) o false) (snoc_old slots d n lt)
+
+new_name : (slots : List Draft) (d : Draft) → draft_has_name (slots ++ d ∷ []) d.name (length slots) ≡ true
+unfolding draft_has_name
+new_name slots d = ap (λ (o : Option Draft). option_map_or (λ t. bytes_eq d.name t.name) o false) (snoc_new slots d) ∙ itself d.name
+
+-- what was found among slots that are there is found when one more comes
+still_found : (slots : List Draft) (d : Draft) (name : List ℕ) (class_slots more : List ℕ) (n : ℕ)
+    → All (λ m. m < length slots) class_slots → find (draft_has_name slots name) class_slots ≡ Some n
+    → find (draft_has_name (slots ++ d ∷ []) name) (class_slots ++ more) ≡ Some n
+still_found slots d name class_slots more n all h =
+    find_front (draft_has_name (slots ++ d ∷ []) name) class_slots more n (find_same (draft_has_name (slots ++ d ∷ []) name) (draft_has_name slots name) (λ m. m < length slots) class_slots all (λ m lt. old_name slots d name m lt) ∙ h)
+
+new_found : (slots : List Draft) (d : Draft) (class_slots : List ℕ) → All (λ m. m < length slots) class_slots
+    → list_any (draft_has_name slots d.name) class_slots ≡ false → find (draft_has_name (slots ++ d ∷ []) d.name)
+    (class_slots ++ length slots ∷ []) ≡ Some (length slots)
+new_found slots d class_slots all fresh =
+    find_after (draft_has_name (slots ++ d ∷ []) d.name) class_slots (length slots ∷ []) (any_same (draft_has_name (slots ++ d ∷ []) d.name) (draft_has_name slots d.name) (λ m. m < length slots) class_slots all (λ m lt. old_name slots d d.name m lt) ∙ fresh)
+    ∙ ap (λ b. cond b (Some (length slots)) None) (new_name slots d)
+
+-- ---- the slots of the class that is read
+
+-- the class of the walk has the link slot of the entry, and finds it by its name
+pub record Held (slots : List Draft) (owner : ℕ) (class_slots : List ℕ) (l : LinkDeclaration) : Type 0 where
+  pub number : ℕ
+  pub found : find (draft_has_name slots l.name) class_slots ≡ Some number
+  pub is : slice_get slots number ≡ Some (record { name = l.name; owner = owner; content = drafts.Link l.to l.many l.inverse })
+
+-- the link of a slot of the class of the name leads back
+abbrev pub LeadsBackIn : List ClassDeclaration → List ℕ → List ℕ → DraftContent → Type 0
+LeadsBackIn all class name (drafts.Default v) = Unit {0}
+LeadsBackIn all class name (drafts.Link to many inverse) = (target : ClassDeclaration) × (first_named (λ c. c.name) to all ≡ Some target) × (leads_back target class (record { name = name; to = to; many = many; inverse = inverse }) ≡ true)
+
+-- a slot of the class that is read, from the number old on
+record Own (all : List ClassDeclaration) (class : List ℕ) (owner : ℕ) (g : ClassDraft) (n : ℕ) (t : Draft) : Type 0 where
+  pub owned : t.owner ≡ owner
+  pub found : find (draft_has_name g.slots t.name) g.class_slots ≡ Some n
+  pub back : LeadsBackIn all class t.name t.content
+
+record Grows (all : List ClassDeclaration) (class : List ℕ) (owner : ℕ) (before : List Draft) (g : ClassDraft) : Type 0 where
+  pub longer : length before ≤ length g.slots
+  pub class_slots : All (λ n. n < length g.slots) g.class_slots
+  pub old : (n : ℕ) → n < length before → slice_get g.slots n ≡ slice_get before n
+  pub own : (n : ℕ) (t : Draft) → length before ≤ n → slice_get g.slots n ≡ Some t → Own all class owner g n t
+
+grow : (all : List ClassDeclaration) (class : List ℕ) (owner : ℕ) (before : List Draft) (g : ClassDraft) (d : Draft)
+    → Grows all class owner before g → has_slot_named g d.name ≡ false → d.owner ≡ owner
+    → LeadsBackIn all class d.name d.content → Grows all class owner before (with_slot g d)
+grow all class owner before g d well fresh owned back =
+    let long : length (g.slots ++ d ∷ []) ≡ length g.slots + 1 = length-append g.slots (d ∷ []) in
+    record {
+      longer = omega (arith, long, well.longer);
+      class_slots = All-push (λ n. n < length (g.slots ++ d ∷ [])) g.class_slots (length g.slots) (All-weaker (λ n. n < length g.slots) (λ n. n < length (g.slots ++ d ∷ [])) (λ n lt. omega (arith, long, lt)) g.class_slots well.class_slots) (omega (arith, long));
+      old = λ n lt. snoc_old g.slots d n (omega (arith, lt, well.longer)) ∙ well.old n lt;
+      own = λ n t le at. elim (snoc_cases g.slots d n t at) [
+        | inl before' ↦ let o = well.own n t le before'.1 in record { owned = o.owned; found = still_found g.slots d t.name g.class_slots (length g.slots ∷ []) n well.class_slots o.found; back = o.back }
+        | inr new ↦ record {
+          owned = ap (λ (u : Draft). u.owner) (sym new.1) ∙ owned;
+          found = subst (λ (u : Draft). find (draft_has_name (g.slots ++ d ∷ []) u.name) (g.class_slots ++ length g.slots ∷ []) ≡ Some n) new.1 (new_found g.slots d g.class_slots well.class_slots fresh ∙ ap (λ m. Some m) (sym new.0));
+          back = subst (λ (u : Draft). LeadsBackIn all class u.name u.content) new.1 back;
+        }
+      ];
+    }
+
+held_on : (g : ClassDraft) (d : Draft) (owner : ℕ) (l : LinkDeclaration) → All (λ n. n < length g.slots) g.class_slots
+    → Held g.slots owner g.class_slots l → Held (g.slots ++ d ∷ []) owner (g.class_slots ++ length g.slots ∷ []) l
+held_on g d owner l within held = record {
+  number = held.number;
+  found = still_found g.slots d l.name g.class_slots (length g.slots ∷ []) held.number within held.found;
+  is = snoc_old g.slots d held.number (some_within g.slots held.number _ held.is) ∙ held.is;
+}
+
+slot_step : (sets : List LabelSet) (all : List ClassDeclaration) (class : List ℕ) (owner : ℕ) (before : List Draft)
+    (g h : ClassDraft) (e : SlotDeclaration) → Grows all class owner before g → slot_after sets owner g e ≡ Ok h
+    → Grows all class owner before h
+unfolding slot_after
+slot_step sets all class owner before g h e well made =
+    let named = guard_ok (not (is_name e.name)) faults.Name _ h made in
+    let fresh = guard_ok (has_slot_named g e.name) faults.Twice _ h named.1 in
+    let value = bind_ok (default_value sets e.default) (λ value. if is_full g || is_long e.default then Err faults.Limit else Ok (with_slot g (record { name = e.name; owner = owner; content = drafts.Default value }))) h fresh.1 in
+    let room = guard_ok (is_full g || is_long e.default) faults.Limit (Ok (with_slot g (record { name = e.name; owner = owner; content = drafts.Default value.0 }))) h value.2 in
+    subst (Grows all class owner before) (same_ok _ h room.1) (grow all class owner before g (record { name = e.name; owner = owner; content = drafts.Default value.0 }) well fresh.0 refl tt)
+
+-- what a link that was taken says
+record LinkTaken (all : List ClassDeclaration) (class : List ℕ) (owner : ℕ) (g h : ClassDraft) (e : LinkDeclaration) : Type 0 where
+  pub fresh : has_slot_named g e.name ≡ false
+  pub target : ClassDeclaration
+  pub there : first_named (λ c. c.name) e.to all ≡ Some target
+  pub back : leads_back target class e ≡ true
+  pub is : with_slot g (record { name = e.name; owner = owner; content = drafts.Link e.to e.many e.inverse }) ≡ h
+
+link_taken : (all : List ClassDeclaration) (class : List ℕ) (owner : ℕ) (g h : ClassDraft) (e : LinkDeclaration)
+    → link_after all class owner g e ≡ Ok h → LinkTaken all class owner g h e
+unfolding link_after
+link_taken all class owner g h e made =
+    let draft : Draft = record { name = e.name; owner = owner; content = drafts.Link e.to e.many e.inverse } in
+    let named = guard_ok (not (is_name e.name)) faults.Name _ h made in
+    let fresh = guard_ok (has_slot_named g e.name) faults.Twice _ h named.1 in
+    let target = bind_ok (ok_or (first_named (λ c. c.name) e.to all) faults.Unknown) (λ target. if not (leads_back target class e) then Err faults.Inverse else if is_full g then Err faults.Limit else Ok (with_slot g draft)) h fresh.1 in
+    let back = guard_ok (not (leads_back target.0 class e)) faults.Inverse (if is_full g then Err faults.Limit else Ok (with_slot g draft)) h target.2 in
+    let room = guard_ok (is_full g) faults.Limit (Ok (with_slot g draft)) h back.1 in
+    record { fresh = fresh.0; target = target.0; there = ok_or_ok faults.Unknown _ target.0 target.1; back = not_false (leads_back target.0 class e) back.0; is = same_ok (with_slot g draft) h room.1 }
+
+link_step : (all : List ClassDeclaration) (class : List ℕ) (owner : ℕ) (before : List Draft) (g h : ClassDraft)
+    (e : LinkDeclaration) → Grows all class owner before g → link_after all class owner g e ≡ Ok h
+    → Grows all class owner before h
+link_step all class owner before g h e well made =
+    let taken = link_taken all class owner g h e made in
+    subst (Grows all class owner before) taken.is (grow all class owner before g (record { name = e.name; owner = owner; content = drafts.Link e.to e.many e.inverse }) well taken.fresh refl (taken.target, taken.there, taken.back))
+
+abbrev HeldIn : ℕ → ClassDraft → LinkDeclaration → Type 0
+HeldIn owner g l = Held g.slots owner g.class_slots l
+
+link_mark : (all : List ClassDeclaration) (class : List ℕ) (owner : ℕ) (before : List Draft) (g h : ClassDraft)
+    (e : LinkDeclaration) → Grows all class owner before g → link_after all class owner g e ≡ Ok h → HeldIn owner h e
+link_mark all class owner before g h e well made =
+    let taken = link_taken all class owner g h e made in
+    let draft : Draft = record { name = e.name; owner = owner; content = drafts.Link e.to e.many e.inverse } in
+    subst (λ (i : ClassDraft). HeldIn owner i e) taken.is (record { number = length g.slots; found = new_found g.slots draft g.class_slots well.class_slots taken.fresh; is = snoc_new g.slots draft })
+
+link_stable : (all : List ClassDeclaration) (class : List ℕ) (owner : ℕ) (before : List Draft) (g h : ClassDraft)
+    (l e : LinkDeclaration) → Grows all class owner before g → link_after all class owner g e ≡ Ok h
+    → HeldIn owner g l → HeldIn owner h l
+link_stable all class owner before g h l e well made held =
+    let taken = link_taken all class owner g h e made in
+    subst (λ (i : ClassDraft). HeldIn owner i l) taken.is (held_on g (record { name = e.name; owner = owner; content = drafts.Link e.to e.many e.inverse }) owner l well.class_slots held)
+
+-- ---- the classes that were read
+
+-- a slot is found in its class by its name, and its link leads back
+pub record Resolves (all : List ClassDeclaration) (s : SchemaDraft) (n : ℕ) (t : Draft) : Type 0 where
+  pub class : Class
+  pub at : slice_get s.classes t.owner ≡ Some class
+  pub found : find (draft_has_name s.slots t.name) class.slots ≡ Some n
+  pub back : LeadsBackIn all class.name t.name t.content
+
+pub record Walks (all : List ClassDeclaration) (s : SchemaDraft) : Type 0 where
+  pub class_slots : (c : ℕ) (k : Class) → slice_get s.classes c ≡ Some k → All (λ n. n < length s.slots) k.slots
+  pub named : (c : ℕ) (k : Class) → slice_get s.classes c ≡ Some k → spot (bytes_eq k.name)
+      (map (λ (j : Class). j.name) s.classes) ≡ Some c
+  pub resolves : (n : ℕ) (t : Draft) → slice_get s.slots n ≡ Some t → Resolves all s n t
+
+-- the class of an entry has all its links
+pub record Declares (s : SchemaDraft) (e : ClassDeclaration) : Type 0 where
+  pub number : ℕ
+  pub class : Class
+  pub at : slice_get s.classes number ≡ Some class
+  pub name : class.name ≡ e.name
+  pub links : (l : LinkDeclaration) → link_entry e l.name ≡ Some l → Held s.slots number class.slots l
+
+record ClassTaken (sets : List LabelSet) (all : List ClassDeclaration) (s t : SchemaDraft) (e : ClassDeclaration) : Type 0 where
+  pub fresh : list_any (bytes_eq e.name) (map (λ (k : Class). k.name) s.classes) ≡ false
+  pub parent : Option ℕ
+  pub ordinary : ClassDraft
+  pub slots : try_fold (slot_after sets (length s.classes))
+      (record { slots = s.slots; class_slots = inherited_slots s.classes parent }) e.slots ≡ Ok ordinary
+  pub own : ClassDraft
+  pub links : try_fold (link_after all e.name (length s.classes)) ordinary e.links ≡ Ok own
+  pub is : (let made : SchemaDraft = record { classes = s.classes ++ record { name = e.name; parent = parent; slots = own.class_slots } ∷ []; slots = own.slots } in made) ≡ t
+
+class_taken : (sets : List LabelSet) (all : List ClassDeclaration) (s t : SchemaDraft) (e : ClassDeclaration)
+    → class_after sets all s e ≡ Ok t → ClassTaken sets all s t e
+unfolding class_after
+class_taken sets all s t e made =
+    let named = guard_ok (not (is_name e.name)) faults.Name _ t made in
+    let fresh = guard_ok (list_any (bytes_eq e.name) (map (λ (k : Class). k.name) s.classes)) faults.Twice _ t named.1 in
+    let parent = bind_ok (parent_number s.classes e.parent) _ t fresh.1 in
+    let room = guard_ok (nat_le CLASS_LIMIT (length s.classes)) faults.Limit _ t parent.2 in
+    let ordinary = bind_ok (try_fold (slot_after sets (length s.classes)) (record { slots = s.slots; class_slots = inherited_slots s.classes parent.0 }) e.slots) _ t room.1 in
+    let own = bind_ok (try_fold (link_after all e.name (length s.classes)) ordinary.0 e.links) _ t ordinary.2 in
+    record { fresh = fresh.0; parent = parent.0; ordinary = ordinary.0; slots = ordinary.1; own = own.0; links = own.1; is = same_ok _ t own.2 }
+
+class_slots_there : (all : List ClassDeclaration) (s : SchemaDraft) (p : ℕ) (o : Option Class) → Walks all s
+    → slice_get s.classes p ≡ o → All (λ n. n < length s.slots) (option_map_or (λ k. k.slots) o [])
+class_slots_there all s p None walks at = All-nil (λ n. n < length s.slots)
+class_slots_there all s p (Some k) walks at = walks.class_slots p k at
+
+inherited_there : (all : List ClassDeclaration) (s : SchemaDraft) (parent : Option ℕ) → Walks all s
+    → All (λ n. n < length s.slots) (inherited_slots s.classes parent)
+inherited_there all s None walks = All-nil (λ n. n < length s.slots)
+inherited_there all s (Some p) walks = class_slots_there all s p (slice_get s.classes p) walks refl
+
+grows_from : (all : List ClassDeclaration) (class : List ℕ) (owner : ℕ) (s : SchemaDraft) (class_slots : List ℕ)
+    → All (λ n. n < length s.slots) class_slots
+    → Grows all class owner s.slots (record { slots = s.slots; class_slots = class_slots })
+grows_from all class owner s class_slots within = record {
+  longer = omega arith;
+  class_slots = within;
+  old = λ n lt. refl;
+  own = λ n t le at. absurd (let lt = some_within s.slots n t at in omega arith);
+}
+
+-- what the walk over a class leaves
+record Left (all : List ClassDeclaration) (s : SchemaDraft) (e : ClassDeclaration) (own : ClassDraft) : Type 0 where
+  pub grows : Grows all e.name (length s.classes) s.slots own
+  pub held : AllByRecursion (HeldIn (length s.classes) own) e.links
+
+left_by : (sets : List LabelSet) (all : List ClassDeclaration) (s t : SchemaDraft) (e : ClassDeclaration)
+    (taken : ClassTaken sets all s t e) → Walks all s → Left all s e taken.own
+left_by sets all s t e taken walks =
+    let P : ClassDraft → Type 0 = Grows all e.name (length s.classes) s.slots in
+    let one : P taken.ordinary = try_fold_keeps P (slot_after sets (length s.classes)) (λ g h d. slot_step sets all e.name (length s.classes) s.slots g h d) (record { slots = s.slots; class_slots = inherited_slots s.classes taken.parent }) taken.ordinary e.slots
+    (grows_from all e.name (length s.classes) s (inherited_slots s.classes taken.parent) (inherited_there all s taken.parent walks)) taken.slots in
+    let two = try_fold_marks P (HeldIn (length s.classes)) (link_after all e.name (length s.classes)) (λ g h l. link_step all e.name (length s.classes) s.slots g h l) (λ g h l. link_mark all e.name (length s.classes) s.slots g h l)
+    (λ g h l m. link_stable all e.name (length s.classes) s.slots g h l m) taken.ordinary taken.own e.links one taken.links in
+    record { grows = two.kept; held = two.all }
+
+name_same : (a b : List Draft) (name : List ℕ) (n : ℕ) → slice_get a n ≡ slice_get b n
+    → draft_has_name a name n ≡ draft_has_name b name n
+unfolding draft_has_name
+name_same a b name n same = ap (λ (o : Option Draft). option_map_or (λ t. bytes_eq name t.name) o false) same
+
+found_same : (a b : List Draft) (name : List ℕ) (class_slots : List ℕ) (n : ℕ) → All (λ m. m < length b) class_slots
+    → ((m : ℕ) → m < length b → slice_get a m ≡ slice_get b m) → find (draft_has_name b name) class_slots ≡ Some n
+    → find (draft_has_name a name) class_slots ≡ Some n
+found_same a b name class_slots n within same h = find_same (draft_has_name a name) (draft_has_name b name) (λ m. m < length b) class_slots within (λ m lt. name_same a b name m (same m lt)) ∙ h
+
+walks_on : (sets : List LabelSet) (all : List ClassDeclaration) (s t : SchemaDraft) (e : ClassDeclaration)
+    → Walks all s → class_after sets all s e ≡ Ok t → Walks all t
+walks_on sets all s t e walks made =
+    let taken = class_taken sets all s t e made in
+    let left = left_by sets all s t e taken walks in
+    let k : Class = record { name = e.name; parent = taken.parent; slots = taken.own.class_slots } in
+    let names = map (λ (j : Class). j.name) s.classes in
+    subst (Walks all) taken.is (record {
+      class_slots = λ c j at. elim (snoc_cases s.classes k c j at) [
+        | inl old ↦ All-weaker (λ n. n < length s.slots) (λ n. n < length taken.own.slots) (λ n lt. omega (arith, lt, left.grows.longer)) j.slots (walks.class_slots c j old.1)
+        | inr new ↦ subst (λ (i : Class). All (λ n. n < length taken.own.slots) i.slots) new.1 left.grows.class_slots
+      ];
+      named = λ c j at. elim (snoc_cases s.classes k c j at) [
+        | inl old ↦ ap (spot (bytes_eq j.name)) (map-last (λ (i : Class). i.name) s.classes k) ∙ (spot_snoc (bytes_eq j.name) names e.name ∙ ap (λ o. or_last o (bytes_eq j.name e.name) (length names)) (walks.named c j old.1))
+        | inr new ↦ subst (λ (i : Class). spot (bytes_eq i.name) (map (λ (i : Class). i.name) (s.classes ++ k ∷ [])) ≡ Some c) new.1
+            (ap (spot (bytes_eq e.name)) (map-last (λ (i : Class). i.name) s.classes k) ∙ (spot_snoc (bytes_eq e.name) names e.name
+            ∙ (ap (λ o. or_last o (bytes_eq e.name e.name) (length names)) (none_spot (bytes_eq e.name) names taken.fresh) ∙ (ap (λ b. cond b (Some (length names)) None) (itself e.name) ∙ ap (λ m. Some m) (length-map s.classes (λ (j : Class). j.name) ∙ sym new.0)))))
+      ];
+      resolves = λ n d at. elim (cases_lt n (length s.slots)) [
+        | inl lt ↦
+            let before = walks.resolves n d (sym (left.grows.old n lt) ∙ at) in
+            record {
+              class = before.class;
+              at = snoc_old s.classes k d.owner (some_within s.classes d.owner before.class before.at) ∙ before.at;
+              found = found_same taken.own.slots s.slots d.name before.class.slots n (walks.class_slots d.owner before.class before.at) left.grows.old before.found;
+              back = before.back;
+            }
+        | inr le ↦
+            let own = left.grows.own n d le at in
+            record { class = k; at = ap (slice_get (s.classes ++ k ∷ [])) own.owned ∙ snoc_new s.classes k; found = own.found; back = own.back }
+      ];
+    })
+
+first_by : {X : Type 0} (P : X → Type 0) (name_of : X → List ℕ) (name : List ℕ) (y x : X) (b : Bool) (rest : Option X)
+    → P y → (rest ≡ Some x → P x × (bytes_eq name (name_of x) ≡ true)) → bytes_eq name (name_of y) ≡ b
+    → cond b (Some y) rest ≡ Some x → P x × (bytes_eq name (name_of x) ≡ true)
+first_by P name_of name y x true rest here below test h = let same : y ≡ x = cc in (subst P same here, subst (λ z. bytes_eq name (name_of z) ≡ true) same test)
+first_by P name_of name y x false rest here below test h = below h
+
+-- what is found by a name is one of the list, and has the name
+first_in : {X : Type 0} (P : X → Type 0) (name_of : X → List ℕ) (name : List ℕ) (xs : List X) (x : X)
+    → first_named name_of name xs ≡ Some x → AllByRecursion P xs → P x × (bytes_eq name (name_of x) ≡ true)
+unfolding first_named
+first_in P name_of name [] x h all = absurd cc
+first_in P name_of name (y ∷ ys) x h all = first_by P name_of name y x (bytes_eq name (name_of y)) (find (λ z. bytes_eq name (name_of z)) ys) all.0 (λ g. first_in P name_of name ys x g all.1) refl h
+
+link_by : (b : Bool) (o : Option LinkDeclaration) (l : LinkDeclaration) → (if b then None else o) ≡ Some l
+    → o ≡ Some l
+link_by true o l h = absurd cc
+link_by false o l h = h
+
+link_first : (e : ClassDeclaration) (name : List ℕ) (l : LinkDeclaration) → link_entry e name ≡ Some l
+    → first_named (λ (m : LinkDeclaration). m.name) name e.links ≡ Some l
+link_first e name l h = link_by (list_any (bytes_eq name) (map (λ (d : SlotDeclaration). d.name) e.slots)) (first_named (λ (m : LinkDeclaration). m.name) name e.links) l h
+
+declares_now : (sets : List LabelSet) (all : List ClassDeclaration) (s t : SchemaDraft) (e : ClassDeclaration)
+    → Walks all s → class_after sets all s e ≡ Ok t → Declares t e
+declares_now sets all s t e walks made =
+    let taken = class_taken sets all s t e made in
+    let left = left_by sets all s t e taken walks in
+    let k : Class = record { name = e.name; parent = taken.parent; slots = taken.own.class_slots } in
+    subst (λ (u : SchemaDraft). Declares u e) taken.is (record {
+      number = length s.classes;
+      class = k;
+      at = snoc_new s.classes k;
+      name = refl;
+      links = λ l h. (first_in (HeldIn (length s.classes) taken.own) (λ (m : LinkDeclaration). m.name) l.name e.links l (link_first e l.name l h) left.held).0;
+    })
+
+declares_still : (sets : List LabelSet) (all : List ClassDeclaration) (s t : SchemaDraft) (a e : ClassDeclaration)
+    → Walks all s → class_after sets all s e ≡ Ok t → Declares s a → Declares t a
+declares_still sets all s t a e walks made before =
+    let taken = class_taken sets all s t e made in
+    let left = left_by sets all s t e taken walks in
+    let k : Class = record { name = e.name; parent = taken.parent; slots = taken.own.class_slots } in
+    subst (λ (u : SchemaDraft). Declares u a) taken.is (record {
+      number = before.number;
+      class = before.class;
+      at = snoc_old s.classes k before.number (some_within s.classes before.number before.class before.at) ∙ before.at;
+      name = before.name;
+      links = λ l h. let held = before.links l h in record {
+        number = held.number;
+        found = found_same taken.own.slots s.slots l.name before.class.slots held.number (walks.class_slots before.number before.class before.at) left.grows.old held.found;
+        is = left.grows.old held.number (some_within s.slots held.number _ held.is) ∙ held.is;
+      };
+    })
+
+-- all that the walk leaves
+pub walk_leaves : (sets : List LabelSet) (all : List ClassDeclaration) (t : SchemaDraft)
+    → try_fold (class_after sets all) (record { classes = []; slots = [] }) all ≡ Ok t
+    → Marked (Walks all) Declares t all
+walk_leaves sets all t made =
+    try_fold_marks (Walks all) Declares (class_after sets all) (λ s u e. walks_on sets all s u e) (λ s u e. declares_now sets all s u e) (λ s u a e. declares_still sets all s u a e) (record { classes = []; slots = [] }) t all
+    (record { class_slots = λ c k at. absurd cc; named = λ c k at. absurd cc; resolves = λ n d at. absurd cc }) made
+
+-- ---- linking
+
+link_gives : (classes : List Class) (slots : List Draft) (to : List ℕ) (many : Bool) (inverse : List ℕ) (c : ℕ)
+    (k : Class) (m : ℕ) → position (bytes_eq to) (map (λ (j : Class). j.name) classes) ≡ Some c
+    → slice_get classes c ≡ Some k → find (draft_has_name slots inverse) k.slots ≡ Some m
+    → resolved_link classes slots to many inverse ≡ Ok (record { to = c; many = many; inverse = m })
+unfolding resolved_link
+link_gives classes slots to many inverse c k m number at found =
+    let class_slots : slots_in classes c ≡ k.slots = ap (λ (o : Option Class). option_map_or (λ j. j.slots) o []) at in
+    rw (number, class_slots, found) refl
+
+all_units : {X : Type 0} (xs : List X) → AllByRecursion (λ (x : X). Unit {0}) xs
+all_units [] = tt
+all_units (x ∷ xs) = (tt, all_units xs)
+
+back_entry : (o : Option LinkDeclaration) (class name : List ℕ) → is_back o class name ≡ true
+    → (back : LinkDeclaration) × (o ≡ Some back) × (leads_to back class name ≡ true)
+back_entry None class name h = absurd cc
+back_entry (Some back) class name h = (back, refl, h)
+
+some_same : {X : Type 0} (x y : X) → (let o : Option X = Some x in o) ≡ Some y → x ≡ y
+some_same x y h = cc
+
+-- a link is not its own inverse
+itself_refused : (b c : Bool) → b ≡ true → c ≡ true → not (b && c) ≡ true → ⊥
+itself_refused b c first second refused = let e : false ≡ true = sym (ap not (let h : (b && c) ≡ true = rw (first, second) refl in h)) ∙ refused in absurd cc
+
+pair_of : (all : List ClassDeclaration) (s : SchemaDraft) (n : ℕ) (t : Draft) (to : List ℕ) (many : Bool)
+    (inverse : List ℕ) → Marked (Walks all) Declares s all → slice_get s.slots n ≡ Some t
+    → t.content ≡ drafts.Link to many inverse → IsPaired s n t
+pair_of all s n t to many inverse left at is =
+    let names = map (λ (j : Class). j.name) s.classes in
+    let mine = left.kept.resolves n t at in
+    let found = subst (LeadsBackIn all mine.class.name t.name) is mine.back in
+    let target = first_in (Declares s) (λ (c : ClassDeclaration). c.name) to all found.0 found.1 left.all in
+    let theirs = target.0 in
+    let to_is : to ≡ theirs.class.name = same_text to found.0.name target.1 ∙ sym theirs.name in
+    let number : position (bytes_eq to) names ≡ Some theirs.number = ap (λ x. position (bytes_eq x) names) to_is ∙ (position_spot (bytes_eq theirs.class.name) names ∙ left.kept.named theirs.number theirs.class theirs.at) in
+    let parts = and_parts (not (leads_to (record { name = t.name; to = to; many = many; inverse = inverse }) mine.class.name t.name)) (is_back (link_entry found.0 inverse) mine.class.name t.name) found.2 in
+    let back = back_entry (link_entry found.0 inverse) mine.class.name t.name parts.1 in
+    let ways = and_parts (bytes_eq back.0.to mine.class.name) (bytes_eq back.0.inverse t.name) back.2 in
+    let name_is : inverse ≡ back.0.name = same_text inverse back.0.name (first_in (λ (l : LinkDeclaration). Unit {0}) (λ (l : LinkDeclaration). l.name) inverse found.0.links back.0 (link_first found.0 inverse back.0 back.1) (all_units found.0.links)).1 in
+    let held = theirs.links back.0 (ap (link_entry found.0) (sym name_is) ∙ back.1) in
+    let other : Draft = record { name = back.0.name; owner = theirs.number; content = drafts.Link back.0.to back.0.many back.0.inverse } in
+    let my_number : position (bytes_eq back.0.to) names ≡ Some t.owner = ap (λ x. position (bytes_eq x) names) (same_text back.0.to mine.class.name ways.0) ∙ (position_spot (bytes_eq mine.class.name) names ∙ left.kept.named t.owner mine.class mine.at) in
+    record {
+      link = record { to = theirs.number; many = many; inverse = held.number };
+      leads = record {
+        to = to;
+        many = many;
+        inverse = inverse;
+        is = is;
+        gives = link_gives s.classes s.slots to many inverse theirs.number theirs.class held.number number theirs.at (ap (λ x. find (draft_has_name s.slots x) theirs.class.slots) name_is ∙ held.found);
+      };
+      other = other;
+      there = held.is;
+      owned = refl;
+      back = record { to = t.owner; many = back.0.many; inverse = n };
+      returns = record {
+        to = back.0.to;
+        many = back.0.many;
+        inverse = back.0.inverse;
+        is = refl;
+        gives = link_gives s.classes s.slots back.0.to back.0.many back.0.inverse t.owner mine.class n my_number mine.at (ap (λ x. find (draft_has_name s.slots x) mine.class.slots) (same_text back.0.inverse t.name ways.1) ∙ mine.found);
+      };
+      is = refl;
+      apart = λ same.
+          let two : t ≡ other = some_same t other (sym at ∙ (ap (slice_get s.slots) (sym same) ∙ held.is)) in
+          let class : mine.class ≡ theirs.class = some_same mine.class theirs.class (sym mine.at ∙ (ap (λ (d : Draft). slice_get s.classes d.owner) two ∙ theirs.at)) in
+          let to_mine : bytes_eq to mine.class.name ≡ true = subst (λ x. bytes_eq to x ≡ true) (to_is ∙ ap (λ (k : Class). k.name) (sym class)) (itself to) in
+          let back_mine : bytes_eq inverse t.name ≡ true = subst (λ x. bytes_eq inverse x ≡ true) (name_is ∙ ap (λ (d : Draft). d.name) (sym two)) (itself inverse) in
+          itself_refused (bytes_eq to mine.class.name) (bytes_eq inverse t.name) to_mine back_mine parts.0;
+    }
+
+-- the inverse of each link that the walk has let through leads back
+pub walk_pairs : (sets : List LabelSet) (all : List ClassDeclaration) (s : SchemaDraft)
+    → try_fold (class_after sets all) (record { classes = []; slots = [] }) all ≡ Ok s → ArePaired s
+walk_pairs sets all s made n d to many inverse at is = pair_of all s n d to many inverse (walk_leaves sets all s made) at is

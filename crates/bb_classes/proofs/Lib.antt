@@ -1,0 +1,12 @@
+pub mod NamingLemmas
+pub mod ClimbLemmas
+pub mod SameLemmas
+pub mod SetLemmas
+pub mod ClassesFit
+pub mod FitLemmas
+pub mod IndexLemmas
+pub mod CouplingLemmas
+pub mod FocusLemmas
+pub mod OwnerLemmas
+pub mod SlotNameLemmas
+pub mod WalkLemmas

@@ -1,0 +1,30 @@
+-- the numbers of faults
+pub mod Faults
+-- the kinds of values
+pub mod Kinds
+-- which values a slot of a kind can hold
+pub mod Values
+-- parents, which class descends from which, and the slots of a class
+pub mod Inheritance
+-- the built-in class and its slots
+pub mod Focus
+-- lists of names
+pub mod Naming
+-- the label sets that entries mean
+pub mod LabelReading
+-- classes that are being read
+pub mod Drafts
+-- the ordinary slots that entries mean
+pub mod SlotReading
+-- the link slots that entries mean
+pub mod LinkReading
+-- the classes that entries mean
+pub mod ClassReading
+-- links with numbers in place of names
+pub mod Resolution
+-- what a walk over label sets and classes leaves
+pub mod Walk
+-- what holds of it
+pub mod Fits
+-- relations that only invariants and proofs speak of
+pub mod proving

@@ -1,0 +1,3 @@
+-- Relations that only the invariants of models and the proofs speak of.
+-- what an index of entries by name keeps
+pub mod Entries

@@ -1,0 +1,19 @@
+//! The classes of a schema: its label sets, classes with their inheritance, the values of slots, and slots as their
+//! entries declare them. `Walked::of` reads all that, and `bb_schema` stands on it.
+#![tactic(auto)]
+
+mod class;
+mod draft;
+mod fault;
+mod kind;
+mod label_set;
+mod read;
+mod value;
+
+pub use class::{Class, ClassId, descends_from_any, descends_in, parent};
+pub use draft::{Draft, DraftContent, SLOT_LIMIT, SchemaDraft};
+pub use fault::SchemaFault;
+pub use kind::{Kind, Link, SlotId};
+pub use label_set::{LabelId, LabelSet, LabelSetId, Labels};
+pub use read::{CLASS_LIMIT, Walked, resolve_link};
+pub use value::{TEXT_LIMIT, Value};
