@@ -1,6 +1,7 @@
 //! Names, each found by its text. Whoever reads names one after another and looks them up keeps them in it.
 
-ghost use Rattle.std.specs.Prelude.{◌≡◌, [], ◌∷◌, ◌++◌, length, position, slice_get, option_map, IsTrue, OnErr, IfOk, not, if◌then◌else◌};
+ghost use Rattle.std.specs.Prelude.{◌≡◌, [], ◌∷◌, ◌++◌, length, position, slice_get, option_map, IsTrue, OnErr, IfOk};
+ghost use Rattle.std.specs.Prelude.{not, if◌then◌else◌};
 ghost use Rattle.std.specs.List.{list_any};
 ghost use Rattle.std.specs.Str.{bytes_eq};
 

@@ -1,6 +1,7 @@
 //! A list of named items, each found by its name. A schema keeps its classes, label sets and spaces in one.
 
-ghost use Rattle.std.specs.Prelude.{◌≡◌, ◌<◌, [], ◌∷◌, ◌++◌, false, length, map, position, slice_get, option_map, OnOk, OnErr};
+ghost use Rattle.std.specs.Prelude.{◌≡◌, ◌<◌, [], ◌∷◌, ◌++◌, false, length, map, position, slice_get, option_map, OnOk};
+ghost use Rattle.std.specs.Prelude.{OnErr};
 ghost use Rattle.std.specs.List.{list_any};
 ghost use Rattle.std.specs.Str.{bytes_eq};
 ghost use Rattle.bb_basis.specs.declared.table.TheConstants.{ITEM_LIMIT};

@@ -3,7 +3,8 @@ use Rattle.std.specs.Prelude.{ℕ}
 use Rattle.bb_units.specs.declared.fault.CreateFault.{CreateFault}
 use Rattle.bb_units.specs.declared.fault.CreateFault.TheVariants.{Full as NoMoreUnits, Memory as NoMemory}
 use Rattle.bb_board.specs.declared.units_fault.UnitsFault.{UnitsFault}
-use Rattle.bb_board.specs.declared.units_fault.UnitsFault.TheVariants.{Json, Shape, Unknown, Twice, Kind, LinkClass, Space, Full, Memory}
+use Rattle.bb_board.specs.declared.units_fault.UnitsFault.TheVariants.{Json, Shape, Unknown, Twice, Kind, LinkClass}
+use Rattle.bb_board.specs.declared.units_fault.UnitsFault.TheVariants.{Space, Full, Memory}
 
 abbrev pub fault_number : UnitsFault → ℕ
 fault_number Json = 1

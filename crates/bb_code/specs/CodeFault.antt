@@ -1,7 +1,8 @@
 -- The faults of bytes that are no code.
 use Rattle.std.specs.Prelude.{ℕ}
 use Rattle.bb_code.specs.declared.fault.CodeFault.{CodeFault}
-use Rattle.bb_code.specs.declared.fault.CodeFault.TheVariants.{Magic, Version, Short, Opcode, Operand, Limit, Trailing, Memory}
+use Rattle.bb_code.specs.declared.fault.CodeFault.TheVariants.{Magic, Version, Short, Opcode, Operand, Limit, Trailing}
+use Rattle.bb_code.specs.declared.fault.CodeFault.TheVariants.{Memory}
 
 -- the number by which refusals name each fault
 abbrev pub fault_number : CodeFault → ℕ

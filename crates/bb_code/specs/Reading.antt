@@ -1,5 +1,6 @@
 -- Reading a code from the front, with the first fault that is met.
-use Rattle.std.specs.Prelude.{ℕ, zero, suc, List, [], ◌∷◌, length, take, drop, Result, Ok, Err, nat_lt, ◌==◌, if◌then◌else◌}
+use Rattle.std.specs.Prelude.{ℕ, zero, suc, List, [], ◌∷◌, length, take, drop, Result, Ok, Err, nat_lt, ◌==◌}
+use Rattle.std.specs.Prelude.{if◌then◌else◌}
 use Rattle.std.specs.Int.{w16, from_be_bytes}
 use Rattle.std.specs.Str.{is_utf8}
 use Rattle.bb_basis.specs.Results.{◌>>=◌}
@@ -38,7 +39,8 @@ unfoldable pub count_at : ℕ → ℕ → List ℕ → Result (ℕ × List ℕ) 
 count_at low high bytes = number_at bytes >>= within low high
 
 -- as many fields as the number says, one after another
-unfoldable pub repeated : {A : Type 0} → (List ℕ → Result (A × List ℕ) CodeFault) → ℕ → List ℕ → Result (List A × List ℕ) CodeFault
+unfoldable pub repeated : {A : Type 0} → (List ℕ → Result (A × List ℕ) CodeFault) → ℕ → List ℕ
+    → Result (List A × List ℕ) CodeFault
 repeated field zero bytes = Ok ([], bytes)
 repeated field (suc n) bytes = do
   first ← field bytes
@@ -46,7 +48,8 @@ repeated field (suc n) bytes = do
   Ok (first.0 ∷ others.0, others.1)
 
 -- a count from low to high, and as many fields
-unfoldable pub list_at : {A : Type 0} → ℕ → ℕ → (List ℕ → Result (A × List ℕ) CodeFault) → List ℕ → Result (List A × List ℕ) CodeFault
+unfoldable pub list_at : {A : Type 0} → ℕ → ℕ → (List ℕ → Result (A × List ℕ) CodeFault) → List ℕ
+    → Result (List A × List ℕ) CodeFault
 list_at low high field bytes = do
   n ← count_at low high bytes
   repeated field n.0 n.1

@@ -35,4 +35,5 @@ nothing = two_bytes 0
 
 -- the bytes of a code: locals, texts, no queries, no frames, no loops, ops
 abbrev pub spelling : Code → List ℕ
-spelling c = head ++ (c.locals ∷ []) ++ listed text_bytes c.texts ++ nothing ++ nothing ++ nothing ++ listed op_bytes c.ops
+spelling c =
+    head ++ (c.locals ∷ []) ++ listed text_bytes c.texts ++ nothing ++ nothing ++ nothing ++ listed op_bytes c.ops

@@ -6,7 +6,9 @@ ghost use Rattle.std.specs.Prelude.{◌≡◌, Ok, IfOk};
 ghost use Rattle.bb_basis.specs.Results.{Gives};
 ghost use Rattle.bb_code.specs.Code as code;
 ghost use Rattle.bb_code.specs.Spelling.{spelling};
-ghost use Rattle.bb_code.specs.Reading.{map_ok, byte_at, number_at, count_at, text_at, push_text_at, say_at, operand_at, op_at, list_at, expected_at, head_at, locals_at, nothing_at, code_of};
+ghost use Rattle.bb_code.specs.Reading.{map_ok, byte_at, number_at, count_at, text_at, push_text_at, say_at};
+ghost use Rattle.bb_code.specs.Reading.{operand_at, op_at, list_at, expected_at, head_at, locals_at, nothing_at};
+ghost use Rattle.bb_code.specs.Reading.{code_of};
 
 use crate::code::{Code, LOCAL_LIMIT, OP_LIMIT, SAID_LIMIT, TEXT_LIMIT};
 use crate::fault::CodeFault;

@@ -1,5 +1,6 @@
 -- The sources that a bundle spells, or its first fault: one line after another, from the top.
-use Rattle.std.specs.Prelude.{ℕ, ◌+◌, ◌==◌, List, [], ◌∷◌, ◌++◌, length, Option, Some, None, Result, Ok, Err, if◌then◌else◌}
+use Rattle.std.specs.Prelude.{ℕ, ◌+◌, ◌==◌, List, [], ◌∷◌, ◌++◌, length, Option, Some, None, Result, Ok, Err}
+use Rattle.std.specs.Prelude.{if◌then◌else◌}
 use Rattle.std.specs.Str.Lines.{lines}
 use Rattle.hex.specs.Hex.{decode_of}
 use Rattle.bb_basis.specs.Results.{◌>>=◌, ok_or, map_err, try_fold}
@@ -47,7 +48,11 @@ after_header p ws = do
 -- after a further line of a source: one more clause, if it is one, or the code
 unfoldable pub after_clause : Parser → SourceHeader → List (List ℕ) → Option ClauseText → Result Parser BundleFault
 after_clause p header ws (Some clause) =
-    Ok (record { lines = p.lines; sources = p.sources; partial = Some (record header { triggers = header.triggers ++ clause ∷ [] }) })
+    Ok (record {
+      lines = p.lines;
+      sources = p.sources;
+      partial = Some (record header { triggers = header.triggers ++ clause ∷ [] });
+    })
 after_clause p header ws None = do
   source ← source_of p.lines header ws
   Ok (record { lines = p.lines; sources = p.sources ++ source ∷ []; partial = p.partial })

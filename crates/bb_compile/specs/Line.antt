@@ -1,5 +1,6 @@
 -- What a line of a bundle says by itself.
-use Rattle.std.specs.Prelude.{ℕ, ◌&&◌, ◌==◌, nat_le, List, [], ◌∷◌, length, Option, Some, None, option_map, codes, if◌then◌else◌}
+use Rattle.std.specs.Prelude.{ℕ, ◌&&◌, ◌==◌, nat_le, List, [], ◌∷◌, length, Option, Some, None, option_map, codes}
+use Rattle.std.specs.Prelude.{if◌then◌else◌}
 use Rattle.std.specs.List.{slice_split}
 use Rattle.std.specs.Str.{bytes_eq}
 use Rattle.bb_basis.specs.Names.{is_name}
@@ -22,10 +23,12 @@ header_of _ = None
 -- `when create CLASS`
 unfoldable pub trigger_of : List (List ℕ) → Option ClauseText
 trigger_of (keyword ∷ kind ∷ class ∷ []) =
-    if bytes_eq keyword (codes "when") && bytes_eq kind (codes "create") && is_name class then Some (Create class) else None
+    if bytes_eq keyword (codes "when") && bytes_eq kind (codes "create") && is_name class
+    then Some (Create class) else None
 trigger_of _ = None
 
 -- `do HEX`: the digits, of which there is one or more
 unfoldable pub digits_of : List (List ℕ) → Option (List ℕ)
-digits_of (keyword ∷ digits ∷ []) = if bytes_eq keyword (codes "do") && nat_le 1 (length digits) then Some digits else None
+digits_of (keyword ∷ digits ∷ []) =
+    if bytes_eq keyword (codes "do") && nat_le 1 (length digits) then Some digits else None
 digits_of _ = None

@@ -1,5 +1,6 @@
 -- The rate that a word writes.
-use Rattle.std.specs.Prelude.{ℕ, ◌+◌, ◌-◌, ◌*◌, ◌^◌, ℤ, pos, neg_ℤ, ◌&&◌, ◌==◌, nat_le, List, [], ◌∷◌, length, Option, Some, None, option_map, if◌then◌else◌}
+use Rattle.std.specs.Prelude.{ℕ, ◌+◌, ◌-◌, ◌*◌, ◌^◌, ℤ, pos, neg_ℤ, ◌&&◌, ◌==◌, nat_le, List, [], ◌∷◌, length, Option}
+use Rattle.std.specs.Prelude.{Some, None, option_map, if◌then◌else◌}
 use Rattle.std.specs.List.{list_all}
 use Rattle.bb_basis.specs.Names.{is_digit}
 
@@ -10,7 +11,9 @@ with_digits n (d ∷ ds) = with_digits (n * 10 + (d - 48)) ds
 
 -- the number of one digit or more, if it is within the limit
 unfoldable pub number_up_to : ℕ → List ℕ → Option ℕ
-number_up_to limit ds = if list_all is_digit ds && nat_le 1 (length ds) && nat_le (with_digits 0 ds) limit then Some (with_digits 0 ds) else None
+number_up_to limit ds =
+    if list_all is_digit ds && nat_le 1 (length ds) && nat_le (with_digits 0 ds) limit
+    then Some (with_digits 0 ds) else None
 
 -- a rate: digits, or `-` and digits, of a number that 64 bits hold
 unfoldable pub rate_of : List ℕ → Option ℤ

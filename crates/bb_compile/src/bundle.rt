@@ -8,9 +8,11 @@ ghost use Rattle.std.specs.Prelude.{◌≡◌, ◌+◌, ◌<◌, ◌^◌, map, M
 ghost use Rattle.bb_basis.specs.Results.{Gives, map_err};
 ghost use Rattle.hex.specs.Hex.{decode_of};
 ghost use Rattle.bb_code.specs.Reading.{code_of};
-ghost use Rattle.bb_compile.specs.declared.fault.BundleFault.TheVariants.{Hex as NoHex, Code as NoCode, Memory as OutOfMemory};
+ghost use Rattle.bb_compile.specs.declared.fault.BundleFault.TheVariants.{Hex as NoHex, Code as NoCode};
+ghost use Rattle.bb_compile.specs.declared.fault.BundleFault.TheVariants.{Memory as OutOfMemory};
 ghost use Rattle.bb_compile.specs.Line.{trigger_of};
-ghost use Rattle.bb_compile.specs.Bundle.{new_parser, body_of, source_of, after_header, after_clause, after_line, at_end, sources_of};
+ghost use Rattle.bb_compile.specs.Bundle.{new_parser, body_of, source_of, after_header, after_clause, after_line};
+ghost use Rattle.bb_compile.specs.Bundle.{at_end, sources_of};
 
 use crate::fault::BundleFault;
 use crate::line::{read_digits, read_header, read_trigger, split_words};

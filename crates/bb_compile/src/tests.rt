@@ -39,7 +39,8 @@ fn one_source(rt: HostRuntime) -> Result<(), Fail> {
 fn lines_of_all_kinds(rt: HostRuntime) -> Result<(), Fail> {
     // Empty lines, ends of two bytes, two clauses, and no end of the last line.
     let text = format!(in rt.alloc();
-        "\n\r\nsource a note 007\r\n\nwhen create note\nwhen create b_2\r\n\ndo {HELLO}\nsource c note -0\nwhen create note\ndo {HELLO}"
+        "\n\r\nsource a note 007\r\n\nwhen create note\nwhen create b_2\r\n\ndo {HELLO}\n\
+        source c note -0\nwhen create note\ndo {HELLO}"
     )?;
     let sources = unbundle(rt.alloc(), &text)?;
     let mut parts = Vec::new(rt.alloc());

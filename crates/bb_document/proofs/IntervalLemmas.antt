@@ -1,5 +1,5 @@
 -- What has the form of a document declares intervals in order.
-use Rattle.std.proofs.Common.{◌≡◌, ℕ, ℤ, pos, Bool, true, false, cond, List, [], ◌∷◌, Option, Some, None, Result, Ok, Err, refl, ap, sym, subst}
+use Rattle.std.proofs.Common.{◌≡◌, ℕ, ℤ, pos, Bool, true, false, List, [], ◌∷◌, Option, Some, None, Result, Ok, Err, refl, subst}
 use Rattle.std.specs.Prelude.{All, IfOk, codes, int_le, option_map, option_and_then, if◌then◌else◌}
 use Rattle.std.specs.Option.{option_map_or}
 use Rattle.std.specs.Str.{bytes_eq}
@@ -12,7 +12,7 @@ use Rattle.bb_document.specs.declared.fault.DocumentFault.{DocumentFault}
 use Rattle.bb_document.specs.declared.fault.DocumentFault.TheVariants.{Shape, Memory}
 use Rattle.bb_document.specs.Shapes.{is_object_with, as_whole, as_list, text_at, list_at, optional_text_at}
 use Rattle.bb_document.specs.declared.document.Document.{Document}
-use Rattle.bb_document.specs.Document.{declarations, Declarations, SlotDeclaration, LinkDeclaration, ClassDeclaration, DefaultDeclaration, int_default, text_default, bool_default, label_default, interval_default}
+use Rattle.bb_document.specs.Document.{declarations, Declarations, SlotDeclaration, ClassDeclaration, DefaultDeclaration, int_default, text_default, bool_default, label_default, interval_default}
 use Rattle.bb_document.specs.Form.{ends_of, as_interval, plain_default_of, label_default_of, default_of, slot_of, link_of, label_set_of, class_of, space_of, declarations_of}
 use Rattle.bb_document.specs.Intervals.{IsOrdered, HasOrderedDefaults, HasOrderedIntervals}
 

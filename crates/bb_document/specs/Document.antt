@@ -74,16 +74,34 @@ abbrev pub slot_declaration : SlotEntry → SlotDeclaration
 slot_declaration e = record { name = string_bytes e.name; default = default_declaration e.default }
 
 abbrev pub link_declaration : LinkEntry → LinkDeclaration
-link_declaration e = record { name = string_bytes e.name; to = string_bytes e.to; many = e.many; inverse = string_bytes e.inverse }
+link_declaration e = record {
+  name = string_bytes e.name;
+  to = string_bytes e.to;
+  many = e.many;
+  inverse = string_bytes e.inverse;
+}
 
 abbrev pub class_declaration : ClassEntry → ClassDeclaration
-class_declaration e = record { name = string_bytes e.name; parent = option_map string_bytes e.parent; slots = map slot_declaration e.slots.items; links = map link_declaration e.links.items }
+class_declaration e = record {
+  name = string_bytes e.name;
+  parent = option_map string_bytes e.parent;
+  slots = map slot_declaration e.slots.items;
+  links = map link_declaration e.links.items;
+}
 
 abbrev pub dim_declaration : DimEntry → DimDeclaration
 dim_declaration e = record { name = string_bytes e.name; of = option_map string_bytes e.of }
 
 abbrev pub space_declaration : SpaceEntry → SpaceDeclaration
-space_declaration e = record { name = string_bytes e.name; classes = map string_bytes e.classes.items; dims = map dim_declaration e.dims.items }
+space_declaration e = record {
+  name = string_bytes e.name;
+  classes = map string_bytes e.classes.items;
+  dims = map dim_declaration e.dims.items;
+}
 
 abbrev pub declarations : Document → Declarations
-declarations d = record { label_sets = map label_set_declaration d.label_sets.items; classes = map class_declaration d.classes.items; spaces = map space_declaration d.spaces.items }
+declarations d = record {
+  label_sets = map label_set_declaration d.label_sets.items;
+  classes = map class_declaration d.classes.items;
+  spaces = map space_declaration d.spaces.items;
+}

@@ -1,5 +1,6 @@
 -- The form of a schema's document: which JSON it is and what it declares, before any name in it is looked at.
-use Rattle.std.specs.Prelude.{ℕ, ℤ, pos, Bool, false, List, [], ◌∷◌, Option, Some, None, option_map, option_and_then, Result, Ok, Err, codes, int_le, if◌then◌else◌}
+use Rattle.std.specs.Prelude.{ℕ, ℤ, pos, Bool, false, List, [], ◌∷◌, Option, Some, None, option_map, option_and_then}
+use Rattle.std.specs.Prelude.{Result, Ok, Err, codes, int_le, if◌then◌else◌}
 use Rattle.std.specs.Option.{option_map_or}
 use Rattle.std.specs.Str.{bytes_eq}
 use Rattle.serde_json.specs.Data.{Data}
@@ -8,8 +9,11 @@ use Rattle.serde_json.specs.Read.{read}
 use Rattle.bb_document.specs.declared.fault.DocumentFault.{DocumentFault}
 use Rattle.bb_document.specs.declared.fault.DocumentFault.TheVariants.{Json, Shape}
 use Rattle.bb_basis.specs.Results.{◌>>=◌, ok_or, try_map}
-use Rattle.bb_document.specs.Shapes.{is_object_with, as_whole, as_list, text_at, bool_at, required_list_at, list_at, optional_text_at}
-use Rattle.bb_document.specs.Document.{Declarations, LabelSetDeclaration, ClassDeclaration, SlotDeclaration, DefaultDeclaration, int_default, text_default, bool_default, label_default, interval_default, LinkDeclaration, SpaceDeclaration, DimDeclaration}
+use Rattle.bb_document.specs.Shapes.{is_object_with, as_whole, as_list, text_at, bool_at, required_list_at, list_at}
+use Rattle.bb_document.specs.Shapes.{optional_text_at}
+use Rattle.bb_document.specs.Document.{Declarations, LabelSetDeclaration, ClassDeclaration, SlotDeclaration}
+use Rattle.bb_document.specs.Document.{DefaultDeclaration, int_default, text_default, bool_default, label_default}
+use Rattle.bb_document.specs.Document.{interval_default, LinkDeclaration, SpaceDeclaration, DimDeclaration}
 
 -- a text of a list
 unfoldable pub text_of : Data → Result (List ℕ) DocumentFault
@@ -32,7 +36,9 @@ label_set_of d = if is_object_with (codes "name" ∷ codes "values" ∷ []) d th
 abbrev pub ends_of : List Data → Option (ℤ × ℤ)
 ends_of [] = None
 ends_of (a ∷ []) = None
-ends_of (a ∷ b ∷ []) = option_and_then (λ lo. option_and_then (λ hi. if int_le lo hi then Some (lo, hi) else None) (as_whole b)) (as_whole a)
+ends_of (a ∷ b ∷ []) =
+    option_and_then (λ lo. option_and_then (λ hi. if int_le lo hi then Some (lo, hi) else None) (as_whole b))
+    (as_whole a)
 ends_of (a ∷ b ∷ c ∷ ds) = None
 
 abbrev pub as_interval : Data → Option (ℤ × ℤ)
@@ -41,15 +47,21 @@ as_interval d = option_and_then ends_of (as_list d)
 -- the default of a slot of a kind without labels, as given, or the kind's own
 unfoldable pub plain_default_of : List ℕ → Option Data → Result DefaultDeclaration DocumentFault
 plain_default_of kind given =
-    if bytes_eq kind (codes "int") then ok_or (option_map int_default (option_map_or as_whole given (Some (pos 0)))) Shape
-    else if bytes_eq kind (codes "text") then ok_or (option_map text_default (option_map_or as_str given (Some []))) Shape
-    else if bytes_eq kind (codes "bool") then ok_or (option_map bool_default (option_map_or as_bool given (Some false))) Shape
-    else if bytes_eq kind (codes "interval") then ok_or (option_map (λ z. interval_default z.0 z.1) (option_map_or as_interval given (Some (pos 0, pos 0)))) Shape
+    let number = option_map_or as_whole given (Some (pos 0)) in
+    let text = option_map_or as_str given (Some []) in
+    let truth = option_map_or as_bool given (Some false) in
+    let interval = option_map_or as_interval given (Some (pos 0, pos 0)) in
+    if bytes_eq kind (codes "int") then ok_or (option_map int_default number) Shape
+    else if bytes_eq kind (codes "text") then ok_or (option_map text_default text) Shape
+    else if bytes_eq kind (codes "bool") then ok_or (option_map bool_default truth) Shape
+    else if bytes_eq kind (codes "interval") then ok_or (option_map (λ z. interval_default z.0 z.1) interval) Shape
     else Err Shape
 
 -- the default of a label slot: none given is the first of its set
 unfoldable pub label_default_of : List ℕ → Option Data → Result DefaultDeclaration DocumentFault
-label_default_of set given = ok_or (option_map (label_default set) (option_map_or (λ d. option_map (λ t. Some t) (as_str d)) given (Some None))) Shape
+label_default_of set given =
+    let default = option_map_or (λ d. option_map (λ t. Some t) (as_str d)) given (Some None) in
+    ok_or (option_map (label_default set) default) Shape
 
 -- the default of a slot: it is of a label set where its kind is label, and of none where it is another
 unfoldable pub default_of : List ℕ → Option (List ℕ) → Option Data → Result DefaultDeclaration DocumentFault

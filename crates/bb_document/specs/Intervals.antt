@@ -1,6 +1,7 @@
 -- Intervals in order, which the form of a document asks for.
 use Rattle.std.specs.Prelude.{IsTrue, All, int_le}
-use Rattle.bb_document.specs.Document.{Declarations, ClassDeclaration, DefaultDeclaration, int_default, text_default, bool_default, label_default, interval_default}
+use Rattle.bb_document.specs.Document.{Declarations, ClassDeclaration, DefaultDeclaration, int_default, text_default}
+use Rattle.bb_document.specs.Document.{bool_default, label_default, interval_default}
 
 -- an interval's first number is no greater than its second
 abbrev pub IsOrdered : DefaultDeclaration → Type 0

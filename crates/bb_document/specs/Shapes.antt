@@ -16,7 +16,8 @@ keys_of (member k d ms) = k ∷ keys_of ms
 
 -- an object each of whose keys is one of these
 abbrev pub is_object_with : List (List ℕ) → Data → Bool
-is_object_with keys d = option_map_or (λ ms. list_all (λ k. list_any (bytes_eq k) keys) (keys_of ms)) (as_object d) false
+is_object_with keys d =
+    option_map_or (λ ms. list_all (λ k. list_any (bytes_eq k) keys) (keys_of ms)) (as_object d) false
 
 -- a number that is an i64
 abbrev pub as_whole : Data → Option ℤ

@@ -1,12 +1,16 @@
-//! The entries of the lists of a document: one trait for each kind of entry, and the one loop that reads a list.
+//! The entries of the lists of a document: one trait for each kind of entry, the one loop that reads a list, and the
+//! texts that entries keep.
 
 ghost use Rattle.std.specs.Prelude.{◌≡◌, List, Result, map};
-ghost use Rattle.bb_document.specs.declared.fault.DocumentFault.TheVariants.{Memory as OutOfMemory};
+ghost use Rattle.std.specs.String.{string_bytes};
+ghost use Rattle.bb_document.specs.declared.fault.DocumentFault.TheVariants.{Memory as OutOfMemory, Shape};
 ghost use Rattle.serde_json.specs.Data.{Data};
 ghost use Rattle.serde_json.specs.View.{view};
-ghost use Rattle.bb_basis.specs.Results.{Gives, try_map};
+ghost use Rattle.bb_basis.specs.Results.{Gives, ok_or, try_map};
+ghost use Rattle.bb_document.specs.Shapes.{text_at};
 
 use crate::fault::DocumentFault;
+use crate::shape::text_at;
 use serde_json::Value;
 use std::alloc::Global;
 
@@ -37,4 +41,12 @@ where
         entries.push(E::of(alloc, value)?)?;
     }
     Ok(entries)
+}
+
+/// The text under a key of an object, as an entry keeps it.
+pub(crate) fn string_at(alloc: Global, value: &Value, key: &str) -> Result<String, DocumentFault>
+    ensures { Gives OutOfMemory string_bytes result (ok_or (text_at key.now (view value.now)) Shape) }
+{
+    let text = text_at(value, key).ok_or(DocumentFault::Shape)?;
+    Ok(String::from_str(alloc, text)?)
 }

@@ -10,12 +10,13 @@ ghost use Rattle.bb_basis.specs.Results.{Gives};
 ghost use Rattle.bb_document.specs.Shapes.{as_whole};
 ghost use Rattle.bb_document.specs.Document.{default_declaration, declarations};
 ghost use Rattle.bb_document.specs.Intervals.{HasOrderedIntervals};
-ghost use Rattle.bb_document.specs.Form.{ends_of, as_interval, plain_default_of, label_default_of, default_of, is_dim_kind, declarations_of, document_of};
+ghost use Rattle.bb_document.specs.Form.{ends_of, as_interval, plain_default_of, label_default_of, default_of};
+ghost use Rattle.bb_document.specs.Form.{is_dim_kind, declarations_of, document_of};
 
 use crate::document::{
     ClassEntry, DefaultEntry, DimEntry, Document, LabelSetEntry, LinkEntry, SlotEntry, SpaceEntry,
 };
-use crate::entry::{Entry, entries};
+use crate::entry::{Entry, entries, string_at};
 use crate::fault::DocumentFault;
 use crate::json::json;
 use crate::shape::{
@@ -90,16 +91,13 @@ impl Entry for LabelSetEntry {
         if !is_object_with(value, &["name", "values"]) {
             return Err(DocumentFault::Shape);
         }
-        let name = text_at(value, "name").ok_or(DocumentFault::Shape)?;
+        let name = string_at(alloc, value, "name")?;
         let values = required_list_at(value, "values").ok_or(DocumentFault::Shape)?;
         let values: Vec<String> = entries(alloc, values)?;
         if values.is_empty() {
             return Err(DocumentFault::Shape);
         }
-        Ok(LabelSetEntry {
-            name: String::from_str(alloc, name)?,
-            values,
-        })
+        Ok(LabelSetEntry { name, values })
     }
 }
 
@@ -118,14 +116,14 @@ impl Entry for ClassEntry {
         if !is_object_with(value, &["name", "parent", "slots", "links"]) {
             return Err(DocumentFault::Shape);
         }
-        let name = text_at(value, "name").ok_or(DocumentFault::Shape)?;
+        let name = string_at(alloc, value, "name")?;
         let parent = optional_text_at(value, "parent").ok_or(DocumentFault::Shape)?;
         let slots = list_at(value, "slots").ok_or(DocumentFault::Shape)?;
         let slots = entries(alloc, slots)?;
         let links = list_at(value, "links").ok_or(DocumentFault::Shape)?;
         let links = entries(alloc, links)?;
         Ok(ClassEntry {
-            name: String::from_str(alloc, name)?,
+            name,
             parent: optional_string(alloc, parent)?,
             slots,
             links,
@@ -148,14 +146,11 @@ impl Entry for SlotEntry {
         if !is_object_with(value, &["name", "kind", "of", "default"]) {
             return Err(DocumentFault::Shape);
         }
-        let name = text_at(value, "name").ok_or(DocumentFault::Shape)?;
+        let name = string_at(alloc, value, "name")?;
         let kind = text_at(value, "kind").ok_or(DocumentFault::Shape)?;
         let set = optional_text_at(value, "of").ok_or(DocumentFault::Shape)?;
         let default = default(alloc, kind, set, value.get("default"))?;
-        Ok(SlotEntry {
-            name: String::from_str(alloc, name)?,
-            default,
-        })
+        Ok(SlotEntry { name, default })
     }
 }
 
@@ -174,15 +169,15 @@ impl Entry for LinkEntry {
         if !is_object_with(value, &["name", "to", "many", "inverse"]) {
             return Err(DocumentFault::Shape);
         }
-        let name = text_at(value, "name").ok_or(DocumentFault::Shape)?;
-        let to = text_at(value, "to").ok_or(DocumentFault::Shape)?;
+        let name = string_at(alloc, value, "name")?;
+        let to = string_at(alloc, value, "to")?;
         let many = bool_at(value, "many").ok_or(DocumentFault::Shape)?;
-        let inverse = text_at(value, "inverse").ok_or(DocumentFault::Shape)?;
+        let inverse = string_at(alloc, value, "inverse")?;
         Ok(LinkEntry {
-            name: String::from_str(alloc, name)?,
-            to: String::from_str(alloc, to)?,
+            name,
+            to,
             many,
-            inverse: String::from_str(alloc, inverse)?,
+            inverse,
         })
     }
 }
@@ -202,13 +197,13 @@ impl Entry for SpaceEntry {
         if !is_object_with(value, &["name", "classes", "dims"]) {
             return Err(DocumentFault::Shape);
         }
-        let name = text_at(value, "name").ok_or(DocumentFault::Shape)?;
+        let name = string_at(alloc, value, "name")?;
         let classes = required_list_at(value, "classes").ok_or(DocumentFault::Shape)?;
         let classes = entries(alloc, classes)?;
         let dims = required_list_at(value, "dims").ok_or(DocumentFault::Shape)?;
         let dims = entries(alloc, dims)?;
         Ok(SpaceEntry {
-            name: String::from_str(alloc, name)?,
+            name,
             classes,
             dims,
         })
@@ -230,14 +225,14 @@ impl Entry for DimEntry {
         if !is_object_with(value, &["name", "kind", "of"]) {
             return Err(DocumentFault::Shape);
         }
-        let name = text_at(value, "name").ok_or(DocumentFault::Shape)?;
+        let name = string_at(alloc, value, "name")?;
         let kind = text_at(value, "kind").ok_or(DocumentFault::Shape)?;
         let set = optional_text_at(value, "of").ok_or(DocumentFault::Shape)?;
         if !is_dim_kind(kind, set) {
             return Err(DocumentFault::Shape);
         }
         Ok(DimEntry {
-            name: String::from_str(alloc, name)?,
+            name,
             of: optional_string(alloc, set)?,
         })
     }
@@ -336,7 +331,8 @@ fn int_or_zero(given: Option<&Value>) -> Option<i64>
 }
 
 fn text_or_empty<'a>(given: Option<&'a Value>) -> Option<&'a str>
-    ensures { option_map (λ t. t.now) result ≡ option_map_or as_str (option_map (λ v. view v.now) given.entry) (Some []) }
+    ensures { option_map (λ t. t.now) result
+        ≡ option_map_or as_str (option_map (λ v. view v.now) given.entry) (Some []) }
 {
     match given {
         None => Some(""),

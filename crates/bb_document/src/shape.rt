@@ -6,7 +6,8 @@ ghost use Rattle.std.specs.String.{string_bytes};
 ghost use Rattle.std.specs.BTreeMap.{keys as map_keys};
 ghost use Rattle.std.specs.Str.{bytes_eq};
 ghost use Rattle.serde_json.specs.View.{view};
-ghost use Rattle.bb_document.specs.Shapes.{is_object_with, as_list, text_at, bool_at, required_list_at, list_at, optional_text_at};
+ghost use Rattle.bb_document.specs.Shapes.{is_object_with, as_list, text_at, bool_at, required_list_at, list_at};
+ghost use Rattle.bb_document.specs.Shapes.{optional_text_at};
 
 use serde_json::{Map, Value};
 

@@ -39,13 +39,15 @@ SlotEntry { name: "k", default: Interval(3, 3) }
 "#;
 
 const LINKS: &str =
-    r#"[LinkEntry { name: "parts", to: "thing", many: true, inverse: "whole" }, LinkEntry { name: "whole", to: "nowhere", many: false, inverse: "parts" }]"#;
+    "[LinkEntry { name: \"parts\", to: \"thing\", many: true, inverse: \"whole\" }, \
+    LinkEntry { name: \"whole\", to: \"nowhere\", many: false, inverse: \"parts\" }]";
 
 const LABEL_SETS: &str =
     r#"[LabelSetEntry { name: "hue", values: ["red", "blue"] }, LabelSetEntry { name: "Not a name", values: ["on"] }]"#;
 
-const SPACES: &str =
-    r#"[SpaceEntry { name: "floor", classes: ["thing", "box"], dims: [DimEntry { name: "x", of: None }, DimEntry { name: "hue", of: Some("hue") }] }, SpaceEntry { name: "void", classes: [], dims: [] }]"#;
+const SPACES: &str = "[SpaceEntry { name: \"floor\", classes: [\"thing\", \"box\"], \
+    dims: [DimEntry { name: \"x\", of: None }, DimEntry { name: \"hue\", of: Some(\"hue\") }] }, \
+    SpaceEntry { name: \"void\", classes: [], dims: [] }]";
 
 const SECOND_CLASS: &str =
     r#"ClassEntry { name: "box", parent: Some("thing"), slots: [], links: [] }"#;

@@ -7,10 +7,10 @@ ghost use Rattle.bb_basis.specs.Results.{Gives};
 ghost use Rattle.bb_document.specs.UnitsDocument.{unit_declarations, unit_declarations_of, units_document_of};
 
 use crate::document::{UnitEntry, UnitsDocument};
-use crate::entry::{Entry, entries};
+use crate::entry::{Entry, entries, string_at};
 use crate::fault::DocumentFault;
 use crate::json::json;
-use crate::shape::{is_object_with, list_at, text_at};
+use crate::shape::{is_object_with, list_at};
 use serde_json::Value;
 use std::alloc::Global;
 
@@ -54,11 +54,8 @@ impl Entry for UnitEntry {
         if !is_object_with(value, &["name", "class"]) {
             return Err(DocumentFault::Shape);
         }
-        let name = text_at(value, "name").ok_or(DocumentFault::Shape)?;
-        let class = text_at(value, "class").ok_or(DocumentFault::Shape)?;
-        Ok(UnitEntry {
-            name: String::from_str(alloc, name)?,
-            class: String::from_str(alloc, class)?,
-        })
+        let name = string_at(alloc, value, "name")?;
+        let class = string_at(alloc, value, "class")?;
+        Ok(UnitEntry { name, class })
     }
 }

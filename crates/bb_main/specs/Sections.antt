@@ -1,5 +1,6 @@
 -- The sections of an input: the text between one header line and the next, byte for byte.
-use Rattle.std.specs.Prelude.{ℕ, Bool, ◌||◌, List, [], ◌∷◌, ◌++◌, Option, Some, None, Result, Ok, Err, codes, if◌then◌else◌}
+use Rattle.std.specs.Prelude.{ℕ, Bool, ◌||◌, List, [], ◌∷◌, ◌++◌, Option, Some, None, Result, Ok, Err, codes}
+use Rattle.std.specs.Prelude.{if◌then◌else◌}
 use Rattle.std.specs.Str.{bytes_eq}
 use Rattle.bb_main.specs.declared.sections.Header.{Header}
 use Rattle.bb_main.specs.declared.sections.Header.TheVariants.{Schema, Units, Sources, Bundle}

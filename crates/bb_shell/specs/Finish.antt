@@ -32,6 +32,8 @@ abbrev pub WritesFront : Shell → Stretch → Finish → (old new : Option (Lis
 WritesFront shell run finishes.Quiescence old new = ⊤
 WritesFront shell run finishes.Limit old new = ⊤
 WritesFront shell run finishes.Full old new = ⊤
-WritesFront shell run finishes.Memory old new = (count : ℕ) × Appends old new (trace_text shell (take count run.segments))
-WritesFront shell run finishes.Write old new = (count : ℕ) × Appends old new (take count (trace_text shell run.segments))
+WritesFront shell run finishes.Memory old new =
+    (count : ℕ) × Appends old new (trace_text shell (take count run.segments))
+WritesFront shell run finishes.Write old new =
+    (count : ℕ) × Appends old new (take count (trace_text shell run.segments))
 WritesFront shell run (finishes.Stuck reason) old new = ⊤

@@ -42,7 +42,8 @@ value_text s (values.Int z) = signed_decimal z
 value_text s (values.Text t) = compact_text (string t)
 value_text s (values.Bool b) = bool_text b
 value_text s (values.Label set label) = unwrap_or (name_of_label s set label) []
-value_text s (values.Interval low high) = codes "[" ++ signed_decimal low ++ codes "," ++ signed_decimal high ++ codes "]"
+value_text s (values.Interval low high) =
+    codes "[" ++ signed_decimal low ++ codes "," ++ signed_decimal high ++ codes "]"
 
 -- a unit is told by its number
 abbrev pub said_text : Schema → Said → List ℕ

@@ -138,11 +138,8 @@ fn add_trigger(
     ensures { OnOk result (string_bytes text.new
         ≡ string_bytes text.old ++ (trigger_text sources.now activation ++ 10 ∷ [])) }
 {
-    let name = source_name(sources, activation.source);
-    let number = activation.number;
-    let unit = activation.unit;
-    let base = activation.base;
-    writeln!(text, "trigger {number} {name} unit {unit} rating {base}")
+    write!(text, "trigger ")?;
+    add_rated(text, sources, activation, activation.base)
 }
 
 // Appends the number of an activation, its source, unit and rating, and ends the line.

@@ -53,7 +53,7 @@ fn accept_all(
 }
 
 fn accept(schema: &Schema, code: SourceCode) -> Result<AcceptedSource, InputFault>
-    ensures { Gives InputFault.Memory (λ s. s) result (accepted_source schema.now code) }
+    ensures { result ≡ accepted_source schema.now code }
 {
     let SourceCode { header, body } = code;
     let Some(class) = schema.class(header.class.as_str()) else {

@@ -101,8 +101,10 @@ fn first_fault(rt: HostRuntime) -> Result<(), Fail> {
 
 #[test]
 fn bad_inverse(rt: HostRuntime) -> Result<(), Fail> {
-    let document =
-        r#"{"classes":[{"name":"a","links":[{"name":"x","to":"b","many":true,"inverse":"y"}]},{"name":"b","links":[{"name":"y","to":"b","many":true,"inverse":"z"},{"name":"z","to":"b","many":true,"inverse":"y"}]}]}"#;
+    let document = r#"{"classes":[
+        {"name":"a","links":[{"name":"x","to":"b","many":true,"inverse":"y"}]},
+        {"name":"b","links":[{"name":"y","to":"b","many":true,"inverse":"z"},
+                             {"name":"z","to":"b","many":true,"inverse":"y"}]}]}"#;
     assert_eq!(rt; fault_number(rt.alloc(), document)?.as_str(), "6");
     Ok(())
 }

@@ -9,14 +9,16 @@ use std::test::Fail;
 const THING_SCHEMA: &str = r#"{"labels":[{"name":"hue","values":["red","green"]}],
     "classes":[
         {"name":"thing",
-         "slots":[{"name":"pos","kind":"interval"},{"name":"hue","kind":"label","of":"hue"},{"name":"score","kind":"int"}],
+         "slots":[{"name":"pos","kind":"interval"},{"name":"hue","kind":"label","of":"hue"},
+                  {"name":"score","kind":"int"}],
          "links":[{"name":"mate","to":"thing","many":false,"inverse":"mate_of"},
                   {"name":"mate_of","to":"thing","many":false,"inverse":"mate"},
                   {"name":"parts","to":"word","many":true,"inverse":"whole"}]},
         {"name":"word","parent":"thing","slots":[{"name":"count","kind":"int"}],
          "links":[{"name":"whole","to":"thing","many":false,"inverse":"parts"}]}],
     "spaces":[
-        {"name":"board","classes":["thing"],"dims":[{"name":"pos","kind":"ordered"},{"name":"hue","kind":"label","of":"hue"}]},
+        {"name":"board","classes":["thing"],
+         "dims":[{"name":"pos","kind":"ordered"},{"name":"hue","kind":"label","of":"hue"}]},
         {"name":"desk","classes":["word"],"dims":[]}]}"#;
 
 /// A word, and then a thing that is no word.

@@ -13,7 +13,8 @@ use Rattle.bb_units.specs.declared.units.TheConstants.{UNIT_LIMIT}
 abbrev pub HoldsDefaults : Layout → Type 0
 HoldsDefaults l = (slot : ℕ) (value : Value) → default_at l.defaults slot ≡ Some value → IsTrue (can_hold l slot value)
 
--- the class of a unit is there, and it has exactly the ordinary slots of its class, in class order, each with a value that it can hold
+-- the class of a unit is there, and it has exactly the ordinary slots of its class, in class order, each with a value
+-- that it can hold
 pub record IsUnitOf (l : Layout) (x : Unit) : Type 0 where
   pub class : x.class < length l.slots
   pub slots : keys_of x.values ≡ keys_of (blank l x.class)

@@ -33,7 +33,9 @@ default_at defaults slot = option_and_then (λ default. default) (slice_get defa
 
 -- whether the slot is an ordinary one that can hold the value; its kind is that of its default
 abbrev pub can_hold : Layout → ℕ → Value → Bool
-can_hold l slot value = option_map_or (λ default. value_fits l.label_counts (kind_of_value default) value) (default_at l.defaults slot) false
+can_hold l slot value =
+    option_map_or (λ default. value_fits l.label_counts (kind_of_value default) value)
+    (default_at l.defaults slot) false
 
 -- the ordinary ones of some slots, each with its default
 abbrev pub defaults_of : List (Option Value) → List ℕ → List (ℕ × Value)

@@ -1,5 +1,6 @@
 -- The units: which numbers are live, of which class, and with which values (GBBopen Reference Manual, unit instances).
-use Rattle.std.specs.Prelude.{ℕ, ◌+◌, ◌^◌, Bool, false, ◌==◌, ◌&&◌, ◌||◌, is_some, nat_le, List, Option, option_and_then, option_map, Result, Ok, Err, if◌then◌else◌}
+use Rattle.std.specs.Prelude.{ℕ, ◌+◌, ◌^◌, Bool, false, ◌==◌, ◌&&◌, ◌||◌, is_some, nat_le, List, Option}
+use Rattle.std.specs.Prelude.{option_and_then, option_map, Result, Ok, Err, if◌then◌else◌}
 use Rattle.std.specs.List.{list_any}
 use Rattle.std.specs.Option.{option_map_or}
 use Rattle.std.specs.Ordering.{nat_cmp}
@@ -45,7 +46,10 @@ value_of u n slot = value_among u.units n slot
 
 -- whether the unit is live, and the slot is among those of its class and an ordinary one
 abbrev pub has_slot : Units → ℕ → ℕ → Bool
-has_slot u n slot = option_map_or (λ x. list_any (λ s. s == slot) (slots_of u.layout x.class) && is_some (default_at u.layout.defaults slot)) (map.get u.units n) false
+has_slot u n slot =
+    option_map_or
+    (λ x. list_any (λ s. s == slot) (slots_of u.layout x.class) && is_some (default_at u.layout.defaults slot))
+    (map.get u.units n) false
 
 -- whether the unit is live and has the ordinary slot, and the slot can hold the value
 abbrev pub takes : Units → ℕ → ℕ → Value → Bool
@@ -65,7 +69,8 @@ new_unit l class = record { class = class; values = blank l class }
 
 -- with one more unit, under the next number
 abbrev pub after_create : Units → ℕ → Units
-after_create u class = record { next = u.next + 1; units = map.insert u.units u.next (new_unit u.layout class); layout = u.layout }
+after_create u class =
+    record { next = u.next + 1; units = map.insert u.units u.next (new_unit u.layout class); layout = u.layout }
 
 -- the same units without one
 abbrev pub after_delete : Units → ℕ → Units

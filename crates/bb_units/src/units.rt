@@ -5,7 +5,8 @@ ghost use Rattle.std.specs.FinMap as map;
 ghost use Rattle.bb_basis.specs.Results.{Gives};
 ghost use Rattle.bb_units.specs.Fits.{Fits};
 ghost use Rattle.bb_units.specs.Layout.{layout_of};
-ghost use Rattle.bb_units.specs.Units.{no_units, is_live, class_of, value_of, has_slot, takes, next_number, after_create, after_delete, after_set, units_of, value_among, with_value_of};
+ghost use Rattle.bb_units.specs.Units.{no_units, is_live, class_of, value_of, has_slot, takes, next_number};
+ghost use Rattle.bb_units.specs.Units.{after_create, after_delete, after_set, units_of, value_among, with_value_of};
 
 use crate::fault::CreateFault;
 use crate::layout::Layout;

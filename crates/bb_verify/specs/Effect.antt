@@ -1,5 +1,6 @@
 -- What an op does to a frame: the kinds of the locals and of the stack at a place.
-use Rattle.std.specs.Prelude.{ℕ, ◌-◌, nat_le, nat_lt, List, [], ◌∷◌, ◌++◌, length, take, Option, Some, None, Result, Ok, Err, if◌then◌else◌}
+use Rattle.std.specs.Prelude.{ℕ, ◌-◌, nat_le, nat_lt, List, [], ◌∷◌, ◌++◌, length, take, Option, Some, None, Result, Ok}
+use Rattle.std.specs.Prelude.{Err, if◌then◌else◌}
 use Rattle.bb_code.specs.declared.code.TheConstants.{STACK_LIMIT}
 use Rattle.bb_code.specs.declared.op.Op.{Op}
 use Rattle.bb_code.specs.declared.op.Op.TheVariants.{PushText, Say, Done}
@@ -21,6 +22,10 @@ pub record Frame : Type 0 where
 
 -- the frame after an op, None where the op ends the activation, or what is wrong
 abbrev pub effect : Op → Frame → Result (Option Frame) Flaw
-effect (PushText t) f = if nat_le STACK_LIMIT (length f.stack) then Err Depth else Ok (Some (record f { stack = f.stack ++ a_text ∷ [] }))
-effect (Say count) f = if nat_lt (length f.stack) count then Err Depth else Ok (Some (record f { stack = take (length f.stack - count) f.stack }))
+effect (PushText t) f =
+    if nat_le STACK_LIMIT (length f.stack) then Err Depth
+    else Ok (Some (record f { stack = f.stack ++ a_text ∷ [] }))
+effect (Say count) f =
+    if nat_lt (length f.stack) count then Err Depth
+    else Ok (Some (record f { stack = take (length f.stack - count) f.stack }))
 effect Done f = Ok None

@@ -1,7 +1,8 @@
 -- The numbers by which refusals name what is wrong with a code.
 use Rattle.std.specs.Prelude.{ℕ}
 use Rattle.bb_verify.specs.declared.flaw.Flaw.{Flaw}
-use Rattle.bb_verify.specs.declared.flaw.Flaw.TheVariants.{Table, Jump, Loop, Frame, Depth, Kind, Dead, Slot, LinkClass, Space, Query, Effect, End}
+use Rattle.bb_verify.specs.declared.flaw.Flaw.TheVariants.{Table, Jump, Loop, Frame, Depth, Kind, Dead, Slot, LinkClass}
+use Rattle.bb_verify.specs.declared.flaw.Flaw.TheVariants.{Space, Query, Effect, End}
 
 abbrev pub fault_number : Flaw → ℕ
 fault_number Table = 1

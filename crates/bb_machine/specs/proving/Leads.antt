@@ -18,11 +18,18 @@ values_of values = map value_of values
 
 -- a state of the machine; no op reads the locals yet
 abbrev pub state : List (Option Value) → ℕ → List Held → World → Machine
-state locals place stack world = record { place = place; locals = locals; stack = values_of stack; found = 0; world = world }
+state locals place stack world =
+    record { place = place; locals = locals; stack = values_of stack; found = 0; world = world }
 
 -- from any place, the op goes on with this stack and world, or ends and leaves the world
-abbrev pub Leads : (Machine → Next) → (stack : List Held) → (world : World) → (next_stack : List Held) → (next_world : World) → Option Ending → Type 0
-Leads op stack world next_stack next_world None = (locals : List (Option Value)) (place : ℕ) → op (state locals place stack world) ≡ goes_on (state locals (place + 1) next_stack next_world)
-Leads op stack world next_stack next_world (Some (endings.Answered answer)) = ((locals : List (Option Value)) (place : ℕ) → op (state locals place stack world) ≡ ends answer) × (next_world ≡ world)
+abbrev pub Leads : (Machine → Next) → (stack : List Held) → (world : World) → (next_stack : List Held)
+    → (next_world : World) → Option Ending → Type 0
+Leads op stack world next_stack next_world None = (locals : List (Option Value)) (place : ℕ)
+    → op (state locals place stack world) ≡ goes_on (state locals (place + 1) next_stack next_world)
+Leads op stack world next_stack next_world (Some (endings.Answered answer)) =
+    ((locals : List (Option Value)) (place : ℕ) → op (state locals place stack world) ≡ ends answer)
+    × (next_world ≡ world)
 Leads op stack world next_stack next_world (Some endings.Full) = ⊥
-Leads op stack world next_stack next_world (Some (endings.Stuck reason)) = ((locals : List (Option Value)) (place : ℕ) → op (state locals place stack world) ≡ stuck reason) × (next_world ≡ world)
+Leads op stack world next_stack next_world (Some (endings.Stuck reason)) =
+    ((locals : List (Option Value)) (place : ℕ) → op (state locals place stack world) ≡ stuck reason)
+    × (next_world ≡ world)

@@ -35,13 +35,24 @@ value_of_cases-cases (Label set label) = refl
 value_of_cases-cases (Interval low high) = refl
 
 abbrev value_code : Coded Value
-value_code = code_by Cases (coded⊎ coded_ℤ (coded⊎ (coded_list coded_ℕ) (coded⊎ coded_bool (coded⊎ (coded× coded_ℕ coded_ℕ) (coded× coded_ℤ coded_ℤ))))) cases value_of_cases value_of_cases-cases
+value_code =
+    code_by Cases (coded⊎ coded_ℤ (coded⊎ (coded_list coded_ℕ) (coded⊎ coded_bool (coded⊎ (coded× coded_ℕ coded_ℕ)
+    (coded× coded_ℤ coded_ℤ))))) cases value_of_cases value_of_cases-cases
 
 abbrev unit_code : Coded Unit
-unit_code = code_by (ℕ × List (ℕ × Value)) (coded× coded_ℕ (coded_list (coded× coded_ℕ value_code))) (λ x. (x.class, x.values)) (λ p. record { class = p.0; values = p.1 }) (λ _. refl)
+unit_code =
+    code_by (ℕ × List (ℕ × Value)) (coded× coded_ℕ (coded_list (coded× coded_ℕ value_code)))
+    (λ x. (x.class, x.values)) (λ p. record { class = p.0; values = p.1 }) (λ _. refl)
 
 abbrev layout_code : Coded Layout
-layout_code = code_by (List (List ℕ) × (List (Option Value) × List ℕ)) (coded× (coded_list (coded_list coded_ℕ)) (coded× (coded_list (coded_option value_code)) (coded_list coded_ℕ))) (λ l. (l.slots, (l.defaults, l.label_counts))) (λ p. record { slots = p.0; defaults = p.1.0; label_counts = p.1.1 }) (λ _. refl)
+layout_code =
+    code_by (List (List ℕ) × (List (Option Value) × List ℕ))
+    (coded× (coded_list (coded_list coded_ℕ)) (coded× (coded_list (coded_option value_code)) (coded_list coded_ℕ)))
+    (λ l. (l.slots, (l.defaults, l.label_counts)))
+    (λ p. record { slots = p.0; defaults = p.1.0; label_counts = p.1.1 }) (λ _. refl)
 
 abbrev pub units_code : Coded Units
-units_code = code_by (ℕ × (map.FinMap nat_cmp Unit × Layout)) (coded× coded_ℕ (coded× (map.code coded_ℕ unit_code) layout_code)) (λ u. (u.next, (u.units, u.layout))) (λ p. record { next = p.0; units = p.1.0; layout = p.1.1 }) (λ _. refl)
+units_code =
+    code_by (ℕ × (map.FinMap nat_cmp Unit × Layout))
+    (coded× coded_ℕ (coded× (map.code coded_ℕ unit_code) layout_code)) (λ u. (u.next, (u.units, u.layout)))
+    (λ p. record { next = p.0; units = p.1.0; layout = p.1.1 }) (λ _. refl)

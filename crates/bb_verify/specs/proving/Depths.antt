@@ -1,5 +1,6 @@
 -- The checks of the frames by the depth of the stack alone. No public contract cites them.
-use Rattle.std.specs.Prelude.{ℕ, Bool, true, ◌+◌, ◌-◌, nat_le, nat_lt, List, [], ◌∷◌, Option, Some, None, Result, Ok, Err, if◌then◌else◌}
+use Rattle.std.specs.Prelude.{ℕ, Bool, true, ◌+◌, ◌-◌, nat_le, nat_lt, List, [], ◌∷◌, Option, Some, None, Result, Ok}
+use Rattle.std.specs.Prelude.{Err, if◌then◌else◌}
 use Rattle.bb_basis.specs.Results.{◌>>=◌, map_err}
 use Rattle.bb_code.specs.declared.code.TheConstants.{STACK_LIMIT}
 use Rattle.bb_code.specs.declared.op.Op.{Op}
