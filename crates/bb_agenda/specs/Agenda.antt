@@ -1,4 +1,4 @@
--- The agenda: all activations that were ever given, and which of them are pending (GBBopen Reference Manual, Agenda Shell).
+-- The agenda: all activations that were ever given, and which are pending (GBBopen Reference Manual, Agenda Shell).
 use Rattle.std.specs.Prelude.{ℕ, ◌+◌, ℤ, Bool, ◌||◌, ◌==◌, nat_le, List, [], ◌∷◌, ◌++◌, map, length, Option, Some, None, if◌then◌else◌}
 use Rattle.std.specs.List.{filter_map}
 use Rattle.bb_agenda.specs.declared.activation.Activation.{Activation}

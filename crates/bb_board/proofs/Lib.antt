@@ -1,2 +1,3 @@
 pub mod CreateLemmas
 pub mod NameLemmas
+pub mod ValueLemmas

@@ -1,17 +1,25 @@
 -- The blackboard that a text means, or the text's first fault: the JSON, its form, then one walk over the entries.
-use Rattle.std.specs.Prelude.{ℕ, List, Result, Ok, Err, if◌then◌else◌}
+use Rattle.std.specs.Prelude.{ℕ, Bool, false, is_some, List, find, Option, Some, None, option_map, option_and_then, Result, Ok, Err, if◌then◌else◌}
 use Rattle.std.specs.FinSet as set
+use Rattle.std.specs.List.{list_all}
+use Rattle.std.specs.Option.{option_map_or}
+use Rattle.std.specs.Str.{bytes_eq}
 use Rattle.bb_basis.specs.Results.{◌>>=◌, ok_or, map_err, try_fold}
-use Rattle.bb_document.specs.UnitsDocument.{UnitDeclaration, units_document_of}
+use Rattle.bb_document.specs.UnitsDocument.{GivenDeclaration, UnitDeclaration, units_document_of}
+use Rattle.bb_document.specs.UnitsDocument.{ValueDeclaration, int_value, text_value, bool_value, interval_value}
 use Rattle.bb_document.specs.declared.fault.DocumentFault.{DocumentFault}
 use Rattle.bb_document.specs.declared.fault.DocumentFault.TheVariants as documents
-use Rattle.bb_schema.specs.Schema.{Schema, class_named}
-use Rattle.bb_units.specs.Units.{is_full}
+use Rattle.bb_classes.specs.declared.kind.Kind.{Kind as SlotKind}
+use Rattle.bb_classes.specs.declared.kind.Kind.TheVariants as kinds
+use Rattle.bb_classes.specs.declared.value.Value.{Value}
+use Rattle.bb_classes.specs.declared.value.Value.TheVariants as values
+use Rattle.bb_schema.specs.Schema.{Schema, class_named, slot_named, label_named, name_of_slot, kind_of_slot, default_of, slots_of}
+use Rattle.bb_units.specs.Units.{is_full, takes}
 use Rattle.bb_board.specs.declared.loader.Progress.{Progress}
 use Rattle.bb_board.specs.declared.units_fault.UnitsFault.{UnitsFault}
-use Rattle.bb_board.specs.declared.units_fault.UnitsFault.TheVariants.{Json, Shape, Twice, Unknown, Full, Memory}
+use Rattle.bb_board.specs.declared.units_fault.UnitsFault.TheVariants.{Json, Shape, Twice, Unknown, Kind, Full, Memory}
 use Rattle.bb_board.specs.declared.world.World.{World}
-use Rattle.bb_board.specs.World.{empty_world, after_create}
+use Rattle.bb_board.specs.World.{empty_world, after_create, after_set}
 
 -- a fault of the document as one of its units
 abbrev pub fault_of : DocumentFault → UnitsFault
@@ -27,11 +35,61 @@ no_progress s = record { names = set.empty; world = empty_world s }
 unfoldable pub with_unit : World → ℕ → Result World UnitsFault
 with_unit w class = if is_full w.units then Err Full else Ok (after_create w class)
 
+-- the name is that of an ordinary slot of the class
+abbrev pub is_ordinary_in : Schema → ℕ → List ℕ → Bool
+is_ordinary_in schema class name = option_map_or (λ slot. is_some (default_of schema slot)) (slot_named schema class name) false
+
+-- each value is given for an ordinary slot of the class
+abbrev pub are_slots : Schema → ℕ → List GivenDeclaration → Bool
+are_slots schema class given = list_all (λ g. is_ordinary_in schema class g.slot) given
+
+-- the first value that is given for a name
+unfoldable pub given_for : List ℕ → List GivenDeclaration → Option ValueDeclaration
+given_for name given = option_map (λ g. g.value) (find (λ g. bytes_eq name g.slot) given)
+
+-- what a given value is in a slot of a kind, whether it fits or not: a label is given by its name
+unfoldable pub value_in : Schema → SlotKind → ValueDeclaration → Option Value
+value_in schema kinds.Int (int_value z) = Some (values.Int z)
+value_in schema kinds.Text (text_value t) = Some (values.Text t)
+value_in schema kinds.Bool (bool_value b) = Some (values.Bool b)
+value_in schema (kinds.Label set) (text_value t) = option_map (λ label. values.Label set label) (label_named schema set t)
+value_in schema kinds.Interval (interval_value low high) = Some (values.Interval low high)
+value_in schema _ _ = None
+
+-- what a given value is in a slot
+abbrev pub value_at : Schema → (slot : ℕ) → ValueDeclaration → Option Value
+value_at schema slot given = option_and_then (λ kind. value_in schema kind given) (kind_of_slot schema slot)
+
+-- a unit's slot holds a value that is given for it, if it can
+unfoldable pub with_value : Schema → (unit : ℕ) → World → (slot : ℕ) → ValueDeclaration → Result World UnitsFault
+with_value schema n w slot given = do
+  value ← ok_or (value_at schema slot given) Kind
+  if takes w.units n slot value then Ok (after_set w n slot value) else Err Kind
+
+-- the same, if a value is given
+abbrev pub if_given : Schema → (unit : ℕ) → World → (slot : ℕ) → Option ValueDeclaration → Result World UnitsFault
+if_given schema n w slot None = Ok w
+if_given schema n w slot (Some given) = with_value schema n w slot given
+
+-- the value that is given for a slot
+abbrev pub given_at : Schema → List GivenDeclaration → (slot : ℕ) → Option ValueDeclaration
+given_at schema given slot = option_and_then (λ name. given_for name given) (name_of_slot schema slot)
+
+-- a unit after one slot more, in class order
+unfoldable pub slot_after : Schema → (unit : ℕ) → List GivenDeclaration → World → (slot : ℕ) → Result World UnitsFault
+slot_after schema n given w slot = if_given schema n w slot (given_at schema given slot)
+
+-- a new unit with the values that its entry gives: each is for an ordinary slot, and they are set in class order
+unfoldable pub with_values : Schema → (unit class : ℕ) → List GivenDeclaration → World → Result World UnitsFault
+with_values schema n class given w =
+    if are_slots schema class given then try_fold (slot_after schema n given) w (slots_of schema class) else Err Unknown
+
 -- the walk after one more entry, or what is wrong with the entry
 unfoldable pub entry_after : Schema → Progress → UnitDeclaration → Result Progress UnitsFault
 entry_after schema so_far entry = if set.contains so_far.names entry.name then Err Twice else (do
   class ← ok_or (class_named schema entry.class) Unknown
-  world ← with_unit so_far.world class
+  created ← with_unit so_far.world class
+  world ← with_values schema so_far.world.units.next class entry.slots created
   Ok (record { names = set.insert so_far.names entry.name; world = world }))
 
 -- what a text makes of the empty blackboard

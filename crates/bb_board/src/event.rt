@@ -3,13 +3,15 @@
 ghost use Rattle.std.specs.Prelude.{◌≡◌};
 ghost use Rattle.bb_board.specs.Event.{unit_of};
 
-use bb_schema::{ClassId, UnitId};
+use bb_schema::{ClassId, SlotId, UnitId};
 
 /// What kind of change an event tells (GBBopen Reference Manual, events).
 #[derive(Clone, Copy, Debug, PartialEq, Eq)]
 pub enum ChangeKind {
     /// A unit was created.
     Create,
+    /// An ordinary slot of a unit was set, perhaps to an equal value.
+    Update(SlotId),
 }
 
 /// A change of the blackboard, or that nothing could be chosen (GBBopen Reference Manual, events and the Agenda

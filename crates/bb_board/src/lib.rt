@@ -6,6 +6,7 @@ mod loader;
 mod name_set;
 mod note;
 mod units_fault;
+mod values;
 mod world;
 
 pub use event::{ChangeKind, Event};

@@ -8,23 +8,24 @@ ghost use Rattle.bb_board.specs.Load.{fault_of, load, with_unit};
 
 use crate::name_set::NameSet;
 use crate::units_fault::UnitsFault;
+use crate::values::set_values;
 use crate::world::World;
 use bb_basis::Memory;
 use bb_document::{DocumentFault, UnitEntry, UnitsDocument};
-use bb_schema::{ClassId, Schema};
+use bb_schema::{ClassId, Schema, UnitId};
 use std::alloc::Global;
 
 #[cfg(test)]
 mod tests;
 
-/// Creates a unit of a class that is there, where there is room.
-fn create(world: &mut World, class: ClassId) -> Result<(), UnitsFault>
+/// Creates a unit of a class that is there, where there is room, and returns its number.
+fn create(world: &mut World, class: ClassId) -> Result<UnitId, UnitsFault>
     requires { class < length world.old.units.layout.slots }
     ensures gives { Gives OutOfMemory (λ _. world.new) result (with_unit world.old class) }
+    ensures number { IfOk result (λ unit. unit ≡ world.old.units.next) }
     ensures layout { OnOk result (world.new.units.layout ≡ world.old.units.layout) }
 {
-    world.create(class)?;
-    Ok(())
+    Ok(world.create(class)?)
 }
 
 /// How far a walk over a document's entries has come: the names so far, and what was created.
@@ -50,7 +51,7 @@ impl Progress {
         })
     }
 
-    /// Creates the unit of an entry, after its checks.
+    /// Creates the unit of an entry, and sets the values that it gives.
     #[tactic(auto, unfolding(crate::specs::Load::entry_after))]
     fn add(&mut self, alloc: Global, schema: &Schema, entry: &UnitEntry) -> Result<(), UnitsFault>
         requires { self.old.world.units.layout ≡ layout_of schema.now }
@@ -64,7 +65,8 @@ impl Progress {
         let class = schema
             .class(entry.class.as_str())
             .ok_or(UnitsFault::Unknown)?;
-        create(&mut self.world, class)
+        let unit = create(&mut self.world, class)?;
+        set_values(alloc, schema, &mut self.world, unit, class, &entry.slots)
     }
 
     fn add_all(

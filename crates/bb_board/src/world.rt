@@ -3,7 +3,7 @@
 use crate::event::{ChangeKind, Event};
 use crate::note::{Note, Said};
 use bb_basis::{Items, Memory};
-use bb_schema::{ClassId, Schema, UnitId};
+use bb_schema::{ClassId, Schema, SlotId, UnitId, Value};
 use bb_units::{CreateFault, Units};
 use std::alloc::Global;
 use std::mem;
@@ -19,10 +19,10 @@ pub struct World {
 }
 
 impl World {
-    ghost use Rattle.std.specs.Prelude.{◌≡◌, ◌<◌, length, IfOk, OnOk, OnErr};
+    ghost use Rattle.std.specs.Prelude.{◌≡◌, ◌<◌, length, IfOk, IsTrue, OnOk, OnErr};
     ghost use Rattle.bb_basis.specs.Results.{Gives};
-    ghost use Rattle.bb_units.specs.Units.{next_number};
-    ghost use Rattle.bb_board.specs.World.{empty_world, after_create, after_say, after_take};
+    ghost use Rattle.bb_units.specs.Units.{next_number, takes};
+    ghost use Rattle.bb_board.specs.World.{empty_world, after_create, after_set, after_say, after_take};
 
     /// The blackboard of a schema, without units and notes.
     pub fn new(alloc: Global, schema: &Schema) -> Result<World, Memory>
@@ -58,6 +58,23 @@ impl World {
                 Err(fault)
             }
         }
+    }
+
+    /// Sets an ordinary slot of a live unit to a value that the slot can hold, and notes the event, also where the value
+    /// is equal. An error changes nothing.
+    pub fn set(&mut self, unit: UnitId, slot: SlotId, value: Value) -> Result<(), Memory>
+        requires { IsTrue (takes self.old.units unit slot value) }
+        ensures ok { OnOk result (self.new ≡ after_set self.old unit slot value) }
+        ensures err { OnErr result (self.new ≡ self.old) }
+    {
+        let class = self.units.class_of(unit);
+        self.notes.push(Note::Event(Event::Change {
+            kind: ChangeKind::Update(slot),
+            unit,
+            class,
+        }))?;
+        self.units.set(unit, slot, value);
+        Ok(())
     }
 
     /// Notes that values are said, on one line. An error changes nothing.

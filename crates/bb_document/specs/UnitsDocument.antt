@@ -1,32 +1,86 @@
 -- The document of first units: what it declares, and its form (of this project).
-use Rattle.std.specs.Prelude.{ℕ, List, [], ◌∷◌, map, Result, Ok, Err, codes, string_bytes, if◌then◌else◌}
-use Rattle.serde_json.specs.Data.{Data}
+use Rattle.std.specs.Prelude.{ℕ, ℤ, Bool, List, [], ◌∷◌, map, Option, None, Some, option_map, Result, Ok, Err, codes, string_bytes, if◌then◌else◌}
+use Rattle.std.specs.Option.{option_map_or}
+use Rattle.serde_json.specs.Data.{Data, null, boolean, number, string, array, object, Members, no_members, member}
+use Rattle.serde_json.specs.Find.{get, as_i64, as_object}
 use Rattle.serde_json.specs.Read.{read}
 use Rattle.bb_basis.specs.Results.{◌>>=◌, ok_or, try_map}
+use Rattle.bb_document.specs.declared.document.GivenEntry.{GivenEntry}
+use Rattle.bb_document.specs.declared.document.GivenValue.{GivenValue}
+use Rattle.bb_document.specs.declared.document.GivenValue.TheVariants.{Int, Text, Bool as Truth, Interval, Other}
 use Rattle.bb_document.specs.declared.document.UnitEntry.{UnitEntry}
 use Rattle.bb_document.specs.declared.document.UnitsDocument.{UnitsDocument}
 use Rattle.bb_document.specs.declared.fault.DocumentFault.{DocumentFault}
 use Rattle.bb_document.specs.declared.fault.DocumentFault.TheVariants.{Json, Shape}
-use Rattle.bb_document.specs.Shapes.{is_object_with, text_at, list_at}
+use Rattle.bb_document.specs.Shapes.{list_of, is_object_with, text_at, list_at}
+use Rattle.bb_document.specs.Form.{ends_of}
 
--- a first unit: its name, by which its document refers to it, and its class
+-- a value that a first unit gives for a slot; a label is given as its text, and another value fits no slot
+pub data ValueDeclaration : Type 0 where
+  int_value : ℤ → ValueDeclaration
+  text_value : List ℕ → ValueDeclaration
+  bool_value : Bool → ValueDeclaration
+  interval_value : ℤ → ℤ → ValueDeclaration
+  other_value : ValueDeclaration
+
+-- a slot's name, and the value given for it
+pub record GivenDeclaration : Type 0 where
+  pub slot : List ℕ
+  pub value : ValueDeclaration
+
+-- a first unit: its name, by which its document refers to it, its class, and what it gives for slots
 pub record UnitDeclaration : Type 0 where
   pub name : List ℕ
   pub class : List ℕ
+  pub slots : List GivenDeclaration
 
 -- what an entry means
+abbrev pub value_declaration : GivenValue → ValueDeclaration
+value_declaration (Int z) = int_value z
+value_declaration (Text s) = text_value (string_bytes s)
+value_declaration (Truth b) = bool_value b
+value_declaration (Interval lo hi) = interval_value lo hi
+value_declaration Other = other_value
+
+abbrev pub given_declaration : GivenEntry → GivenDeclaration
+given_declaration e = record { slot = string_bytes e.slot; value = value_declaration e.value }
+
 abbrev pub unit_declaration : UnitEntry → UnitDeclaration
-unit_declaration e = record { name = string_bytes e.name; class = string_bytes e.class }
+unit_declaration e = record {
+  name = string_bytes e.name;
+  class = string_bytes e.class;
+  slots = map given_declaration e.slots.items;
+}
 
 abbrev pub unit_declarations : UnitsDocument → List UnitDeclaration
 unit_declarations d = map unit_declaration d.units.items
 
--- a first unit: an object with a name, a class and nothing else
+-- the value that JSON gives: a number that is an i64, a text, a truth value, two numbers in order, or another
+abbrev pub given_value_of : Data → ValueDeclaration
+given_value_of null = other_value
+given_value_of (boolean b) = bool_value b
+given_value_of (number n) = option_map_or int_value (as_i64 n) other_value
+given_value_of (string s) = text_value s
+given_value_of (array ds) = option_map_or (λ ends. interval_value ends.0 ends.1) (ends_of (list_of ds)) other_value
+given_value_of (object ms) = other_value
+
+-- what the members of an object give, one by one
+abbrev pub givens_of : Members → List GivenDeclaration
+givens_of no_members = []
+givens_of (member k d ms) = record { slot = k; value = given_value_of d } ∷ givens_of ms
+
+-- what a unit gives for slots: an object of any keys and values, an absent one empty
+unfoldable pub given_slots_of : Option Data → Result (List GivenDeclaration) DocumentFault
+given_slots_of None = Ok []
+given_slots_of (Some d) = ok_or (option_map givens_of (as_object d)) Shape
+
+-- a first unit: an object with a name, a class, slots if it gives any, and nothing else
 unfoldable pub unit_of : Data → Result UnitDeclaration DocumentFault
-unit_of d = if is_object_with (codes "name" ∷ codes "class" ∷ []) d then (do
+unit_of d = if is_object_with (codes "name" ∷ codes "class" ∷ codes "slots" ∷ []) d then (do
   name ← ok_or (text_at (codes "name") d) Shape
   class ← ok_or (text_at (codes "class") d) Shape
-  Ok (record { name = name; class = class })) else Err Shape
+  slots ← given_slots_of (get (codes "slots") d)
+  Ok (record { name = name; class = class; slots = slots })) else Err Shape
 
 -- the whole document: a list of units, an absent one empty
 unfoldable pub unit_declarations_of : Data → Result (List UnitDeclaration) DocumentFault

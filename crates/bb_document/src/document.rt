@@ -81,4 +81,26 @@ pub struct UnitsDocument {
 pub struct UnitEntry {
     pub name: String,
     pub class: String,
+    /// In the order of the slots' names, byte by byte; each name stands once.
+    pub slots: Vec<GivenEntry>,
+}
+
+/// A value that a first unit gives for a slot. The name may be any text.
+#[derive(Debug, Drop)]
+pub struct GivenEntry {
+    pub slot: String,
+    pub value: GivenValue,
+}
+
+/// A value that a first unit gives, as its JSON has it. Which slot it fits, the schema says.
+#[derive(Debug, Drop)]
+pub enum GivenValue {
+    Int(i64),
+    /// A text, which for a slot of labels is a label's name.
+    Text(String),
+    Bool(bool),
+    /// From the first number to the second, which is no less.
+    Interval(i64, i64),
+    /// Any other JSON. It fits no slot.
+    Other,
 }

@@ -359,7 +359,7 @@ fn interval_or_zero(given: Option<&Value>) -> Option<(i64, i64)>
 }
 
 /// Two numbers, the first no greater than the second.
-fn interval(ends: &[Value]) -> Option<(i64, i64)>
+pub(crate) fn interval(ends: &[Value]) -> Option<(i64, i64)>
     ensures { result ≡ ends_of (map view ends.now) }
 {
     match ends {

@@ -270,10 +270,71 @@ fn first_units(rt: HostRuntime) -> Result<(), Fail> {
     let units = format!(in rt.alloc(); "{:?}", document.units)?;
     assert_eq!(rt;
         units.as_str(),
-        r#"[UnitEntry { name: "a", class: "thing" }, UnitEntry { name: "a", class: "box" }]"#
+        r#"[UnitEntry { name: "a", class: "thing", slots: [] }, UnitEntry { name: "a", class: "box", slots: [] }]"#
     );
     let empty = UnitsDocument::read(rt.alloc(), "{}")?;
     assert!(rt; empty.units.is_empty());
+    Ok(())
+}
+
+/// A unit that gives values of all forms, in an order that is not that of their names.
+const GIVEN: &str = r#"{"units":[{"slots":{
+"text":"x \"y\"", "label":"red", "":true, "not a name":false, "again":1, "again":2,
+"int 0":0, "int a":-9223372036854775808, "int b":9223372036854775807, "int c":9223372036854775808,
+"int d":-9223372036854775809, "int e":1.0, "int f":1e2, "int g":"1",
+"interval a":[-1,9223372036854775807], "interval b":[3,3], "interval c":[4,3], "interval d":[],
+"interval e":[1], "interval f":[1,2,3], "interval g":[1,2.5], "interval h":["1","2"], "interval i":{"0":1},
+"null":null, "object":{}, "list":["red"], "nested":[[1,2]]
+},"name":"a","class":"thing"}]}"#;
+
+const GIVEN_SLOTS: &str = r#"GivenEntry { slot: "", value: Bool(true) }
+GivenEntry { slot: "again", value: Int(2) }
+GivenEntry { slot: "int 0", value: Int(0) }
+GivenEntry { slot: "int a", value: Int(-9223372036854775808) }
+GivenEntry { slot: "int b", value: Int(9223372036854775807) }
+GivenEntry { slot: "int c", value: Other }
+GivenEntry { slot: "int d", value: Other }
+GivenEntry { slot: "int e", value: Other }
+GivenEntry { slot: "int f", value: Other }
+GivenEntry { slot: "int g", value: Text("1") }
+GivenEntry { slot: "interval a", value: Interval(-1, 9223372036854775807) }
+GivenEntry { slot: "interval b", value: Interval(3, 3) }
+GivenEntry { slot: "interval c", value: Other }
+GivenEntry { slot: "interval d", value: Other }
+GivenEntry { slot: "interval e", value: Other }
+GivenEntry { slot: "interval f", value: Other }
+GivenEntry { slot: "interval g", value: Other }
+GivenEntry { slot: "interval h", value: Other }
+GivenEntry { slot: "interval i", value: Other }
+GivenEntry { slot: "label", value: Text("red") }
+GivenEntry { slot: "list", value: Other }
+GivenEntry { slot: "nested", value: Other }
+GivenEntry { slot: "not a name", value: Bool(false) }
+GivenEntry { slot: "null", value: Other }
+GivenEntry { slot: "object", value: Other }
+GivenEntry { slot: "text", value: Text("x \"y\"") }
+"#;
+
+#[test]
+fn given_slots(rt: HostRuntime) -> Result<(), Fail> {
+    let document = UnitsDocument::read(rt.alloc(), GIVEN)?;
+    let unit = document.units.first().ok_or("there is a unit")?;
+    let mut lines = String::new(rt.alloc());
+    for given in &unit.slots {
+        write!(lines, "{given:?}\n")?;
+    }
+    assert_eq!(rt; lines.as_str(), GIVEN_SLOTS);
+    Ok(())
+}
+
+#[test]
+fn no_given_slots(rt: HostRuntime) -> Result<(), Fail> {
+    let document = UnitsDocument::read(
+        rt.alloc(),
+        r#"{"units":[{"name":"a","class":"thing","slots":{}}]}"#,
+    )?;
+    let unit = document.units.first().ok_or("there is a unit")?;
+    assert!(rt; unit.slots.is_empty());
     Ok(())
 }
 
@@ -283,9 +344,14 @@ fn shapeless_units(rt: HostRuntime) {
         "[]",
         r#"{"classes":[]}"#,
         r#"{"units":null}"#,
+        r#"{"units":[],"links":[]}"#,
+        r#"{"units":[],"spaces":[]}"#,
         r#"{"units":[{"name":"a"}]}"#,
         r#"{"units":[{"name":"a","class":null}]}"#,
+        r#"{"units":[{"name":"a","class":"b","links":{}}]}"#,
         r#"{"units":[{"name":"a","class":"b","slots":[]}]}"#,
+        r#"{"units":[{"name":"a","class":"b","slots":null}]}"#,
+        r#"{"units":[{"name":"a","class":"b","slots":"x"}]}"#,
     ] {
         match UnitsDocument::read(rt.alloc(), text) {
             Ok(_) => assert!(rt; false, "{text} is read"),

@@ -1,18 +1,21 @@
 //! The form of the document of first units: `UnitsDocument::read`, and what each of its entries declares.
 
-ghost use Rattle.std.specs.Prelude.{◌≡◌};
+ghost use Rattle.std.specs.Prelude.{◌≡◌, map, IfOk, option_map};
 ghost use Rattle.bb_document.specs.declared.fault.DocumentFault.TheVariants.{Memory as OutOfMemory};
-ghost use Rattle.serde_json.specs.View.{view};
+ghost use Rattle.serde_json.specs.View.{view, members_view};
 ghost use Rattle.bb_basis.specs.Results.{Gives};
-ghost use Rattle.bb_document.specs.UnitsDocument.{unit_declarations, unit_declarations_of, units_document_of};
+ghost use Rattle.bb_document.specs.UnitsDocument.{value_declaration, given_declaration, unit_declarations};
+ghost use Rattle.bb_document.specs.UnitsDocument.{given_value_of, givens_of, given_slots_of};
+ghost use Rattle.bb_document.specs.UnitsDocument.{unit_declarations_of, units_document_of};
 
-use crate::document::{UnitEntry, UnitsDocument};
+use crate::document::{GivenEntry, GivenValue, UnitEntry, UnitsDocument};
 use crate::entry::{Entry, entries, string_at};
 use crate::fault::DocumentFault;
+use crate::form::interval;
 use crate::json::json;
 use crate::shape::{is_object_with, list_at};
-use serde_json::Value;
-use std::alloc::Global;
+use serde_json::{Map, Value};
+use std::alloc::{AllocError, Global};
 
 impl UnitsDocument {
     /// What the document of first units declares. `Json` where the text is not JSON, then `Shape` where the JSON does
@@ -51,11 +54,55 @@ impl Entry for UnitEntry {
 
     #[tactic(auto, unfolding(crate::specs::UnitsDocument::unit_of))]
     fn of(alloc: Global, value: &Value) -> Result<UnitEntry, DocumentFault> {
-        if !is_object_with(value, &["name", "class"]) {
+        if !is_object_with(value, &["name", "class", "slots"]) {
             return Err(DocumentFault::Shape);
         }
         let name = string_at(alloc, value, "name")?;
         let class = string_at(alloc, value, "class")?;
-        Ok(UnitEntry { name, class })
+        let slots = given_slots(alloc, value.get("slots"))?;
+        Ok(UnitEntry { name, class, slots })
+    }
+}
+
+/// The values that a unit gives for slots: none where the key is absent.
+#[tactic(auto, unfolding(crate::specs::UnitsDocument::given_slots_of))]
+fn given_slots(alloc: Global, given: Option<&Value>) -> Result<Vec<GivenEntry>, DocumentFault>
+    ensures { Gives OutOfMemory (λ es. map given_declaration es.items) result
+        (given_slots_of (option_map (λ v. view v.now) given.entry)) }
+{
+    match given {
+        None => Ok(Vec::new(alloc)),
+        Some(value) => {
+            let members = value.as_object().ok_or(DocumentFault::Shape)?;
+            Ok(givens(alloc, members)?)
+        }
+    }
+}
+
+/// What the members of an object give, in their order.
+fn givens(alloc: Global, members: &Map<String, Value>) -> Result<Vec<GivenEntry>, AllocError>
+    ensures { IfOk result (λ es. map given_declaration es.items ≡ givens_of (members_view members.now.entries)) }
+{
+    let mut entries = Vec::new(alloc);
+    for (slot, value) in members {
+        let slot = String::from_str(alloc, slot.as_str())?;
+        let value = given_value(alloc, value)?;
+        entries.push(GivenEntry { slot, value })?;
+    }
+    Ok(entries)
+}
+
+/// The value that JSON gives for a slot.
+fn given_value(alloc: Global, value: &Value) -> Result<GivenValue, AllocError>
+    ensures { IfOk result (λ given. value_declaration given ≡ given_value_of (view value.now)) }
+{
+    match value {
+        Value::Bool(truth) => Ok(GivenValue::Bool(*truth)),
+        Value::Number(number) => Ok(number.as_i64().map_or(GivenValue::Other, GivenValue::Int)),
+        Value::String(text) => Ok(GivenValue::Text(String::from_str(alloc, text.as_str())?)),
+        Value::Array(ends) => Ok(interval(ends.as_slice()).map_or(GivenValue::Other, |ends| {
+            GivenValue::Interval(ends.0, ends.1)
+        })),
+        Value::Null | Value::Object(_) => Ok(GivenValue::Other),
     }
 }

@@ -15,6 +15,7 @@ use Rattle.bb_shell.specs.Meaning.{Meaning}
 use Rattle.bb_shell.specs.Run.{run}
 use Rattle.bb_shell.specs.TraceText.{segment_text, trace_text}
 use Rattle.bb_main.specs.declared.read.TheConstants.{INPUT_LIMIT}
+use Rattle.bb_main.specs.declared.serving.TheConstants.{MEMORY}
 use Rattle.bb_main.specs.declared.section_fault.SectionFault.{SectionFault}
 use Rattle.bb_main.specs.declared.section_fault.SectionFault.TheVariants.{Limit}
 use Rattle.bb_main.specs.Input.{input_of}
@@ -37,10 +38,10 @@ serves-long limit floor (Some xs) (Some ys) taken given status bytes p long deli
     (xs, refl, inl (answer-long xs limit floor taken given status (omega (arith, length-append bytes ys, ap length p)) delivers))
 
 -- where memory ran out before anything was written
-pub cut-nothing : (a : Answer) (taken : Option (List ℕ)) (status : ℕ) → status ≡ 5 → CutShort a taken taken status
+pub cut-nothing : (a : Answer) (taken : Option (List ℕ)) (status : ℕ) → status ≡ MEMORY → CutShort a taken taken status
 cut-nothing a taken status is = (is, (0, Appends-nil taken))
 
-pub serves-nothing : (limit : ℕ) (floor : ℤ) (read taken : Option (List ℕ)) (status : ℕ) → status ≡ 5 → Serves limit floor read taken taken status
+pub serves-nothing : (limit : ℕ) (floor : ℤ) (read taken : Option (List ℕ)) (status : ℕ) → status ≡ MEMORY → Serves limit floor read taken taken status
 serves-nothing limit floor None taken status is = ([], tt, inr (cut-nothing (answer [] limit floor) taken status is))
 serves-nothing limit floor (Some xs) taken status is = (xs, refl, inr (cut-nothing (answer xs limit floor) taken status is))
 

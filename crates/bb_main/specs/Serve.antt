@@ -1,5 +1,6 @@
 -- What the program writes for an input, and with which status it ends.
-use Rattle.std.specs.Prelude.{◌≡◌, ◌⊎◌, ℕ, ℤ, List, [], ◌∷◌, ◌++◌, map, take, Option, IfSome, Result, Ok, Err, if◌then◌else◌}
+use Rattle.std.specs.Prelude.{◌≡◌, ◌⊎◌, ℕ, ℤ, List, [], ◌∷◌, ◌++◌, map, take, Option, IfSome, Result, Ok, Err}
+use Rattle.std.specs.Prelude.{if◌then◌else◌}
 use Rattle.std.specs.List.{flat_map}
 use Rattle.std.specs.Option.{option_map_or}
 use Rattle.std.specs.Io.KnownBytes.{Appends}
@@ -14,6 +15,7 @@ use Rattle.bb_shell.specs.Run.{run}
 use Rattle.bb_shell.specs.TraceText.{segment_text}
 use Rattle.bb_main.specs.declared.section_fault.SectionFault.{SectionFault}
 use Rattle.bb_main.specs.declared.section_fault.SectionFault.TheVariants as faults
+use Rattle.bb_main.specs.declared.serving.TheConstants.{MEMORY, REFUSED, WRITE}
 use Rattle.bb_main.specs.Input.{input_of}
 use Rattle.bb_main.specs.Refusals.{read_line, section_line}
 use Rattle.bb_main.specs.Sections.{Texts}
@@ -33,9 +35,9 @@ end_status ends.Limit = 3
 end_status ends.Full = 4
 end_status (ends.Stuck reason) = 7
 
--- the status of a finish: 5 where memory ran out, 6 where the output failed
+-- the status of a finish: those of memory and of writing where there is no end
 abbrev pub status_of : Finish → ℕ
-status_of finish = option_map_or end_status (end_of finish) (if is_write finish then 6 else 5)
+status_of finish = option_map_or end_status (end_of finish) (if is_write finish then WRITE else MEMORY)
 
 -- a run is answered by its trace and the status of its end, which every run has
 abbrev pub answer_to_run : (limit : ℕ) → Meaning → Answer
@@ -45,7 +47,7 @@ answer_to_run limit m =
 
 -- a refused input is answered by its line, ended by a line feed
 abbrev pub refusal : List ℕ → Answer
-refusal line = record { pieces = (line ++ 10 ∷ []) ∷ []; status = 2 }
+refusal line = record { pieces = (line ++ 10 ∷ []) ∷ []; status = REFUSED }
 
 -- what the sections mean is run, or refused
 abbrev pub answer_to_meaning : (limit : ℕ) → Result Meaning InputFault → Answer
@@ -73,11 +75,11 @@ limit_refusal = refusal (section_line faults.Limit)
 abbrev pub Delivers : Answer → (taken given : Option (List ℕ)) → (status : ℕ) → Type 0
 Delivers a taken given status =
     ((status ≡ a.status) × Appends taken given (text_of a.pieces))
-    ⊎ ((status ≡ 6) × ((count : ℕ) × Appends taken given (take count (text_of a.pieces))))
+    ⊎ ((status ≡ WRITE) × ((count : ℕ) × Appends taken given (take count (text_of a.pieces))))
 
 -- memory ran out, and the output took the first pieces of the answer, or none
 abbrev pub CutShort : Answer → (taken given : Option (List ℕ)) → (status : ℕ) → Type 0
-CutShort a taken given status = (status ≡ 5) × ((count : ℕ) × Appends taken given (text_of (take count a.pieces)))
+CutShort a taken given status = (status ≡ MEMORY) × ((count : ℕ) × Appends taken given (text_of (take count a.pieces)))
 
 -- the answer to some bytes is delivered, or cut short; they are all of the reader's where it tells them
 abbrev pub Serves : (limit : ℕ) → (floor : ℤ) → (read taken given : Option (List ℕ)) → (status : ℕ) → Type 0

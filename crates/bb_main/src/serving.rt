@@ -1,6 +1,6 @@
 //! The program: an input is read, cut into sections and run, and its trace, or the line that refuses it, is written.
 
-ghost use Rattle.std.specs.Prelude.{◌≡◌, ◌==◌, ◌+◌, ◌⊎◌, false, pos, IfErr};
+ghost use Rattle.std.specs.Prelude.{◌≡◌, ◌==◌, ◌+◌, ◌⊎◌, false, IfErr};
 ghost use Rattle.std.specs.Bool.{OnFalse, OnTrue};
 ghost use Rattle.bb_shell.specs.Meaning.{meaning};
 ghost use Rattle.bb_shell.specs.Refusals.{refusal_text};
@@ -9,6 +9,7 @@ ghost use Rattle.bb_main.specs.Reading.{HasTaken, TakesAtMost};
 ghost use Rattle.bb_main.specs.Refusals.{section_line};
 ghost use Rattle.bb_main.specs.Serve.{CutShort, Delivers, Serves, answer, answer_to_meaning, status_of};
 ghost use Rattle.bb_main.specs.Serve.{limit_refusal, read_refusal, refusal};
+ghost use Rattle.bb_main.specs.declared.serving.TheConstants.{CYCLE_LIMIT, FLOOR, WRITE};
 
 use crate::input::In;
 use crate::read::{INPUT_LIMIT, ReadFault, read_input};
@@ -37,13 +38,13 @@ pub fn program<R: In, O: Out>(alloc: Global, reader: &mut R, writer: &mut O) -> 
     requires reader { R.has_failed reader.old ≡ false }
     requires writer { O.has_failed writer.old ≡ false }
     ensures answer { OnFalse (R.has_failed reader.new)
-        (Serves 1000000 (pos 0) (R.remaining reader.old) (O.taken writer.old) (O.taken writer.new) result) }
+        (Serves CYCLE_LIMIT FLOOR (R.remaining reader.old) (O.taken writer.old) (O.taken writer.new) result) }
     ensures unread { OnTrue (R.has_failed reader.new)
         (Delivers read_refusal (O.taken writer.old) (O.taken writer.new) result) }
     ensures taken { TakesAtMost (INPUT_LIMIT + 1) (R.remaining reader.old) (R.remaining reader.new) }
     ensures too_long { HasTaken (INPUT_LIMIT + 1) (R.remaining reader.old) (R.remaining reader.new)
         → Delivers limit_refusal (O.taken writer.old) (O.taken writer.new) result }
-    ensures failed { O.has_failed writer.new ≡ (result == 6) }
+    ensures failed { O.has_failed writer.new ≡ (result == WRITE) }
 {
     serve(alloc, CYCLE_LIMIT, FLOOR, reader, writer)
 }
@@ -73,7 +74,7 @@ pub fn serve<R: In, O: Out>(
     ensures too_long { HasTaken (INPUT_LIMIT + 1) (R.remaining reader.old) (R.remaining reader.new)
         → Delivers limit_refusal (O.taken writer.old) (O.taken writer.new) result }
 
-    ensures failed { O.has_failed writer.new ≡ (result == 6) }
+    ensures failed { O.has_failed writer.new ≡ (result == WRITE) }
 {
     match read_input(alloc, reader) {
         Ok(bytes) => serve_bytes(alloc, limit, floor, bytes.as_slice(), writer),
@@ -90,7 +91,7 @@ fn serve_bytes<O: Out>(alloc: Global, limit: u32, floor: i64, bytes: &[u8], writ
         ⊎ CutShort (answer bytes.now limit floor) (O.taken writer.old) (O.taken writer.new) result }
     ensures refused { IfErr (input_of bytes.now)
         (λ fault. Delivers (refusal (section_line fault)) (O.taken writer.old) (O.taken writer.new) result) }
-    ensures failed { O.has_failed writer.new ≡ (result == 6) }
+    ensures failed { O.has_failed writer.new ≡ (result == WRITE) }
 {
     match Sections::of_bytes(bytes) {
         Ok(sections) => serve_sections(alloc, limit, floor, sections, writer),
@@ -111,7 +112,7 @@ fn serve_sections<O: Out>(
         let a = answer_to_meaning limit (meaning s.schema.now s.units.now s.bundle.now floor) in
         Delivers a (O.taken writer.old) (O.taken writer.new) result
         ⊎ CutShort a (O.taken writer.old) (O.taken writer.new) result }
-    ensures failed { O.has_failed writer.new ≡ (result == 6) }
+    ensures failed { O.has_failed writer.new ≡ (result == WRITE) }
 {
     let Sections {
         schema,
@@ -144,7 +145,7 @@ fn refuse<O: Out>(alloc: Global, fault: &InputFault, writer: &mut O) -> u8
     requires { O.has_failed writer.old ≡ false }
     ensures answer { Delivers (refusal (refusal_text fault.now)) (O.taken writer.old) (O.taken writer.new) result
         ⊎ CutShort (refusal (refusal_text fault.now)) (O.taken writer.old) (O.taken writer.new) result }
-    ensures failed { O.has_failed writer.new ≡ (result == 6) }
+    ensures failed { O.has_failed writer.new ≡ (result == WRITE) }
 {
     match fault.line(alloc) {
         Ok(line) => write_refusal(line.as_str(), writer),
@@ -156,7 +157,7 @@ fn refuse<O: Out>(alloc: Global, fault: &InputFault, writer: &mut O) -> u8
 fn write_refusal<O: Out>(line: &str, writer: &mut O) -> u8
     requires { O.has_failed writer.old ≡ false }
     ensures answer { Delivers (refusal line.now) (O.taken writer.old) (O.taken writer.new) result }
-    ensures failed { O.has_failed writer.new ≡ (result == 6) }
+    ensures failed { O.has_failed writer.new ≡ (result == WRITE) }
 {
     if put_all(writer, line.as_bytes()) && put_all(writer, b"\n") {
         REFUSED

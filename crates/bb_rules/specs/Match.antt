@@ -1,18 +1,20 @@
 -- When a clause names an event, and when an event triggers a source (GBBopen Reference Manual, trigger events of a KS).
-use Rattle.std.specs.Prelude.{Bool, true, false, ◌&&◌}
+use Rattle.std.specs.Prelude.{Bool, true, false, ◌&&◌, ◌==◌}
 use Rattle.std.specs.List.{list_any}
 use Rattle.bb_schema.specs.Schema.{Schema, descends}
 use Rattle.bb_board.specs.declared.event.ChangeKind.{ChangeKind}
-use Rattle.bb_board.specs.declared.event.ChangeKind.TheVariants.{Create}
+use Rattle.bb_board.specs.declared.event.ChangeKind.TheVariants.{Create, Update}
 use Rattle.bb_board.specs.declared.event.Event.{Event}
 use Rattle.bb_board.specs.declared.event.Event.TheVariants as events
 use Rattle.bb_rules.specs.declared.clause.Clause.{Clause}
 use Rattle.bb_rules.specs.declared.clause.Clause.TheVariants as clauses
 use Rattle.bb_rules.specs.declared.source.Source.{Source}
 
--- the two kinds of change are one
+-- the two kinds of change are one, with its slot
 abbrev pub is_same_kind : ChangeKind → ChangeKind → Bool
 is_same_kind Create Create = true
+is_same_kind (Update slot) (Update other) = slot == other
+is_same_kind _ _ = false
 
 -- both are quiescence, or both are changes of one kind and the event's class descends from the clause's
 abbrev pub matches : Schema → Clause → Event → Bool

@@ -10,7 +10,7 @@ pub mod TraceText
 pub mod Order
 -- how a run's answer tells its end, and what was written where it was cut short
 pub mod Finish
--- the line of a refusal
+-- the number of a refusal, and its line
 pub mod Refusals
 -- the sources that run together
 pub mod Sources

@@ -1,4 +1,4 @@
--- The line that tells why an input is refused.
+-- The number of each refusal, and the line that tells it.
 use Rattle.std.specs.Prelude.{ℕ, List, [], ◌++◌, codes}
 use Rattle.std.specs.Fmt.{decimal}
 use Rattle.bb_classes.specs.Faults.{fault_number as schema_number}
@@ -13,6 +13,15 @@ use Rattle.bb_board.specs.UnitsFaults.{fault_number as units_number}
 use Rattle.bb_rules.specs.Faults.{fault_number as rule_number}
 use Rattle.bb_verify.specs.Flaws.{fault_number as flaw_number}
 
+-- the number of each refusal; 3 and 4 are kept free
+abbrev pub fault_number : InputFault → ℕ
+fault_number (inputs.Schema fault) = 1
+fault_number (inputs.Units fault) = 2
+fault_number (inputs.Bundle fault) = 5
+fault_number (inputs.Verify name part fault) = 6
+fault_number (inputs.Rule name fault) = 7
+fault_number inputs.Memory = 8
+
 -- the word of a part of a source
 abbrev pub part_word : Part → List ℕ
 part_word parts.Do = codes "do"
@@ -21,7 +30,8 @@ part_word parts.Do = codes "do"
 abbrev pub bundle_text : BundleFault → List ℕ
 bundle_text (bundles.Line line) = codes "refused bundle " ++ decimal line ++ codes " 1"
 bundle_text (bundles.Hex line) = codes "refused bundle " ++ decimal line ++ codes " 2"
-bundle_text (bundles.Code line fault) = codes "refused bundle " ++ decimal line ++ codes " code " ++ decimal (code_number fault)
+bundle_text (bundles.Code line fault) =
+    codes "refused bundle " ++ decimal line ++ codes " code " ++ decimal (code_number fault)
 bundle_text bundles.Memory = []
 
 -- the line without its line feed; empty where memory ran out

@@ -59,7 +59,8 @@ abbrev pub after_execution : Shell → Code → World → Agenda → Outcome →
 after_execution shell code world agenda o (endings.Answered answer) =
     report shell world agenda (Ended o.steps o.found (budget code o.found) ∷ []) None
 after_execution shell code world agenda o endings.Full = report shell world agenda [] (Some finishes.Full)
-after_execution shell code world agenda o (endings.Stuck reason) = report shell world agenda [] (Some (finishes.Stuck reason))
+after_execution shell code world agenda o (endings.Stuck reason) =
+    report shell world agenda [] (Some (finishes.Stuck reason))
 
 -- a source acts for an activation
 abbrev pub acting : Shell → Act → Activation → State → Stretch

@@ -4,11 +4,11 @@ use Rattle.std.specs.List.{flat_map}
 use Rattle.std.specs.Fmt.{decimal, signed_decimal}
 use Rattle.serde_json.specs.Data.{string}
 use Rattle.serde_json.specs.Written.{compact_text}
-use Rattle.bb_schema.specs.Schema.{Schema, name_of_class, name_of_label}
+use Rattle.bb_schema.specs.Schema.{Schema, name_of_class, name_of_label, name_of_slot}
 use Rattle.bb_classes.specs.declared.value.Value.{Value}
 use Rattle.bb_classes.specs.declared.value.Value.TheVariants as values
 use Rattle.bb_board.specs.declared.event.ChangeKind.{ChangeKind}
-use Rattle.bb_board.specs.declared.event.ChangeKind.TheVariants.{Create}
+use Rattle.bb_board.specs.declared.event.ChangeKind.TheVariants.{Create, Update}
 use Rattle.bb_board.specs.declared.event.Event.{Event}
 use Rattle.bb_board.specs.declared.event.Event.TheVariants.{Change, Quiescence}
 use Rattle.bb_board.specs.declared.note.Note.{Note as BoardNote}
@@ -50,13 +50,18 @@ abbrev pub said_text : Schema → Said → List ℕ
 said_text s (saids.Value v) = value_text s v
 said_text s (saids.Unit n) = codes "#" ++ decimal n
 
--- the word of a kind of change
-abbrev pub change_word : ChangeKind → List ℕ
-change_word Create = codes "create "
+-- the name of a slot, empty where there is none
+abbrev pub slot_name : Schema → ℕ → List ℕ
+slot_name s slot = unwrap_or (name_of_slot s slot) []
 
--- `create U CLASS`, or `quiescence`
+-- `create U CLASS` or `set U.SLOT`
+abbrev pub change_text : Schema → ChangeKind → (unit class : ℕ) → List ℕ
+change_text s Create n class = codes "create " ++ decimal n ++ codes " " ++ class_name s class
+change_text s (Update slot) n class = codes "set " ++ decimal n ++ codes "." ++ slot_name s slot
+
+-- a change, or `quiescence`
 abbrev pub event_text : Schema → Event → List ℕ
-event_text s (Change kind n class) = change_word kind ++ decimal n ++ codes " " ++ class_name s class
+event_text s (Change kind n class) = change_text s kind n class
 event_text s Quiescence = codes "quiescence"
 
 -- an event, or `say` and the values

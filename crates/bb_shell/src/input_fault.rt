@@ -2,7 +2,7 @@
 
 ghost use Rattle.std.specs.Prelude.{◌≡◌, IfOk, string_bytes};
 ghost use Rattle.bb_shell.specs.declared.input_fault.InputFault.TheVariants.{Memory as OutOfMemory};
-ghost use Rattle.bb_shell.specs.Refusals.{refusal_text, bundle_text, part_word};
+ghost use Rattle.bb_shell.specs.Refusals.{bundle_text, fault_number, part_word, refusal_text};
 
 use bb_basis::Text;
 use bb_board::UnitsFault;
@@ -80,6 +80,20 @@ impl<T: Drop> From<AllocFailed<T>> for InputFault {
 }
 
 impl InputFault {
+    /// The number of the step that refuses, from 1 to 8. 3 and 4 are kept free, for parts of an input that come later.
+    pub fn number(&self) -> u8
+        ensures { result ≡ fault_number self.now }
+    {
+        match self {
+            InputFault::Schema(_) => 1,
+            InputFault::Units(_) => 2,
+            InputFault::Bundle(_) => 5,
+            InputFault::Verify { .. } => 6,
+            InputFault::Rule { .. } => 7,
+            InputFault::Memory => 8,
+        }
+    }
+
     /// The line that tells the refusal, without its line feed; empty for `Memory`.
     pub fn line(&self, alloc: Global) -> Result<String, AllocError>
         ensures { IfOk result (λ line. string_bytes line ≡ refusal_text self.now) }

@@ -60,6 +60,14 @@ fn add_event(text: &mut String, schema: &Schema, event: Event) -> Result<(), All
             let name = schema.class_name(class).unwrap_or("");
             writeln!(text, "create {unit} {name}")
         }
+        Event::Change {
+            kind: ChangeKind::Update(slot),
+            unit,
+            ..
+        } => {
+            let name = schema.slot_name(slot).unwrap_or("");
+            writeln!(text, "set {unit}.{name}")
+        }
         Event::Quiescence => writeln!(text, "quiescence"),
     }
 }

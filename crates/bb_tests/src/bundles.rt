@@ -24,6 +24,18 @@ pub(crate) fn idle_bundle(alloc: Global, headers: &[Header<'_>]) -> Result<Strin
     Ok(bundle)
 }
 
+/// A bundle of so many sources that end at once, `s0` and on, each on units of the class.
+pub(crate) fn numbered_bundle(alloc: Global, count: u32, class: &str) -> Result<String, Fail> {
+    let mut bundle = String::new(alloc);
+    for number in 0..count {
+        write!(
+            bundle,
+            "source s{number} {class} 1\nwhen create {class}\ndo {IDLE}\n"
+        )?;
+    }
+    Ok(bundle)
+}
+
 /// The hex digits of a code of one local.
 pub(crate) fn code(alloc: Global, texts: &[&str], ops: &[Op]) -> Result<String, Fail> {
     let mut kept = Vec::new(alloc);

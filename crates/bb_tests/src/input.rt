@@ -1,7 +1,7 @@
 //! What the tests hand in, and what comes of it.
 
 use bb_shell::{Finish, Pipe, run_texts};
-use std::alloc::Global;
+use std::alloc::{AllocError, Global};
 use std::test::Fail;
 
 /// A schema with one class.
@@ -50,6 +50,8 @@ pub(crate) struct Outcome {
     pub finish: Option<Finish>,
     /// The line of the refusal, empty where there was none.
     pub refusal: String,
+    /// The number of the refusal, `None` where there was none.
+    pub number: Option<u8>,
     /// What was written.
     pub trace: String,
 }
@@ -72,12 +74,43 @@ pub(crate) fn run_input(alloc: Global, input: Input<'_>) -> Result<Outcome, Fail
         Ok(finish) => Ok(Outcome {
             finish: Some(finish),
             refusal: String::new(alloc),
+            number: None,
             trace,
         }),
         Err(fault) => Ok(Outcome {
             finish: None,
             refusal: fault.line(alloc)?,
+            number: Some(fault.number()),
             trace,
         }),
     }
+}
+
+/// The parts of a document with a list of numbered entries: each is `open`, its number and `close`.
+#[derive(Drop)]
+pub(crate) struct Listing<'a> {
+    pub front: &'a str,
+    pub open: &'a str,
+    pub close: &'a str,
+    pub back: &'a str,
+}
+
+/// A document of so many entries.
+pub(crate) fn document_of(
+    alloc: Global,
+    listing: &Listing,
+    count: u32,
+) -> Result<String, AllocError> {
+    let mut text = String::from_str(alloc, listing.front)?;
+    for number in 0..count {
+        if number > 0 {
+            text.push_str(",")?;
+        }
+        text.push_str(listing.open)?;
+        let digits = format!(in alloc; "{number}")?;
+        text.push_str(digits.as_str())?;
+        text.push_str(listing.close)?;
+    }
+    text.push_str(listing.back)?;
+    Ok(text)
 }

@@ -8,6 +8,8 @@ mod first_run;
 #[cfg(test)]
 mod input;
 #[cfg(test)]
+mod limits;
+#[cfg(test)]
 mod outputs;
 #[cfg(test)]
 mod refusals;
@@ -23,3 +25,5 @@ mod schema_limits;
 mod schemas;
 #[cfg(test)]
 mod traces;
+#[cfg(test)]
+mod unit_values;

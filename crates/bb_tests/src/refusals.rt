@@ -1,15 +1,15 @@
 //! Inputs that are refused: the line of each, and that nothing is written.
 
-use crate::bundles::{IDLE, code, hailing, idle_bundle};
+use crate::bundles::{IDLE, code, hailing, idle_bundle, numbered_bundle};
 use crate::input::{FIRST, HAIL, Input, NOTE_SCHEMA, ONE_NOTE, run_input};
 use bb_code::Op::{self, Done, PushText, Say};
-use bb_shell::Finish;
+use bb_shell::{Finish, InputFault};
 use std::alloc::Global;
 use std::fmt::Write;
 use std::test::Fail;
 
 /// The line of an input's refusal, or what is wrong where the run began or wrote something.
-fn refusal(alloc: Global, input: Input<'_>) -> Result<String, Fail> {
+pub(crate) fn refusal(alloc: Global, input: Input<'_>) -> Result<String, Fail> {
     let outcome = run_input(alloc, input)?;
     if outcome.finish.is_some() {
         return Ok(String::from_str(alloc, "it ran")?);
@@ -21,7 +21,7 @@ fn refusal(alloc: Global, input: Input<'_>) -> Result<String, Fail> {
 }
 
 /// The line of the refusal of a bundle over one note.
-fn bundle_refusal(alloc: Global, bundle: &str) -> Result<String, Fail> {
+pub(crate) fn bundle_refusal(alloc: Global, bundle: &str) -> Result<String, Fail> {
     refusal(alloc, Input { bundle, ..FIRST })
 }
 
@@ -262,14 +262,8 @@ fn clauses_before_names(rt: HostRuntime) -> Result<(), Fail> {
 }
 
 /// A bundle of so many sources, `s0` and on, and one more of a name.
-fn many_sources(alloc: Global, count: usize, last: &str) -> Result<String, Fail> {
-    let mut bundle = String::new(alloc);
-    for number in 0..count {
-        write!(
-            bundle,
-            "source s{number} focus 1\nwhen create focus\ndo {IDLE}\n"
-        )?;
-    }
+fn many_sources(alloc: Global, count: u32, last: &str) -> Result<String, Fail> {
+    let mut bundle = numbered_bundle(alloc, count, "focus")?;
     let last = idle_bundle(alloc, &[(last, "note", "1")])?;
     bundle.push_str(&last)?;
     Ok(bundle)
@@ -387,5 +381,52 @@ fn steps_over_all_sources(rt: HostRuntime) -> Result<(), Fail> {
             "{bundle}"
         );
     }
+    Ok(())
+}
+
+/// A source whose code is not accepted.
+const NOT_ACCEPTED: &str =
+    "source hail note 1\nwhen create note\ndo 4242430101000000000000000000022e2e\n";
+
+/// The number of an input's refusal, or 0, and its line.
+fn numbered_refusal(alloc: Global, input: Input<'_>) -> Result<String, Fail> {
+    let outcome = run_input(alloc, input)?;
+    let number = outcome.number.unwrap_or(0);
+    let line = outcome.refusal;
+    Ok(format!(in alloc; "{number} {line}")?)
+}
+
+// Each refusal has the number of the step that refuses.
+#[test]
+fn numbers_of_refusals(rt: HostRuntime) -> Result<(), Fail> {
+    for (schema, units, bundle, line) in [
+        ("", ONE_NOTE, HAIL, "1 refused schema 1"),
+        (NOTE_SCHEMA, "", HAIL, "2 refused units 1"),
+        (NOTE_SCHEMA, ONE_NOTE, "x", "5 refused bundle 1 1"),
+        (
+            NOTE_SCHEMA,
+            ONE_NOTE,
+            NOT_ACCEPTED,
+            "6 refused verify hail do 1 4",
+        ),
+        ("{}", "{}", HAIL, "7 refused rule hail 5"),
+    ] {
+        let input = Input {
+            schema,
+            units,
+            bundle,
+            ..FIRST
+        };
+        assert_eq!(rt; numbered_refusal(rt.alloc(), input)?.as_str(), line);
+    }
+    Ok(())
+}
+
+// What is not refused has no number, and a want of memory has no line.
+#[test]
+fn numbers_without_lines(rt: HostRuntime) -> Result<(), Fail> {
+    assert_eq!(rt; run_input(rt.alloc(), FIRST)?.number, None);
+    assert_eq!(rt; InputFault::Memory.number(), 8);
+    assert_eq!(rt; InputFault::Memory.line(rt.alloc())?.as_str(), "");
     Ok(())
 }

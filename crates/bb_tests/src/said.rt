@@ -7,7 +7,7 @@ use std::alloc::Global;
 use std::test::Fail;
 
 /// The trace of one note and a code of so many ops in a row, which says these lines.
-fn trace_of(alloc: Global, steps: usize, said: &str) -> Result<String, Fail> {
+pub(crate) fn trace_of(alloc: Global, steps: usize, said: &str) -> Result<String, Fail> {
     Ok(format!(in alloc;
         "create 1 note\n\
         trigger 1 hail unit 1 rating 100\n\

@@ -1,32 +1,9 @@
 //! Documents at the limits of a schema, and one entry past them.
 
+use crate::input::{Listing, document_of};
 use bb_schema::{Schema, SchemaFault};
 use std::alloc::{AllocError, Global};
 use std::test::Fail;
-
-/// The parts of a document with a list of numbered entries: each is `open`, its number and `close`.
-#[derive(Drop)]
-struct Listing<'a> {
-    front: &'a str,
-    open: &'a str,
-    close: &'a str,
-    back: &'a str,
-}
-
-fn document_of(alloc: Global, listing: &Listing, count: u32) -> Result<String, AllocError> {
-    let mut text = String::from_str(alloc, listing.front)?;
-    for number in 0..count {
-        if number > 0 {
-            text.push_str(",")?;
-        }
-        text.push_str(listing.open)?;
-        let digits = format!(in alloc; "{number}")?;
-        text.push_str(digits.as_str())?;
-        text.push_str(listing.close)?;
-    }
-    text.push_str(listing.back)?;
-    Ok(text)
-}
 
 /// Whether a list of `count` entries is read.
 fn is_read(alloc: Global, listing: &Listing, count: u32) -> Result<bool, AllocError> {
@@ -101,7 +78,8 @@ fn links(rt: HostRuntime) -> Result<(), Fail> {
         front: r#"{"classes":[{"name":"c","slots":["#,
         open: r#"{"name":"s"#,
         close: r#"","kind":"int"}"#,
-        back: r#"],"links":[{"name":"x","to":"c","many":true,"inverse":"y"},{"name":"y","to":"c","many":true,"inverse":"x"}]}]}"#,
+        back: r#"],"links":[{"name":"x","to":"c","many":true,"inverse":"y"},
+                            {"name":"y","to":"c","many":true,"inverse":"x"}]}]}"#,
     };
     assert!(rt; is_read(rt.alloc(), &listing, 62)?);
     assert!(rt; is_over(rt.alloc(), &listing, 63)?);

@@ -83,7 +83,7 @@ fn first_faults(rt: HostRuntime) -> Result<(), Fail> {
         (r#"{"units":[{"class":"note"}]}"#, 2),
         (r#"{"units":[{"name":1,"class":"note"}]}"#, 2),
         (r#"{"units":[{"name":"a","class":1}]}"#, 2),
-        (r#"{"units":[{"name":"a","class":"note","slots":{}}]}"#, 2),
+        (r#"{"units":[{"name":"a","class":"note","slots":null}]}"#, 2),
         (r#"{"units":[{"name":"a","class":"x"}]}"#, 3),
         (
             r#"{"units":[{"name":"a","class":"note"},{"name":"a","class":"word"}]}"#,

@@ -1,4 +1,5 @@
 use Rattle.std.proofs.Common.{refl}
+use Rattle.bb_main.specs.declared.serving.TheConstants.{MEMORY}
 use Rattle.bb_main.proofs.ServeLemmas.{serves-long, serves-nothing}
 use Rattle.bb_main.proofs.serving.serve.Goals as goal
 
@@ -14,4 +15,4 @@ returns-in-Err-Limit-clause-too_long g c = λ _. rw c.line.ensures at c.write_re
 
 pub returns-in-Err-Memory-clause-answer : goal.returns-in-Err-Memory-clause-answer
 returns-in-Err-Memory-clause-answer g c =
-    rw (c.read_input.ensures.failed, c.in-Err-Memory.is, c.in-Err-Memory.field-0-is) (serves-nothing c.args.limit c.args.floor (g.R.In.remaining c.args.reader.now) (g.O.Out.taken c.args.writer.now) 5 refl)
+    rw (c.read_input.ensures.failed, c.in-Err-Memory.is, c.in-Err-Memory.field-0-is) (serves-nothing c.args.limit c.args.floor (g.R.In.remaining c.args.reader.now) (g.O.Out.taken c.args.writer.now) MEMORY refl)

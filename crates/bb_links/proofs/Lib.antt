@@ -1,0 +1,8 @@
+pub mod PairLemmas
+pub mod CutLemmas
+pub mod KeptLemmas
+pub mod FitLemmas
+pub mod StampLemmas
+pub mod ChangeLemmas
+pub mod LayoutLemmas
+mod Rows

@@ -1,0 +1,16 @@
+//! The links of a blackboard: for each couple of link slots which units are linked, in order of addition. The board
+//! changes them and reads them.
+#![tactic(auto)]
+
+mod couple;
+mod couples;
+mod layout;
+mod pairs;
+mod partners;
+mod taken;
+#[cfg(test)]
+mod tests;
+
+pub use bb_schema::UnitId;
+pub use couples::Couples;
+pub use taken::Taken;

@@ -1,0 +1,129 @@
+use super::*;
+use bb_schema::{CoupleId, Schema, SlotId};
+use std::alloc::Global;
+use std::fmt::Write;
+use std::test::Fail;
+
+/// Slots 4 and 5 are `mate` and `mate_of`, 6 and 7 `parts` and `whole`, 8 and 9 `knows` and `known_by`.
+const SCHEMA: &str = r#"{"classes":[{"name":"thing","links":[
+{"name":"mate","to":"thing","many":false,"inverse":"mate_of"},
+{"name":"mate_of","to":"thing","many":false,"inverse":"mate"},
+{"name":"parts","to":"thing","many":true,"inverse":"whole"},
+{"name":"whole","to":"thing","many":false,"inverse":"parts"},
+{"name":"knows","to":"thing","many":true,"inverse":"known_by"},
+{"name":"known_by","to":"thing","many":true,"inverse":"knows"}]}]}"#;
+
+const MATE: CoupleId = 0;
+
+const PARTS: CoupleId = 1;
+
+const KNOWS: CoupleId = 2;
+
+fn no_links(alloc: Global) -> Result<Couples, Fail> {
+    let schema = Schema::read(alloc, SCHEMA)?;
+    Ok(Couples::new(alloc, &schema)?)
+}
+
+/// Links two units, where the couple is there.
+fn link(couples: &mut Couples, couple: CoupleId, a: UnitId, b: UnitId) -> Result<Taken, Fail> {
+    if couple as usize >= couples.count() {
+        return Ok(Taken::nothing());
+    }
+    Ok(couples.link(couple, a, b)?)
+}
+
+fn unlink(couples: &mut Couples, couple: CoupleId, a: UnitId, b: UnitId) -> bool {
+    (couple as usize) < couples.count() && couples.unlink(couple, a, b)
+}
+
+/// The links of units 1 to 4 by a slot.
+fn shown(alloc: Global, couples: &Couples, slot: SlotId) -> Result<String, Fail> {
+    let mut text = String::new(alloc);
+    for unit in 1..5 {
+        for partner in couples.ends(unit, slot) {
+            write!(text, "{unit}-{partner} ")?;
+        }
+    }
+    Ok(text)
+}
+
+/// Couples with these pairs, which were added one after another.
+fn linked(alloc: Global, couple: CoupleId, pairs: &[(UnitId, UnitId)]) -> Result<Couples, Fail> {
+    let mut couples = no_links(alloc)?;
+    for (a, b) in pairs {
+        link(&mut couples, couple, *a, *b)?;
+    }
+    Ok(couples)
+}
+
+#[test]
+fn link_displaces_both(rt: HostRuntime) -> Result<(), Fail> {
+    let mut couples = linked(rt.alloc(), MATE, &[(1, 2), (3, 4)])?;
+    let taken = link(&mut couples, MATE, 1, 4)?;
+    assert_eq!(rt;
+        taken,
+        Taken {
+            first: Some((1, 2)),
+            second: Some((3, 4)),
+            added: true
+        }
+    );
+    let mates = shown(rt.alloc(), &couples, 4)?;
+    assert_eq!(rt; mates.as_str(), "1-4 ");
+    let inverse = shown(rt.alloc(), &couples, 5)?;
+    assert_eq!(rt; inverse.as_str(), "4-1 ");
+    Ok(())
+}
+
+#[test]
+fn links_that_change_nothing(rt: HostRuntime) -> Result<(), Fail> {
+    let mut couples = linked(rt.alloc(), MATE, &[(1, 4)])?;
+    assert_eq!(rt; link(&mut couples, MATE, 1, 4)?, Taken::nothing());
+    assert!(rt; !unlink(&mut couples, MATE, 2, 3));
+    let mates = shown(rt.alloc(), &couples, 4)?;
+    assert_eq!(rt; mates.as_str(), "1-4 ");
+    assert!(rt; unlink(&mut couples, MATE, 1, 4));
+    assert_eq!(rt; couples.one(1, 4), None);
+    Ok(())
+}
+
+#[test]
+fn one_of_many(rt: HostRuntime) -> Result<(), Fail> {
+    let mut couples = linked(rt.alloc(), PARTS, &[(1, 3), (2, 4), (1, 2)])?;
+    let taken = link(&mut couples, PARTS, 1, 4)?;
+    assert_eq!(rt;
+        taken,
+        Taken {
+            first: None,
+            second: Some((2, 4)),
+            added: true
+        }
+    );
+    let parts = shown(rt.alloc(), &couples, 6)?;
+    assert_eq!(rt; parts.as_str(), "1-3 1-2 1-4 ");
+    assert_eq!(rt; couples.one(1, 6), Some(3));
+    assert_eq!(rt; couples.one(4, 7), Some(1));
+    assert_eq!(rt; couples.one(1, 7), None);
+    Ok(())
+}
+
+#[test]
+fn a_unit_is_forgotten(rt: HostRuntime) -> Result<(), Fail> {
+    let mut couples = linked(rt.alloc(), KNOWS, &[(1, 1), (2, 1), (1, 3), (2, 3), (4, 2)])?;
+    link(&mut couples, MATE, 1, 2)?;
+    couples.forget(1);
+    let known = shown(rt.alloc(), &couples, 8)?;
+    assert_eq!(rt; known.as_str(), "2-3 4-2 ");
+    let inverse = shown(rt.alloc(), &couples, 9)?;
+    assert_eq!(rt; inverse.as_str(), "2-4 3-2 ");
+    assert_eq!(rt; couples.one(2, 5), None);
+    Ok(())
+}
+
+#[test]
+fn slots_that_are_no_links(rt: HostRuntime) -> Result<(), Fail> {
+    let couples = linked(rt.alloc(), MATE, &[(1, 2)])?;
+    assert_eq!(rt; couples.one(1, 0), None);
+    assert_eq!(rt; couples.one(1, 10), None);
+    Ok(())
+}

@@ -1,0 +1,13 @@
+//! The program of `bb` again: its stored input is refused, so that the gate sees a status other than 0.
+#![tactic(auto)]
+
+use bb_main::{Intake, program};
+use bb_shell::Pipe;
+use std::io;
+use std::process::ExitCode;
+
+fn main(rt: HostRuntime) -> ExitCode {
+    let mut reader = Intake::new(rt.stdin());
+    let mut writer = Pipe::new(io::writer(&rt));
+    ExitCode::from(program(rt.alloc(), &mut reader, &mut writer))
+}
