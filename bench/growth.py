@@ -98,6 +98,25 @@ def units(name, count):
     yield "]}\n"
 
 
+SLOTS = 64
+
+
+def values(name, count):
+    """Units of a class of 64 slots, each with a value for every eighth of them."""
+    slots = ",".join('{"name":"s%d","kind":"int"}' % i for i in range(SLOTS))
+    given = ",".join('"s%d":%d' % (i, i) for i in range(0, SLOTS, 8))
+    yield '%%schema\n{"classes":[{"name":"note","slots":[%s]}]}\n%%units\n{"units":[' % slots
+    yield from separated('{"name":"%s","class":"note","slots":{%s}}' % (name(i), given) for i in range(count))
+    yield "]}\n"
+
+
+def values_of_no_slot(name, count):
+    """One unit with values under so many names that no slot has."""
+    yield '%schema\n{"classes":[{"name":"note"}]}\n%units\n{"units":[{"name":"a","class":"note","slots":{'
+    yield from separated('"%s":0' % name(i) for i in range(count))
+    yield "}}]}\n"
+
+
 def classes(name, count):
     yield '%schema\n{"classes":['
     yield from separated('{"name":"%s"}' % name(i) for i in range(count))
@@ -141,6 +160,8 @@ def short(number):
 
 KINDS = [
     ("Units", "units", units, [("others", other), ("colliding", colliding)], 4_096, 65_536),
+    ("Units with values in their slots", "units", values, [("short", short)], 4_096, 65_536),
+    ("Values of no slot", "values", values_of_no_slot, [("others", other), ("colliding", colliding)], 12_500, 400_000),
     ("Class entries", "classes", classes, [("others", other), ("colliding", colliding)], 10_000, 320_000),
     ("Links to a class of many slots", "slots", inverses, [("short", short)], 18_750, 300_000),
     ("The same, with longer names", "slots", inverses, [("others", other), ("colliding", colliding)], 10_000, 160_000),

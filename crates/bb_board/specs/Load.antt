@@ -37,7 +37,8 @@ with_unit w class = if is_full w.units then Err Full else Ok (after_create w cla
 
 -- the name is that of an ordinary slot of the class
 abbrev pub is_ordinary_in : Schema → ℕ → List ℕ → Bool
-is_ordinary_in schema class name = option_map_or (λ slot. is_some (default_of schema slot)) (slot_named schema class name) false
+is_ordinary_in schema class name =
+    option_map_or (λ slot. is_some (default_of schema slot)) (slot_named schema class name) false
 
 -- each value is given for an ordinary slot of the class
 abbrev pub are_slots : Schema → ℕ → List GivenDeclaration → Bool
@@ -52,7 +53,8 @@ unfoldable pub value_in : Schema → SlotKind → ValueDeclaration → Option Va
 value_in schema kinds.Int (int_value z) = Some (values.Int z)
 value_in schema kinds.Text (text_value t) = Some (values.Text t)
 value_in schema kinds.Bool (bool_value b) = Some (values.Bool b)
-value_in schema (kinds.Label set) (text_value t) = option_map (λ label. values.Label set label) (label_named schema set t)
+value_in schema (kinds.Label set) (text_value t) =
+    option_map (λ label. values.Label set label) (label_named schema set t)
 value_in schema kinds.Interval (interval_value low high) = Some (values.Interval low high)
 value_in schema _ _ = None
 

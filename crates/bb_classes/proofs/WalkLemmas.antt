@@ -16,8 +16,8 @@ use Rattle.bb_classes.proofs.OwnerLemmas.{classes_own}
 use Rattle.bb_classes.proofs.SlotNameLemmas.{classes_named}
 use Rattle.bb_classes.proofs.CouplingLemmas.{walk_pairs}
 
-pub walk_fits : (entries : List LabelSetDeclaration) (classes : List ClassDeclaration) (sets : List LabelSet) (s : SchemaDraft)
-    → All HasOrderedDefaults classes → try_fold label_set_after [] entries ≡ Ok sets
+pub walk_fits : (entries : List LabelSetDeclaration) (classes : List ClassDeclaration) (sets : List LabelSet)
+    (s : SchemaDraft) → All HasOrderedDefaults classes → try_fold label_set_after [] entries ≡ Ok sets
     → draft_of sets (focus ∷ classes) (focus ∷ classes) ≡ Ok s → IsWalked (record { label_sets = sets; draft = s })
 walk_fits entries classes sets s ordered named made =
     let all = focus ∷ classes in

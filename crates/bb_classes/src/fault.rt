@@ -1,4 +1,5 @@
-//! Why a document means no schema. `Schema::read` answers it.
+//! Why a document means no schema. `Walked::of` answers it, and `Schema::read` of `bb_schema`, from which the faults of
+//! the form and of spaces come.
 
 ghost use Rattle.std.specs.Prelude.{◌≡◌};
 ghost use Rattle.bb_classes.specs.declared.fault.SchemaFault.TheVariants.{Memory as OutOfMemory};

@@ -8,7 +8,8 @@ use Rattle.std.proofs.lemmas.List.Elements.{filter_agree, filter-append}
 use Rattle.bb_schema.specs.declared.couple.Side.{Side}
 use Rattle.bb_schema.specs.declared.couple.Side.TheVariants.{A, B}
 use Rattle.bb_links.specs.declared.couple.Singular.{Singular}
-use Rattle.bb_links.specs.Pairs.{near, far, partners, same_pair, has_pair, without_pair, without_old, is_singular, old_pair}
+use Rattle.bb_links.specs.Pairs.{near, far, same_pair, has_pair, without_pair, without_old, is_singular, old_pair}
+use Rattle.bb_links.specs.Links.{partners}
 use Rattle.bb_links.specs.Couples.{Couple, no_pairs, linked, unlinked, forgotten}
 use Rattle.bb_links.specs.Fits.{FitsCouple}
 use Rattle.bb_links.proofs.PairLemmas.{same_itself}

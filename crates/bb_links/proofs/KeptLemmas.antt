@@ -4,9 +4,10 @@ use Rattle.std.specs.List.{list_any}
 use Rattle.std.proofs.lemmas.Bool.{eqb-true, eqb-false, eq-eqb, or_parts}
 use Rattle.bb_schema.specs.declared.couple.Side.{Side}
 use Rattle.bb_schema.specs.declared.couple.Side.TheVariants.{A, B}
-use Rattle.bb_links.specs.declared.partners.Partners.{Partners}
-use Rattle.bb_links.specs.Pairs.{near, far, partners, pair_of, has_pair, without_pair}
-use Rattle.bb_links.specs.proving.Partners.{listed, one_more, one_less, none_left}
+use Rattle.bb_links.specs.declared.lists.Lists.{Lists}
+use Rattle.bb_links.specs.Pairs.{near, far, pair_of, has_pair, without_pair}
+use Rattle.bb_links.specs.Links.{partners}
+use Rattle.bb_links.specs.proving.Lists.{listed, one_more, one_less, none_left}
 use Rattle.bb_links.specs.proving.Kept.{opposite, Follows, without_at}
 use Rattle.bb_links.proofs.PairLemmas.{partners-without, partner_there}
 
@@ -18,12 +19,12 @@ list_put_and_taken m (k ∷ ks) absent =
     rw parts.0 (ap (λ js. k ∷ js) (list_put_and_taken m ks parts.1))
 
 -- a pair goes at a side
-pub follows_without : (side : Side) (p q : Partners) (pair : ℕ × ℕ) (pairs : List (ℕ × ℕ)) → Follows side p pairs → ((n : ℕ) → listed q.lists n ≡ one_less p.lists (near side pair) (far side pair) n) → Follows side q (without_pair pair pairs)
+pub follows_without : (side : Side) (p q : Lists) (pair : ℕ × ℕ) (pairs : List (ℕ × ℕ)) → Follows side p pairs → ((n : ℕ) → listed q.lists n ≡ one_less p.lists (near side pair) (far side pair) n) → Follows side q (without_pair pair pairs)
 follows_without side p q pair pairs follows less n =
     less n ∙ (ap (λ l. cond (n == near side pair) (filter (λ m. not (m == far side pair)) l) l) (follows n) ∙ sym (partners-without side n pair pairs))
 
 -- a pair was put on at side A, and is taken away again
-pub follows_again : (p q r : Partners) (a b : ℕ) (pairs : List (ℕ × ℕ)) → Follows A p pairs → has_pair (a, b) pairs ≡ false
+pub follows_again : (p q r : Lists) (a b : ℕ) (pairs : List (ℕ × ℕ)) → Follows A p pairs → has_pair (a, b) pairs ≡ false
     → ((n : ℕ) → listed q.lists n ≡ one_more p.lists a b n) → ((n : ℕ) → listed r.lists n ≡ one_less q.lists a b n) → Follows A r pairs
 follows_again p q r a b pairs follows absent more less n =
     less n ∙ (ap (λ l. cond (n == a) (filter (λ m. not (m == b)) l) l) (more n) ∙ (at (n == a) refl ∙ follows n))
@@ -54,7 +55,7 @@ partners-cut side n m (q ∷ qs) = at (near side q == n) refl (near side q == m)
     at false h true k false g later = rw (h, k, later, g) refl
     at false h false k d g later = rw (h, k, later) refl
 
-pub follows_cut : (side : Side) (p q : Partners) (n : ℕ) (pairs : List (ℕ × ℕ)) → Follows side p pairs → ((m : ℕ) → listed q.lists m ≡ none_left p.lists n m) → Follows side q (without_at side n pairs)
+pub follows_cut : (side : Side) (p q : Lists) (n : ℕ) (pairs : List (ℕ × ℕ)) → Follows side p pairs → ((m : ℕ) → listed q.lists m ≡ none_left p.lists n m) → Follows side q (without_at side n pairs)
 follows_cut side p q n pairs follows none m =
     none m ∙ (ap (λ l. cond (m == n) [] l) (follows m) ∙ sym (partners-cut side n m pairs))
 
@@ -68,6 +69,6 @@ far_of A n m = refl
 far_of B n m = refl
 
 -- one pair of a unit at a side goes at the other side
-pub follows_opposite : (side : Side) (p q : Partners) (n m : ℕ) (pairs after : List (ℕ × ℕ)) → Follows (opposite side) p pairs → after ≡ without_pair (pair_of side n m) pairs → ((k : ℕ) → listed q.lists k ≡ one_less p.lists m n k) → Follows (opposite side) q after
+pub follows_opposite : (side : Side) (p q : Lists) (n m : ℕ) (pairs after : List (ℕ × ℕ)) → Follows (opposite side) p pairs → after ≡ without_pair (pair_of side n m) pairs → ((k : ℕ) → listed q.lists k ≡ one_less p.lists m n k) → Follows (opposite side) q after
 follows_opposite side p q n m pairs after follows is less =
     rw is (follows_without (opposite side) p q (pair_of side n m) pairs follows (λ k. less k ∙ (ap (λ j. one_less p.lists j n k) (sym (near_of side n m)) ∙ ap (λ j. one_less p.lists (near (opposite side) (pair_of side n m)) j k) (sym (far_of side n m)))))

@@ -4,5 +4,6 @@ pub mod KeptLemmas
 pub mod FitLemmas
 pub mod StampLemmas
 pub mod ChangeLemmas
+pub mod StandingLemmas
 pub mod LayoutLemmas
 mod Rows

@@ -2,7 +2,8 @@
 use Rattle.std.proofs.Common.{◌≡◌, ℕ, true, false, List, [], ◌∷◌, Some, None, refl}
 use Rattle.bb_schema.specs.declared.couple.Side.TheVariants.{A, B}
 use Rattle.bb_links.specs.declared.couple.Singular.{Singular}
-use Rattle.bb_links.specs.Pairs.{partners, has_pair, without_pair, without_unit, taken_among, with_link}
+use Rattle.bb_links.specs.Pairs.{has_pair, without_pair, without_unit, taken_among, with_link}
+use Rattle.bb_links.specs.Links.{partners}
 
 one_to_one : Singular
 one_to_one = record { a = true; b = true }

@@ -5,7 +5,7 @@ use Rattle.bb_schema.specs.declared.couple.Side.{Side}
 use Rattle.bb_schema.specs.Schema.{Schema}
 use Rattle.bb_links.specs.declared.couple.Singular.{Singular}
 use Rattle.bb_links.specs.declared.taken.Taken.{Taken}
-use Rattle.bb_links.specs.Pairs.{partners, has_pair, without_pair, without_unit, taken_among, with_link}
+use Rattle.bb_links.specs.Pairs.{has_pair, without_pair, without_unit, taken_among, with_link}
 use Rattle.bb_links.specs.Layout.{singulars, slot_ends, end_among}
 
 -- which sides of a couple are singular, and its pairs in order of addition
@@ -34,10 +34,6 @@ end_of c slot = end_among c.ends slot
 -- the pairs of a couple
 abbrev pub pairs_of : Couples → ℕ → List (ℕ × ℕ)
 pairs_of c couple = option_map_or (λ k. k.pairs) (slice_get c.couples couple) []
-
--- the links of a unit by a slot: its partners in the couple's list, where the unit stands at the slot's side
-abbrev pub ends : Couples → ℕ → ℕ → List ℕ
-ends c n slot = option_map_or (λ e. partners e.1 n (pairs_of c e.0)) (end_of c slot) []
 
 -- a couple with other pairs
 abbrev pub with_pairs : Couple → List (ℕ × ℕ) → Couple

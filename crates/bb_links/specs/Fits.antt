@@ -1,13 +1,14 @@
 -- What holds of all couples at any time.
 use Rattle.std.specs.Prelude.{◌≡◌, ◌<◌, ◌≤◌, ℕ, filter, length, Some, IsTrue, All}
 use Rattle.bb_schema.specs.declared.couple.Side.{Side}
-use Rattle.bb_links.specs.Pairs.{same_pair, is_singular, partners}
+use Rattle.bb_links.specs.Pairs.{same_pair, is_singular}
+use Rattle.bb_links.specs.Links.{partners}
 use Rattle.bb_links.specs.Couples.{Couple, Couples, end_of}
 
 pub record FitsCouple (k : Couple) : Type 0 where
-  -- no pair stands twice
+  -- no pair occurs twice
   pub once : (p : ℕ × ℕ) → length (filter (same_pair p) k.pairs) ≤ 1
-  -- a unit has one partner at most where it stands at a singular side
+  -- a unit has one partner at most at a singular side
   pub single : (side : Side) (n : ℕ) → IsTrue (is_singular k.singular side) → length (partners side n k.pairs) ≤ 1
 
 pub record Fits (c : Couples) : Type 0 where

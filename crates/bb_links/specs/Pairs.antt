@@ -1,13 +1,13 @@
 -- The pairs of one couple of link slots, in order of addition, and each change of them (GBBopen Reference Manual, link
 -- slots).
-use Rattle.std.specs.Prelude.{ℕ, Bool, true, false, ◌==◌, ◌&&◌, ◌||◌, not, List, ◌∷◌, [], ◌++◌, map, filter, find, Option, Some, None, if◌then◌else◌}
+use Rattle.std.specs.Prelude.{ℕ, Bool, true, false, ◌==◌, ◌&&◌, ◌||◌, not, List, ◌∷◌, [], ◌++◌, filter, find, Option, Some, None, if◌then◌else◌}
 use Rattle.std.specs.List.{list_any}
 use Rattle.bb_schema.specs.declared.couple.Side.{Side}
 use Rattle.bb_schema.specs.declared.couple.Side.TheVariants.{A, B}
 use Rattle.bb_links.specs.declared.taken.Taken.{Taken}
 use Rattle.bb_links.specs.declared.couple.Singular.{Singular}
 
--- the unit of a pair that stands at a side
+-- the unit of a pair at a side
 abbrev pub near : Side → ℕ × ℕ → ℕ
 near A p = p.0
 near B p = p.1
@@ -17,14 +17,10 @@ abbrev pub far : Side → ℕ × ℕ → ℕ
 far A p = p.1
 far B p = p.0
 
--- the pair of a unit that stands at a side and its partner
+-- the pair of a unit at a side and its partner
 abbrev pub pair_of : Side → ℕ → ℕ → ℕ × ℕ
 pair_of A n m = (n, m)
 pair_of B n m = (m, n)
-
--- the partners of a unit that stands at a side, in the order of the pairs
-abbrev pub partners : Side → ℕ → List (ℕ × ℕ) → List ℕ
-partners side n pairs = map (far side) (filter (λ p. near side p == n) pairs)
 
 -- whether two pairs are the same
 abbrev pub same_pair : ℕ × ℕ → ℕ × ℕ → Bool
@@ -38,16 +34,16 @@ has_pair p pairs = list_any (same_pair p) pairs
 abbrev pub without_pair : ℕ × ℕ → List (ℕ × ℕ) → List (ℕ × ℕ)
 without_pair p pairs = filter (λ q. not (same_pair p q)) pairs
 
--- the pairs without those in which a unit stands
+-- the pairs without those of a unit
 abbrev pub without_unit : ℕ → List (ℕ × ℕ) → List (ℕ × ℕ)
 without_unit n pairs = filter (λ p. not (p.0 == n || p.1 == n)) pairs
 
--- whether a unit has one partner at most where it stands at a side
+-- whether a unit has one partner at most at a side
 abbrev pub is_singular : Singular → Side → Bool
 is_singular s A = s.a
 is_singular s B = s.b
 
--- the pair of a unit that stands at a singular side
+-- the pair of a unit at a singular side
 abbrev pub old_pair : Singular → Side → ℕ → List (ℕ × ℕ) → Option (ℕ × ℕ)
 old_pair s side n pairs = if is_singular s side then find (λ p. near side p == n) pairs else None
 
@@ -62,8 +58,7 @@ taken_among s a b pairs =
     if has_pair (a, b) pairs then record { first = None; second = None; added = false }
     else record { first = old_pair s A a pairs; second = old_pair s B b pairs; added = true }
 
--- the pairs after a link: a pair that is there changes nothing; otherwise the old pair of each unit at a singular side
--- goes, first that of the unit at side A, and the new pair comes last
+-- the pairs after a link: a pair that is there changes nothing; else each unit's old pair goes, and the new comes last
 abbrev pub with_link : Singular → ℕ → ℕ → List (ℕ × ℕ) → List (ℕ × ℕ)
 with_link s a b pairs =
     if has_pair (a, b) pairs then pairs

@@ -1,13 +1,14 @@
 //! One couple of link slots. `couples.rt` keeps one for each couple of the schema.
 
 ghost use Rattle.std.specs.Prelude.{◌≡◌, ◌++◌, ◌∷◌, ℕ, List, [], map, IfOk, OnOk, OnErr, false};
-ghost use Rattle.bb_links.specs.Pairs.{partners, pair_of, has_pair, without_pair, without_old, old_pair, is_singular, taken_among};
+ghost use Rattle.bb_links.specs.Pairs.{pair_of, has_pair, without_pair, without_old, old_pair, is_singular, taken_among};
+ghost use Rattle.bb_links.specs.Links.{partners};
 ghost use Rattle.bb_links.specs.Couples.{with_pairs, no_pairs, linked, unlinked, forgotten};
-ghost use Rattle.bb_links.specs.proving.Partners.{listed, one_more};
+ghost use Rattle.bb_links.specs.proving.Lists.{listed, one_more};
 ghost use Rattle.bb_links.specs.proving.Kept.{Follows, opposite, without_each, without_at};
 
+use crate::lists::Lists;
 use crate::pairs::Pairs;
-use crate::partners::Partners;
 use crate::taken::Taken;
 use bb_schema::{Side, UnitId};
 use std::alloc::{AllocError, Global};
@@ -25,8 +26,8 @@ pub(crate) struct Singular {
 pub(crate) struct Couple {
     singular: Singular,
     pairs: Pairs,
-    at_a: Partners,
-    at_b: Partners,
+    at_a: Lists,
+    at_b: Lists,
 }
 
 impl Model for Couple {
@@ -41,7 +42,7 @@ impl Model for Couple {
     ghost invariant = { λ c. AreKept c.pairs c.at_a c.at_b };
 }
 
-/// The pair of a unit that stands at a side and its partner.
+/// The pair of a unit at a side and its partner.
 fn pair_of(side: Side, unit: UnitId, partner: UnitId) -> (UnitId, UnitId)
     ensures { result ≡ pair_of side unit partner }
 {
@@ -52,7 +53,7 @@ fn pair_of(side: Side, unit: UnitId, partner: UnitId) -> (UnitId, UnitId)
 }
 
 /// Appends a pair, and its unit at side A to the partners of the other. An error changes nothing.
-fn append(pairs: &mut Pairs, at_b: &mut Partners, a: UnitId, b: UnitId) -> Result<(), AllocError>
+fn append(pairs: &mut Pairs, at_b: &mut Lists, a: UnitId, b: UnitId) -> Result<(), AllocError>
     requires { has_pair (a, b) pairs.old ≡ false }
     ensures pairs { OnOk result (pairs.new ≡ pairs.old ++ (a, b) ∷ []) }
     ensures partners { OnOk result ((n : ℕ) → listed at_b.new.lists n ≡ one_more at_b.old.lists b a n) }
@@ -69,8 +70,8 @@ fn append(pairs: &mut Pairs, at_b: &mut Partners, a: UnitId, b: UnitId) -> Resul
     }
 }
 
-/// Takes the pairs of a unit that stands at a side and of some partners away, and the unit from these partners' own.
-fn cut_each(pairs: &mut Pairs, far: &mut Partners, side: Side, unit: UnitId, partners: &[UnitId])
+/// Takes the pairs of a unit at a side and of some partners away, and the unit from these partners' own.
+fn cut_each(pairs: &mut Pairs, far: &mut Lists, side: Side, unit: UnitId, partners: &[UnitId])
     requires { Follows (opposite side) far.old pairs.old }
     ensures pairs { pairs.new ≡ without_each side unit partners.now pairs.old }
     ensures far { Follows (opposite side) far.new pairs.new }
@@ -81,8 +82,8 @@ fn cut_each(pairs: &mut Pairs, far: &mut Partners, side: Side, unit: UnitId, par
     }
 }
 
-/// Takes all pairs of a unit that stands at a side away.
-fn cut_all(pairs: &mut Pairs, near: &mut Partners, far: &mut Partners, side: Side, unit: UnitId)
+/// Takes all pairs of a unit at a side away.
+fn cut_all(pairs: &mut Pairs, near: &mut Lists, far: &mut Lists, side: Side, unit: UnitId)
     requires near { Follows side near.old pairs.old }
     requires far { Follows (opposite side) far.old pairs.old }
     ensures pairs { pairs.new ≡ without_at side unit pairs.old }
@@ -101,12 +102,12 @@ impl Couple {
         Couple {
             singular,
             pairs: Pairs::new(alloc),
-            at_a: Partners::new(alloc),
-            at_b: Partners::new(alloc),
+            at_a: Lists::new(alloc),
+            at_b: Lists::new(alloc),
         }
     }
 
-    /// The partners of a unit that stands at a side, in order of addition.
+    /// The partners of a unit at a side, in order of addition.
     pub(crate) fn partners(&self, side: Side, unit: UnitId) -> &[UnitId]
         ensures { result.now ≡ partners side unit self.now.pairs }
     {
@@ -126,7 +127,7 @@ impl Couple {
         }
     }
 
-    /// The pair of a unit that stands at a singular side.
+    /// The pair of a unit at a singular side.
     fn old_pair(&self, side: Side, unit: UnitId) -> Option<(UnitId, UnitId)>
         ensures { result ≡ old_pair self.now.singular side unit self.now.pairs }
     {
@@ -205,7 +206,7 @@ impl Couple {
         true
     }
 
-    /// Takes each pair away in which a unit stands.
+    /// Takes away each pair of a unit.
     pub(crate) fn forget(&mut self, unit: UnitId)
         ensures { self.new ≡ forgotten unit self.old }
     {

@@ -1,13 +1,17 @@
 //! All couples of link slots. The board changes them and reads them.
 
-ghost use Rattle.std.specs.Prelude.{◌≡◌, ◌<◌, ℕ, Some, IfOk, OnOk, OnErr, length, map, slice_get};
+ghost use Rattle.std.specs.Prelude.{◌≡◌, ◌<◌, ℕ, Some, IfOk, OnOk, OnErr, true, length, map, slice_get};
 ghost use Rattle.bb_schema.specs.Couples.{couples, couple_of};
-ghost use Rattle.bb_links.specs.Couples.{no_links, end_of, ends, taken, are_linked, forgotten, after_link, after_unlink, after_forget};
+ghost use Rattle.bb_links.specs.Couples.{no_links, end_of, taken, are_linked, forgotten, after_link, after_unlink, after_forget};
+ghost use Rattle.bb_links.specs.Links.{ends};
 ghost use Rattle.bb_links.specs.Layout.{end_among};
 ghost use Rattle.bb_links.specs.Fits.{Fits};
+ghost use Rattle.bb_links.specs.proving.Lists.{listed};
+ghost use Rattle.bb_links.specs.proving.Standing.{is_in, HasEach};
 
 use crate::couple::Couple;
 use crate::layout::{couples_of, slot_ends};
+use crate::lists::Lists;
 use crate::taken::Taken;
 use bb_basis::Memory;
 use bb_schema::{CoupleId, Schema, Side, SlotId, UnitId};
@@ -19,7 +23,10 @@ use std::marker::Model;
 #[derive(Drop)]
 pub struct Couples {
     couples: Vec<Couple>,
+    // By slot, the couple and the side of a link slot.
     ends: Vec<Option<(CoupleId, Side)>>,
+    // The couples in which each unit may have pairs, so that a unit is forgotten without a walk over all couples.
+    standing: Lists,
 }
 
 impl Model for Couples {
@@ -29,9 +36,9 @@ impl Model for Couples {
 
     ghost view = { λ c. record { couples = c.couples.items; ends = c.ends.items } };
 
-    ghost use Rattle.bb_links.specs.Fits.{Fits};
+    ghost use Rattle.bb_links.specs.proving.Standing.{AreKnown};
 
-    ghost invariant = { λ c. Fits (record { couples = c.couples.items; ends = c.ends.items }) };
+    ghost invariant = { λ c. AreKnown c.couples.items c.ends.items c.standing };
 }
 
 /// The couple and the side of the slot of a number, if it is a link slot.
@@ -41,11 +48,36 @@ fn end_at(ends: &[Option<(CoupleId, Side)>], slot: SlotId) -> Option<(CoupleId, 
     *ends.get(slot as usize)?
 }
 
-/// Takes each pair away in which a unit stands, in some couples.
-fn forget_each(couples: &mut Vec<Couple>, unit: UnitId)
+/// Notes that a unit may have a pair in a couple. An error changes nothing.
+fn note(standing: &mut Lists, unit: UnitId, couple: CoupleId) -> Result<(), Memory>
+    ensures noted { OnOk result (is_in (listed standing.new.lists unit) couple ≡ true) }
+    ensures kept { (n : ℕ) (i : ℕ) →
+        is_in (listed standing.old.lists n) i ≡ true → is_in (listed standing.new.lists n) i ≡ true }
+{
+    let number = u64::from(couple);
+    if is_in(standing.of(unit), number) {
+        return Ok(());
+    }
+    standing.add(unit, number)
+}
+
+/// Whether a number is in a list.
+fn is_in(list: &[u64], number: u64) -> bool
+    ensures { result ≡ is_in list.now number }
+{
+    list.iter().any(|other| *other == number)
+}
+
+/// Takes away each pair of a unit, in couples that a list has: all in which it has a pair.
+fn forget_each(couples: &mut Vec<Couple>, unit: UnitId, list: &[u64])
+    requires { HasEach unit couples.old.items list.now }
     ensures { couples.new.items ≡ map (forgotten unit) couples.old.items }
 {
-    for index in 0..couples.len() {
+    for couple in list {
+        let index = *couple as usize;
+        if index >= couples.len() {
+            continue;
+        }
         couples[index].forget(unit);
     }
 }
@@ -60,6 +92,7 @@ impl Couples {
         Ok(Couples {
             couples: couples_of(alloc, schema)?,
             ends: slot_ends(alloc, schema)?,
+            standing: Lists::new(alloc),
         })
     }
 
@@ -71,14 +104,16 @@ impl Couples {
     }
 
     /// Links two units through a couple, the first at side A, and says what changed. Nothing does if they are linked.
-    /// Otherwise the old pair of each goes where it stands at a singular side, and the new pair comes last. An error
-    /// changes nothing.
+    /// Otherwise the old pair of each goes where its side is singular, and the new pair comes last. An error changes
+    /// nothing.
     pub fn link(&mut self, couple: CoupleId, a: UnitId, b: UnitId) -> Result<Taken, Memory>
         requires { couple < length self.old.couples }
         ensures taken { IfOk result (λ t. taken self.old couple a b ≡ Some t) }
         ensures linked { OnOk result (self.new ≡ after_link self.old couple a b) }
         ensures err { OnErr result (self.new ≡ self.old) }
     {
+        note(&mut self.standing, a, couple)?;
+        note(&mut self.standing, b, couple)?;
         self.couples[couple as usize].link(a, b)
     }
 
@@ -91,11 +126,12 @@ impl Couples {
         self.couples[couple as usize].unlink(a, b)
     }
 
-    /// Takes each pair away in which a unit stands, in all couples.
+    /// Takes away each pair of a unit, in all couples.
     pub fn forget(&mut self, unit: UnitId)
         ensures { self.new ≡ after_forget self.old unit }
     {
-        forget_each(&mut self.couples, unit);
+        let couples = self.standing.take(unit);
+        forget_each(&mut self.couples, unit, &couples);
     }
 
     /// The links of a unit by a slot, in order of addition. A slot that is no link slot has none.
@@ -115,8 +151,8 @@ impl Couples {
         self.ends(unit, slot).first().copied()
     }
 
-    /// Does nothing, and says what holds of the couples at any time: no pair stands twice in a couple; a unit has one
-    /// partner at most where it stands at a singular side; and the couple of each link slot is there.
+    /// Does nothing, and says what holds of the couples at any time: no pair occurs twice in a couple; a unit has one
+    /// partner at most at a singular side; and the couple of each link slot is there.
     pub fn fits(&self)
         ensures { Fits self.now }
     {

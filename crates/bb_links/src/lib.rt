@@ -5,8 +5,8 @@
 mod couple;
 mod couples;
 mod layout;
+mod lists;
 mod pairs;
-mod partners;
 mod taken;
 #[cfg(test)]
 mod tests;

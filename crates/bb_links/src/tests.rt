@@ -1,6 +1,6 @@
 use super::*;
 use bb_schema::{CoupleId, Schema, SlotId};
-use std::alloc::Global;
+use std::alloc::{AllocError, Global};
 use std::fmt::Write;
 use std::test::Fail;
 
@@ -125,5 +125,94 @@ fn slots_that_are_no_links(rt: HostRuntime) -> Result<(), Fail> {
     let couples = linked(rt.alloc(), MATE, &[(1, 2)])?;
     assert_eq!(rt; couples.one(1, 0), None);
     assert_eq!(rt; couples.one(1, 10), None);
+    Ok(())
+}
+
+/// The pairs of a couple as a plain list, changed as the definitions say.
+#[derive(Drop)]
+struct Plain {
+    single_a: bool,
+    single_b: bool,
+    pairs: Vec<(UnitId, UnitId)>,
+}
+
+impl Plain {
+    fn link(&mut self, a: UnitId, b: UnitId) -> Result<(), AllocError> {
+        if self.pairs.iter().any(|pair| pair.0 == a && pair.1 == b) {
+            return Ok(());
+        }
+        let (single_a, single_b) = (self.single_a, self.single_b);
+        self.pairs.retain(|pair| !(single_a && pair.0 == a) && !(single_b && pair.1 == b));
+        self.pairs.push((a, b))?;
+        Ok(())
+    }
+
+    fn unlink(&mut self, a: UnitId, b: UnitId) {
+        self.pairs.retain(|pair| pair.0 != a || pair.1 != b);
+    }
+
+    fn forget(&mut self, unit: UnitId) {
+        self.pairs.retain(|pair| pair.0 != unit && pair.1 != unit);
+    }
+
+    /// The links of units 1 to 4 from side A.
+    fn shown(&self, alloc: Global) -> Result<String, Fail> {
+        let mut text = String::new(alloc);
+        for unit in 1..5 {
+            for pair in &self.pairs {
+                if pair.0 == unit {
+                    write!(text, "{unit}-{} ", pair.1)?;
+                }
+            }
+        }
+        Ok(text)
+    }
+}
+
+/// Whether couples and a plain list agree after each of 300 changes, where `slot` is the couple's side A.
+fn agrees(alloc: Global, couple: CoupleId, slot: SlotId, plain: Plain) -> Result<bool, Fail> {
+    let mut plain = plain;
+    let mut couples = no_links(alloc)?;
+    let mut seed: u64 = 1;
+    for _ in 0..300 {
+        seed = seed
+            .wrapping_mul(6_364_136_223_846_793_005)
+            .wrapping_add(1_442_695_040_888_963_407);
+        let (a, b) = (1 + (seed >> 40) % 4, 1 + (seed >> 50) % 4);
+        match (seed >> 60) % 8 {
+            0 => {
+                couples.forget(a);
+                plain.forget(a);
+            }
+            1 | 2 => {
+                unlink(&mut couples, couple, a, b);
+                plain.unlink(a, b);
+            }
+            _ => {
+                link(&mut couples, couple, a, b)?;
+                plain.link(a, b)?;
+            }
+        }
+        let expected = plain.shown(alloc)?;
+        if shown(alloc, &couples, slot)?.as_str() != expected.as_str() {
+            return Ok(false);
+        }
+    }
+    Ok(true)
+}
+
+fn no_pairs(alloc: Global, single_a: bool, single_b: bool) -> Plain {
+    Plain {
+        single_a,
+        single_b,
+        pairs: Vec::new(alloc),
+    }
+}
+
+#[test]
+fn as_a_plain_list(rt: HostRuntime) -> Result<(), Fail> {
+    assert!(rt; agrees(rt.alloc(), MATE, 4, no_pairs(rt.alloc(), true, true))?);
+    assert!(rt; agrees(rt.alloc(), PARTS, 6, no_pairs(rt.alloc(), false, true))?);
+    assert!(rt; agrees(rt.alloc(), KNOWS, 8, no_pairs(rt.alloc(), false, false))?);
     Ok(())
 }

@@ -1,5 +1,5 @@
 -- What the program writes for an input, and with which status it ends.
-use Rattle.std.specs.Prelude.{◌≡◌, ◌⊎◌, ℕ, ℤ, List, [], ◌∷◌, ◌++◌, map, take, Option, IfSome, Result, Ok, Err}
+use Rattle.std.specs.Prelude.{◌≡◌, ◌⊎◌, ℕ, ℤ, pos, List, [], ◌∷◌, ◌++◌, map, take, Option, IfSome, Result, Ok, Err}
 use Rattle.std.specs.Prelude.{if◌then◌else◌}
 use Rattle.std.specs.List.{flat_map}
 use Rattle.std.specs.Option.{option_map_or}
@@ -19,6 +19,14 @@ use Rattle.bb_main.specs.declared.serving.TheConstants.{MEMORY, REFUSED, WRITE}
 use Rattle.bb_main.specs.Input.{input_of}
 use Rattle.bb_main.specs.Refusals.{read_line, section_line}
 use Rattle.bb_main.specs.Sections.{Texts}
+
+-- the most cycles that the program makes
+abbrev pub program_limit : ℕ
+program_limit = 1000000
+
+-- the least rating at which the program chooses an activation
+abbrev pub program_floor : ℤ
+program_floor = pos 0
 
 -- all that is written, in pieces each of which is written whole, and the status
 pub record Answer : Type 0 where

@@ -8,8 +8,8 @@ ghost use Rattle.bb_main.specs.Input.{input_of};
 ghost use Rattle.bb_main.specs.Reading.{HasTaken, TakesAtMost};
 ghost use Rattle.bb_main.specs.Refusals.{section_line};
 ghost use Rattle.bb_main.specs.Serve.{CutShort, Delivers, Serves, answer, answer_to_meaning, status_of};
-ghost use Rattle.bb_main.specs.Serve.{limit_refusal, read_refusal, refusal};
-ghost use Rattle.bb_main.specs.declared.serving.TheConstants.{CYCLE_LIMIT, FLOOR, WRITE};
+ghost use Rattle.bb_main.specs.Serve.{limit_refusal, program_floor, program_limit, read_refusal, refusal};
+ghost use Rattle.bb_main.specs.declared.serving.TheConstants.{WRITE};
 
 use crate::input::In;
 use crate::read::{INPUT_LIMIT, ReadFault, read_input};
@@ -38,7 +38,7 @@ pub fn program<R: In, O: Out>(alloc: Global, reader: &mut R, writer: &mut O) -> 
     requires reader { R.has_failed reader.old ≡ false }
     requires writer { O.has_failed writer.old ≡ false }
     ensures answer { OnFalse (R.has_failed reader.new)
-        (Serves CYCLE_LIMIT FLOOR (R.remaining reader.old) (O.taken writer.old) (O.taken writer.new) result) }
+        (Serves program_limit program_floor (R.remaining reader.old) (O.taken writer.old) (O.taken writer.new) result) }
     ensures unread { OnTrue (R.has_failed reader.new)
         (Delivers read_refusal (O.taken writer.old) (O.taken writer.new) result) }
     ensures taken { TakesAtMost (INPUT_LIMIT + 1) (R.remaining reader.old) (R.remaining reader.new) }

@@ -28,5 +28,5 @@ pub record AreStamped (next : ℕ) (entries : List (ℕ × (ℕ × ℕ))) (stamp
   pub below : AllByRecursion (λ e. e.0 < next) entries
   -- no pair has two stamps
   pub once : (p : ℕ × ℕ) → length (filter (same_pair p) (in_order entries)) ≤ 1
-  -- the stamp of a pair is the one under which it stands
+  -- the stamp of a pair is the one under which it is kept
   pub found : (p : ℕ × ℕ) → stamp_of stamps p ≡ option_map (λ e. e.0) (find (λ e. same_pair p e.1) entries)

@@ -17,9 +17,11 @@ returns-in_err-set_slot-clause-gives c =
 
 pub loop-slot-preserved : goal.loop-slot-preserved
 loop-slot-preserved c =
-    let i = c.loop-slot.slot-index in
-    (try_fold_next (slot_after c.args.schema.now c.args.unit (map given_declaration c.args.given.now)) c.loop-slot.world c.set_slot.new.world (drop i c.args.slots.now) (drop (i + 1) c.args.slots.now)
-    (get_or c.args.slots.now i 0) _ (next_one c.args.slots.now i (get_or c.args.slots.now i 0) c.loop-slot-test.true (get_or_default c.args.slots.now i 0 (get_or c.args.slots.now i 0) c.loop-slot-test.true)) c.in_ok-set_slot.ensures.gives c.loop-slot.invariant.0, c.in_ok-set_slot.ensures.layout ∙ c.loop-slot.invariant.1)
+    let i = c.loop-slot.slot-index in (
+      try_fold_next (slot_after c.args.schema.now c.args.unit (map given_declaration c.args.given.now)) c.loop-slot.world c.set_slot.new.world (drop i c.args.slots.now) (drop (i + 1) c.args.slots.now)
+          (get_or c.args.slots.now i 0) _ (next_one c.args.slots.now i (get_or c.args.slots.now i 0) c.loop-slot-test.true (get_or_default c.args.slots.now i 0 (get_or c.args.slots.now i 0) c.loop-slot-test.true)) c.in_ok-set_slot.ensures.gives c.loop-slot.invariant.0,
+      c.in_ok-set_slot.ensures.layout ∙ c.loop-slot.invariant.1,
+    )
 
 pub returns-clause-gives : goal.returns-clause-gives
 returns-clause-gives c =

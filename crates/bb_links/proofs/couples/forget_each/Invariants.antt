@@ -1,6 +1,6 @@
-use Rattle.std.proofs.Common.{◌≡◌, ◌++◌, map, take, drop}
-use Rattle.bb_links.specs.Couples.{forgotten}
+use Rattle.std.proofs.Common.{take}
+use Rattle.bb_links.proofs.StandingLemmas.{Cleared}
 use Rattle.bb_links.proofs.couples.forget_each.Given as goal
 
-abbrev pub invariant-loop-index : goal.invariant-loop-index
-invariant-loop-index l = l.couples.items ≡ map (forgotten l.unit) (take l.index l.fn.couples.items) ++ drop l.index l.fn.couples.items
+abbrev pub invariant-loop-couple : goal.invariant-loop-couple
+invariant-loop-couple l = Cleared l.unit (take l.couple-index l.list) l.fn.couples.items l.couples.items

@@ -2,7 +2,8 @@ use Rattle.std.proofs.Common.{◌≡◌, ◌∙◌, ap, sym, true, Option, Some,
 use Rattle.std.specs.Prelude.{option_map, slice_get}
 use Rattle.bb_schema.specs.declared.couple.Side.{Side}
 use Rattle.bb_links.specs.declared.couple.Singular.{Singular}
-use Rattle.bb_links.specs.Pairs.{partners, pair_of, is_singular, old_pair}
+use Rattle.bb_links.specs.Pairs.{pair_of, is_singular, old_pair}
+use Rattle.bb_links.specs.Links.{partners}
 use Rattle.bb_links.proofs.PairLemmas.{find-first}
 use Rattle.bb_links.proofs.couple.Couple.old_pair.Goals as goal
 

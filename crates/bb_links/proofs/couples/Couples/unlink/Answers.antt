@@ -1,4 +1,4 @@
-use Rattle.std.proofs.Common.{◌≡◌, ◌∙◌, ◌<◌, ap, sym, subst, refl, length, Option, Some, []}
+use Rattle.std.proofs.Common.{◌≡◌, ◌∙◌, ◌<◌, ap, sym, subst, refl, length, Option, Some, [], inl}
 use Rattle.std.specs.Prelude.{slice_get, slice_set}
 use Rattle.std.specs.Option.{option_map_or}
 use Rattle.std.proofs.lemmas.Option.{slice_get_read}
@@ -7,6 +7,8 @@ use Rattle.bb_links.specs.Couples.{Couple, Couples, unlinked, are_linked, after_
 use Rattle.bb_links.specs.Fits.{FitsCouple}
 use Rattle.bb_links.proofs.FitLemmas.{unlinked_fits}
 use Rattle.bb_links.proofs.ChangeLemmas.{changed_at, set_fits}
+use Rattle.bb_links.specs.proving.Standing.{stands_in}
+use Rattle.bb_links.proofs.StandingLemmas.{one_changed, stood_unlinked}
 use Rattle.bb_links.proofs.couples.Couples.unlink.Goals as goal
 
 pub invariant_of-self : goal.invariant_of-self
@@ -14,8 +16,13 @@ invariant_of-self c =
     let seen : Couples = record { couples = c.self.inside.couples.items; ends = c.self.inside.ends.items } in
     let old : Couple = c.index_mut.result.now in
     let lt : c.args.couple < length seen.couples = subst (λ (u : Couples). c.args.couple < length u.couples) (sym c.self.view_is) c.requires in
-    let fits : FitsCouple old = subst FitsCouple (sym c.index_mut.ensures.value) (c.self.invariant.couples c.args.couple old lt) in
-    set_fits seen c.args.couple c.unlink.new.self c.self.invariant (subst FitsCouple (sym c.unlink.ensures.unlinked) (unlinked_fits old fits c.args.a c.args.b))
+    let there : slice_get seen.couples c.args.couple ≡ Some old = slice_get_read seen.couples (length seen.couples) c.args.couple old refl lt c.index_mut.ensures.value in
+    let fits : FitsCouple old = subst FitsCouple (sym c.index_mut.ensures.value) (c.self.invariant.fits.couples c.args.couple old lt) in
+    record {
+      fits = set_fits seen c.args.couple c.unlink.new.self c.self.invariant.fits (subst FitsCouple (sym c.unlink.ensures.unlinked) (unlinked_fits old fits c.args.a c.args.b));
+      each = one_changed seen.couples c.self.inside.standing c.args.couple c.unlink.new.self old lt there c.self.invariant.each
+          (λ n stands. inl (stood_unlinked n c.args.a c.args.b old (ap (λ (k : Couple). stands_in n k.pairs) (sym c.unlink.ensures.unlinked) ∙ stands)));
+    }
 
 pub returns-clause-was : goal.returns-clause-was
 returns-clause-was c =

@@ -1,4 +1,4 @@
-use Rattle.std.proofs.Common.{◌∙◌, ap, List, ℕ}
+use Rattle.std.proofs.Common.{◌∙◌, ap}
 use Rattle.std.specs.Prelude.{is_some}
 use Rattle.bb_links.specs.Pairs.{has_pair}
 use Rattle.bb_links.proofs.StampLemmas.{there_by_stamp}

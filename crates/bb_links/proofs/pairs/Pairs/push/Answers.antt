@@ -1,10 +1,10 @@
-use Rattle.std.proofs.Common.{◌≡◌, ◌∙◌, ap, sym, false, List, [], ◌∷◌, ◌++◌, ℕ}
+use Rattle.std.proofs.Common.{◌≡◌, ◌∙◌, ap, false, List, [], ◌∷◌, ◌++◌, ℕ}
 use Rattle.std.specs.Ordering.{nat_cmp}
 use Rattle.std.specs.Map.{remove_entry}
 use Rattle.std.specs.BTreeMap.{is_at}
 use Rattle.std.proofs.lemmas.List.{map-append}
 use Rattle.bb_links.specs.Pairs.{has_pair}
-use Rattle.bb_links.specs.proving.Stamps.{in_order, AreStamped}
+use Rattle.bb_links.specs.proving.Stamps.{in_order}
 use Rattle.bb_links.proofs.StampLemmas.{insert_last, remove_last, stamped_put}
 use Rattle.bb_links.proofs.pairs.Pairs.push.Goals as goal
 

@@ -1,4 +1,4 @@
-use Rattle.std.proofs.Common.{◌≡◌, ◌∙◌, ap, sym, false, Some, None, Option, List, ℕ}
+use Rattle.std.proofs.Common.{◌≡◌, ◌∙◌, ap, sym, false}
 use Rattle.std.specs.Prelude.{is_some}
 use Rattle.bb_links.specs.Pairs.{has_pair, without_pair}
 use Rattle.bb_links.specs.proving.Stamps.{in_order}

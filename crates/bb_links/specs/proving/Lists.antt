@@ -1,22 +1,22 @@
--- The partners of each unit that stands at one side of a couple.
+-- A list of numbers for each unit.
 use Rattle.std.specs.Prelude.{ℕ, ◌==◌, not, List, [], ◌∷◌, ◌++◌, filter, if◌then◌else◌}
 use Rattle.std.specs.Global.{Vec}
 use Rattle.std.specs.Option.{option_map_or}
 use Rattle.std.specs.Ordering.{nat_cmp}
 use Rattle.std.specs.BTreeMap.{BTreeMap, get}
 
--- the partners of a unit
+-- the list of a unit
 abbrev pub listed : BTreeMap ℕ (Vec ℕ) → ℕ → List ℕ
 listed lists n = option_map_or (λ v. v.items) (get nat_cmp lists n) []
 
--- with one partner more of a unit, the last
+-- with one number more of a unit, the last
 abbrev pub one_more : BTreeMap ℕ (Vec ℕ) → ℕ → ℕ → ℕ → List ℕ
-one_more lists unit partner n = if n == unit then listed lists n ++ partner ∷ [] else listed lists n
+one_more lists unit number n = if n == unit then listed lists n ++ number ∷ [] else listed lists n
 
--- without a partner of a unit
+-- without a number of a unit
 abbrev pub one_less : BTreeMap ℕ (Vec ℕ) → ℕ → ℕ → ℕ → List ℕ
-one_less lists unit partner n = if n == unit then filter (λ m. not (m == partner)) (listed lists n) else listed lists n
+one_less lists unit number n = if n == unit then filter (λ m. not (m == number)) (listed lists n) else listed lists n
 
--- without all partners of a unit
+-- without all numbers of a unit
 abbrev pub none_left : BTreeMap ℕ (Vec ℕ) → ℕ → ℕ → List ℕ
 none_left lists unit n = if n == unit then [] else listed lists n
