@@ -1,0 +1,5 @@
+pub mod FitLemmas
+pub mod KeyLemmas
+pub mod AnswerLemmas
+pub mod KnowsLemmas
+pub mod WholeLemmas

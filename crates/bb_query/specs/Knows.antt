@@ -1,0 +1,20 @@
+-- What spaces know of units: the board's law.
+use Rattle.std.specs.Prelude.{◌≡◌, ℕ, List, length, Some, true, IfSome, IsTrue}
+use Rattle.bb_schema.specs.Schema.{Schema}
+use Rattle.bb_schema.specs.Spaces.{allowed}
+use Rattle.bb_units.specs.Units.{Units, is_live, class_of}
+use Rattle.bb_pattern.specs.declared.value.DimValue.{DimValue}
+use Rattle.bb_space.specs.Spaces.{Spaces, values_in}
+use Rattle.bb_query.specs.PresentValues.{present_values}
+
+pub record Knows (s : Schema) (u : Units) (t : Spaces) : Type 0 where
+  -- the spaces are those of the schema
+  pub spaces : length t.spaces ≡ length s.spaces
+  -- members are live
+  pub live : (space n : ℕ) (values : List DimValue) → values_in t space n ≡ Some values → is_live u n ≡ true
+  -- and of a class that the space admits
+  pub admitted : (space n : ℕ) (values : List DimValue) → values_in t space n ≡ Some values
+      → IfSome (class_of u n) (λ class. IsTrue (allowed s space class))
+  -- and the space was told their present values
+  pub told : (space n : ℕ) (values : List DimValue) → values_in t space n ≡ Some values
+      → values ≡ present_values s u n space

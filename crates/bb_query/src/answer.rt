@@ -1,0 +1,80 @@
+//! The answer of a query. The board's `find` calls it.
+
+ghost use Rattle.std.specs.Prelude.{◌≡◌, IfOk, Ok, map, filter};
+ghost use Rattle.bb_pattern.specs.Fits.{query_fits};
+ghost use Rattle.bb_pattern.specs.Values.{kind_of_operand};
+ghost use Rattle.bb_query.specs.Answer.{answers, answer};
+ghost use Rattle.bb_query.specs.Knows.{Knows};
+
+use bb_basis::Memory;
+use bb_pattern::{DimValue, Query};
+use bb_schema::{Schema, UnitId};
+use bb_space::Spaces;
+use bb_units::Units;
+use std::alloc::Global;
+
+/// Whether a query answers a unit, by the values that the space was told.
+fn answers(
+    schema: &Schema,
+    units: &Units,
+    spaces: &Spaces,
+    query: &Query,
+    operands: &[DimValue],
+    unit: UnitId,
+) -> bool
+    requires knows { Knows schema.now units.now spaces.now }
+    requires fits { query_fits schema.now query.now ≡ Ok tt }
+    ensures { result ≡ answers schema.now units.now spaces.now query.now operands.now unit }
+{
+    if !units.live(unit) {
+        return false;
+    }
+    let Some(values) = spaces.values(query.space, unit) else {
+        return false;
+    };
+    schema.descends(units.class_of(unit), query.class) && query.pattern.holds(operands, values)
+}
+
+/// Those of some units that a query answers, in their order.
+fn answered(
+    alloc: Global,
+    schema: &Schema,
+    units: &Units,
+    spaces: &Spaces,
+    query: &Query,
+    operands: &[DimValue],
+    among: &[UnitId],
+) -> Result<Vec<UnitId>, Memory>
+    requires knows { Knows schema.now units.now spaces.now }
+    requires fits { query_fits schema.now query.now ≡ Ok tt }
+    ensures { IfOk result (λ found.
+        found.items ≡ filter (answers schema.now units.now spaces.now query.now operands.now) among.now) }
+{
+    let mut found = Vec::new(alloc);
+    for unit in among {
+        if answers(schema, units, spaces, query, operands, *unit) {
+            found.push(*unit)?;
+        }
+    }
+    Ok(found)
+}
+
+/// The answer of a query: the units in its space, of its class or one below it, of which its pattern holds, rising
+/// (GBBopen Reference Manual, find-instances). The query fits the schema, its operands have its kinds, and the spaces
+/// were told the present values of their members.
+pub fn find(
+    alloc: Global,
+    schema: &Schema,
+    units: &Units,
+    spaces: &Spaces,
+    query: &Query,
+    operands: &[DimValue],
+) -> Result<Vec<UnitId>, Memory>
+    requires knows { Knows schema.now units.now spaces.now }
+    requires fits { query_fits schema.now query.now ≡ Ok tt }
+    requires kinds { map kind_of_operand operands.now ≡ query.now.kinds }
+    ensures { IfOk result (λ found. found.items ≡ answer schema.now units.now spaces.now query.now operands.now) }
+{
+    let members = spaces.members(query.space)?;
+    answered(alloc, schema, units, spaces, query, operands, &members)
+}

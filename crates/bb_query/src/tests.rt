@@ -1,0 +1,300 @@
+ghost use Rattle.std.specs.Prelude.{◌≡◌, IfOk, map};
+ghost use Rattle.bb_pattern.specs.Values.{kind_of_operand};
+ghost use Rattle.bb_query.specs.Knows.{Knows};
+
+use super::*;
+use bb_basis::Items;
+use bb_schema::{ClassId, Schema, SlotId, SpaceId, UnitId, Value};
+use bb_space::Spaces;
+use bb_units::Units;
+use std::alloc::Global;
+use std::test::Fail;
+
+/// Slots 4 to 6 are `pos`, `hue` and `score` of things, 7 and 8 the links, 10 `count` of words; 12 and 13 are `hue` and
+/// `pos` of boxes. Things are admitted in `board`, words in `desk`, things and boxes in `shelf`.
+const SCHEMA: &str = r#"{"labels":[{"name":"hue","values":["red","green"]}],
+"classes":[{"name":"thing","slots":[{"name":"pos","kind":"interval"},
+{"name":"hue","kind":"label","of":"hue"},{"name":"score","kind":"int"}],
+"links":[{"name":"mate","to":"thing","many":false,"inverse":"mate_of"},
+{"name":"mate_of","to":"thing","many":false,"inverse":"mate"},
+{"name":"parts","to":"word","many":true,"inverse":"whole"}]},
+{"name":"word","parent":"thing","slots":[{"name":"count","kind":"int"}],
+"links":[{"name":"whole","to":"thing","many":false,"inverse":"parts"}]},
+{"name":"box","slots":[{"name":"hue","kind":"label","of":"hue"},{"name":"pos","kind":"int"}]}],
+"spaces":[{"name":"board","classes":["thing"],"dims":[
+{"name":"pos","kind":"ordered"},{"name":"hue","kind":"label","of":"hue"}]},
+{"name":"desk","classes":["word"],"dims":[]},
+{"name":"shelf","classes":["thing","box"],"dims":[
+{"name":"hue","kind":"label","of":"hue"},{"name":"pos","kind":"ordered"}]}]}"#;
+
+const THING: ClassId = 1;
+
+const WORD: ClassId = 2;
+
+const BOX: ClassId = 3;
+
+const BOARD: SpaceId = 0;
+
+const DESK: SpaceId = 1;
+
+const SHELF: SpaceId = 2;
+
+const POS: SlotId = 4;
+
+const HUE: SlotId = 5;
+
+const BOX_HUE: SlotId = 12;
+
+const BOX_POS: SlotId = 13;
+
+const GREEN: DimValue = DimValue::Label(0, 1);
+
+/// Units of these classes, under the numbers from 1 on.
+fn units_of(alloc: Global, schema: &Schema, classes: &[ClassId]) -> Result<Units, Fail> {
+    let mut units = Units::new(alloc, schema)?;
+    for class in classes {
+        if !units.has_class(*class) {
+            return Err(Fail::from(PatternFault::Space));
+        }
+        units.create(*class)?;
+    }
+    Ok(units)
+}
+
+fn set(units: &mut Units, unit: UnitId, slot: SlotId, value: Value) -> Result<(), Fail> {
+    if !units.takes(unit, slot, &value) {
+        return Err(Fail::from(PatternFault::Space));
+    }
+    units.set(unit, slot, value);
+    Ok(())
+}
+
+/// Enters a unit that a space admits, with its present values.
+fn enter(
+    alloc: Global,
+    schema: &Schema,
+    units: &Units,
+    spaces: &mut Spaces,
+    space: SpaceId,
+    unit: UnitId,
+) -> Result<(), Fail>
+    requires { Knows schema.now units.now spaces.old }
+    ensures { Knows schema.now units.now spaces.new }
+{
+    if space as usize >= schema.space_count() || !units.live(unit) {
+        return Err(Fail::from(PatternFault::Space));
+    }
+    if !schema.allowed(space, units.class_of(unit)) {
+        return Err(Fail::from(PatternFault::Space));
+    }
+    let values = values_of(alloc, schema, units, unit, space)?;
+    spaces.enter(space, unit, values)?;
+    Ok(())
+}
+
+/// The spaces, without members.
+fn no_members(alloc: Global, schema: &Schema, units: &Units) -> Result<Spaces, Fail>
+    ensures { IfOk result (λ spaces. Knows schema.now units.now spaces) }
+{
+    Ok(Spaces::new(alloc, schema)?)
+}
+
+/// The kind of an operand, if there is one. More are not asked for.
+fn kinds_of(alloc: Global, operands: &[DimValue]) -> Result<Items<OperandKind>, Fail>
+    ensures { IfOk result (λ kinds. kinds ≡ map kind_of_operand operands.now) }
+{
+    let mut kinds = Items::new(alloc);
+    match operands {
+        [] => Ok(kinds),
+        [only] => {
+            kinds.push(only.kind())?;
+            Ok(kinds)
+        }
+        _ => Err(Fail::from(PatternFault::Limit)),
+    }
+}
+
+/// What a query for a class in a space answers, shown, or the number of its fault.
+fn found(
+    alloc: Global,
+    schema: &Schema,
+    units: &Units,
+    spaces: &Spaces,
+    class: ClassId,
+    space: SpaceId,
+    pattern: Pattern,
+    operands: &[DimValue],
+) -> Result<Vec<UnitId>, Fail>
+    requires { Knows schema.now units.now spaces.now }
+{
+    let query = Query {
+        class,
+        space,
+        kinds: kinds_of(alloc, operands)?,
+        pattern,
+    };
+    match query.fits(schema) {
+        Ok(()) => Ok(find(alloc, schema, units, spaces, &query, operands)?),
+        Err(fault) => Err(Fail::from(fault)),
+    }
+}
+
+fn all() -> Pattern {
+    Pattern::new(Node::All)
+}
+
+fn within(dim: u8, operand: u8) -> Pattern {
+    Pattern::new(Node::Ordered {
+        relation: Relation::Within,
+        dim,
+        operand,
+    })
+}
+
+fn is(dim: u8, operand: u8) -> Pattern {
+    Pattern::new(Node::Is { dim, operand })
+}
+
+/// Unit 1 is a thing at `[1, 3]`, 2 a word at `[5, 5]`, 3 a box at 2, and 4 a thing at `[0, 0]`; 2 and 3 are green, the
+/// others red. All are in the spaces that admit them, and entered in another order.
+fn scene(alloc: Global, schema: &Schema) -> Result<Units, Fail> {
+    let mut units = units_of(alloc, schema, &[THING, WORD, BOX, THING])?;
+    set(&mut units, 1, POS, Value::Interval(1, 3))?;
+    set(&mut units, 2, POS, Value::Interval(5, 5))?;
+    set(&mut units, 2, HUE, Value::Label(0, 1))?;
+    set(&mut units, 3, BOX_POS, Value::Int(2))?;
+    set(&mut units, 3, BOX_HUE, Value::Label(0, 1))?;
+    Ok(units)
+}
+
+/// The spaces of the scene.
+fn scene_spaces(alloc: Global, schema: &Schema, units: &Units) -> Result<Spaces, Fail>
+    ensures { IfOk result (λ spaces. Knows schema.now units.now spaces) }
+{
+    let mut spaces = no_members(alloc, schema, units)?;
+    enter(alloc, schema, units, &mut spaces, SHELF, 4)?;
+    enter(alloc, schema, units, &mut spaces, SHELF, 3)?;
+    enter(alloc, schema, units, &mut spaces, BOARD, 4)?;
+    enter(alloc, schema, units, &mut spaces, BOARD, 1)?;
+    enter(alloc, schema, units, &mut spaces, DESK, 2)?;
+    enter(alloc, schema, units, &mut spaces, SHELF, 1)?;
+    enter(alloc, schema, units, &mut spaces, BOARD, 2)?;
+    enter(alloc, schema, units, &mut spaces, SHELF, 2)?;
+    Ok(spaces)
+}
+
+/// What a query answers in the scene.
+fn found_in_scene(
+    alloc: Global,
+    class: ClassId,
+    space: SpaceId,
+    pattern: Pattern,
+    operands: &[DimValue],
+) -> Result<Vec<UnitId>, Fail> {
+    let schema = Schema::read(alloc, SCHEMA)?;
+    let units = scene(alloc, &schema)?;
+    let spaces = scene_spaces(alloc, &schema, &units)?;
+    found(
+        alloc, &schema, &units, &spaces, class, space, pattern, operands,
+    )
+}
+
+/// What things there are within `[low, high]` on the board, which unit 1, a thing at `[1, 3]`, entered, before or after
+/// it moved to `[5, 5]`.
+fn moved(alloc: Global, after: bool, low: i64, high: i64) -> Result<Vec<UnitId>, Fail> {
+    let schema = Schema::read(alloc, SCHEMA)?;
+    let mut units = units_of(alloc, &schema, &[THING])?;
+    set(&mut units, 1, POS, Value::Interval(1, 3))?;
+    if after {
+        set(&mut units, 1, POS, Value::Interval(5, 5))?;
+    }
+    let mut spaces = no_members(alloc, &schema, &units)?;
+    enter(alloc, &schema, &units, &mut spaces, BOARD, 1)?;
+    let operands = [DimValue::Interval(low, high)];
+    found(
+        alloc,
+        &schema,
+        &units,
+        &spaces,
+        THING,
+        BOARD,
+        within(0, 0),
+        &operands,
+    )
+}
+
+/// The values of a unit of the scene on the dimensions of a space.
+fn values_in_scene(alloc: Global, space: SpaceId, unit: UnitId) -> Result<Items<DimValue>, Fail> {
+    let schema = Schema::read(alloc, SCHEMA)?;
+    let units = scene(alloc, &schema)?;
+    if space as usize >= schema.space_count() || !units.live(unit) {
+        return Err(Fail::from(PatternFault::Space));
+    }
+    Ok(values_of(alloc, &schema, &units, unit, space)?)
+}
+
+#[test]
+fn moved_unit(rt: HostRuntime) -> Result<(), Fail> {
+    assert_eq!(rt; moved(rt.alloc(), false, 1, 3)?.as_slice(), [1].as_slice());
+    assert_eq!(rt; moved(rt.alloc(), true, 5, 9)?.as_slice(), [1].as_slice());
+    assert!(rt; moved(rt.alloc(), true, 1, 3)?.is_empty());
+    Ok(())
+}
+
+#[test]
+fn members_in_rising_order(rt: HostRuntime) -> Result<(), Fail> {
+    let on_board = found_in_scene(rt.alloc(), THING, BOARD, all(), &[])?;
+    assert_eq!(rt; on_board.as_slice(), [1, 2, 4].as_slice());
+    let on_desk = found_in_scene(rt.alloc(), THING, DESK, all(), &[])?;
+    assert_eq!(rt; on_desk.as_slice(), [2].as_slice());
+    Ok(())
+}
+
+#[test]
+fn several_classes(rt: HostRuntime) -> Result<(), Fail> {
+    let things = found_in_scene(rt.alloc(), THING, SHELF, all(), &[])?;
+    assert_eq!(rt; things.as_slice(), [1, 2, 4].as_slice());
+    let boxes = found_in_scene(rt.alloc(), BOX, SHELF, all(), &[])?;
+    assert_eq!(rt; boxes.as_slice(), [3].as_slice());
+    let words = found_in_scene(rt.alloc(), WORD, SHELF, is(0, 0), &[GREEN])?;
+    assert_eq!(rt; words.as_slice(), [2].as_slice());
+    let red = [DimValue::Label(0, 0)];
+    let none = found_in_scene(rt.alloc(), WORD, SHELF, is(0, 0), &red)?;
+    assert!(rt; none.is_empty());
+    Ok(())
+}
+
+#[test]
+fn inherited_slot(rt: HostRuntime) -> Result<(), Fail> {
+    let values = values_in_scene(rt.alloc(), BOARD, 2)?;
+    assert_eq!(rt;
+        values.as_slice(),
+        [DimValue::Interval(5, 5), GREEN].as_slice()
+    );
+    let words = found_in_scene(
+        rt.alloc(),
+        WORD,
+        BOARD,
+        within(0, 0),
+        &values.as_slice()[..1],
+    )?;
+    assert_eq!(rt; words.as_slice(), [2].as_slice());
+    Ok(())
+}
+
+#[test]
+fn dimensions_in_their_order(rt: HostRuntime) -> Result<(), Fail> {
+    let thing = values_in_scene(rt.alloc(), SHELF, 1)?;
+    let red = DimValue::Label(0, 0);
+    assert_eq!(rt;
+        thing.as_slice(),
+        [red, DimValue::Interval(1, 3)].as_slice()
+    );
+    let boxed = values_in_scene(rt.alloc(), SHELF, 3)?;
+    assert_eq!(rt;
+        boxed.as_slice(),
+        [GREEN, DimValue::Interval(2, 2)].as_slice()
+    );
+    assert_eq!(rt; values_in_scene(rt.alloc(), DESK, 2)?.len(), 0);
+    Ok(())
+}

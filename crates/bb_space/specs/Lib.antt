@@ -1,0 +1,8 @@
+-- when a unit's values pass one test
+pub mod Leaf
+-- the spaces, and each change of them
+pub mod Spaces
+-- what holds of all spaces at any time
+pub mod Fits
+-- what only models and the contracts of private functions speak of
+pub mod proving

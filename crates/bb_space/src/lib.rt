@@ -1,0 +1,13 @@
+//! The spaces of a blackboard: which units are in each, and which values they have on its dimensions. The board tells
+//! them of each change, and queries ask them for candidates.
+#![tactic(auto)]
+
+mod leaf;
+mod members;
+mod spaces;
+#[cfg(test)]
+mod tests;
+
+pub use bb_schema::{SpaceId, UnitId};
+pub use leaf::Leaf;
+pub use spaces::Spaces;

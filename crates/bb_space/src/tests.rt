@@ -1,0 +1,197 @@
+use super::*;
+use bb_basis::Items;
+use bb_pattern::{DimValue, Relation};
+use bb_schema::Schema;
+use std::alloc::{AllocError, Global};
+use std::fmt::Write;
+use std::test::Fail;
+
+/// `board` has the dimensions `pos` and `hue`, `desk` has none.
+const SCHEMA: &str = r#"{"labels":[{"name":"hue","values":["red","green"]}],
+"classes":[{"name":"thing","slots":[{"name":"pos","kind":"interval"},
+{"name":"hue","kind":"label","of":"hue"}]},{"name":"word","parent":"thing"}],
+"spaces":[{"name":"board","classes":["thing"],"dims":[
+{"name":"pos","kind":"ordered"},{"name":"hue","kind":"label","of":"hue"}]},
+{"name":"desk","classes":["word"],"dims":[]}]}"#;
+
+const BOARD: SpaceId = 0;
+
+const DESK: SpaceId = 1;
+
+const RED: DimValue = DimValue::Label(0, 0);
+
+fn no_members(alloc: Global) -> Result<Spaces, Fail> {
+    let schema = Schema::read(alloc, SCHEMA)?;
+    Ok(Spaces::new(alloc, &schema)?)
+}
+
+/// The values of a red unit on the dimensions of `board`.
+fn red_at(alloc: Global, low: i64, high: i64) -> Result<Items<DimValue>, AllocError> {
+    Ok(Items::from([DimValue::Interval(low, high), RED].to_vec(alloc)?))
+}
+
+/// Lets a unit enter `board`, red at `[low, high]`.
+fn enter(
+    spaces: &mut Spaces,
+    alloc: Global,
+    unit: UnitId,
+    low: i64,
+    high: i64,
+) -> Result<bool, Fail> {
+    if spaces.count() == 0 {
+        return Ok(false);
+    }
+    Ok(spaces.enter(BOARD, unit, red_at(alloc, low, high)?)?)
+}
+
+/// Lets a unit enter `desk`.
+fn enter_desk(spaces: &mut Spaces, alloc: Global, unit: UnitId) -> Result<bool, Fail> {
+    if spaces.count() < 2 {
+        return Ok(false);
+    }
+    Ok(spaces.enter(DESK, unit, Items::new(alloc))?)
+}
+
+/// Tells `board` that a unit is red at `[low, high]`.
+fn move_to(
+    spaces: &mut Spaces,
+    alloc: Global,
+    unit: UnitId,
+    low: i64,
+    high: i64,
+) -> Result<(), Fail> {
+    if spaces.count() > 0 {
+        spaces.moved(BOARD, unit, red_at(alloc, low, high)?)?;
+    }
+    Ok(())
+}
+
+fn leave(spaces: &mut Spaces, space: SpaceId, unit: UnitId) -> bool {
+    (space as usize) < spaces.count() && spaces.leave(space, unit)
+}
+
+/// The members of a space with their values.
+fn shown(alloc: Global, spaces: &Spaces, space: SpaceId) -> Result<String, Fail> {
+    let mut text = String::new(alloc);
+    if space as usize >= spaces.count() {
+        return Ok(text);
+    }
+    for unit in spaces.members(space)? {
+        let values = spaces.values(space, unit).unwrap_or(&[]);
+        write!(text, "{unit} {values:?};")?;
+    }
+    Ok(text)
+}
+
+/// The candidates in `board` for values within `[low, high]`.
+fn within(alloc: Global, spaces: &Spaces, low: i64, high: i64) -> Result<String, Fail> {
+    let mut text = String::new(alloc);
+    if spaces.count() == 0 {
+        return Ok(text);
+    }
+    let leaf = Leaf::Ordered {
+        relation: Relation::Within,
+        dim: 0,
+        low,
+        high,
+    };
+    for unit in spaces.candidates(BOARD, &leaf)? {
+        write!(text, "{unit} ")?;
+    }
+    Ok(text)
+}
+
+#[test]
+fn moved_unit(rt: HostRuntime) -> Result<(), Fail> {
+    let mut spaces = no_members(rt.alloc())?;
+    assert!(rt; enter(&mut spaces, rt.alloc(), 1, 1, 3)?);
+    let before = within(rt.alloc(), &spaces, 1, 3)?;
+    assert_eq!(rt; before.as_str(), "1 ");
+    move_to(&mut spaces, rt.alloc(), 1, 5, 5)?;
+    let after = within(rt.alloc(), &spaces, 5, 9)?;
+    assert_eq!(rt; after.as_str(), "1 ");
+    Ok(())
+}
+
+#[test]
+fn members_rise(rt: HostRuntime) -> Result<(), Fail> {
+    let mut spaces = no_members(rt.alloc())?;
+    assert!(rt; enter(&mut spaces, rt.alloc(), 3, 0, 1)?);
+    assert!(rt; enter(&mut spaces, rt.alloc(), 1, 0, 9)?);
+    assert!(rt; enter(&mut spaces, rt.alloc(), 2, 1, 1)?);
+    assert!(rt; !enter(&mut spaces, rt.alloc(), 1, 7, 7)?);
+    move_to(&mut spaces, rt.alloc(), 4, 0, 0)?;
+    let narrow = within(rt.alloc(), &spaces, 0, 1)?;
+    assert_eq!(rt; narrow.as_str(), "2 3 ");
+    let wide = within(rt.alloc(), &spaces, 0, 9)?;
+    assert_eq!(rt; wide.as_str(), "1 2 3 ");
+    Ok(())
+}
+
+#[test]
+fn two_spaces(rt: HostRuntime) -> Result<(), Fail> {
+    let mut spaces = no_members(rt.alloc())?;
+    enter(&mut spaces, rt.alloc(), 1, 1, 3)?;
+    enter_desk(&mut spaces, rt.alloc(), 1)?;
+    enter_desk(&mut spaces, rt.alloc(), 2)?;
+    assert!(rt; leave(&mut spaces, BOARD, 1));
+    assert!(rt; !leave(&mut spaces, BOARD, 1));
+    let left = shown(rt.alloc(), &spaces, BOARD)?;
+    assert_eq!(rt; left.as_str(), "");
+    assert!(rt; enter(&mut spaces, rt.alloc(), 1, 4, 4)?);
+    let again = shown(rt.alloc(), &spaces, BOARD)?;
+    assert_eq!(rt; again.as_str(), "1 [Interval(4, 4), Label(0, 0)];");
+    spaces.forget(1);
+    let board = shown(rt.alloc(), &spaces, BOARD)?;
+    assert_eq!(rt; board.as_str(), "");
+    let desk = shown(rt.alloc(), &spaces, DESK)?;
+    assert_eq!(rt; desk.as_str(), "2 [];");
+    Ok(())
+}
+
+#[test]
+fn moved_in_each_space(rt: HostRuntime) -> Result<(), Fail> {
+    let mut spaces = no_members(rt.alloc())?;
+    enter(&mut spaces, rt.alloc(), 1, 1, 3)?;
+    let mut moves = Vec::new(rt.alloc());
+    moves.push((BOARD, red_at(rt.alloc(), 5, 6)?))?;
+    moves.push((DESK, Items::new(rt.alloc())))?;
+    spaces.moved_all(1, moves)?;
+    let board = shown(rt.alloc(), &spaces, BOARD)?;
+    assert_eq!(rt; board.as_str(), "1 [Interval(5, 6), Label(0, 0)];");
+    let desk = shown(rt.alloc(), &spaces, DESK)?;
+    assert_eq!(rt; desk.as_str(), "");
+    Ok(())
+}
+
+#[test]
+fn leaves(rt: HostRuntime) {
+    let values = [DimValue::Interval(2, 4), DimValue::Label(0, 1)];
+    let ordered = |relation: Relation, low: i64, high: i64| Leaf::Ordered {
+        relation,
+        dim: 0,
+        low,
+        high,
+    };
+    assert!(rt; ordered(Relation::Covers, 3, 4).fits(&values));
+    assert!(rt; !ordered(Relation::Less, 4, 9).fits(&values));
+    let green = Leaf::Is {
+        dim: 1,
+        set: 0,
+        label: 1,
+    };
+    assert!(rt; green.fits(&values));
+    let other_sort = Leaf::Is {
+        dim: 0,
+        set: 0,
+        label: 1,
+    };
+    assert!(rt; !other_sort.fits(&values));
+    let missing = Leaf::Ordered {
+        relation: Relation::Within,
+        dim: 2,
+        low: i64::MIN,
+        high: i64::MAX,
+    };
+    assert!(rt; !missing.fits(&values));
+}
