@@ -154,6 +154,38 @@ def keys(name, count):
     yield "}\n"
 
 
+LINKED_CLASS = (
+    '%schema\n{"classes":[{"name":"note","links":['
+    '{"name":"next","to":"note","many":false,"inverse":"last"},{"name":"last","to":"note","many":false,"inverse":"next"},'
+    '{"name":"parts","to":"note","many":true,"inverse":"whole"},{"name":"whole","to":"note","many":false,"inverse":"parts"}'
+    "]}]}\n"
+)
+
+
+def linked(name, count, links):
+    """Units of one class, and links between them, each by the numbers of its units."""
+    yield LINKED_CLASS + '%units\n{"units":['
+    yield from separated('{"name":"%s","class":"note"}' % name(i) for i in range(count))
+    yield '],"links":['
+    yield from separated('["%s","%s","%s"]' % (name(a), slot, name(b)) for a, slot, b in links)
+    yield "]}\n"
+
+
+def chain(name, count):
+    """Each unit is linked to the next, one to one."""
+    yield from linked(name, count, ((i, "next", i + 1) for i in range(count - 1)))
+
+
+def hub(name, count):
+    """One unit has all others as its parts."""
+    yield from linked(name, count, ((0, "parts", i) for i in range(1, count)))
+
+
+def moving(name, count):
+    """One unit is linked to two others in turn, so many times: each link takes the one before it away."""
+    yield from linked(name, 3, ((0, "next", 1 + i % 2) for i in range(count)))
+
+
 def short(number):
     return "c%d" % number
 
@@ -161,6 +193,9 @@ def short(number):
 KINDS = [
     ("Units", "units", units, [("others", other), ("colliding", colliding)], 4_096, 65_536),
     ("Units with values in their slots", "units", values, [("short", short)], 4_096, 65_536),
+    ("Units linked one to one", "units", chain, [("others", other), ("colliding", colliding)], 4_096, 65_536),
+    ("Units linked to one hub", "units", hub, [("short", short)], 4_096, 65_536),
+    ("Links that displace one another", "links", moving, [("short", short)], 12_500, 400_000),
     ("Values of no slot", "values", values_of_no_slot, [("others", other), ("colliding", colliding)], 12_500, 400_000),
     ("Class entries", "classes", classes, [("others", other), ("colliding", colliding)], 10_000, 320_000),
     ("Links to a class of many slots", "slots", inverses, [("short", short)], 18_750, 300_000),

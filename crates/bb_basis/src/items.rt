@@ -84,6 +84,15 @@ impl<T: Drop> Items<T> {
         Ok(())
     }
 
+    /// Appends items, in their order. An error changes nothing.
+    pub fn append(&mut self, items: Vec<T>) -> Result<(), AllocError>
+        ensures ok { OnOk result (self.new ≡ self.old ++ items.items) }
+        ensures err { OnErr result (self.new ≡ self.old) }
+    {
+        let mut items = items;
+        self.inner.append(&mut items)
+    }
+
     /// Keeps the first `len` items, and drops the others.
     pub fn truncate(&mut self, len: usize)
         ensures { self.new ≡ take len self.old }

@@ -44,6 +44,8 @@ fn lists(rt: HostRuntime) -> Result<(), Fail> {
     assert_eq!(rt; copy.as_slice(), [3, 3].as_slice());
     let others = Items::from([3, 4].as_slice().to_vec(rt.alloc())?);
     assert!(rt; others != items);
+    items.append(others.into_vec())?;
+    assert_eq!(rt; items.as_slice(), [3, 3, 3, 4].as_slice());
     let mut set = IdSet::new(rt.alloc());
     set.push(9)?;
     set.push(2)?;

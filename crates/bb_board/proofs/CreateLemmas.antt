@@ -5,7 +5,6 @@ use Rattle.std.proofs.lemmas.List.{length-map}
 use Rattle.bb_basis.proofs.PositionLemmas.{position_within}
 use Rattle.bb_classes.specs.declared.class.Class.{Class}
 use Rattle.bb_schema.specs.Schema.{Schema, class_named}
-use Rattle.bb_units.specs.Layout.{layout_of}
 use Rattle.bb_units.specs.declared.fault.CreateFault.{CreateFault}
 use Rattle.bb_units.specs.declared.fault.CreateFault.TheVariants.{Full as NoMoreUnits, Memory as NoMemory}
 use Rattle.bb_units.specs.Units.{next_number, is_full}
@@ -34,8 +33,8 @@ unfolding with_unit
 with_unit-err w class e (inl m) = inl (ap of_create_fault m)
 with_unit-err w class e (inr given) = inr (where_full (is_full w.units) w.units.next (after_create w class) e given)
 
--- the class of a name has slots
-pub class_within : (s : Schema) (name : List ℕ) (class : ℕ) → class_named s name ≡ Some class → class < length (layout_of s).slots
+-- the class of a name is there
+pub class_within : (s : Schema) (name : List ℕ) (class : ℕ) → class_named s name ≡ Some class → class < length s.classes
 class_within s name class is =
     let within = position_within (bytes_eq name) (map (λ (k : Class). k.name) s.classes) class is in
-    omega (arith, within, length-map s.classes (λ (k : Class). k.name), length-map s.classes (λ (k : Class). k.slots))
+    omega (arith, within, length-map s.classes (λ (k : Class). k.name))

@@ -1,3 +1,9 @@
 pub mod CreateLemmas
 pub mod NameLemmas
 pub mod ValueLemmas
+pub mod NoteLemmas
+pub mod KeepLemmas
+pub mod AllLemmas
+pub mod SideLemmas
+pub mod LinkLemmas
+pub mod DeleteLemmas

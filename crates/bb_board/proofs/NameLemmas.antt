@@ -1,31 +1,30 @@
--- The set of names that contracts see, and the keys that the code keeps.
-use Rattle.std.proofs.Common.{◌≡◌, ℕ, Bool, true, false, cond, List, map, refl, sym, ap, ◌∙◌}
-use Rattle.std.specs.Prelude.{◌||◌, string_bytes, String}
+-- The map of names that contracts see, and the entries that the code keeps.
+use Rattle.std.proofs.Common.{◌≡◌, ℕ, cond, List, [], ◌∷◌, Some, refl, sym, ap, ◌∙◌}
+use Rattle.std.specs.Prelude.{string_bytes, String}
 use Rattle.std.specs.Ordering.{nat_cmp, eq_by_cmp}
+use Rattle.std.specs.Map.{lookup}
 use Rattle.std.specs.Cmp.{eq_by_cmp_equiv}
 use Rattle.std.specs.Cmp.Lexicographic.{slice_cmp, nat_list_cmp_total}
-use Rattle.std.specs.BTreeSet.{BTreeSet, contains_text, UpdatesBy}
+use Rattle.std.specs.BTreeMap.{BTreeMap, is_at, get_by_text, UpdatesBy}
 use Rattle.std.specs.String.{string_cmp}
-use Rattle.std.specs.Str.{bytes_eq}
-use Rattle.std.specs.FinSet.{FinSet, contains, insert, from_list, contains-from_list, contains-insert, same_set, nat_cmp-IsAntisymmetric, slice_cmp-IsAntisymmetric}
-use Rattle.std.proofs.lemmas.Map.Text.{is_eq-slice_cmp, btree_set_updates_text}
-use Rattle.bb_basis.proofs.ListLemmas.{list_any-map}
+use Rattle.std.specs.FinMap.{FinMap, get, insert, from_entries, find, get-from_entries, get-insert, same_map, nat_cmp-IsAntisymmetric, slice_cmp-IsAntisymmetric}
+use Rattle.std.proofs.lemmas.Map.Text.{is_eq-slice_cmp, btree_map_updates_text}
+use Rattle.bb_board.specs.proving.Naming.{named}
 
-abbrev pub seen : {Y : Type 0} → BTreeSet (String Y) → FinSet (slice_cmp nat_cmp)
-seen s = from_list (map string_bytes s.keys)
+abbrev pub seen : {Y : Type 0} → BTreeMap (String Y) ℕ → FinMap (slice_cmp nat_cmp) ℕ
+seen m = from_entries (named m.entries)
 
--- whether a name is in the set, by the keys
-pub contains_seen : {Y : Type 0} (s : BTreeSet (String Y)) (name : List ℕ) → contains (seen s) name ≡ contains_text s name
-contains_seen s name = contains-from_list nat_list_cmp_total (map string_bytes s.keys) name ∙ list_any-map (eq_by_cmp (slice_cmp nat_cmp) name) string_bytes s.keys
+find_named : {Y : Type 0} (es : List (String Y × ℕ)) (name : List ℕ) → find (slice_cmp nat_cmp) name (named es) ≡ lookup (is_at (λ k. slice_cmp nat_cmp name (string_bytes k))) es
+find_named [] name = refl
+find_named (e ∷ es) name = ap (cond (is_at (λ k. slice_cmp nat_cmp name (string_bytes k)) e.0) (Some e.1)) (find_named es name)
 
-or_else : (b c : Bool) → cond b true c ≡ (b || c)
-or_else true c = refl
-or_else false c = refl
+-- the unit of a name, by the entries
+pub get_seen : {Y : Type 0} (m : BTreeMap (String Y) ℕ) (name : List ℕ) → get (seen m) name ≡ get_by_text m name
+get_seen m name = get-from_entries nat_list_cmp_total (named m.entries) name ∙ find_named m.entries name
 
--- keys that differ at one name make sets that differ there
-pub seen_inserted : {Y : Type 0} (s n : BTreeSet (String Y)) (name : List ℕ) → UpdatesBy string_cmp (λ k. slice_cmp nat_cmp name (string_bytes k)) s n true → seen n ≡ insert (seen s) name
-seen_inserted s n name updates = same_set nat_list_cmp_total (slice_cmp-IsAntisymmetric nat_cmp-IsAntisymmetric) _ _ (λ q.
-    contains_seen n q ∙ btree_set_updates_text name s n true updates q
-    ∙ or_else (bytes_eq name q) (contains_text s q)
-    ∙ ap (λ b. b || contains_text s q) (sym (is_eq-slice_cmp name q) ∙ (eq_by_cmp_equiv nat_list_cmp_total).symm name q)
-    ∙ sym (contains-insert nat_list_cmp_total (seen s) name q ∙ ap (λ b. eq_by_cmp (slice_cmp nat_cmp) q name || b) (contains_seen s q)))
+-- entries that differ at one name make maps that differ there
+pub seen_inserted : {Y : Type 0} (m n : BTreeMap (String Y) ℕ) (name : List ℕ) (unit : ℕ) → UpdatesBy string_cmp (λ k. slice_cmp nat_cmp name (string_bytes k)) m n (Some unit) → seen n ≡ insert (seen m) name unit
+seen_inserted m n name unit updates = same_map nat_list_cmp_total (slice_cmp-IsAntisymmetric nat_cmp-IsAntisymmetric) _ _ (λ q.
+    get_seen n q ∙ btree_map_updates_text name m n (Some unit) updates q
+    ∙ ap (λ b. cond b (Some unit) (get_by_text m q)) (sym (is_eq-slice_cmp name q) ∙ (eq_by_cmp_equiv nat_list_cmp_total).symm name q)
+    ∙ sym (get-insert nat_list_cmp_total (seen m) name unit q ∙ ap (cond (eq_by_cmp (slice_cmp nat_cmp) q name) (Some unit)) (get_seen m q)))

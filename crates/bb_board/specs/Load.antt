@@ -1,11 +1,13 @@
--- The blackboard that a text means, or the text's first fault: the JSON, its form, then one walk over the entries.
-use Rattle.std.specs.Prelude.{ℕ, Bool, false, is_some, List, find, Option, Some, None, option_map, option_and_then, Result, Ok, Err, if◌then◌else◌}
-use Rattle.std.specs.FinSet as set
+-- The blackboard that a text means, or the text's first fault: the JSON, its form, then one walk over the units, one over the links.
+use Rattle.std.specs.Prelude.{ℕ, Bool, false, is_some, is_ok, List, find, Option, Some, None, option_map, option_and_then, Result, Ok, Err, if◌then◌else◌}
+use Rattle.std.specs.FinMap as map
+use Rattle.std.specs.Ordering.{nat_cmp}
+use Rattle.std.specs.Cmp.Lexicographic.{slice_cmp}
 use Rattle.std.specs.List.{list_all}
 use Rattle.std.specs.Option.{option_map_or}
 use Rattle.std.specs.Str.{bytes_eq}
 use Rattle.bb_basis.specs.Results.{◌>>=◌, ok_or, map_err, try_fold}
-use Rattle.bb_document.specs.UnitsDocument.{GivenDeclaration, UnitDeclaration, units_document_of}
+use Rattle.bb_document.specs.UnitsDocument.{GivenDeclaration, UnitDeclaration, FirstLinkDeclaration, units_document_of}
 use Rattle.bb_document.specs.UnitsDocument.{ValueDeclaration, int_value, text_value, bool_value, interval_value}
 use Rattle.bb_document.specs.declared.fault.DocumentFault.{DocumentFault}
 use Rattle.bb_document.specs.declared.fault.DocumentFault.TheVariants as documents
@@ -14,12 +16,15 @@ use Rattle.bb_classes.specs.declared.kind.Kind.TheVariants as kinds
 use Rattle.bb_classes.specs.declared.value.Value.{Value}
 use Rattle.bb_classes.specs.declared.value.Value.TheVariants as values
 use Rattle.bb_schema.specs.Schema.{Schema, class_named, slot_named, label_named, name_of_slot, kind_of_slot, default_of, slots_of}
-use Rattle.bb_units.specs.Units.{is_full, takes}
-use Rattle.bb_board.specs.declared.loader.Progress.{Progress}
+use Rattle.bb_units.specs.Units.{is_full}
 use Rattle.bb_board.specs.declared.units_fault.UnitsFault.{UnitsFault}
 use Rattle.bb_board.specs.declared.units_fault.UnitsFault.TheVariants.{Json, Shape, Twice, Unknown, Kind, Full, Memory}
 use Rattle.bb_board.specs.declared.world.World.{World}
-use Rattle.bb_board.specs.World.{empty_world, after_create, after_set}
+use Rattle.bb_board.specs.World.{empty_world, class_at, after_create, after_set}
+use Rattle.bb_board.specs.UnitsFaults.{of_reason}
+use Rattle.bb_board.specs.Links.{after_link}
+use Rattle.bb_board.specs.May.{may_set, may_link}
+use Rattle.bb_board.specs.Board.{Board, with_world}
 
 -- a fault of the document as one of its units
 abbrev pub fault_of : DocumentFault → UnitsFault
@@ -27,9 +32,14 @@ fault_of documents.Json = Json
 fault_of documents.Shape = Shape
 fault_of documents.Memory = Memory
 
+-- how far the walk over the units has come: the units so far under their names, and the blackboard's state
+pub record Progress : Type 0 where
+  pub names : map.FinMap (slice_cmp nat_cmp) ℕ
+  pub world : World
+
 -- before the first entry: no names, and nothing was created
 abbrev pub no_progress : Schema → Progress
-no_progress s = record { names = set.empty; world = empty_world s }
+no_progress s = record { names = map.empty; world = empty_world s }
 
 -- one unit more, if there is room
 unfoldable pub with_unit : World → ℕ → Result World UnitsFault
@@ -62,11 +72,11 @@ value_in schema _ _ = None
 abbrev pub value_at : Schema → (slot : ℕ) → ValueDeclaration → Option Value
 value_at schema slot given = option_and_then (λ kind. value_in schema kind given) (kind_of_slot schema slot)
 
--- a unit's slot holds a value that is given for it, if it can
+-- a unit's slot holds a value that is given for it, if it may
 unfoldable pub with_value : Schema → (unit : ℕ) → World → (slot : ℕ) → ValueDeclaration → Result World UnitsFault
 with_value schema n w slot given = do
   value ← ok_or (value_at schema slot given) Kind
-  if takes w.units n slot value then Ok (after_set w n slot value) else Err Kind
+  if is_ok (may_set w n slot value) then Ok (after_set w n slot value) else Err Kind
 
 -- the same, if a value is given
 abbrev pub if_given : Schema → (unit : ℕ) → World → (slot : ℕ) → Option ValueDeclaration → Result World UnitsFault
@@ -86,17 +96,31 @@ unfoldable pub with_values : Schema → (unit class : ℕ) → List GivenDeclara
 with_values schema n class given w =
     if are_slots schema class given then try_fold (slot_after schema n given) w (slots_of schema class) else Err Unknown
 
--- the walk after one more entry, or what is wrong with the entry
+-- the walk after one more unit, or what is wrong with its entry
 unfoldable pub entry_after : Schema → Progress → UnitDeclaration → Result Progress UnitsFault
-entry_after schema so_far entry = if set.contains so_far.names entry.name then Err Twice else (do
+entry_after schema so_far entry = if map.contains_key so_far.names entry.name then Err Twice else (do
   class ← ok_or (class_named schema entry.class) Unknown
   created ← with_unit so_far.world class
   world ← with_values schema so_far.world.units.next class entry.slots created
-  Ok (record { names = set.insert so_far.names entry.name; world = world }))
+  Ok (record { names = map.insert so_far.names entry.name so_far.world.units.next; world = world }))
 
--- what a text makes of the empty blackboard
+-- a blackboard's state after one more link, or what is wrong with its entry: a unit that is not there, or no link slot of
+-- the name, and then a partner that is not of the class that the slot leads to
+unfoldable pub link_after : Schema → map.FinMap (slice_cmp nat_cmp) ℕ → World → FirstLinkDeclaration → Result World UnitsFault
+link_after schema names w entry = do
+  n ← ok_or (map.get names entry.from) Unknown
+  m ← ok_or (map.get names entry.to) Unknown
+  slot ← ok_or (slot_named schema (class_at w n) entry.slot) Unknown
+  allowed ← map_err of_reason (may_link schema w n slot m)
+  Ok (after_link schema w n slot m)
+
+-- the state that a text means: what it makes of a blackboard before anything was created, first its units, then its links
 unfoldable pub load : Schema → List ℕ → Result World UnitsFault
 load schema text = do
-  entries ← map_err fault_of (units_document_of text)
-  last ← try_fold (entry_after schema) (no_progress schema) entries
-  Ok last.world
+  declared ← map_err fault_of (units_document_of text)
+  units ← try_fold (entry_after schema) (no_progress schema) declared.units
+  try_fold (link_after schema units.names) units.world declared.links
+
+-- a blackboard in that state
+abbrev pub loaded : Board → List ℕ → Result Board UnitsFault
+loaded b text = load b.schema text >>= λ w. Ok (with_world b w)

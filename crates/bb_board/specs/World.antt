@@ -4,21 +4,33 @@ use Rattle.bb_classes.specs.declared.value.Value.{Value}
 use Rattle.bb_schema.specs.Schema.{Schema}
 use Rattle.bb_units.specs.Layout.{layout_of}
 use Rattle.bb_units.specs.Units.{no_units, class_of, after_create as with_new_unit, after_set as with_value}
-use Rattle.bb_board.specs.declared.event.Event.TheVariants.{Change}
-use Rattle.bb_board.specs.declared.event.ChangeKind.TheVariants.{Create, Update}
+use Rattle.bb_links.specs.Couples.{no_links}
+use Rattle.bb_board.specs.declared.event.Change.{Change}
+use Rattle.bb_board.specs.declared.event.Change.TheVariants.{Create, Update}
+use Rattle.bb_board.specs.declared.event.Event.TheVariants as events
+use Rattle.bb_board.specs.declared.note.Note.{Note}
 use Rattle.bb_board.specs.declared.note.Note.TheVariants as notes
 use Rattle.bb_board.specs.declared.note.Said.{Said}
 use Rattle.bb_board.specs.declared.world.World.{World}
 
--- the blackboard of a schema, before anything was created
+-- the state of a blackboard with a schema, before anything was created
 abbrev pub empty_world : Schema → World
-empty_world s = record { units = no_units (layout_of s); notes = [] }
+empty_world s = record { units = no_units (layout_of s); links = no_links s; notes = [] }
+
+-- the note of a change of a unit, which is of this class
+abbrev pub event : (unit class : ℕ) → Change → Note
+event n class change = notes.Event (events.Change n class change)
+
+-- the same state with one note more
+abbrev pub after_note : World → Note → World
+after_note w note = record { units = w.units; links = w.links; notes = w.notes ++ note ∷ [] }
 
 -- one unit more, of this class, under the next number (GBBopen Reference Manual, unit instances)
 abbrev pub after_create : World → ℕ → World
 after_create w class = record {
   units = with_new_unit w.units class;
-  notes = w.notes ++ notes.Event (Change Create w.units.next class) ∷ [];
+  links = w.links;
+  notes = w.notes ++ event w.units.next class Create ∷ [];
 }
 
 -- the class of a unit, 0 where it is not live
@@ -29,13 +41,14 @@ class_at w n = unwrap_or (class_of w.units n) 0
 abbrev pub after_set : World → (unit slot : ℕ) → Value → World
 after_set w n slot value = record {
   units = with_value w.units n slot value;
-  notes = w.notes ++ notes.Event (Change (Update slot) n (class_at w n)) ∷ [];
+  links = w.links;
+  notes = w.notes ++ event n (class_at w n) (Update slot) ∷ [];
 }
 
 -- these values were said
 abbrev pub after_say : World → List Said → World
-after_say w values = record { units = w.units; notes = w.notes ++ notes.Said values ∷ [] }
+after_say w values = after_note w (notes.Said values)
 
 -- its notes were taken
 abbrev pub after_take : World → World
-after_take w = record { units = w.units; notes = [] }
+after_take w = record { units = w.units; links = w.links; notes = [] }

@@ -2,8 +2,9 @@
 
 ghost use Rattle.std.specs.Prelude.{◌≡◌};
 ghost use Rattle.bb_board.specs.declared.units_fault.UnitsFault.TheVariants.{Memory as OutOfMemory};
-ghost use Rattle.bb_board.specs.UnitsFaults.{fault_number, of_create_fault};
+ghost use Rattle.bb_board.specs.UnitsFaults.{fault_number, is_memory, of_create_fault, of_reason};
 
+use crate::reason::Reason;
 use bb_units::CreateFault;
 use std::alloc::{AllocError, AllocFailed};
 use thiserror::Error;
@@ -57,6 +58,13 @@ impl UnitsFault {
             UnitsFault::Memory => 9,
         }
     }
+
+    /// Whether memory ran out.
+    pub(crate) fn is_memory(self) -> bool
+        ensures { result ≡ is_memory self }
+    {
+        matches!(self, UnitsFault::Memory)
+    }
 }
 
 impl From<AllocError> for UnitsFault {
@@ -82,6 +90,19 @@ impl From<CreateFault> for UnitsFault {
         match fault {
             CreateFault::Full => UnitsFault::Full,
             CreateFault::Memory => UnitsFault::Memory,
+        }
+    }
+}
+
+impl From<Reason> for UnitsFault {
+    ghost from_gives = { λ reason e. e ≡ of_reason reason };
+
+    fn from(reason: Reason) -> UnitsFault {
+        match reason {
+            Reason::Deleted | Reason::Slot => UnitsFault::Unknown,
+            Reason::Kind => UnitsFault::Kind,
+            Reason::LinkClass => UnitsFault::LinkClass,
+            Reason::Space => UnitsFault::Space,
         }
     }
 }

@@ -9,8 +9,8 @@ ghost use Rattle.bb_board.specs.declared.units_fault.UnitsFault.TheVariants.{Mem
 ghost use Rattle.bb_board.specs.Load.{are_slots, given_at, given_for, if_given, is_ordinary_in, slot_after, value_at, value_in};
 ghost use Rattle.bb_board.specs.Load.{with_value, with_values};
 
+use crate::board::Board;
 use crate::units_fault::UnitsFault;
-use crate::world::World;
 use bb_basis::Text;
 use bb_document::{GivenEntry, GivenValue};
 use bb_schema::{ClassId, Kind, Schema, SlotId, UnitId, Value};
@@ -97,20 +97,20 @@ fn value_at(
 fn set_value(
     alloc: Global,
     schema: &Schema,
-    world: &mut World,
+    board: &mut Board,
     unit: UnitId,
     slot: SlotId,
     given: &GivenValue,
 ) -> Result<(), UnitsFault>
-    ensures gives { Gives OutOfMemory (λ _. world.new) result
-        (with_value schema.now unit world.old slot (value_declaration given.now)) }
-    ensures layout { OnOk result (world.new.units.layout ≡ world.old.units.layout) }
+    ensures gives { Gives OutOfMemory (λ _. board.new.world) result
+        (with_value schema.now unit board.old.world slot (value_declaration given.now)) }
+    ensures schema { OnOk result (board.new.schema ≡ board.old.schema) }
 {
     let value = value_at(alloc, schema, slot, given)?.ok_or(UnitsFault::Kind)?;
-    if !world.units.takes(unit, slot, &value) {
+    if board.may_set(unit, slot, &value).is_err() {
         return Err(UnitsFault::Kind);
     }
-    world.set(unit, slot, value)?;
+    board.set(unit, slot, value)?;
     Ok(())
 }
 
@@ -119,18 +119,18 @@ fn set_value(
 fn set_slot(
     alloc: Global,
     schema: &Schema,
-    world: &mut World,
+    board: &mut Board,
     unit: UnitId,
     slot: SlotId,
     given: &[GivenEntry],
 ) -> Result<(), UnitsFault>
-    ensures gives { Gives OutOfMemory (λ _. world.new) result
-        (slot_after schema.now unit (map given_declaration given.now) world.old slot) }
-    ensures layout { OnOk result (world.new.units.layout ≡ world.old.units.layout) }
+    ensures gives { Gives OutOfMemory (λ _. board.new.world) result
+        (slot_after schema.now unit (map given_declaration given.now) board.old.world slot) }
+    ensures schema { OnOk result (board.new.schema ≡ board.old.schema) }
 {
     match given_at(schema, given, slot) {
         None => Ok(()),
-        Some(value) => set_value(alloc, schema, world, unit, slot, value),
+        Some(value) => set_value(alloc, schema, board, unit, slot, value),
     }
 }
 
@@ -138,17 +138,17 @@ fn set_slot(
 fn set_slots(
     alloc: Global,
     schema: &Schema,
-    world: &mut World,
+    board: &mut Board,
     unit: UnitId,
     slots: &[SlotId],
     given: &[GivenEntry],
 ) -> Result<(), UnitsFault>
-    ensures gives { Gives OutOfMemory (λ _. world.new) result
-        (try_fold (slot_after schema.now unit (map given_declaration given.now)) world.old slots.now) }
-    ensures layout { OnOk result (world.new.units.layout ≡ world.old.units.layout) }
+    ensures gives { Gives OutOfMemory (λ _. board.new.world) result
+        (try_fold (slot_after schema.now unit (map given_declaration given.now)) board.old.world slots.now) }
+    ensures schema { OnOk result (board.new.schema ≡ board.old.schema) }
 {
     for slot in slots {
-        set_slot(alloc, schema, world, unit, *slot, given)?;
+        set_slot(alloc, schema, board, unit, *slot, given)?;
     }
     Ok(())
 }
@@ -158,18 +158,18 @@ fn set_slots(
 pub(crate) fn set_values(
     alloc: Global,
     schema: &Schema,
-    world: &mut World,
+    board: &mut Board,
     unit: UnitId,
     class: ClassId,
     given: &[GivenEntry],
 ) -> Result<(), UnitsFault>
     requires { class < length schema.now.classes }
-    ensures gives { Gives OutOfMemory (λ _. world.new) result
-        (with_values schema.now unit class (map given_declaration given.now) world.old) }
-    ensures layout { OnOk result (world.new.units.layout ≡ world.old.units.layout) }
+    ensures gives { Gives OutOfMemory (λ _. board.new.world) result
+        (with_values schema.now unit class (map given_declaration given.now) board.old.world) }
+    ensures schema { OnOk result (board.new.schema ≡ board.old.schema) }
 {
     if !are_slots(schema, class, given) {
         return Err(UnitsFault::Unknown);
     }
-    set_slots(alloc, schema, world, unit, schema.slots(class), given)
+    set_slots(alloc, schema, board, unit, schema.slots(class), given)
 }

@@ -1,43 +1,77 @@
-//! The state of a blackboard. Loading makes one (`load`), the machine changes it, and the run takes its notes.
+//! The state of a blackboard. The board keeps one, and each of its changes is a step here.
 
-use crate::event::{ChangeKind, Event};
+ghost use Rattle.std.specs.Prelude.{◌≡◌, ◌<◌, ℕ, length, IfOk, IsTrue, OnOk, OnErr};
+ghost use Rattle.bb_basis.specs.Results.{Gives};
+ghost use Rattle.bb_schema.specs.Couples.{couple_of};
+ghost use Rattle.bb_units.specs.Fits as units;
+ghost use Rattle.bb_units.specs.Units.{is_live, next_number, takes};
+ghost use Rattle.bb_links.specs.Couples.{end_of};
+ghost use Rattle.bb_links.specs.Fits as links;
+ghost use Rattle.bb_board.specs.World.{empty_world, event, after_note, after_create, after_set, after_say, after_take};
+
+use crate::event::{Change, Event};
 use crate::note::{Note, Said};
 use bb_basis::{Items, Memory};
+use bb_links::Couples;
 use bb_schema::{ClassId, Schema, SlotId, UnitId, Value};
 use bb_units::{CreateFault, Units};
 use std::alloc::Global;
 use std::mem;
 
-#[cfg(test)]
-mod tests;
-
-/// All that a blackboard (Hayes-Roth, 1985) holds at a time, and what it noted since its notes were last taken.
-#[derive(Drop)]
+/// All that a blackboard holds at a time, and what it noted since its notes were last taken.
 pub struct World {
     pub units: Units,
+    pub links: Couples,
     pub notes: Items<Note>,
 }
 
-impl World {
-    ghost use Rattle.std.specs.Prelude.{◌≡◌, ◌<◌, length, IfOk, IsTrue, OnOk, OnErr};
-    ghost use Rattle.bb_basis.specs.Results.{Gives};
-    ghost use Rattle.bb_units.specs.Units.{next_number, takes};
-    ghost use Rattle.bb_board.specs.World.{empty_world, after_create, after_set, after_say, after_take};
+// By hand, so that a proof meets one call where a state is dropped, and not all its parts.
+impl Drop for World {
+    fn drop(self) {
+        let World {
+            units: _,
+            links: _,
+            notes: _,
+        } = self;
+    }
+}
 
-    /// The blackboard of a schema, without units and notes.
-    pub fn new(alloc: Global, schema: &Schema) -> Result<World, Memory>
-        ensures { IfOk result (λ world. world ≡ empty_world schema.now) }
+impl World {
+    /// The state of a blackboard with a schema, before anything was created.
+    pub(crate) fn new(alloc: Global, schema: &Schema) -> Result<World, Memory>
+        ensures empty { IfOk result (λ world. world ≡ empty_world schema.now) }
+        ensures ends { IfOk result (λ world. (slot : ℕ) → end_of world.links slot ≡ couple_of schema.now slot) }
     {
         Ok(World {
             units: Units::new(alloc, schema)?,
+            links: Couples::new(alloc, schema)?,
             notes: Items::new(alloc),
         })
     }
 
-    /// Creates a unit (GBBopen Reference Manual, unit instances) of a class that is there, each of its slots at its
-    /// default, notes the event, and returns the unit's number, the next one. `Full`: no more units can be created. An
-    /// error changes nothing.
-    pub fn create(&mut self, class: ClassId) -> Result<UnitId, CreateFault>
+    /// Does nothing, and says what holds of units and links.
+    pub(crate) fn fits(&self)
+        ensures units { units.Fits self.now.units }
+        ensures links { links.Fits self.now.links }
+    {
+        self.units.fits();
+        self.links.fits();
+    }
+
+    /// Notes a change of a unit, which is of this class. An error changes nothing.
+    fn note(&mut self, unit: UnitId, class: ClassId, change: Change) -> Result<(), Memory>
+        ensures ok { OnOk result (self.new ≡ after_note self.old (event unit class change)) }
+        ensures err { OnErr result (self.new ≡ self.old) }
+    {
+        self.notes.push(Note::Event(Event::Change {
+            unit,
+            class,
+            change,
+        }))
+    }
+
+    /// Creates a unit of a class that is there, notes it, and returns its number. An error changes nothing.
+    pub(crate) fn create(&mut self, class: ClassId) -> Result<UnitId, CreateFault>
         requires { class < length self.old.units.layout.slots }
         ensures number { Gives CreateFault.Memory (λ number. number) result (next_number self.old.units) }
         ensures created { OnOk result (self.new ≡ after_create self.old class) }
@@ -46,11 +80,7 @@ impl World {
         // The note comes first: it can be taken back.
         let count = self.notes.len();
         let unit = self.units.next();
-        self.notes.push(Note::Event(Event::Change {
-            kind: ChangeKind::Create,
-            unit,
-            class,
-        }))?;
+        self.note(unit, class, Change::Create)?;
         match self.units.create(class) {
             Ok(number) => Ok(number),
             Err(fault) => {
@@ -60,25 +90,21 @@ impl World {
         }
     }
 
-    /// Sets an ordinary slot of a live unit to a value that the slot can hold, and notes the event, also where the value
-    /// is equal. An error changes nothing.
-    pub fn set(&mut self, unit: UnitId, slot: SlotId, value: Value) -> Result<(), Memory>
-        requires { IsTrue (takes self.old.units unit slot value) }
+    /// Sets a slot that takes the value, and notes it. An error changes nothing.
+    pub(crate) fn set(&mut self, unit: UnitId, slot: SlotId, value: Value) -> Result<(), Memory>
+        requires live { IsTrue (is_live self.old.units unit) }
+        requires takes { IsTrue (takes self.old.units unit slot value) }
         ensures ok { OnOk result (self.new ≡ after_set self.old unit slot value) }
         ensures err { OnErr result (self.new ≡ self.old) }
     {
         let class = self.units.class_of(unit);
-        self.notes.push(Note::Event(Event::Change {
-            kind: ChangeKind::Update(slot),
-            unit,
-            class,
-        }))?;
+        self.note(unit, class, Change::Update(slot))?;
         self.units.set(unit, slot, value);
         Ok(())
     }
 
-    /// Notes that values are said, on one line. An error changes nothing.
-    pub fn say(&mut self, values: Items<Said>) -> Result<(), Memory>
+    /// Notes that values are said. An error changes nothing.
+    pub(crate) fn say(&mut self, values: Items<Said>) -> Result<(), Memory>
         ensures ok { OnOk result (self.new ≡ after_say self.old values) }
         ensures err { OnErr result (self.new ≡ self.old) }
     {
@@ -86,7 +112,7 @@ impl World {
     }
 
     /// Takes the notes, in order, and leaves none.
-    pub fn take_notes(&mut self, alloc: Global) -> Items<Note>
+    pub(crate) fn take_notes(&mut self, alloc: Global) -> Items<Note>
         ensures notes { result ≡ self.old.notes }
         ensures world { self.new ≡ after_take self.old }
     {

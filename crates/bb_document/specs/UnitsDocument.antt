@@ -5,6 +5,7 @@ use Rattle.serde_json.specs.Data.{Data, null, boolean, number, string, array, ob
 use Rattle.serde_json.specs.Find.{get, as_i64, as_object}
 use Rattle.serde_json.specs.Read.{read}
 use Rattle.bb_basis.specs.Results.{◌>>=◌, ok_or, try_map}
+use Rattle.bb_document.specs.declared.document.FirstLinkEntry.{FirstLinkEntry}
 use Rattle.bb_document.specs.declared.document.GivenEntry.{GivenEntry}
 use Rattle.bb_document.specs.declared.document.GivenValue.{GivenValue}
 use Rattle.bb_document.specs.declared.document.GivenValue.TheVariants.{Int, Text, Bool as Truth, Interval, Other}
@@ -12,8 +13,8 @@ use Rattle.bb_document.specs.declared.document.UnitEntry.{UnitEntry}
 use Rattle.bb_document.specs.declared.document.UnitsDocument.{UnitsDocument}
 use Rattle.bb_document.specs.declared.fault.DocumentFault.{DocumentFault}
 use Rattle.bb_document.specs.declared.fault.DocumentFault.TheVariants.{Json, Shape}
-use Rattle.bb_document.specs.Shapes.{list_of, is_object_with, text_at, list_at}
-use Rattle.bb_document.specs.Form.{ends_of}
+use Rattle.bb_document.specs.Shapes.{list_of, is_object_with, as_list, text_at, list_at}
+use Rattle.bb_document.specs.Form.{text_of, ends_of}
 
 -- a value that a first unit gives for a slot; a label is given as its text, and another value fits no slot
 pub data ValueDeclaration : Type 0 where
@@ -34,6 +35,17 @@ pub record UnitDeclaration : Type 0 where
   pub class : List ℕ
   pub slots : List GivenDeclaration
 
+-- a link between first units: a unit, its link slot, and the unit that it leads to, by their names
+pub record FirstLinkDeclaration : Type 0 where
+  pub from : List ℕ
+  pub slot : List ℕ
+  pub to : List ℕ
+
+-- a whole document
+pub record UnitsDeclaration : Type 0 where
+  pub units : List UnitDeclaration
+  pub links : List FirstLinkDeclaration
+
 -- what an entry means
 abbrev pub value_declaration : GivenValue → ValueDeclaration
 value_declaration (Int z) = int_value z
@@ -52,8 +64,14 @@ unit_declaration e = record {
   slots = map given_declaration e.slots.items;
 }
 
-abbrev pub unit_declarations : UnitsDocument → List UnitDeclaration
-unit_declarations d = map unit_declaration d.units.items
+abbrev pub first_link_declaration : FirstLinkEntry → FirstLinkDeclaration
+first_link_declaration e = record { from = string_bytes e.from; slot = string_bytes e.slot; to = string_bytes e.to }
+
+abbrev pub units_declaration : UnitsDocument → UnitsDeclaration
+units_declaration d = record {
+  units = map unit_declaration d.units.items;
+  links = map first_link_declaration d.links.items;
+}
 
 -- the value that JSON gives: a number that is an i64, a text, a truth value, two numbers in order, or another
 abbrev pub given_value_of : Data → ValueDeclaration
@@ -82,14 +100,35 @@ unit_of d = if is_object_with (codes "name" ∷ codes "class" ∷ codes "slots" 
   slots ← given_slots_of (get (codes "slots") d)
   Ok (record { name = name; class = class; slots = slots })) else Err Shape
 
--- the whole document: a list of units, an absent one empty
-unfoldable pub unit_declarations_of : Data → Result (List UnitDeclaration) DocumentFault
-unit_declarations_of d = if is_object_with (codes "units" ∷ []) d then (do
-  given ← ok_or (list_at (codes "units") d) Shape
-  try_map unit_of given) else Err Shape
+-- the three names of which a link is made, and nothing else
+unfoldable pub first_link_of_names : List Data → Result FirstLinkDeclaration DocumentFault
+first_link_of_names [] = Err Shape
+first_link_of_names (a ∷ []) = Err Shape
+first_link_of_names (a ∷ b ∷ []) = Err Shape
+first_link_of_names (a ∷ b ∷ c ∷ []) = do
+  from ← text_of a
+  slot ← text_of b
+  to ← text_of c
+  Ok (record { from = from; slot = slot; to = to })
+first_link_of_names (a ∷ b ∷ c ∷ d ∷ ds) = Err Shape
+
+-- a link: an array of three texts
+unfoldable pub first_link_of : Data → Result FirstLinkDeclaration DocumentFault
+first_link_of d = do
+  names ← ok_or (as_list d) Shape
+  first_link_of_names names
+
+-- the whole document: a list of units and a list of links, an absent one empty
+unfoldable pub units_declaration_of : Data → Result UnitsDeclaration DocumentFault
+units_declaration_of d = if is_object_with (codes "units" ∷ codes "links" ∷ []) d then (do
+  given_units ← ok_or (list_at (codes "units") d) Shape
+  units ← try_map unit_of given_units
+  given_links ← ok_or (list_at (codes "links") d) Shape
+  links ← try_map first_link_of given_links
+  Ok (record { units = units; links = links })) else Err Shape
 
 -- what a text declares: the JSON, then its form
-unfoldable pub units_document_of : List ℕ → Result (List UnitDeclaration) DocumentFault
+unfoldable pub units_document_of : List ℕ → Result UnitsDeclaration DocumentFault
 units_document_of text = do
   json ← ok_or (read text) Json
-  unit_declarations_of json
+  units_declaration_of json

@@ -70,10 +70,11 @@ pub struct DimEntry {
     pub of: Option<String>,
 }
 
-/// What the document of the first units declares, in its order. Only the form has been tested.
+/// What the document of the first units declares, in its order. Only the form has been tested: a name may be any text.
 #[derive(Debug, Drop)]
 pub struct UnitsDocument {
     pub units: Vec<UnitEntry>,
+    pub links: Vec<FirstLinkEntry>,
 }
 
 /// A first unit, with the name by which its document refers to it.
@@ -103,4 +104,13 @@ pub enum GivenValue {
     Interval(i64, i64),
     /// Any other JSON. It fits no slot.
     Other,
+}
+
+/// A link between first units: a unit, a link slot of its class, and the unit that it leads to. Both units go by the
+/// names that the document gives them.
+#[derive(Debug, Drop)]
+pub struct FirstLinkEntry {
+    pub from: String,
+    pub slot: String,
+    pub to: String,
 }

@@ -13,7 +13,7 @@ mod tests;
 mod units_form;
 
 pub use document::{
-    ClassEntry, DefaultEntry, DimEntry, Document, GivenEntry, GivenValue, LabelSetEntry, LinkEntry,
-    SlotEntry, SpaceEntry, UnitEntry, UnitsDocument,
+    ClassEntry, DefaultEntry, DimEntry, Document, FirstLinkEntry, GivenEntry, GivenValue,
+    LabelSetEntry, LinkEntry, SlotEntry, SpaceEntry, UnitEntry, UnitsDocument,
 };
 pub use fault::DocumentFault;

@@ -274,8 +274,28 @@ fn first_units(rt: HostRuntime) -> Result<(), Fail> {
     );
     let empty = UnitsDocument::read(rt.alloc(), "{}")?;
     assert!(rt; empty.units.is_empty());
+    assert!(rt; empty.links.is_empty());
     Ok(())
 }
+
+#[test]
+fn first_links(rt: HostRuntime) -> Result<(), Fail> {
+    let document = UnitsDocument::read(
+        rt.alloc(),
+        r#"{"links":[["a","mate","b"],["","no slot \"\u00e9",""],["a","mate","b"]],"units":[]}"#,
+    )?;
+    let mut lines = String::new(rt.alloc());
+    for link in &document.links {
+        write!(lines, "{link:?}\n")?;
+    }
+    assert_eq!(rt; lines.as_str(), FIRST_LINKS);
+    Ok(())
+}
+
+const FIRST_LINKS: &str = r#"FirstLinkEntry { from: "a", slot: "mate", to: "b" }
+FirstLinkEntry { from: "", slot: "no slot \"é", to: "" }
+FirstLinkEntry { from: "a", slot: "mate", to: "b" }
+"#;
 
 /// A unit that gives values of all forms, in an order that is not that of their names.
 const GIVEN: &str = r#"{"units":[{"slots":{
@@ -344,7 +364,6 @@ fn shapeless_units(rt: HostRuntime) {
         "[]",
         r#"{"classes":[]}"#,
         r#"{"units":null}"#,
-        r#"{"units":[],"links":[]}"#,
         r#"{"units":[],"spaces":[]}"#,
         r#"{"units":[{"name":"a"}]}"#,
         r#"{"units":[{"name":"a","class":null}]}"#,
@@ -352,6 +371,19 @@ fn shapeless_units(rt: HostRuntime) {
         r#"{"units":[{"name":"a","class":"b","slots":[]}]}"#,
         r#"{"units":[{"name":"a","class":"b","slots":null}]}"#,
         r#"{"units":[{"name":"a","class":"b","slots":"x"}]}"#,
+        r#"{"links":null}"#,
+        r#"{"links":{}}"#,
+        r#"{"links":[null]}"#,
+        r#"{"links":["abc"]}"#,
+        r#"{"links":[{"0":"a","1":"s","2":"b"}]}"#,
+        r#"{"links":[[]]}"#,
+        r#"{"links":[["a"]]}"#,
+        r#"{"links":[["a","s"]]}"#,
+        r#"{"links":[["a","s","b","c"]]}"#,
+        r#"{"links":[[1,"s","b"]]}"#,
+        r#"{"links":[["a",null,"b"]]}"#,
+        r#"{"links":[["a","s",["b"]]]}"#,
+        r#"{"units":[{"name":"a","class":"b"}],"links":[["x","y","z"],["a","s"]]}"#,
     ] {
         match UnitsDocument::read(rt.alloc(), text) {
             Ok(_) => assert!(rt; false, "{text} is read"),

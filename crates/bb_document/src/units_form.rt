@@ -4,16 +4,17 @@ ghost use Rattle.std.specs.Prelude.{◌≡◌, map, IfOk, option_map};
 ghost use Rattle.bb_document.specs.declared.fault.DocumentFault.TheVariants.{Memory as OutOfMemory};
 ghost use Rattle.serde_json.specs.View.{view, members_view};
 ghost use Rattle.bb_basis.specs.Results.{Gives};
-ghost use Rattle.bb_document.specs.UnitsDocument.{value_declaration, given_declaration, unit_declarations};
+ghost use Rattle.bb_document.specs.UnitsDocument.{value_declaration, given_declaration, units_declaration};
 ghost use Rattle.bb_document.specs.UnitsDocument.{given_value_of, givens_of, given_slots_of};
-ghost use Rattle.bb_document.specs.UnitsDocument.{unit_declarations_of, units_document_of};
+ghost use Rattle.bb_document.specs.UnitsDocument.{first_link_declaration, first_link_of_names};
+ghost use Rattle.bb_document.specs.UnitsDocument.{units_declaration_of, units_document_of};
 
-use crate::document::{GivenEntry, GivenValue, UnitEntry, UnitsDocument};
+use crate::document::{FirstLinkEntry, GivenEntry, GivenValue, UnitEntry, UnitsDocument};
 use crate::entry::{Entry, entries, string_at};
 use crate::fault::DocumentFault;
 use crate::form::interval;
 use crate::json::json;
-use crate::shape::{is_object_with, list_at};
+use crate::shape::{as_list, is_object_with, list_at};
 use serde_json::{Map, Value};
 use std::alloc::{AllocError, Global};
 
@@ -23,24 +24,25 @@ impl UnitsDocument {
     /// `null` included. `Memory` may come at any point.
     #[tactic(auto, unfolding(crate::specs::UnitsDocument::units_document_of))]
     pub fn read(alloc: Global, text: &str) -> Result<UnitsDocument, DocumentFault>
-        ensures { Gives OutOfMemory unit_declarations result (units_document_of text.now) }
+        ensures { Gives OutOfMemory units_declaration result (units_document_of text.now) }
     {
         let value = json(alloc, text)?;
         units_document(alloc, &value)
     }
 }
 
-#[tactic(auto, unfolding(crate::specs::UnitsDocument::unit_declarations_of))]
+#[tactic(auto, unfolding(crate::specs::UnitsDocument::units_declaration_of))]
 fn units_document(alloc: Global, value: &Value) -> Result<UnitsDocument, DocumentFault>
-    ensures { Gives OutOfMemory unit_declarations result (unit_declarations_of (view value.now)) }
+    ensures { Gives OutOfMemory units_declaration result (units_declaration_of (view value.now)) }
 {
-    if !is_object_with(value, &["units"]) {
+    if !is_object_with(value, &["units", "links"]) {
         return Err(DocumentFault::Shape);
     }
     let units = list_at(value, "units").ok_or(DocumentFault::Shape)?;
-    Ok(UnitsDocument {
-        units: entries(alloc, units)?,
-    })
+    let units = entries(alloc, units)?;
+    let links = list_at(value, "links").ok_or(DocumentFault::Shape)?;
+    let links = entries(alloc, links)?;
+    Ok(UnitsDocument { units, links })
 }
 
 impl Entry for UnitEntry {
@@ -104,5 +106,37 @@ fn given_value(alloc: Global, value: &Value) -> Result<GivenValue, AllocError>
             GivenValue::Interval(ends.0, ends.1)
         })),
         Value::Null | Value::Object(_) => Ok(GivenValue::Other),
+    }
+}
+
+impl Entry for FirstLinkEntry {
+    ghost use Rattle.bb_document.specs.UnitsDocument.{FirstLinkDeclaration, first_link_declaration, first_link_of};
+
+    ghost Declared = { FirstLinkDeclaration };
+
+    ghost declared = { first_link_declaration };
+
+    ghost form = { first_link_of };
+
+    #[tactic(auto, unfolding(crate::specs::UnitsDocument::first_link_of))]
+    fn of(alloc: Global, value: &Value) -> Result<FirstLinkEntry, DocumentFault> {
+        let names = as_list(value).ok_or(DocumentFault::Shape)?;
+        first_link(alloc, names)
+    }
+}
+
+/// A link of the three names of which it is made.
+#[tactic(auto, unfolding(crate::specs::UnitsDocument::first_link_of_names))]
+fn first_link(alloc: Global, names: &[Value]) -> Result<FirstLinkEntry, DocumentFault>
+    ensures { Gives OutOfMemory first_link_declaration result (first_link_of_names (map view names.now)) }
+{
+    match names {
+        [from, slot, to] => {
+            let from = String::of(alloc, from)?;
+            let slot = String::of(alloc, slot)?;
+            let to = String::of(alloc, to)?;
+            Ok(FirstLinkEntry { from, slot, to })
+        }
+        _ => Err(DocumentFault::Shape),
     }
 }

@@ -7,3 +7,4 @@ pub mod ChangeLemmas
 pub mod StandingLemmas
 pub mod LayoutLemmas
 mod Rows
+pub mod TakenLemmas

@@ -173,25 +173,41 @@ impl Couple {
         }
     }
 
+    /// Whether two units are linked.
+    pub(crate) fn has(&self, a: UnitId, b: UnitId) -> bool
+        ensures { result ≡ has_pair (a, b) self.now.pairs }
+    {
+        self.pairs.contains((a, b))
+    }
+
+    /// What a link of two units would take away and add.
+    pub(crate) fn taken(&self, a: UnitId, b: UnitId) -> Taken
+        ensures { result ≡ taken_among self.now.singular a b self.now.pairs }
+    {
+        if self.has(a, b) {
+            return Taken::nothing();
+        }
+        Taken {
+            first: self.old_pair(Side::A, a),
+            second: self.old_pair(Side::B, b),
+            added: true,
+        }
+    }
+
     /// Links two units. An error changes nothing.
     pub(crate) fn link(&mut self, a: UnitId, b: UnitId) -> Result<Taken, AllocError>
         ensures taken { IfOk result (λ t. t ≡ taken_among self.old.singular a b self.old.pairs) }
         ensures linked { OnOk result (self.new ≡ linked a b self.old) }
         ensures err { OnErr result (self.new ≡ self.old) }
     {
-        if self.pairs.contains((a, b)) {
-            return Ok(Taken::nothing());
+        let taken = self.taken(a, b);
+        if !taken.added {
+            return Ok(taken);
         }
-        let first = self.old_pair(Side::A, a);
-        let second = self.old_pair(Side::B, b);
         self.add(a, b)?;
-        self.cut_old(first);
-        self.cut_old(second);
-        Ok(Taken {
-            first,
-            second,
-            added: true,
-        })
+        self.cut_old(taken.first);
+        self.cut_old(taken.second);
+        Ok(taken)
     }
 
     /// Takes the pair of two units away, and says whether it was there.

@@ -103,6 +103,22 @@ impl Couples {
         self.couples.len()
     }
 
+    /// Whether two units are linked through a couple, the first at side A.
+    pub fn linked(&self, couple: CoupleId, a: UnitId, b: UnitId) -> bool
+        requires { couple < length self.now.couples }
+        ensures { result ≡ are_linked self.now couple a b }
+    {
+        self.couples[couple as usize].has(a, b)
+    }
+
+    /// What a link of two units through a couple would take away and add, the first at side A.
+    pub fn taken(&self, couple: CoupleId, a: UnitId, b: UnitId) -> Taken
+        requires { couple < length self.now.couples }
+        ensures { taken self.now couple a b ≡ Some result }
+    {
+        self.couples[couple as usize].taken(a, b)
+    }
+
     /// Links two units through a couple, the first at side A, and says what changed. Nothing does if they are linked.
     /// Otherwise the old pair of each goes where its side is singular, and the new pair comes last. An error changes
     /// nothing.

@@ -32,6 +32,14 @@ fn link(couples: &mut Couples, couple: CoupleId, a: UnitId, b: UnitId) -> Result
     Ok(couples.link(couple, a, b)?)
 }
 
+/// Whether two units are linked, and what a link would change, where the couple is there.
+fn foreseen(couples: &Couples, couple: CoupleId, a: UnitId, b: UnitId) -> (bool, Taken) {
+    if couple as usize >= couples.count() {
+        return (false, Taken::nothing());
+    }
+    (couples.linked(couple, a, b), couples.taken(couple, a, b))
+}
+
 fn unlink(couples: &mut Couples, couple: CoupleId, a: UnitId, b: UnitId) -> bool {
     (couple as usize) < couples.count() && couples.unlink(couple, a, b)
 }
@@ -59,15 +67,14 @@ fn linked(alloc: Global, couple: CoupleId, pairs: &[(UnitId, UnitId)]) -> Result
 #[test]
 fn link_displaces_both(rt: HostRuntime) -> Result<(), Fail> {
     let mut couples = linked(rt.alloc(), MATE, &[(1, 2), (3, 4)])?;
-    let taken = link(&mut couples, MATE, 1, 4)?;
-    assert_eq!(rt;
-        taken,
-        Taken {
-            first: Some((1, 2)),
-            second: Some((3, 4)),
-            added: true
-        }
-    );
+    let displaced = Taken {
+        first: Some((1, 2)),
+        second: Some((3, 4)),
+        added: true,
+    };
+    assert_eq!(rt; foreseen(&couples, MATE, 1, 4), (false, displaced));
+    assert_eq!(rt; link(&mut couples, MATE, 1, 4)?, displaced);
+    assert_eq!(rt; foreseen(&couples, MATE, 1, 4), (true, Taken::nothing()));
     let mates = shown(rt.alloc(), &couples, 4)?;
     assert_eq!(rt; mates.as_str(), "1-4 ");
     let inverse = shown(rt.alloc(), &couples, 5)?;

@@ -3,7 +3,7 @@ use Rattle.std.proofs.Common.{◌≡◌, ℕ, zero, suc, ◌+◌, ◌-◌, ◌<�
 use Rattle.std.specs.Prelude.{slice_get}
 use Rattle.bb_code.specs.Code.{Code}
 use Rattle.bb_code.specs.declared.op.Op.{Op}
-use Rattle.bb_board.specs.declared.world.World.{World}
+use Rattle.bb_board.specs.Board.{Board}
 use Rattle.bb_machine.specs.declared.outcome.Ending.{Ending}
 use Rattle.bb_machine.specs.declared.outcome.Ending.TheVariants as endings
 use Rattle.bb_machine.specs.declared.outcome.Stuck.TheVariants.{Outside, Turns}
@@ -31,25 +31,25 @@ abbrev pub after_steps : ℕ → Execution → Execution
 after_steps n rest = (record rest.0 { steps = n + rest.0.steps }, rest.1)
 
 -- the machine after so many steps, whatever the unit was
-abbrev pub machine_at : Code → ℕ → ℕ → List Held → World → Machine
-machine_at code it place stack world = state (entry_state code it world).locals place stack world
+abbrev pub machine_at : Code → ℕ → ℕ → List Held → Board → Machine
+machine_at code it place stack board = state (entry_state code it board).locals place stack board
 
--- so many steps were made from the world old, and left this state
-abbrev pub HasRun : (limit steps : ℕ) → Code → (place : ℕ) → List Held → (old now : World) → Type 0
+-- so many steps were made from the blackboard old, and left this state
+abbrev pub HasRun : (limit steps : ℕ) → Code → (place : ℕ) → List Held → (old now : Board) → Type 0
 HasRun limit steps code place stack old now = (it : ℕ) → activation limit code it old ≡ after_steps steps (steps_from (limit - steps) code (machine_at code it place stack now))
 
 -- one step of the activation, where its outcome is known
-one_step : (limit steps : ℕ) (code : Code) (place : ℕ) (stack : List Held) (old now : World) (it : ℕ) (next : Next) → steps < limit → HasRun limit steps code place stack old now → step code (machine_at code it place stack now) ≡ next
+one_step : (limit steps : ℕ) (code : Code) (place : ℕ) (stack : List Held) (old now : Board) (it : ℕ) (next : Next) → steps < limit → HasRun limit steps code place stack old now → step code (machine_at code it place stack now) ≡ next
     → activation limit code it old ≡ after_steps steps (rest_of (limit - (steps + 1)) code (machine_at code it place stack now) next)
 one_step limit steps code place stack old now it next lt so_far is =
     let m = machine_at code it place stack now in
     let k : limit - steps ≡ suc (limit - (steps + 1)) = omega arith in
     so_far it ∙ ap (λ n. after_steps steps (steps_from n code m)) k ∙ ap (after_steps steps) (by_step (limit - (steps + 1)) code m next is)
 
-step_is : (code : Code) (it place : ℕ) (stack : List Held) (now : World) (op : Option Op) → op ≡ slice_get code.ops place → step code (machine_at code it place stack now) ≡ step_at code op (machine_at code it place stack now)
+step_is : (code : Code) (it place : ℕ) (stack : List Held) (now : Board) (op : Option Op) → op ≡ slice_get code.ops place → step code (machine_at code it place stack now) ≡ step_at code op (machine_at code it place stack now)
 step_is code it place stack now op is = ap (λ o. step_at code o (machine_at code it place stack now)) (sym is)
 
-pub HasRun-step : (limit steps : ℕ) (code : Code) (place : ℕ) (op : Op) (stack next_stack : List Held) (old now next : World) → steps < limit → Some op ≡ slice_get code.ops place
+pub HasRun-step : (limit steps : ℕ) (code : Code) (place : ℕ) (op : Op) (stack next_stack : List Held) (old now next : Board) → steps < limit → Some op ≡ slice_get code.ops place
     → Leads (step_op code op) stack now next_stack next None → HasRun limit steps code place stack old now → HasRun limit (steps + 1) code (place + 1) next_stack old next
 HasRun-step limit steps code place op stack next_stack old now next lt at led so_far it =
     let locals = (entry_state code it now).locals in
@@ -59,7 +59,7 @@ HasRun-step limit steps code place op stack next_stack old now next lt at led so
     ∙ ap (λ n. let e : Execution = (record rest.0 { steps = n }, rest.1) in e) count
 
 -- the op at the place ended it
-pub ends_here : (limit steps : ℕ) (code : Code) (place : ℕ) (op : Op) (ending : Ending) (stack next_stack : List Held) (old now next : World) → steps < limit → Some op ≡ slice_get code.ops place
+pub ends_here : (limit steps : ℕ) (code : Code) (place : ℕ) (op : Op) (ending : Ending) (stack next_stack : List Held) (old now next : Board) → steps < limit → Some op ≡ slice_get code.ops place
     → Leads (step_op code op) stack now next_stack next (Some ending) → HasRun limit steps code place stack old now
     → (it : ℕ) → activation limit code it old ≡ (record { ending = ending; steps = steps + 1; found = 0 }, next)
 ends_here limit steps code place op (endings.Answered answer) stack next_stack old now next lt at led so_far it =
@@ -71,14 +71,14 @@ ends_here limit steps code place op (endings.Stuck reason) stack next_stack old 
     ∙ ap (λ w. let e : Execution = (record { ending = endings.Stuck reason; steps = steps + 1; found = 0 }, w) in e) (sym led.1)
 
 -- no op has the place
-pub ends_outside : (limit steps : ℕ) (code : Code) (place : ℕ) (stack : List Held) (old now : World) → steps < limit → (let none : Option Op = None in none) ≡ slice_get code.ops place → HasRun limit steps code place stack old now
+pub ends_outside : (limit steps : ℕ) (code : Code) (place : ℕ) (stack : List Held) (old now : Board) → steps < limit → (let none : Option Op = None in none) ≡ slice_get code.ops place → HasRun limit steps code place stack old now
     → (it : ℕ) → activation limit code it old ≡ (record { ending = endings.Stuck Outside; steps = steps; found = 0 }, now)
 ends_outside limit steps code place stack old now lt at so_far it =
     one_step limit steps code place stack old now it outside lt so_far (step_is code it place stack now None at)
     ∙ ap (λ n. let e : Execution = (record { ending = endings.Stuck Outside; steps = n; found = 0 }, now) in e) (add-zero steps)
 
 -- as many steps were made as could be
-pub ends_at_limit : (limit steps : ℕ) (code : Code) (place : ℕ) (stack : List Held) (old now : World) → steps ≡ limit → HasRun limit steps code place stack old now
+pub ends_at_limit : (limit steps : ℕ) (code : Code) (place : ℕ) (stack : List Held) (old now : Board) → steps ≡ limit → HasRun limit steps code place stack old now
     → (it : ℕ) → activation limit code it old ≡ (record { ending = endings.Stuck Turns; steps = limit; found = 0 }, now)
 unfolding steps_from
 ends_at_limit limit steps code place stack old now is so_far it =

@@ -4,7 +4,7 @@ ghost use Rattle.std.specs.Prelude.{◌≡◌, IfOk, map};
 ghost use Rattle.bb_machine.specs.Value.{said_value};
 ghost use Rattle.bb_machine.specs.proving.Leads.{value_of, values_of};
 
-use bb_basis::{Items, Memory, Text};
+use bb_basis::{Memory, Text};
 use bb_board::Said;
 use bb_schema::UnitId;
 use std::alloc::Global;
@@ -27,10 +27,10 @@ fn said(alloc: Global, value: Value<'_>) -> Result<Said, Memory>
 }
 
 /// The values as a board notes them, in order.
-pub(crate) fn said_values(alloc: Global, values: &[Value<'_>]) -> Result<Items<Said>, Memory>
-    ensures { IfOk result (λ said. said ≡ map said_value (values_of values.now)) }
+pub(crate) fn said_values(alloc: Global, values: &[Value<'_>]) -> Result<Vec<Said>, Memory>
+    ensures { IfOk result (λ said. said.items ≡ map said_value (values_of values.now)) }
 {
-    let mut said_values = Items::new(alloc);
+    let mut said_values = Vec::new(alloc);
     for value in values {
         said_values.push(said(alloc, *value)?)?;
     }

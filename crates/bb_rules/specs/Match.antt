@@ -3,9 +3,10 @@ use Rattle.std.specs.Prelude.{Bool, true, false, ◌&&◌, ◌==◌}
 use Rattle.std.specs.List.{list_any}
 use Rattle.bb_schema.specs.Schema.{Schema, descends}
 use Rattle.bb_board.specs.declared.event.ChangeKind.{ChangeKind}
-use Rattle.bb_board.specs.declared.event.ChangeKind.TheVariants.{Create, Update}
+use Rattle.bb_board.specs.declared.event.ChangeKind.TheVariants.{Create, Delete, Update, Link, Unlink}
 use Rattle.bb_board.specs.declared.event.Event.{Event}
 use Rattle.bb_board.specs.declared.event.Event.TheVariants as events
+use Rattle.bb_board.specs.Event.{kind_of}
 use Rattle.bb_rules.specs.declared.clause.Clause.{Clause}
 use Rattle.bb_rules.specs.declared.clause.Clause.TheVariants as clauses
 use Rattle.bb_rules.specs.declared.source.Source.{Source}
@@ -13,13 +14,17 @@ use Rattle.bb_rules.specs.declared.source.Source.{Source}
 -- the two kinds of change are one, with its slot
 abbrev pub is_same_kind : ChangeKind → ChangeKind → Bool
 is_same_kind Create Create = true
+is_same_kind Delete Delete = true
 is_same_kind (Update slot) (Update other) = slot == other
+is_same_kind (Link slot) (Link other) = slot == other
+is_same_kind (Unlink slot) (Unlink other) = slot == other
 is_same_kind _ _ = false
 
--- both are quiescence, or both are changes of one kind and the event's class descends from the clause's
+-- both are quiescence, or the event is a change of the clause's kind and its class descends from the clause's
 abbrev pub matches : Schema → Clause → Event → Bool
 matches s clauses.Quiescence events.Quiescence = true
-matches s (clauses.Change kind class) (events.Change changed unit of) = is_same_kind kind changed && descends s of class
+matches s (clauses.Change kind class) (events.Change unit of change) =
+    is_same_kind kind (kind_of change) && descends s of class
 matches s _ _ = false
 
 -- one clause of the source or more names the event

@@ -24,11 +24,11 @@ impl Clause {
             (
                 Clause::Change { kind, class },
                 Event::Change {
-                    kind: changed,
                     class: of,
+                    change,
                     ..
                 },
-            ) => kind == changed && schema.descends(of, class),
+            ) => kind == change.kind() && schema.descends(of, class),
             (Clause::Quiescence, Event::Quiescence) => true,
             _ => false,
         }

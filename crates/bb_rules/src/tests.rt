@@ -1,5 +1,5 @@
 use super::*;
-use bb_board::{ChangeKind, Event};
+use bb_board::{Change, ChangeKind, Event};
 use bb_compile::unbundle;
 use bb_schema::{ClassId, Schema};
 use bb_verify::verify;
@@ -30,12 +30,16 @@ fn source_of(
     Ok(Source::new(alloc, schema, source.header, body))
 }
 
-fn created(class: ClassId) -> Event {
+fn changed(class: ClassId, change: Change) -> Event {
     Event::Change {
-        kind: ChangeKind::Create,
         unit: 1,
         class,
+        change,
     }
+}
+
+fn created(class: ClassId) -> Event {
+    changed(class, Change::Create)
 }
 
 #[test]
@@ -54,6 +58,52 @@ fn triggered_by_classes_below(rt: HostRuntime) -> Result<(), Fail> {
     assert!(rt; !source.is_triggered(&schema, created(3)));
     assert!(rt; Clause::Quiescence.matches(&schema, Event::Quiescence));
     assert!(rt; !Clause::Quiescence.matches(&schema, created(1)));
+    Ok(())
+}
+
+#[test]
+fn kinds_of_change(rt: HostRuntime) -> Result<(), Fail> {
+    let schema = Schema::read(rt.alloc(), SCHEMA)?;
+    // Slots of any number will do: a clause compares numbers.
+    let changes = [
+        Change::Create,
+        Change::Delete,
+        Change::Update(4),
+        Change::Update(5),
+        Change::Link {
+            slot: 4,
+            partner: 1,
+        },
+        Change::Link {
+            slot: 5,
+            partner: 2,
+        },
+        Change::Unlink {
+            slot: 4,
+            partner: 1,
+        },
+        Change::Unlink {
+            slot: 5,
+            partner: 3,
+        },
+    ];
+    let kinds = [
+        ChangeKind::Create,
+        ChangeKind::Delete,
+        ChangeKind::Update(4),
+        ChangeKind::Update(5),
+        ChangeKind::Link(4),
+        ChangeKind::Link(5),
+        ChangeKind::Unlink(4),
+        ChangeKind::Unlink(5),
+    ];
+    for (row, kind) in kinds.into_iter().enumerate() {
+        let clause = Clause::Change { kind, class: 1 };
+        for (column, change) in changes.into_iter().enumerate() {
+            assert_eq!(rt; clause.matches(&schema, changed(2, change)), row == column);
+            assert!(rt; !clause.matches(&schema, changed(3, change)));
+        }
+    }
     Ok(())
 }
 

@@ -9,7 +9,7 @@ use Rattle.bb_board.specs.declared.event.Event.{Event}
 use Rattle.bb_board.specs.declared.event.Event.TheVariants.{Quiescence as quiescence}
 use Rattle.bb_board.specs.declared.note.Note.{Note as BoardNote}
 use Rattle.bb_board.specs.declared.note.Note.TheVariants.{Event as happened}
-use Rattle.bb_board.specs.declared.world.World.{World}
+use Rattle.bb_board.specs.Board.{Board as Blackboard}
 use Rattle.bb_board.specs.Event.{unit_of}
 use Rattle.bb_agenda.specs.declared.activation.Activation.{Activation}
 use Rattle.bb_agenda.specs.Agenda.{Agenda, is_full, new_activation, next_number, pending_of, with_activation, no_activations, with_executed}
@@ -54,14 +54,14 @@ IsEarly (Some finishes.Limit) = ⊥
 IsEarly (Some finishes.Full) = ⊤
 IsEarly (Some (finishes.Stuck reason)) = ⊤
 
-module _ (shell : Shell) (world : World) where
+module _ (shell : Shell) (board : Blackboard) where
   -- a cycle may choose after these notes
   record MayChoose (before : List Note) (number : ℕ) (a : Activation) (r : ℤ) : Type 0 where
     counted : number ≡ length (chosen_in before) + 1
     pending : Contains (pending_after before) a
     enough : shell.floor ≤ℤ r
     in_turn : ends_in before ≡ length (chosen_in before)
-    choice : IsChosenAfter shell (run shell world (number - 1)) before a r
+    choice : IsChosenAfter shell (run shell board (number - 1)) before a r
 
   -- a note of a run may come after these, before it finishes
   abbrev May : List Note → Note → Type 0
@@ -133,7 +133,7 @@ module _ (shell : Shell) (world : World) where
   responds event place [] past made executed s count stands = keeps_none past made executed s None tt stands
   responds event place (source ∷ sources) past made executed s count stands =
       let a = new_activation s.agenda place (unit_of event) source.rate in
-      let next : State = record { world = s.world; agenda = with_activation s.agenda place (unit_of event) source.rate } in
+      let next : State = record { board = s.board; agenda = with_activation s.agenda place (unit_of event) source.rate } in
       let full : Response = record { notes = []; state = s; end = Some finishes.Full } in
       let more = response_by shell.schema event (place + 1) sources next in
       let rest = response_by shell.schema event (place + 1) sources s in
@@ -192,38 +192,38 @@ module _ (shell : Shell) (world : World) where
 
   -- ---- what the blackboard noted is told, and its events are processed
 
-  reports : (past : List Note) (made executed : ℕ) (w : World) (agenda : Agenda) (more : List Note) (end : Option End) → Keeps past (map Board w.notes ++ more) made executed (with_notes_taken w agenda) end
+  reports : (past : List Note) (made executed : ℕ) (w : Blackboard) (agenda : Agenda) (more : List Note) (end : Option End) → Keeps past (map Board w.world.notes ++ more) made executed (with_notes_taken w agenda) end
       → Tells past made executed (report shell w agenda more end)
   reports past made executed w agenda more end first =
-      let notes = map Board w.notes ++ more in
+      let notes = map Board w.world.notes ++ more in
       let p = telling notes (with_notes_taken w agenda) end in
-      tells_then past made executed p (processing_all shell (events_in w.notes)) end refl (keeps_last past notes made executed p.state end first)
-      (λ later. processes_all (events_in w.notes) (past ++ notes_of p) made executed p.state later)
+      tells_then past made executed p (processing_all shell (events_in w.world.notes)) end refl (keeps_last past notes made executed p.state end first)
+      (λ later. processes_all (events_in w.world.notes) (past ++ notes_of p) made executed p.state later)
 
   -- nothing more is told
-  keeps_board : (past : List Note) (made before executed : ℕ) (w : World) (agenda : Agenda) (end : Option End) → IsEarly end → (end ≡ None → before ≡ executed) → Agrees past made before agenda
-      → Keeps past (map Board w.notes ++ []) made executed (with_notes_taken w agenda) end
+  keeps_board : (past : List Note) (made before executed : ℕ) (w : Blackboard) (agenda : Agenda) (end : Option End) → IsEarly end → (end ≡ None → before ≡ executed) → Agrees past made before agenda
+      → Keeps past (map Board w.world.notes ++ []) made executed (with_notes_taken w agenda) end
   keeps_board past made before executed w agenda end early same stands =
-      let notes = map Board w.notes in
-      let later = agrees_board past w.notes made before agenda stands in
+      let notes = map Board w.world.notes in
+      let later = agrees_board past w.world.notes made before agenda stands in
       subst (λ l. Keeps past l made executed (with_notes_taken w agenda) end) (sym (append-nil notes)) (record {
-        comes = comes_board past w.notes;
+        comes = comes_board past w.world.notes;
         cycles = later.cycles;
         stands = λ none. subst (λ n. Agrees (past ++ notes) made n agenda) (same none) later;
         early = early;
       })
 
   -- the end of an execution is told too
-  keeps_ended : (past : List Note) (made steps found allowed : ℕ) (w : World) (agenda : Agenda) → Agrees past (made + 1) made agenda
-      → Keeps past (map Board w.notes ++ Ended steps found allowed ∷ []) (made + 1) (made + 1) (with_notes_taken w agenda) None
+  keeps_ended : (past : List Note) (made steps found allowed : ℕ) (w : Blackboard) (agenda : Agenda) → Agrees past (made + 1) made agenda
+      → Keeps past (map Board w.world.notes ++ Ended steps found allowed ∷ []) (made + 1) (made + 1) (with_notes_taken w agenda) None
   keeps_ended past made steps found allowed w agenda stands =
-      let notes = map Board w.notes in
+      let notes = map Board w.world.notes in
       let note : Note = Ended steps found allowed in
-      let told = agrees_board past w.notes (made + 1) made agenda stands in
+      let told = agrees_board past w.world.notes (made + 1) made agenda stands in
       let ended = stands_silent (length shell.sources) (past ++ notes) (made + 1) made agenda told (note ∷ []) 1 (record { none_triggered = refl; none_chosen = refl }) refl in
       let later = subst (λ l. Agrees l (made + 1) (made + 1) agenda) (append_assoc past notes (note ∷ [])) ended in
       record {
-        comes = comes_then May past notes (note ∷ []) (comes_board past w.notes) (comes_one May (past ++ notes) note (sym (ap (λ n. n + 1) told.executions) ∙ told.cycles));
+        comes = comes_then May past notes (note ∷ []) (comes_board past w.world.notes) (comes_one May (past ++ notes) note (sym (ap (λ n. n + 1) told.executions) ∙ told.cycles));
         cycles = later.cycles;
         stands = λ none. later;
         early = tt;
@@ -231,7 +231,7 @@ module _ (shell : Shell) (world : World) where
 
   -- ---- a cycle
 
-  executes : (code : Code) (w : World) (agenda : Agenda) (o : Outcome) (ending : Ending) (past : List Note) (made : ℕ) → Agrees past (made + 1) made agenda → Tells past (made + 1) (made + 1) (after_execution shell code w agenda o ending)
+  executes : (code : Code) (w : Blackboard) (agenda : Agenda) (o : Outcome) (ending : Ending) (past : List Note) (made : ℕ) → Agrees past (made + 1) made agenda → Tells past (made + 1) (made + 1) (after_execution shell code w agenda o ending)
   executes code w agenda o (endings.Answered answer) past made stands =
       reports past (made + 1) (made + 1) w agenda (Ended o.steps o.found (budget code o.found) ∷ []) None (keeps_ended past made o.steps o.found (budget code o.found) w agenda stands)
   executes code w agenda o endings.Full past made stands =
@@ -241,7 +241,7 @@ module _ (shell : Shell) (world : World) where
 
   acts_by : (act : Act) (a : Activation) (s : State) (past : List Note) (made : ℕ) → Agrees past (made + 1) made s.agenda → Tells past (made + 1) (made + 1) (acting shell act a s)
   acts_by (acts.Code code) a s past made stands =
-      let e = activation (budget code FOUND_LIMIT) code a.unit s.world in
+      let e = activation (budget code FOUND_LIMIT) code a.unit s.board in
       executes code e.1 s.agenda e.0 e.0.ending past made stands
 
   -- each place within a list has its item
@@ -259,7 +259,7 @@ module _ (shell : Shell) (world : World) where
   cycles_once : (a : Activation) (s : State) (past : List Note) (made : ℕ) → MayChoose past (made + 1) a (rating a) → Contains (pending_of s.agenda) a → Agrees past made made s.agenda → Tells past (made + 1) (made + 1) (cycle shell (made + 1) a s)
   cycles_once a s past made may there stands =
       let note : Note = Chosen (made + 1) a (rating a) in
-      let later : State = record { world = s.world; agenda = with_executed s.agenda a.number } in
+      let later : State = record { board = s.board; agenda = with_executed s.agenda a.number } in
       let p = acting_at shell (slice_get shell.sources a.source) a later in
       keeps_more past (note ∷ []) (notes_of p) (made + 1) (made + 1) p.state p.end (comes_one May past note may)
       (acts_at (slice_get shell.sources a.source) a later (past ++ note ∷ []) made refl (All-contains (IsKnown (next_number s.agenda) (length shell.sources)) (pending_of s.agenda) a stands.known there).source
@@ -269,7 +269,7 @@ module _ (shell : Shell) (world : World) where
 
   -- whatever the limit, a run that makes so many cycles begins with these segments
   abbrev Begins : (told : List (List Note)) (made : ℕ) → State → Type 0
-  Begins told made s = (left limit : ℕ) → limit ≡ made + left → unfinished shell world limit ≡ after_segments told (cycles shell made left s)
+  Begins told made s = (left limit : ℕ) → limit ≡ made + left → unfinished shell board limit ≡ after_segments told (cycles shell made left s)
 
   -- what comes after the wait before a cycle, where no cycle more can be made, and where one can
   abbrev at_limit : Option Activation → State → Stretch
@@ -337,7 +337,7 @@ module _ (shell : Shell) (world : World) where
         pending = subst (λ l. Contains l a) stands.pending best.waits;
         enough = best.enough;
         in_turn = sym stands.executions ∙ stands.cycles;
-        choice = choice_after (unfinished shell world (made + 1 - 1)) past told p.segments made p.state a (begins zero (made + 1 - 1) count ∙ ap (λ q. after_segments told q) (limit_after made s a goes chosen)) before stands chosen;
+        choice = choice_after (unfinished shell board (made + 1 - 1)) past told p.segments made p.state a (begins zero (made + 1 - 1) count ∙ ap (λ q. after_segments told q) (limit_after made s a goes chosen)) before stands chosen;
       }
 
   -- ---- cycles up to the end
@@ -448,75 +448,75 @@ module _ (shell : Shell) (world : World) where
 
   -- ---- the whole run
 
-  starts : Tells [] 0 0 (start shell world)
-  starts = reports [] 0 0 world no_activations [] None (keeps_board [] 0 0 0 world no_activations None tt (λ none. refl) (stands_first (length shell.sources)))
+  starts : Tells [] 0 0 (start shell board)
+  starts = reports [] 0 0 board no_activations [] None (keeps_board [] 0 0 0 board no_activations None tt (λ none. refl) (stands_first (length shell.sources)))
 
   -- the run up to its finish
-  ends_all : (limit : ℕ) → TellsLast [] limit (unfinished shell world limit)
+  ends_all : (limit : ℕ) → TellsLast [] limit (unfinished shell board limit)
   ends_all limit =
-      let p = start shell world in
+      let p = start shell board in
       ends_then [] 0 0 limit p (cycles shell 0 limit) p.end refl (omega arith) starts
       (λ goes later. all_cycles limit 0 limit (notes_of p) p.segments p.state (omega arith) refl
       (λ left any is. let same : any ≡ left = omega (arith, is) in ap (λ e. and_then_unless e p (cycles shell 0 any)) goes ∙ ap (λ n. after_segments p.segments (cycles shell 0 n p.state)) same) later)
 
   -- the end of the whole run
-  end_of_run : (limit : ℕ) → (e : End) × ((unfinished shell world limit).end ≡ Some e)
+  end_of_run : (limit : ℕ) → (e : End) × ((unfinished shell board limit).end ≡ Some e)
   end_of_run limit = (ends_all limit).ends
 
   -- its notes, the finish last
-  notes_of_run : (limit : ℕ) → notes_of (run shell world limit) ≡ notes_of (unfinished shell world limit) ++ Finished (end_of_run limit).0 ∷ []
+  notes_of_run : (limit : ℕ) → notes_of (run shell board limit) ≡ notes_of (unfinished shell board limit) ++ Finished (end_of_run limit).0 ∷ []
   notes_of_run limit =
-      let p = unfinished shell world limit in
+      let p = unfinished shell board limit in
       all_of_two p.segments (finish_segments p.end) ∙ ap (λ e. notes_of p ++ all_of (finish_segments e)) (end_of_run limit).1
 
   -- a note of the run other than the finish
-  may_come : (limit : ℕ) (before : List Note) (note : Note) → ((e : End) → note ≡ Finished e → ⊥) → At (notes_of (run shell world limit)) before note → May before note
+  may_come : (limit : ℕ) (before : List Note) (note : Note) → ((e : End) → note ≡ Finished e → ⊥) → At (notes_of (run shell board limit)) before note → May before note
   may_come limit before note other at =
-      elim (comes_or_last May [] (notes_of (unfinished shell world limit)) (Finished (end_of_run limit).0) before note at.0 (ends_all limit).comes (sym (notes_of_run limit) ∙ at.1)) [
+      elim (comes_or_last May [] (notes_of (unfinished shell board limit)) (Finished (end_of_run limit).0) before note at.0 (ends_all limit).comes (sym (notes_of_run limit) ∙ at.1)) [
         | inl may ↦ may
         | inr last ↦ absurd (other (end_of_run limit).0 last.0)
       ]
 
-  may_choose_at : (limit : ℕ) (before : List Note) (number : ℕ) (a : Activation) (r : ℤ) → At (notes_of (run shell world limit)) before (Chosen number a r) → MayChoose before number a r
+  may_choose_at : (limit : ℕ) (before : List Note) (number : ℕ) (a : Activation) (r : ℤ) → At (notes_of (run shell board limit)) before (Chosen number a r) → MayChoose before number a r
   may_choose_at limit before number a r at = may_come limit before (Chosen number a r) (λ e is. absurd cc) at
 
-  pub run_is_counted : (limit : ℕ) → IsCounted (notes_of (run shell world limit))
+  pub run_is_counted : (limit : ℕ) → IsCounted (notes_of (run shell board limit))
   run_is_counted limit = record {
     activations = λ before a at. may_come limit before (Triggered a) (λ e is. absurd cc) at;
     cycles = λ before number a r at. (may_choose_at limit before number a r at).counted;
   }
 
-  pub run_acts_on_pending : (limit : ℕ) → ActsOnPending shell.floor (notes_of (run shell world limit))
+  pub run_acts_on_pending : (limit : ℕ) → ActsOnPending shell.floor (notes_of (run shell board limit))
   run_acts_on_pending limit = record {
     pending = λ before number a r at. (may_choose_at limit before number a r at).pending;
     enough = λ before number a r at. (may_choose_at limit before number a r at).enough;
   }
 
-  pub run_executes_in_turn : (limit : ℕ) → ExecutesInTurn (notes_of (run shell world limit))
+  pub run_executes_in_turn : (limit : ℕ) → ExecutesInTurn (notes_of (run shell board limit))
   run_executes_in_turn limit = record {
     choices = λ before number a r at. (may_choose_at limit before number a r at).in_turn;
     ends = λ before steps found budget at. may_come limit before (Ended steps found budget) (λ e is. absurd cc) at;
   }
 
-  pub run_finishes : (limit : ℕ) → IsFinished (run shell world limit)
+  pub run_finishes : (limit : ℕ) → IsFinished (run shell board limit)
   run_finishes limit = record {
     end = (end_of_run limit).0;
     ends = (end_of_run limit).1;
-    last = (notes_of (unfinished shell world limit), notes_of_run limit);
+    last = (notes_of (unfinished shell board limit), notes_of_run limit);
     once = λ before e after is.
-        elim (comes_or_last May [] (notes_of (unfinished shell world limit)) (Finished (end_of_run limit).0) before (Finished e) after (ends_all limit).comes (sym (notes_of_run limit) ∙ is)) [
+        elim (comes_or_last May [] (notes_of (unfinished shell board limit)) (Finished (end_of_run limit).0) before (Finished e) after (ends_all limit).comes (sym (notes_of_run limit) ∙ is)) [
           | inl may ↦ absurd may
           | inr last ↦ last.1
         ];
   }
 
   -- the finish is no choice
-  choices_of_run : (limit : ℕ) → length (chosen_in (notes_of (run shell world limit))) ≡ length (chosen_in (notes_of (unfinished shell world limit)))
+  choices_of_run : (limit : ℕ) → length (chosen_in (notes_of (run shell board limit))) ≡ length (chosen_in (notes_of (unfinished shell board limit)))
   choices_of_run limit =
-      let notes = notes_of (unfinished shell world limit) in
+      let notes = notes_of (unfinished shell board limit) in
       ap (λ l. length (chosen_in l)) (notes_of_run limit) ∙ ap length (chosen_then notes (Finished (end_of_run limit).0 ∷ []) ∙ append-nil (chosen_in notes))
 
-  pub run_keeps_limit : (limit : ℕ) → KeepsLimit shell limit (run shell world limit)
+  pub run_keeps_limit : (limit : ℕ) → KeepsLimit shell limit (run shell board limit)
   run_keeps_limit limit =
       let all = ends_all limit in
       let same = sym (choices_of_run limit) in
@@ -527,5 +527,5 @@ module _ (shell : Shell) (world : World) where
         exhausted = all.exhausted;
       }
 
-  pub run_chooses : (limit : ℕ) (before : List Note) (number : ℕ) (a : Activation) (r : ℤ) → At (notes_of (run shell world limit)) before (Chosen number a r) → IsChosenAfter shell (run shell world (number - 1)) before a r
+  pub run_chooses : (limit : ℕ) (before : List Note) (number : ℕ) (a : Activation) (r : ℤ) → At (notes_of (run shell board limit)) before (Chosen number a r) → IsChosenAfter shell (run shell board (number - 1)) before a r
   run_chooses limit before number a r at = (may_choose_at limit before number a r at).choice

@@ -60,13 +60,13 @@ module _ (old new : List Note) (whole : Response) (schema : Schema) (event : Eve
   pub source_noted : (a : Activation) (agenda : Agenda) → place < length sources → source ≡ get_or sources place source → true ≡ is_triggered schema source event → false ≡ is_full s.agenda
       → a ≡ new_activation s.agenda place (unit_of event) source.rate → agenda ≡ with_activation s.agenda place (unit_of event) source.rate
       → HasNoted old new whole (response_by schema event place (drop place sources) s)
-      → HasNoted old (new ++ Triggered a ∷ []) whole (response_by schema event (place + 1) (drop (place + 1) sources) (record { world = s.world; agenda = agenda }))
+      → HasNoted old (new ++ Triggered a ∷ []) whole (response_by schema event (place + 1) (drop (place + 1) sources) (record { board = s.board; agenda = agenda }))
   source_noted a agenda lt is t f made grown h =
       let rest = response_by schema event (place + 1) (drop (place + 1) sources) (after_trigger s event place source) in
       let one = new_activation s.agenda place (unit_of event) source.rate in
       let here : HasNoted old new whole (noted_first (Triggered one) rest) = subst (HasNoted old new whole) (at_source schema event place source sources s true false lt is t f) h in
       let more : HasNoted old (new ++ Triggered one ∷ []) whole rest = record { notes = here.notes ∙ sym (append_assoc new (Triggered one ∷ []) rest.notes); state = here.state; end = here.end } in
-      subst (λ g. HasNoted old (new ++ Triggered a ∷ []) whole (response_by schema event (place + 1) (drop (place + 1) sources) (record { world = s.world; agenda = g }))) (sym grown)
+      subst (λ g. HasNoted old (new ++ Triggered a ∷ []) whole (response_by schema event (place + 1) (drop (place + 1) sources) (record { board = s.board; agenda = g }))) (sym grown)
       (subst (λ b. HasNoted old (new ++ Triggered b ∷ []) whole rest) (sym made) more)
 
 pub sources_done : (old new : List Note) (whole : Response) (schema : Schema) (event : Event) (place : ℕ) (sources : List Source) (s : State) → length sources ≤ place

@@ -6,12 +6,13 @@ use Rattle.bb_classes.specs.Inheritance.{climbs}
 use Rattle.bb_schema.specs.declared.slot.Content.TheVariants.{Default}
 use Rattle.bb_classes.specs.declared.value.Value.TheVariants.{Int, Text, Bool}
 use Rattle.bb_code.specs.declared.op.Op.TheVariants.{PushText, Say, Done}
-use Rattle.bb_board.specs.declared.event.ChangeKind.TheVariants.{Create}
+use Rattle.bb_board.specs.declared.event.Change.TheVariants.{Create}
+use Rattle.bb_board.specs.declared.event.ChangeKind.TheVariants as kinds
 use Rattle.bb_board.specs.declared.event.Event.TheVariants.{Change as happens, Quiescence}
 use Rattle.bb_board.specs.declared.note.Note.TheVariants as noted
 use Rattle.bb_board.specs.declared.note.Said.TheVariants as saids
-use Rattle.bb_board.specs.declared.world.World.{World}
-use Rattle.bb_board.specs.World.{empty_world, after_create}
+use Rattle.bb_board.specs.Board.{Board as Blackboard, new_board, with_world}
+use Rattle.bb_board.specs.World.{after_create}
 use Rattle.bb_agenda.specs.declared.activation.Activation.{Activation}
 use Rattle.bb_machine.specs.Activation.{steps_from}
 use Rattle.bb_rules.specs.declared.clause.Clause.TheVariants as clause
@@ -33,29 +34,29 @@ note_schema = record {
 }
 
 hail : Source
-hail = record { name = codes "hail"; class = 1; triggers = clause.Change Create 1 ∷ []; rate = pos 100; act = Code (record { locals = 1; texts = codes "hello" ∷ []; ops = PushText 0 ∷ Say 1 ∷ Done ∷ [] }) }
+hail = record { name = codes "hail"; class = 1; triggers = clause.Change kinds.Create 1 ∷ []; rate = pos 100; act = Code (record { locals = 1; texts = codes "hello" ∷ []; ops = PushText 0 ∷ Say 1 ∷ Done ∷ [] }) }
 
 shell : ℤ → Shell
 shell floor = record { schema = note_schema; sources = hail ∷ []; floor = floor }
 
-one_note : World
-one_note = after_create (empty_world note_schema) 1
+one_note : Blackboard
+one_note = with_world (new_board note_schema) (after_create (new_board note_schema).world 1)
 
 waiting : Activation
 waiting = record { number = 1; source = 0; unit = 1; base = pos 100 }
 
 first_run : (run (shell (pos 0)) one_note 100).segments ≡
-    (Board (noted.Event (happens Create 1 1)) ∷ []) ∷ (Triggered waiting ∷ []) ∷ (Chosen 1 waiting (pos 100) ∷ [])
+    (Board (noted.Event (happens 1 1 Create)) ∷ []) ∷ (Triggered waiting ∷ []) ∷ (Chosen 1 waiting (pos 100) ∷ [])
     ∷ (Board (noted.Said (saids.Value (Text (codes "hello")) ∷ [])) ∷ Ended 3 0 3 ∷ []) ∷ (Board (noted.Event Quiescence) ∷ []) ∷ (Finished ends.Quiescence ∷ []) ∷ []
 unfolding shell hail note_schema one_note waiting climbs steps_from response_by processing_all cycles
 first_run = refl
 
 limit_zero : (run (shell (pos 0)) one_note 0).segments ≡
-    (Board (noted.Event (happens Create 1 1)) ∷ []) ∷ (Triggered waiting ∷ []) ∷ (Finished ends.Limit ∷ []) ∷ []
+    (Board (noted.Event (happens 1 1 Create)) ∷ []) ∷ (Triggered waiting ∷ []) ∷ (Finished ends.Limit ∷ []) ∷ []
 unfolding shell hail note_schema one_note waiting climbs steps_from response_by processing_all cycles
 limit_zero = refl
 
 floor_above : (run (shell (pos 101)) one_note 100).segments ≡
-    (Board (noted.Event (happens Create 1 1)) ∷ []) ∷ (Triggered waiting ∷ []) ∷ (Board (noted.Event Quiescence) ∷ []) ∷ (Finished ends.Quiescence ∷ []) ∷ []
+    (Board (noted.Event (happens 1 1 Create)) ∷ []) ∷ (Triggered waiting ∷ []) ∷ (Board (noted.Event Quiescence) ∷ []) ∷ (Finished ends.Quiescence ∷ []) ∷ []
 unfolding shell hail note_schema one_note waiting climbs steps_from response_by processing_all cycles
 floor_above = refl

@@ -8,7 +8,7 @@ use Rattle.std.specs.Prelude.{ℤ, map, slice_get}
 use Rattle.std.proofs.lemmas.List.Concat.{flat_map-append, flat_map-cons}
 use Rattle.bb_basis.proofs.IntoMapLemmas.{next_one}
 use Rattle.bb_board.specs.declared.event.Event.{Event}
-use Rattle.bb_board.specs.declared.world.World.{World}
+use Rattle.bb_board.specs.Board.{Board as Blackboard}
 use Rattle.bb_agenda.specs.declared.activation.Activation.{Activation}
 use Rattle.bb_agenda.specs.Agenda.{Agenda}
 use Rattle.bb_agenda.specs.Rating.{rating}
@@ -260,35 +260,35 @@ module _ (shell : Shell) (a b c : Place) (whole : Stretch) (events : List Event)
 
 -- ---- what a blackboard noted
 
-module _ (shell : Shell) (a b : Place) (world : World) (agenda : Agenda) (more notes : List Note) (end : Option End) where
-  pub report_cut : (halt : Halt) → notes ≡ map Board world.notes ++ more → CutIn shell a b (notes ∷ []) halt → CutIn shell a b (report shell world agenda more end).segments halt
+module _ (shell : Shell) (a b : Place) (board : Blackboard) (agenda : Agenda) (more notes : List Note) (end : Option End) where
+  pub report_cut : (halt : Halt) → notes ≡ map Board board.world.notes ++ more → CutIn shell a b (notes ∷ []) halt → CutIn shell a b (report shell board agenda more end).segments halt
   report_cut halt is t =
-      part_cut shell a a b (report shell world agenda more end) (telling (map Board world.notes ++ more) (with_notes_taken world agenda) end) (processing_all shell (events_in world.notes)) halt (nothing_told shell a (report shell world agenda more end))
+      part_cut shell a a b (report shell board agenda more end) (telling (map Board board.world.notes ++ more) (with_notes_taken board agenda) end) (processing_all shell (events_in board.world.notes)) halt (nothing_told shell a (report shell board agenda more end))
       (subst (λ n. CutIn shell a b (n ∷ []) halt) is t)
 
-  report_told : (s : State) → notes ≡ map Board world.notes ++ more → s ≡ with_notes_taken world agenda → Told shell a b (notes ∷ []) → Makes shell a b (telling (map Board world.notes ++ more) (with_notes_taken world agenda) end) s (Ok end)
+  report_told : (s : State) → notes ≡ map Board board.world.notes ++ more → s ≡ with_notes_taken board agenda → Told shell a b (notes ∷ []) → Makes shell a b (telling (map Board board.world.notes ++ more) (with_notes_taken board agenda) end) s (Ok end)
   report_told s is left t = (subst (λ n. Told shell a b (n ∷ [])) is t, record { state = left; end = refl })
 
-  pub report_over : (s : State) (e : End) → notes ≡ map Board world.notes ++ more → s ≡ with_notes_taken world agenda → end ≡ Some e → Told shell a b (notes ∷ []) → Makes shell a b (report shell world agenda more end) s (Ok (Some e))
+  pub report_over : (s : State) (e : End) → notes ≡ map Board board.world.notes ++ more → s ≡ with_notes_taken board agenda → end ≡ Some e → Told shell a b (notes ∷ []) → Makes shell a b (report shell board agenda more end) s (Ok (Some e))
   report_over s e is left some t =
-      part_over shell a a b (report shell world agenda more end) (telling (map Board world.notes ++ more) (with_notes_taken world agenda) end) (processing_all shell (events_in world.notes)) s end e
-      (nothing_told shell a (report shell world agenda more end)) (report_told s is left t) some
+      part_over shell a a b (report shell board agenda more end) (telling (map Board board.world.notes ++ more) (with_notes_taken board agenda) end) (processing_all shell (events_in board.world.notes)) s end e
+      (nothing_told shell a (report shell board agenda more end)) (report_told s is left t) some
 
-  pub report_made : (c : Place) (s t : State) (events : List Event) (r : Result (Option End) Halt) → notes ≡ map Board world.notes ++ more → s ≡ with_notes_taken world agenda → end ≡ None → Told shell a b (notes ∷ []) → events ≡ events_in world.notes
-      → Makes shell b c (processing_all shell events s) t r → Makes shell a c (report shell world agenda more end) t r
+  pub report_made : (c : Place) (s t : State) (events : List Event) (r : Result (Option End) Halt) → notes ≡ map Board board.world.notes ++ more → s ≡ with_notes_taken board agenda → end ≡ None → Told shell a b (notes ∷ []) → events ≡ events_in board.world.notes
+      → Makes shell b c (processing_all shell events s) t r → Makes shell a c (report shell board agenda more end) t r
   report_made c s t events r is left none told are m =
-      makes_last (λ e. e) shell a b c (report shell world agenda more end) (processing_all shell (events_in world.notes) s) t r
-      (part_made shell a a b (report shell world agenda more end) (telling (map Board world.notes ++ more) (with_notes_taken world agenda) end) (processing_all shell (events_in world.notes)) s end
-      (nothing_told shell a (report shell world agenda more end)) (report_told s is left told) none)
+      makes_last (λ e. e) shell a b c (report shell board agenda more end) (processing_all shell (events_in board.world.notes) s) t r
+      (part_made shell a a b (report shell board agenda more end) (telling (map Board board.world.notes ++ more) (with_notes_taken board agenda) end) (processing_all shell (events_in board.world.notes)) s end
+      (nothing_told shell a (report shell board agenda more end)) (report_told s is left told) none)
       (subst (λ es. Makes shell b c (processing_all shell es s) t r) are m)
 
 -- ---- an execution
 
-pub executed : (shell : Shell) (code given : Code) (a : Activation) (s : State) (limit : ℕ) (o : Outcome) (world : World) (ending : Ending) → limit ≡ budget code FOUND_LIMIT → given ≡ code → activation limit given a.unit s.world ≡ (o, world) → o.ending ≡ ending
-    → acting shell (acts.Code code) a s ≡ after_execution shell code world s.agenda o ending
-executed shell code given a s limit o world ending bound same ran ends =
-    let after : Outcome × World → Stretch = λ e. after_execution shell code e.1 s.agenda e.0 e.0.ending in
-    ap (λ n. after (activation n code a.unit s.world)) (sym bound) ∙ ap (λ k. after (activation limit k a.unit s.world)) (sym same) ∙ ap after ran ∙ ap (after_execution shell code world s.agenda o) ends
+pub executed : (shell : Shell) (code given : Code) (a : Activation) (s : State) (limit : ℕ) (o : Outcome) (board : Blackboard) (ending : Ending) → limit ≡ budget code FOUND_LIMIT → given ≡ code → activation limit given a.unit s.board ≡ (o, board) → o.ending ≡ ending
+    → acting shell (acts.Code code) a s ≡ after_execution shell code board s.agenda o ending
+executed shell code given a s limit o board ending bound same ran ends =
+    let after : Outcome × Blackboard → Stretch = λ e. after_execution shell code e.1 s.agenda e.0 e.0.ending in
+    ap (λ n. after (activation n code a.unit s.board)) (sym bound) ∙ ap (λ k. after (activation limit k a.unit s.board)) (sym same) ∙ ap after ran ∙ ap (after_execution shell code board s.agenda o) ends
 
 -- ---- a cycle
 

@@ -2,8 +2,8 @@
 use Rattle.std.specs.Prelude.{ℕ, ℤ, List, Result, Ok}
 use Rattle.bb_basis.specs.Results.{◌>>=◌, map_err}
 use Rattle.bb_schema.specs.Reading.{schema_of}
-use Rattle.bb_board.specs.Load.{load}
-use Rattle.bb_board.specs.declared.world.World.{World}
+use Rattle.bb_board.specs.Board.{Board, new_board}
+use Rattle.bb_board.specs.Load.{loaded}
 use Rattle.bb_compile.specs.Bundle.{sources_of}
 use Rattle.bb_shell.specs.declared.input_fault.InputFault.{InputFault}
 use Rattle.bb_shell.specs.declared.input_fault.InputFault.TheVariants as inputs
@@ -12,14 +12,14 @@ use Rattle.bb_shell.specs.Sources.{sources_for}
 
 pub record Meaning : Type 0 where
   pub shell : Shell
-  -- the first units, with what their creation noted
-  pub world : World
+  -- the first units and their links, with what was noted of them
+  pub board : Board
 
 -- the schema, the first units, the bundle and its sources, in this order
 unfoldable pub meaning : (schema units bundle : List ℕ) → (floor : ℤ) → Result Meaning InputFault
 meaning schema units bundle floor = do
   s ← map_err inputs.Schema (schema_of schema)
-  world ← map_err inputs.Units (load s units)
+  board ← map_err inputs.Units (loaded (new_board s) units)
   codes ← map_err inputs.Bundle (sources_of bundle)
   sources ← sources_for s codes
-  Ok (record { shell = record { schema = s; sources = sources; floor = floor }; world = world })
+  Ok (record { shell = record { schema = s; sources = sources; floor = floor }; board = board })

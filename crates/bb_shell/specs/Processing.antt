@@ -30,7 +30,7 @@ noted_first note rest = record { notes = note ∷ rest.notes; state = rest.state
 -- the state with one activation more: that of the source at this place, for an event
 abbrev pub after_trigger : State → Event → ℕ → Source → State
 after_trigger s event place source =
-    record { world = s.world; agenda = with_activation s.agenda place (unit_of event) source.rate }
+    record { board = s.board; agenda = with_activation s.agenda place (unit_of event) source.rate }
 
 -- the response of the sources from this place on, in order; where the agenda is full the run is over
 unfoldable pub response_by : Schema → Event → ℕ → List Source → State → Response

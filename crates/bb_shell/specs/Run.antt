@@ -2,7 +2,7 @@
 use Rattle.std.specs.Prelude.{ℕ, zero, suc, ◌+◌, List, [], ◌∷◌, ◌++◌, map, Option, Some, None, slice_get}
 use Rattle.bb_board.specs.declared.event.Event.TheVariants.{Quiescence as quiescence}
 use Rattle.bb_board.specs.declared.note.Note.TheVariants.{Event as happened}
-use Rattle.bb_board.specs.declared.world.World.{World}
+use Rattle.bb_board.specs.Board.{Board as Blackboard, with_world}
 use Rattle.bb_board.specs.World.{after_take}
 use Rattle.bb_agenda.specs.declared.activation.Activation.{Activation}
 use Rattle.bb_agenda.specs.Agenda.{Agenda, no_activations, pending_of, with_executed}
@@ -45,27 +45,27 @@ abbrev pub wait : Shell → State → Stretch
 wait shell s = wait_for shell s (choice shell s)
 
 -- the blackboard's notes are taken
-abbrev pub with_notes_taken : World → Agenda → State
-with_notes_taken world agenda = record { world = after_take world; agenda = agenda }
+abbrev pub with_notes_taken : Blackboard → Agenda → State
+with_notes_taken board agenda = record { board = with_world board (after_take board.world); agenda = agenda }
 
 -- what the blackboard noted is told, with what more there is to tell, and then its events are processed
-abbrev pub report : Shell → World → Agenda → List Note → Option End → Stretch
-report shell world agenda more end =
-    and_then (telling (map Board world.notes ++ more) (with_notes_taken world agenda) end)
-    (processing_all shell (events_in world.notes))
+abbrev pub report : Shell → Blackboard → Agenda → List Note → Option End → Stretch
+report shell board agenda more end =
+    and_then (telling (map Board board.world.notes ++ more) (with_notes_taken board agenda) end)
+    (processing_all shell (events_in board.world.notes))
 
 -- what an execution leads to: the run is over where it did not come to an answer
-abbrev pub after_execution : Shell → Code → World → Agenda → Outcome → Ending → Stretch
-after_execution shell code world agenda o (endings.Answered answer) =
-    report shell world agenda (Ended o.steps o.found (budget code o.found) ∷ []) None
-after_execution shell code world agenda o endings.Full = report shell world agenda [] (Some finishes.Full)
-after_execution shell code world agenda o (endings.Stuck reason) =
-    report shell world agenda [] (Some (finishes.Stuck reason))
+abbrev pub after_execution : Shell → Code → Blackboard → Agenda → Outcome → Ending → Stretch
+after_execution shell code board agenda o (endings.Answered answer) =
+    report shell board agenda (Ended o.steps o.found (budget code o.found) ∷ []) None
+after_execution shell code board agenda o endings.Full = report shell board agenda [] (Some finishes.Full)
+after_execution shell code board agenda o (endings.Stuck reason) =
+    report shell board agenda [] (Some (finishes.Stuck reason))
 
 -- a source acts for an activation
 abbrev pub acting : Shell → Act → Activation → State → Stretch
 acting shell (acts.Code code) a s =
-    let e = activation (budget code FOUND_LIMIT) code a.unit s.world in
+    let e = activation (budget code FOUND_LIMIT) code a.unit s.board in
     after_execution shell code e.1 s.agenda e.0 e.0.ending
 
 -- the source at the activation's place acts; each pending activation has one
@@ -75,7 +75,7 @@ acting_at shell (Some source) a s = acting shell source.act a s
 
 -- the chosen activation is no longer pending
 abbrev pub after_choice : State → Activation → State
-after_choice s a = record { world = s.world; agenda = with_executed s.agenda a.number }
+after_choice s a = record { board = s.board; agenda = with_executed s.agenda a.number }
 
 -- a cycle: the choice is told, and its source acts
 abbrev pub cycle : Shell → ℕ → Activation → State → Stretch
@@ -96,8 +96,8 @@ cycles shell made (suc left) s =
     (λ a. and_then (cycle shell (made + 1) a t) (cycles shell (made + 1) left)))
 
 -- what the first units' creation noted is told, and its events are processed
-abbrev pub start : Shell → World → Stretch
-start shell world = report shell world no_activations [] None
+abbrev pub start : Shell → Blackboard → Stretch
+start shell board = report shell board no_activations [] None
 
 -- the segment that tells the end, if there is one
 abbrev pub finish_segments : Option End → List (List Note)
@@ -109,9 +109,9 @@ abbrev pub with_finish : Stretch → Stretch
 with_finish p = record { segments = p.segments ++ finish_segments p.end; state = p.state; end = p.end }
 
 -- the start, and then at most so many cycles
-abbrev pub unfinished : Shell → World → (limit : ℕ) → Stretch
-unfinished shell world limit = and_then (start shell world) (cycles shell 0 limit)
+abbrev pub unfinished : Shell → Blackboard → (limit : ℕ) → Stretch
+unfinished shell board limit = and_then (start shell board) (cycles shell 0 limit)
 
 -- the whole run from a blackboard's first state, with at most so many cycles
-abbrev pub run : Shell → World → (limit : ℕ) → Stretch
-run shell world limit = with_finish (unfinished shell world limit)
+abbrev pub run : Shell → Blackboard → (limit : ℕ) → Stretch
+run shell board limit = with_finish (unfinished shell board limit)

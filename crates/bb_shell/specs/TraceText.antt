@@ -7,10 +7,10 @@ use Rattle.serde_json.specs.Written.{compact_text}
 use Rattle.bb_schema.specs.Schema.{Schema, name_of_class, name_of_label, name_of_slot}
 use Rattle.bb_classes.specs.declared.value.Value.{Value}
 use Rattle.bb_classes.specs.declared.value.Value.TheVariants as values
-use Rattle.bb_board.specs.declared.event.ChangeKind.{ChangeKind}
-use Rattle.bb_board.specs.declared.event.ChangeKind.TheVariants.{Create, Update}
+use Rattle.bb_board.specs.declared.event.Change.{Change}
+use Rattle.bb_board.specs.declared.event.Change.TheVariants.{Create, Delete, Update, Link, Unlink}
 use Rattle.bb_board.specs.declared.event.Event.{Event}
-use Rattle.bb_board.specs.declared.event.Event.TheVariants.{Change, Quiescence}
+use Rattle.bb_board.specs.declared.event.Event.TheVariants as events
 use Rattle.bb_board.specs.declared.note.Note.{Note as BoardNote}
 use Rattle.bb_board.specs.declared.note.Note.TheVariants.{Event as happened, Said as said}
 use Rattle.bb_board.specs.declared.note.Said.{Said}
@@ -54,15 +54,22 @@ said_text s (saids.Unit n) = codes "#" ++ decimal n
 abbrev pub slot_name : Schema → ℕ → List ℕ
 slot_name s slot = unwrap_or (name_of_slot s slot) []
 
--- `create U CLASS` or `set U.SLOT`
-abbrev pub change_text : Schema → ChangeKind → (unit class : ℕ) → List ℕ
-change_text s Create n class = codes "create " ++ decimal n ++ codes " " ++ class_name s class
-change_text s (Update slot) n class = codes "set " ++ decimal n ++ codes "." ++ slot_name s slot
+-- `U.SLOT`: a slot of a unit
+abbrev pub slot_text : Schema → (unit slot : ℕ) → List ℕ
+slot_text s n slot = decimal n ++ codes "." ++ slot_name s slot
+
+-- `create U CLASS`, `delete U`, `set U.SLOT`, `link U.SLOT PARTNER` or `unlink U.SLOT PARTNER`
+abbrev pub change_text : Schema → (unit class : ℕ) → Change → List ℕ
+change_text s n class Create = codes "create " ++ decimal n ++ codes " " ++ class_name s class
+change_text s n class Delete = codes "delete " ++ decimal n
+change_text s n class (Update slot) = codes "set " ++ slot_text s n slot
+change_text s n class (Link slot partner) = codes "link " ++ slot_text s n slot ++ codes " " ++ decimal partner
+change_text s n class (Unlink slot partner) = codes "unlink " ++ slot_text s n slot ++ codes " " ++ decimal partner
 
 -- a change, or `quiescence`
 abbrev pub event_text : Schema → Event → List ℕ
-event_text s (Change kind n class) = change_text s kind n class
-event_text s Quiescence = codes "quiescence"
+event_text s (events.Change n class change) = change_text s n class change
+event_text s events.Quiescence = codes "quiescence"
 
 -- an event, or `say` and the values
 abbrev pub board_note_text : Schema → BoardNote → List ℕ

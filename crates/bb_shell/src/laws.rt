@@ -2,7 +2,7 @@
 
 ghost use Rattle.std.specs.Prelude.{ℕ, ◌-◌, ℤ, List};
 ghost use Rattle.bb_agenda.specs.declared.activation.Activation.{Activation};
-ghost use Rattle.bb_board.specs.declared.world.World.{World};
+ghost use Rattle.bb_board.specs.Board.{Board};
 ghost use Rattle.bb_shell.specs.declared.note.Note.{Note};
 ghost use Rattle.bb_shell.specs.declared.note.Note.TheVariants.{Chosen};
 ghost use Rattle.bb_shell.specs.declared.shell.Shell.{Shell};
@@ -21,15 +21,15 @@ ghost use Rattle.bb_shell.specs.Order.{IsChosenAfter};
 /// - `choices`: up to the choice of a cycle a run is the run whose limit is one less, and in the last state of that
 ///   run the activation is chosen: nothing that is pending there is rated higher, and of equals it is the earliest.
 pub fn runs_are_orderly()
-    ensures counted { (shell : Shell) (world : World) (limit : ℕ) → IsCounted (notes_of (run shell world limit)) }
-    ensures pending { (shell : Shell) (world : World) (limit : ℕ) →
-        ActsOnPending shell.floor (notes_of (run shell world limit)) }
-    ensures executions { (shell : Shell) (world : World) (limit : ℕ) →
-        ExecutesInTurn (notes_of (run shell world limit)) }
-    ensures finish { (shell : Shell) (world : World) (limit : ℕ) → IsFinished (run shell world limit) }
-    ensures limit { (shell : Shell) (world : World) (limit : ℕ) → KeepsLimit shell limit (run shell world limit) }
-    ensures choices { (shell : Shell) (world : World) (limit : ℕ)
+    ensures counted { (shell : Shell) (board : Board) (limit : ℕ) → IsCounted (notes_of (run shell board limit)) }
+    ensures pending { (shell : Shell) (board : Board) (limit : ℕ) →
+        ActsOnPending shell.floor (notes_of (run shell board limit)) }
+    ensures executions { (shell : Shell) (board : Board) (limit : ℕ) →
+        ExecutesInTurn (notes_of (run shell board limit)) }
+    ensures finish { (shell : Shell) (board : Board) (limit : ℕ) → IsFinished (run shell board limit) }
+    ensures limit { (shell : Shell) (board : Board) (limit : ℕ) → KeepsLimit shell limit (run shell board limit) }
+    ensures choices { (shell : Shell) (board : Board) (limit : ℕ)
         (before : List Note) (cycle : ℕ) (a : Activation) (r : ℤ) →
-        At (notes_of (run shell world limit)) before (Chosen cycle a r) →
-        IsChosenAfter shell (run shell world (cycle - 1)) before a r }
+        At (notes_of (run shell board limit)) before (Chosen cycle a r) →
+        IsChosenAfter shell (run shell board (cycle - 1)) before a r }
 {}

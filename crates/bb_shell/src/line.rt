@@ -3,17 +3,17 @@
 ghost use Rattle.std.specs.Prelude.{◌≡◌, ◌++◌, ◌∷◌, [], OnOk, string_bytes};
 ghost use Rattle.bb_board.specs.declared.note.Note.TheVariants.{Said as says};
 ghost use Rattle.bb_shell.specs.declared.finish.End.TheVariants as ends;
-ghost use Rattle.bb_shell.specs.TraceText.{board_note_text, choice_text, end_text, ended_text, event_text};
-ghost use Rattle.bb_shell.specs.TraceText.{line, numbered_text, said_text, source_name, trigger_text, value_text};
+ghost use Rattle.bb_shell.specs.TraceText.{board_note_text, change_text, choice_text, end_text, ended_text, event_text};
+ghost use Rattle.bb_shell.specs.TraceText.{line, numbered_text, said_text, slot_name, source_name, trigger_text, value_text};
 
 use crate::finish::End;
 use crate::note::Note;
 use crate::shell::Shell;
 use bb_agenda::Activation;
-use bb_board::{ChangeKind, Event, Said};
+use bb_board::{Change, Event, Said};
 use bb_machine::Stuck;
 use bb_rules::Source;
-use bb_schema::{Schema, Value};
+use bb_schema::{ClassId, Schema, SlotId, UnitId, Value};
 use serde_json::Value as Json;
 use std::alloc::{AllocError, Global};
 use std::fmt::Write;
@@ -28,9 +28,9 @@ pub(crate) fn add_note(
     ensures { OnOk result (string_bytes text.new ≡ string_bytes text.old ++ line shell.now note.now) }
 {
     match note {
-        Note::Board(bb_board::Note::Event(event)) => add_event(text, &shell.schema, *event),
+        Note::Board(bb_board::Note::Event(event)) => add_event(text, shell.schema.get(), *event),
         Note::Board(bb_board::Note::Said(values)) => {
-            add_said(alloc, text, &shell.schema, values.as_slice())
+            add_said(alloc, text, shell.schema.get(), values.as_slice())
         }
         Note::Triggered(activation) => { add_trigger(text, shell.sources.as_slice(), *activation) }
         Note::Chosen {
@@ -53,23 +53,49 @@ fn add_event(text: &mut String, schema: &Schema, event: Event) -> Result<(), All
 {
     match event {
         Event::Change {
-            kind: ChangeKind::Create,
             unit,
             class,
-        } => {
+            change,
+        } => add_change(text, schema, unit, class, change),
+        Event::Quiescence => writeln!(text, "quiescence"),
+    }
+}
+
+fn add_change(
+    text: &mut String,
+    schema: &Schema,
+    unit: UnitId,
+    class: ClassId,
+    change: Change,
+) -> Result<(), AllocError>
+    ensures { OnOk result (string_bytes text.new
+        ≡ string_bytes text.old ++ (change_text schema.now unit class change ++ 10 ∷ [])) }
+{
+    match change {
+        Change::Create => {
             let name = schema.class_name(class).unwrap_or("");
             writeln!(text, "create {unit} {name}")
         }
-        Event::Change {
-            kind: ChangeKind::Update(slot),
-            unit,
-            ..
-        } => {
-            let name = schema.slot_name(slot).unwrap_or("");
+        Change::Delete => writeln!(text, "delete {unit}"),
+        Change::Update(slot) => {
+            let name = slot_name(schema, slot);
             writeln!(text, "set {unit}.{name}")
         }
-        Event::Quiescence => writeln!(text, "quiescence"),
+        Change::Link { slot, partner } => {
+            let name = slot_name(schema, slot);
+            writeln!(text, "link {unit}.{name} {partner}")
+        }
+        Change::Unlink { slot, partner } => {
+            let name = slot_name(schema, slot);
+            writeln!(text, "unlink {unit}.{name} {partner}")
+        }
     }
+}
+
+fn slot_name(schema: &Schema, slot: SlotId) -> &str
+    ensures { result.now ≡ slot_name schema.now slot }
+{
+    schema.slot_name(slot).unwrap_or("")
 }
 
 fn add_said(

@@ -18,6 +18,7 @@ pub(crate) const PAGE_LIMIT: usize = 65_536;
 /// Text that waits to be written.
 #[derive(Drop)]
 pub(crate) struct Page {
+    alloc: Global,
     text: String,
 }
 
@@ -35,20 +36,21 @@ impl Page {
         ensures { result ≡ [] }
     {
         Page {
+            alloc,
             text: String::new(alloc),
         }
     }
 
+    /// What the page is allocated by. Who tells segments on it takes memory there too.
+    pub fn alloc(&self) -> Global {
+        self.alloc
+    }
+
     /// Appends the text of a segment.
-    pub fn add_segment(
-        &mut self,
-        alloc: Global,
-        shell: &Shell,
-        notes: &[Note],
-    ) -> Result<(), AllocError>
+    pub fn add_segment(&mut self, shell: &Shell, notes: &[Note]) -> Result<(), AllocError>
         ensures { OnOk result (self.new ≡ self.old ++ segment_text shell.now notes.now) }
     {
-        add_notes(alloc, &mut self.text, shell, notes)
+        add_notes(self.alloc, &mut self.text, shell, notes)
     }
 
     /// Writes the page if it has the length of a page, so that it is short afterwards.

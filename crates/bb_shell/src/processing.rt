@@ -1,6 +1,7 @@
 //! The processing of an event. The run (run.rt) calls it for each event, and for quiescence.
 
-ghost use Rattle.std.specs.Prelude.{◌≤◌, IfOk, length};
+ghost use Rattle.std.specs.Prelude.{◌≡◌, ◌≤◌, IfOk, length};
+ghost use Rattle.bb_rules.specs.Match.{is_triggered};
 ghost use Rattle.bb_shell.specs.declared.sources.TheConstants.{SOURCE_LIMIT};
 ghost use Rattle.bb_shell.specs.Processing.{response};
 ghost use Rattle.bb_shell.specs.proving.Telling.{IsResponse};
@@ -10,6 +11,7 @@ use crate::note::Note;
 use crate::shell::Shell;
 use crate::state::State;
 use bb_board::Event;
+use bb_rules::Source;
 use std::alloc::AllocError;
 
 /// Processes an event: each source that it triggers gets an activation, in order, and the notes tell of it. Returns the
@@ -25,7 +27,7 @@ pub(crate) fn respond(
 {
     let sources = shell.sources.as_slice();
     for (place, source) in sources.iter().enumerate() {
-        if !source.is_triggered(&shell.schema, event) {
+        if !is_triggered(shell, source, event) {
             continue;
         }
         if state.agenda.is_full() {
@@ -35,4 +37,10 @@ pub(crate) fn respond(
         notes.push(Note::Triggered(activation))?;
     }
     Ok(None)
+}
+
+fn is_triggered(shell: &Shell, source: &Source, event: Event) -> bool
+    ensures { result ≡ is_triggered shell.now.schema source.now event }
+{
+    source.is_triggered(shell.schema.get(), event)
 }

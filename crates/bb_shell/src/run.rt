@@ -5,7 +5,7 @@ ghost use Rattle.std.specs.Io.KnownBytes.{Appends};
 ghost use Rattle.bb_agenda.specs.Agenda.{no_activations};
 ghost use Rattle.bb_rules.specs.declared.source.Act.TheVariants.{Code};
 ghost use Rattle.bb_agenda.specs.declared.activation.Activation.{Activation as Chosen};
-ghost use Rattle.bb_shell.specs.declared.note.Note.TheVariants.{Board};
+ghost use Rattle.bb_shell.specs.declared.note.Note.TheVariants.{Board as BoardNote};
 ghost use Rattle.bb_shell.specs.declared.sources.TheConstants.{SOURCE_LIMIT};
 ghost use Rattle.bb_shell.specs.Finish.{WritesFront, end_of, is_write};
 ghost use Rattle.bb_shell.specs.Processing.{events_in, processing, processing_all};
@@ -23,8 +23,7 @@ use crate::processing::respond;
 use crate::shell::Shell;
 use crate::state::State;
 use bb_agenda::{Activation, Agenda};
-use bb_basis::Items;
-use bb_board::{Event, World};
+use bb_board::{Board, Event};
 use bb_machine::{Ending, execute};
 use bb_rules::{Act, Source};
 use bb_verify::{Checked, FOUND_LIMIT};
@@ -38,25 +37,18 @@ pub(crate) enum Decision {
 }
 
 // Tells a segment, and writes the page if it is long.
-fn tell<O: Out>(
-    alloc: Global,
-    out: &mut O,
-    page: &mut Page,
-    shell: &Shell,
-    notes: &[Note],
-) -> Result<(), Halt>
+fn tell<O: Out>(out: &mut O, page: &mut Page, shell: &Shell, notes: &[Note]) -> Result<(), Halt>
     requires { O.has_failed out.old ≡ false }
     ensures told { Tells shell.now (at (O.taken out.old) page.old) (at (O.taken out.new) page.new)
         (notes.now ∷ []) result }
     ensures failed { O.has_failed out.new ≡ stopped_by_write result }
 {
-    page.add_segment(alloc, shell, notes)?;
+    page.add_segment(shell, notes)?;
     page.spill(out)
 }
 
 // Processes an event.
 fn process<O: Out>(
-    alloc: Global,
     out: &mut O,
     page: &mut Page,
     shell: &Shell,
@@ -69,15 +61,14 @@ fn process<O: Out>(
         (processing shell.now event state.old) state.new result }
     ensures failed { O.has_failed out.new ≡ stopped_by_write result }
 {
-    let mut notes = Vec::new(alloc);
+    let mut notes = Vec::new(page.alloc());
     let end = respond(shell, event, state, &mut notes)?;
-    tell(alloc, out, page, shell, &notes)?;
+    tell(out, page, shell, &notes)?;
     Ok(end)
 }
 
 // Processes events, one after another, until the run ends.
 fn process_all<O: Out>(
-    alloc: Global,
     out: &mut O,
     page: &mut Page,
     shell: &Shell,
@@ -91,7 +82,7 @@ fn process_all<O: Out>(
     ensures failed { O.has_failed out.new ≡ stopped_by_write result }
 {
     for event in events {
-        if let Some(end) = process(alloc, out, page, shell, *event, state)? {
+        if let Some(end) = process(out, page, shell, *event, state)? {
             return Ok(Some(end));
         }
     }
@@ -100,7 +91,6 @@ fn process_all<O: Out>(
 
 // Tells of quiescence, and processes it.
 fn quiesce<O: Out>(
-    alloc: Global,
     out: &mut O,
     page: &mut Page,
     shell: &Shell,
@@ -112,17 +102,16 @@ fn quiesce<O: Out>(
         (quiet shell.now state.old) state.new result }
     ensures failed { O.has_failed out.new ≡ stopped_by_write result }
 {
-    let mut notes = Vec::new(alloc);
+    let mut notes = Vec::new(page.alloc());
     notes.push(Note::Board(bb_board::Note::Event(Event::Quiescence)))?;
     let end = respond(shell, Event::Quiescence, state, &mut notes)?;
-    tell(alloc, out, page, shell, &notes)?;
+    tell(out, page, shell, &notes)?;
     Ok(end)
 }
 
 // Chooses an activation, after quiescence where none can be chosen at once. The run is over where none can be chosen
 // after it either.
 fn decide<O: Out>(
-    alloc: Global,
     out: &mut O,
     page: &mut Page,
     shell: &Shell,
@@ -137,7 +126,7 @@ fn decide<O: Out>(
     if let Some(activation) = state.agenda.choose(shell.floor) {
         return Ok(Decision::Act(activation));
     }
-    if let Some(end) = quiesce(alloc, out, page, shell, state)? {
+    if let Some(end) = quiesce(out, page, shell, state)? {
         return Ok(Decision::Over(end));
     }
     match state.agenda.choose(shell.floor) {
@@ -162,13 +151,13 @@ fn events_in(alloc: Global, notes: &[bb_board::Note]) -> Result<Vec<Event>, Allo
 // What a blackboard noted, as notes of the run, and one note more if there is one.
 fn board_notes(
     alloc: Global,
-    noted: Items<bb_board::Note>,
+    noted: Vec<bb_board::Note>,
     last: Option<Note>,
 ) -> Result<Vec<Note>, AllocError>
-    ensures { IfOk result (λ notes. notes.items ≡ map Board noted ++ option_list last) }
+    ensures { IfOk result (λ notes. notes.items ≡ map BoardNote noted.items ++ option_list last) }
 {
     let mut notes = Vec::new(alloc);
-    for note in noted.into_vec() {
+    for note in noted {
         notes.push(Note::Board(note))?;
     }
     match last {
@@ -182,7 +171,6 @@ fn board_notes(
 
 // Tells what the blackboard noted, and one note more if there is one. Processes its events unless the run ends.
 fn report<O: Out>(
-    alloc: Global,
     out: &mut O,
     page: &mut Page,
     shell: &Shell,
@@ -193,22 +181,21 @@ fn report<O: Out>(
     requires open { O.has_failed out.old ≡ false }
     requires few { length shell.now.sources ≤ SOURCE_LIMIT }
     ensures made { Makes shell.now (at (O.taken out.old) page.old) (at (O.taken out.new) page.new)
-        (report shell.now state.old.world state.old.agenda (option_list last) end) state.new result }
+        (report shell.now state.old.board state.old.agenda (option_list last) end) state.new result }
     ensures failed { O.has_failed out.new ≡ stopped_by_write result }
 {
-    let noted = state.world.take_notes(alloc);
-    let events = events_in(alloc, noted.as_slice())?;
-    let notes = board_notes(alloc, noted, last)?;
-    tell(alloc, out, page, shell, &notes)?;
+    let noted = state.board.take_notes();
+    let events = events_in(page.alloc(), &noted)?;
+    let notes = board_notes(page.alloc(), noted, last)?;
+    tell(out, page, shell, &notes)?;
     if let Some(end) = end {
         return Ok(Some(end));
     }
-    process_all(alloc, out, page, shell, &events, state)
+    process_all(out, page, shell, &events, state)
 }
 
 // Executes a code for an activation.
 fn execute_code<O: Out>(
-    alloc: Global,
     out: &mut O,
     page: &mut Page,
     shell: &Shell,
@@ -222,7 +209,7 @@ fn execute_code<O: Out>(
     ensures failed { O.has_failed out.new ≡ stopped_by_write result }
 {
     let limit = code.budget(FOUND_LIMIT);
-    let outcome = execute(alloc, code.code(), limit, &mut state.world)?;
+    let outcome = execute(page.alloc(), code.code(), limit, &mut state.board)?;
     match outcome.ending {
         Ending::Answered(_) => {
             let ended = Note::Ended {
@@ -230,20 +217,10 @@ fn execute_code<O: Out>(
                 found: outcome.found,
                 budget: code.budget(outcome.found),
             };
-            report(alloc, out, page, shell, Some(ended), None, state)
+            report(out, page, shell, Some(ended), None, state)
         }
-        Ending::Full => report(alloc, out, page, shell, None, Some(End::Full), state),
-        Ending::Stuck(reason) => {
-            report(
-                alloc,
-                out,
-                page,
-                shell,
-                None,
-                Some(End::Stuck(reason)),
-                state,
-            )
-        }
+        Ending::Full => report(out, page, shell, None, Some(End::Full), state),
+        Ending::Stuck(reason) => { report(out, page, shell, None, Some(End::Stuck(reason)), state) }
     }
 }
 
@@ -264,7 +241,6 @@ fn source_at(sources: &[Source], place: u16) -> Option<&Source>
 
 // Makes a cycle: tells of the choice, takes it off the agenda, and has its source act.
 fn make_cycle<O: Out>(
-    alloc: Global,
     out: &mut O,
     page: &mut Page,
     shell: &Shell,
@@ -283,17 +259,16 @@ fn make_cycle<O: Out>(
         activation,
         rating: activation.rating(),
     };
-    tell(alloc, out, page, shell, &[chosen])?;
+    tell(out, page, shell, &[chosen])?;
     state.agenda.executed(activation.number);
     match source_at(shell.sources.as_slice(), activation.source) {
-        Some(source) => execute_code(alloc, out, page, shell, code_of(&source.act), state),
+        Some(source) => execute_code(out, page, shell, code_of(&source.act), state),
         None => Ok(None),
     }
 }
 
 // Makes cycles up to the limit, and returns the end of the run.
 fn make_cycles<O: Out>(
-    alloc: Global,
     out: &mut O,
     page: &mut Page,
     shell: &Shell,
@@ -307,15 +282,15 @@ fn make_cycles<O: Out>(
     ensures failed { O.has_failed out.new ≡ stopped_by_write result }
 {
     for made in 0..limit {
-        let activation = match decide(alloc, out, page, shell, state)? {
+        let activation = match decide(out, page, shell, state)? {
             Decision::Act(activation) => activation,
             Decision::Over(end) => return Ok(end),
         };
-        if let Some(end) = make_cycle(alloc, out, page, shell, made + 1, activation, state)? {
+        if let Some(end) = make_cycle(out, page, shell, made + 1, activation, state)? {
             return Ok(end);
         }
     }
-    match decide(alloc, out, page, shell, state)? {
+    match decide(out, page, shell, state)? {
         Decision::Act(_) => Ok(End::Limit),
         Decision::Over(end) => Ok(end),
     }
@@ -323,7 +298,6 @@ fn make_cycles<O: Out>(
 
 // Makes the whole run but for its last segment.
 fn run_unfinished<O: Out>(
-    alloc: Global,
     out: &mut O,
     page: &mut Page,
     shell: &Shell,
@@ -334,13 +308,13 @@ fn run_unfinished<O: Out>(
     requires few { length shell.now.sources ≤ SOURCE_LIMIT }
     requires new { state.old.agenda ≡ no_activations }
     ensures made { Finishes shell.now (at (O.taken out.old) page.old) (at (O.taken out.new) page.new)
-        (unfinished shell.now state.old.world limit) state.new result }
+        (unfinished shell.now state.old.board limit) state.new result }
     ensures failed { O.has_failed out.new ≡ stopped_by_write result }
 {
-    if let Some(end) = report(alloc, out, page, shell, None, None, state)? {
+    if let Some(end) = report(out, page, shell, None, None, state)? {
         return Ok(end);
     }
-    make_cycles(alloc, out, page, shell, limit, state)
+    make_cycles(out, page, shell, limit, state)
 }
 
 // Makes the whole run, and writes all of its text.
@@ -348,22 +322,22 @@ fn write_run<O: Out>(
     alloc: Global,
     out: &mut O,
     shell: &Shell,
-    world: World,
+    board: Board,
     limit: u64,
 ) -> Result<End, Halt>
     requires open { O.has_failed out.old ≡ false }
     requires few { length shell.now.sources ≤ SOURCE_LIMIT }
-    ensures end { IfOk result (λ end. (run shell.now world limit).end ≡ Some end) }
-    ensures written { Writes shell.now (O.taken out.old) (O.taken out.new) (run shell.now world limit).segments result }
+    ensures end { IfOk result (λ end. (run shell.now board limit).end ≡ Some end) }
+    ensures written { Writes shell.now (O.taken out.old) (O.taken out.new) (run shell.now board limit).segments result }
     ensures failed { O.has_failed out.new ≡ stopped_by_write result }
 {
     let mut page = Page::new(alloc);
     let mut state = State {
-        world,
+        board,
         agenda: Agenda::new(alloc),
     };
-    let end = run_unfinished(alloc, out, &mut page, shell, limit, &mut state)?;
-    page.add_segment(alloc, shell, &[Note::Finished(end)])?;
+    let end = run_unfinished(out, &mut page, shell, limit, &mut state)?;
+    page.add_segment(shell, &[Note::Finished(end)])?;
     page.flush(out)?;
     Ok(end)
 }
@@ -373,19 +347,19 @@ fn write_run<O: Out>(
 pub(crate) fn run<O: Out>(
     alloc: Global,
     shell: &Shell,
-    world: World,
+    board: Board,
     limit: u32,
     out: &mut O,
 ) -> Finish
     requires open { O.has_failed out.old ≡ false }
     requires few { length shell.now.sources ≤ SOURCE_LIMIT }
-    ensures finish { IfSome (end_of result) (λ end. (run shell.now world limit).end ≡ Some end) }
+    ensures finish { IfSome (end_of result) (λ end. (run shell.now board limit).end ≡ Some end) }
     ensures text { IfSome (end_of result) (λ _. Appends (O.taken out.old) (O.taken out.new)
-        (trace_text shell.now (run shell.now world limit).segments)) }
-    ensures front { WritesFront shell.now (run shell.now world limit) result (O.taken out.old) (O.taken out.new) }
+        (trace_text shell.now (run shell.now board limit).segments)) }
+    ensures front { WritesFront shell.now (run shell.now board limit) result (O.taken out.old) (O.taken out.new) }
     ensures failed { O.has_failed out.new ≡ is_write result }
 {
-    match write_run(alloc, out, shell, world, u64::from(limit)) {
+    match write_run(alloc, out, shell, board, u64::from(limit)) {
         Ok(end) => Finish::from(end),
         Err(Halt::Memory) => Finish::Memory,
         Err(Halt::Write) => Finish::Write,

@@ -1,11 +1,11 @@
 //! The state of a run, which its parts (processing.rt, run.rt) move.
 
 use bb_agenda::Agenda;
-use bb_board::World;
+use bb_board::Board;
 
 /// The state of a run: the blackboard and the agenda.
 #[derive(Drop)]
 pub(crate) struct State {
-    pub world: World,
+    pub board: Board,
     pub agenda: Agenda,
 }

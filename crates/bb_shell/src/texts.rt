@@ -1,10 +1,11 @@
 //! A run from the texts of its schema, first units and sources. Programs (bb_main) call it.
 
-ghost use Rattle.std.specs.Prelude.{◌≡◌, ◌≤◌, ◌⊎◌, false, IfOk, IfErr, IfSome, OnErr, Ok, Err, Some, length};
+ghost use Rattle.std.specs.Prelude.{◌≡◌, ◌≤◌, ◌⊎◌, true, false, IfOk, IfErr, IfSome, OnErr, Ok, Err, Some, length};
 ghost use Rattle.std.specs.Io.KnownBytes.{Appends};
 ghost use Rattle.bb_basis.specs.Results.{Gives, map_err};
 ghost use Rattle.bb_schema.specs.Reading.{schema_of};
-ghost use Rattle.bb_board.specs.Load.{load};
+ghost use Rattle.bb_board.specs.Board.{is_fresh, new_board};
+ghost use Rattle.bb_board.specs.Load.{loaded};
 ghost use Rattle.bb_compile.specs.Bundle.{sources_of};
 ghost use Rattle.bb_shell.specs.declared.sources.TheConstants.{SOURCE_LIMIT};
 ghost use Rattle.bb_shell.specs.Finish.{WritesFront, end_of, is_write};
@@ -19,7 +20,7 @@ use crate::run::run;
 use crate::shell::Shell;
 use crate::sources::sources_for;
 use bb_basis::Items;
-use bb_board::{UnitsFault, World, load};
+use bb_board::{Board, SharedSchema, UnitsFault};
 use bb_compile::{BundleFault, SourceCode, unbundle};
 use bb_schema::{Schema, SchemaFault};
 use std::alloc::Global;
@@ -40,14 +41,14 @@ pub fn run_texts<O: Out>(
 
     // At `Ok` the input has a meaning, the finish is that of its run, and the output took the text of its trace.
     ensures finish { IfOk result (λ f. (m : Meaning) × (meaning schema.now units.now bundle.now floor ≡ Ok m)
-        × IfSome (end_of f) (λ end. (run m.shell m.world limit).end ≡ Some end)) }
+        × IfSome (end_of f) (λ end. (run m.shell m.board limit).end ≡ Some end)) }
     ensures text { IfOk result (λ f. (m : Meaning) × (meaning schema.now units.now bundle.now floor ≡ Ok m)
         × IfSome (end_of f) (λ _. Appends (O.taken out.old) (O.taken out.new)
-        (trace_text m.shell (run m.shell m.world limit).segments))) }
+        (trace_text m.shell (run m.shell m.board limit).segments))) }
 
     // At `Memory` the output took the text of the first segments of the run, at `Write` the front of its trace.
     ensures front { IfOk result (λ f. (m : Meaning) × (meaning schema.now units.now bundle.now floor ≡ Ok m)
-        × WritesFront m.shell (run m.shell m.world limit) f (O.taken out.old) (O.taken out.new)) }
+        × WritesFront m.shell (run m.shell m.board limit) f (O.taken out.old) (O.taken out.new)) }
 
     // `Write` tells that the output has failed, and no other finish does.
     ensures failed { IfOk result (λ f. O.has_failed out.new ≡ is_write f) }
@@ -57,8 +58,8 @@ pub fn run_texts<O: Out>(
         ⊎ (meaning schema.now units.now bundle.now floor ≡ Err e)) }
     ensures quiet { OnErr result (out.new ≡ out.old) }
 {
-    let (shell, world) = read_input(alloc, schema, units, bundle, floor)?;
-    Ok(run(alloc, &shell, world, limit, out))
+    let (shell, board) = read_input(alloc, schema, units, bundle, floor)?;
+    Ok(run(alloc, &shell, board, limit, out))
 }
 
 fn read_input(
@@ -67,23 +68,23 @@ fn read_input(
     units: &str,
     bundle: &str,
     floor: i64,
-) -> Result<(Shell, World), InputFault>
-    ensures means { Gives InputFault.Memory (λ i. record { shell = i.0; world = i.1 }) result
+) -> Result<(Shell, Board), InputFault>
+    ensures means { Gives InputFault.Memory (λ i. record { shell = i.0; board = i.1 }) result
         (meaning schema.now units.now bundle.now floor) }
     ensures few { IfOk result (λ i. length i.0.sources ≤ SOURCE_LIMIT) }
 {
     let schema = read_schema(alloc, schema)?;
-    let world = load_units(alloc, &schema, units)?;
+    let (shared, board) = first_board(alloc, schema, units)?;
     let codes = read_bundle(alloc, bundle)?;
-    let sources = sources_for(alloc, &schema, codes)?;
+    let sources = sources_for(alloc, shared.get(), codes)?;
     let sources = Items::from(sources);
     Ok((
         Shell {
-            schema,
+            schema: shared,
             sources,
             floor,
         },
-        world,
+        board,
     ))
 }
 
@@ -97,11 +98,29 @@ fn read_schema(alloc: Global, text: &str) -> Result<Schema, InputFault>
     }
 }
 
-fn load_units(alloc: Global, schema: &Schema, text: &str) -> Result<World, InputFault>
-    ensures { Gives InputFault.Memory (λ w. w) result (map_err InputFault.Units (load schema.now text.now)) }
+// The blackboard with the first units, and its schema.
+fn first_board(
+    alloc: Global,
+    schema: Schema,
+    units: &str,
+) -> Result<(SharedSchema, Board), InputFault>
+    ensures means { Gives InputFault.Memory (λ b. b.1) result
+        (map_err InputFault.Units (loaded (new_board schema) units.now)) }
+    ensures schema { IfOk result (λ b. b.0 ≡ schema) }
 {
-    match load(alloc, schema, text) {
-        Ok(world) => Ok(world),
+    let mut board = Board::new(alloc, schema)?;
+    let schema = board.shared_schema()?;
+    load_units(&mut board, units)?;
+    Ok((schema, board))
+}
+
+fn load_units(board: &mut Board, text: &str) -> Result<(), InputFault>
+    requires { is_fresh board.old ≡ true }
+    ensures { Gives InputFault.Memory (λ _. board.new) result
+        (map_err InputFault.Units (loaded board.old text.now)) }
+{
+    match board.load(text) {
+        Ok(()) => Ok(()),
         Err(UnitsFault::Memory) => Err(InputFault::Memory),
         Err(fault) => Err(InputFault::Units(fault)),
     }

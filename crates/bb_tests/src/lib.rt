@@ -10,6 +10,8 @@ mod input;
 #[cfg(test)]
 mod limits;
 #[cfg(test)]
+mod links;
+#[cfg(test)]
 mod outputs;
 #[cfg(test)]
 mod refusals;

@@ -1,4 +1,4 @@
-use Rattle.std.proofs.Common.{◌≡◌, ◌⊎◌, inl, Ok, Err, w64, ℤ, subst}
+use Rattle.std.proofs.Common.{◌⊎◌, inl, Ok, Err, w64, ℤ, subst}
 use Rattle.std.proofs.lemmas.Int.{to_z-of_z}
 use Rattle.bb_main.specs.Input.{texts_of}
 use Rattle.bb_main.specs.Serve.{Answer, CutShort, Delivers, answer_to_sections}

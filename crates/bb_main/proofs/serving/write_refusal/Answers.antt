@@ -1,4 +1,4 @@
-use Rattle.std.proofs.Common.{◌∷◌, [], inr, refl}
+use Rattle.std.proofs.Common.{inr, refl}
 use Rattle.bb_main.proofs.ServeLemmas.{failed_in_line, failed_at_end}
 use Rattle.bb_main.proofs.serving.write_refusal.Goals as goal
 use Rattle.bb_main.proofs.serving.write_refusal.Goals.{else-put_all-via-then-put_all+else-put_all-2, else-put_all-via-else-put_all}

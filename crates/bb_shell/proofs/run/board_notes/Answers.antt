@@ -12,11 +12,11 @@ all_moved f front total items none so_far = sym (append-nil front) ∙ ap (λ xs
 
 pub returns-in-None-last : goal.returns-in-None-last
 returns-in-None-last c =
-    all_moved (λ n. Board n) c.loop-note.notes.items (map (λ n. Board n) c.args.noted) (into_iter_items c.loop-note.note-iterator) (sym c.loop-note.note-iterator.rest.ok.0 ∙ c.in-None.ensures.steps.0) c.loop-note.invariant.moved
-    ∙ sym (append-nil (map (λ n. Board n) c.args.noted)) ∙ ap (λ o. map (λ n. Board n) c.args.noted ++ option_list o) (sym c.in-None-last.is ∙ c.loop-note.invariant.same)
+    all_moved (λ n. Board n) c.loop-note.notes.items (map (λ n. Board n) c.args.noted.items) (into_iter_items c.loop-note.note-iterator) (sym c.loop-note.note-iterator.rest.ok.0 ∙ c.in-None.ensures.steps.0) c.loop-note.invariant.moved
+    ∙ sym (append-nil (map (λ n. Board n) c.args.noted.items)) ∙ ap (λ o. map (λ n. Board n) c.args.noted.items ++ option_list o) (sym c.in-None-last.is ∙ c.loop-note.invariant.same)
 
 pub returns-in_ok-push-in-Some-last : goal.returns-in_ok-push-in-Some-last
 returns-in_ok-push-in-Some-last c =
     c.in_ok-push-in-Some-last.ensures.items
-    ∙ ap (λ (t : List Note). t ++ c.in-Some-last.note ∷ []) (all_moved (λ n. Board n) c.loop-note.notes.items (map (λ n. Board n) c.args.noted) (into_iter_items c.loop-note.note-iterator) (sym c.loop-note.note-iterator.rest.ok.0 ∙ c.in-None.ensures.steps.0) c.loop-note.invariant.moved)
-    ∙ ap (λ o. map (λ n. Board n) c.args.noted ++ option_list o) (sym c.in-Some-last.is ∙ c.loop-note.invariant.same)
+    ∙ ap (λ (t : List Note). t ++ c.in-Some-last.note ∷ []) (all_moved (λ n. Board n) c.loop-note.notes.items (map (λ n. Board n) c.args.noted.items) (into_iter_items c.loop-note.note-iterator) (sym c.loop-note.note-iterator.rest.ok.0 ∙ c.in-None.ensures.steps.0) c.loop-note.invariant.moved)
+    ∙ ap (λ o. map (λ n. Board n) c.args.noted.items ++ option_list o) (sym c.in-Some-last.is ∙ c.loop-note.invariant.same)

@@ -5,6 +5,6 @@ use Rattle.bb_shell.proofs.run.board_notes.Given as goal
 
 abbrev pub invariant-loop-note : goal.invariant-loop-note
 invariant-loop-note l = record {
-  moved : l.notes.items ++ map Board (into_iter_items l.note-iterator) ≡ map Board l.fn.noted;
+  moved : l.notes.items ++ map Board (into_iter_items l.note-iterator) ≡ map Board l.fn.noted.items;
   same : l.last ≡ l.fn.last;
 }

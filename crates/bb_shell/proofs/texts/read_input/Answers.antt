@@ -1,6 +1,6 @@
 use Rattle.std.proofs.lemmas.Result.{err_from_is_err_and}
 use Rattle.std.proofs.lemmas.Int.{to_z-of_z}
-use Rattle.std.proofs.Common.{w64}
+use Rattle.std.proofs.Common.{w64, ◌∙◌}
 use Rattle.bb_shell.proofs.MeaningLemmas.{schema_fails, units_fail, bundle_fails, sources_fail, means}
 use Rattle.bb_shell.proofs.texts.read_input.Goals as goal
 
@@ -9,21 +9,21 @@ returns-in_err-schema-clause-means c =
     let p = err_from_is_err_and c.from_residual.result c.from_residual.ensures.1 in
     rw (p.1, p.2) (schema_fails c.args.schema.now c.args.units.now c.args.bundle.now c.args.floor c.in_err-schema.field-0.0 c.in_err-schema.ensures)
 
-pub returns-in_err-world-clause-means : goal.returns-in_err-world-clause-means
-returns-in_err-world-clause-means c =
-    let p = err_from_is_err_and c.from_residual-in_err-world.result c.from_residual-in_err-world.ensures.1 in
-    rw (p.1, p.2) (units_fail c.args.schema.now c.args.units.now c.args.bundle.now c.args.floor c.in_ok-schema.schema c.in_err-world.field-0.0 c.in_ok-schema.ensures c.in_err-world.ensures)
+pub returns-in_err-shared-clause-means : goal.returns-in_err-shared-clause-means
+returns-in_err-shared-clause-means c =
+    let p = err_from_is_err_and c.from_residual-in_err-shared.result c.from_residual-in_err-shared.ensures.1 in
+    rw (p.1, p.2) (units_fail c.args.schema.now c.args.units.now c.args.bundle.now c.args.floor c.in_ok-schema.schema c.in_err-shared.field-0.0 c.in_ok-schema.ensures c.in_err-shared.ensures.means)
 
 pub returns-in_err-codes-clause-means : goal.returns-in_err-codes-clause-means
 returns-in_err-codes-clause-means c =
     let p = err_from_is_err_and c.from_residual-in_err-codes.result c.from_residual-in_err-codes.ensures.1 in
-    rw (p.1, p.2) (bundle_fails c.args.schema.now c.args.units.now c.args.bundle.now c.args.floor c.in_ok-schema.schema c.in_ok-world.world c.in_err-codes.field-0.0 c.in_ok-schema.ensures c.in_ok-world.ensures c.in_err-codes.ensures)
+    rw (p.1, p.2) (bundle_fails c.args.schema.now c.args.units.now c.args.bundle.now c.args.floor c.in_ok-schema.schema c.in_ok-shared.board c.in_err-codes.field-0.0 c.in_ok-schema.ensures c.in_ok-shared.ensures.means c.in_err-codes.ensures)
 
 pub returns-in_err-sources-clause-means : goal.returns-in_err-sources-clause-means
 returns-in_err-sources-clause-means c =
     let p = err_from_is_err_and c.from_residual-in_err-sources.result c.from_residual-in_err-sources.ensures.1 in
-    rw (p.1, p.2) (sources_fail c.args.schema.now c.args.units.now c.args.bundle.now c.args.floor c.in_ok-schema.schema c.in_ok-world.world c.in_ok-codes.codes.items c.in_err-sources.field-0.0 c.in_ok-schema.ensures c.in_ok-world.ensures c.in_ok-codes.ensures c.in_err-sources.ensures.given)
+    rw (p.1, p.2) (sources_fail c.args.schema.now c.args.units.now c.args.bundle.now c.args.floor c.in_ok-schema.schema c.in_ok-shared.board c.in_ok-codes.codes.items c.in_err-sources.field-0.0 c.get.result.now (c.get.ensures ∙ c.in_ok-shared.ensures.schema) c.in_ok-schema.ensures c.in_ok-shared.ensures.means c.in_ok-codes.ensures c.in_err-sources.ensures.given)
 
 pub returns-clause-means : goal.returns-clause-means
 returns-clause-means c =
-    rw (to_z-of_z w64 c.args.floor c.ranges.floor, c.from-sources.ensures) (means c.args.schema.now c.args.units.now c.args.bundle.now c.args.floor c.in_ok-schema.schema c.in_ok-world.world c.in_ok-codes.codes.items c.in_ok-sources.sources.items c.in_ok-schema.ensures c.in_ok-world.ensures c.in_ok-codes.ensures c.in_ok-sources.ensures.given)
+    rw (to_z-of_z w64 c.args.floor c.ranges.floor, c.from-sources.ensures, c.in_ok-shared.ensures.schema) (means c.args.schema.now c.args.units.now c.args.bundle.now c.args.floor c.in_ok-schema.schema c.in_ok-shared.board c.in_ok-codes.codes.items c.in_ok-sources.sources.items c.get.result.now (c.get.ensures ∙ c.in_ok-shared.ensures.schema) c.in_ok-schema.ensures c.in_ok-shared.ensures.means c.in_ok-codes.ensures c.in_ok-sources.ensures.given)

@@ -6,14 +6,14 @@ use Rattle.bb_shell.proofs.texts.run_texts.Goals as goal
 pub returns-clause-finish : goal.returns-clause-finish
 returns-clause-finish g c =
     let floor = to_z-of_z w64 c.args.floor (search rules) in
-    (record { shell = c.in_ok-shell.shell; world = c.in_ok-shell.world }, sym (ap (meaning c.args.schema.now c.args.units.now c.args.bundle.now) floor) ∙ c.in_ok-shell.ensures.means, c.run.ensures.finish)
+    (record { shell = c.in_ok-shell.shell; board = c.in_ok-shell.board }, sym (ap (meaning c.args.schema.now c.args.units.now c.args.bundle.now) floor) ∙ c.in_ok-shell.ensures.means, c.run.ensures.finish)
 
 pub returns-clause-text : goal.returns-clause-text
 returns-clause-text g c =
     let floor = to_z-of_z w64 c.args.floor (search rules) in
-    (record { shell = c.in_ok-shell.shell; world = c.in_ok-shell.world }, sym (ap (meaning c.args.schema.now c.args.units.now c.args.bundle.now) floor) ∙ c.in_ok-shell.ensures.means, c.run.ensures.text)
+    (record { shell = c.in_ok-shell.shell; board = c.in_ok-shell.board }, sym (ap (meaning c.args.schema.now c.args.units.now c.args.bundle.now) floor) ∙ c.in_ok-shell.ensures.means, c.run.ensures.text)
 
 pub returns-clause-front : goal.returns-clause-front
 returns-clause-front g c =
     let floor = to_z-of_z w64 c.args.floor (search rules) in
-    (record { shell = c.in_ok-shell.shell; world = c.in_ok-shell.world }, sym (ap (meaning c.args.schema.now c.args.units.now c.args.bundle.now) floor) ∙ c.in_ok-shell.ensures.means, c.run.ensures.front)
+    (record { shell = c.in_ok-shell.shell; board = c.in_ok-shell.board }, sym (ap (meaning c.args.schema.now c.args.units.now c.args.bundle.now) floor) ∙ c.in_ok-shell.ensures.means, c.run.ensures.front)

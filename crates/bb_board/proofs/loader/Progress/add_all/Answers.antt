@@ -3,16 +3,17 @@ use Rattle.std.proofs.lemmas.Result.{err_from_is_err_and}
 use Rattle.bb_basis.proofs.SliceFoldLemmas.{slice_fold_next, slice_fold_error, slice_fold_end}
 use Rattle.bb_document.specs.UnitsDocument.{unit_declaration}
 use Rattle.bb_board.specs.Load.{entry_after}
+use Rattle.bb_board.specs.proving.Reading.{progress_of}
 use Rattle.bb_board.specs.declared.units_fault.UnitsFault.TheVariants.{Memory}
 use Rattle.bb_board.proofs.loader.Progress.add_all.Goals as goal
 
-pub returns-in_err-add : goal.returns-in_err-add
-returns-in_err-add c =
+pub returns-in_err-add-clause-gives : goal.returns-in_err-add-clause-gives
+returns-in_err-add-clause-gives c =
     let p = err_from_is_err_and c.from_residual.result c.from_residual.ensures.1 in
-    rw (p.1, p.2) (slice_fold_error Memory (entry_after c.args.schema.now) unit_declaration c.loop-entry.self c.args.entries.now c.loop-entry.entry-index c.entry-item.result c.in_err-add.field-0.0 _ c.loop-entry-test.true c.entry-item.is c.in_err-add.ensures.gives c.loop-entry.invariant.0)
+    rw (p.1, p.2) (slice_fold_error Memory (entry_after c.args.schema.now) unit_declaration (progress_of c.loop-entry.self) c.args.entries.now c.loop-entry.entry-index c.entry-item.result c.in_err-add.field-0.0 _ c.loop-entry-test.true c.entry-item.is c.in_err-add.ensures.gives c.loop-entry.invariant.0)
 
 pub loop-entry-preserved : goal.loop-entry-preserved
-loop-entry-preserved c = (slice_fold_next (entry_after c.args.schema.now) unit_declaration c.loop-entry.self c.add.new.self c.args.entries.now c.loop-entry.entry-index c.entry-item.result _ c.loop-entry-test.true c.entry-item.is c.in_ok-add.ensures.gives c.loop-entry.invariant.0, c.in_ok-add.ensures.layout ∙ c.loop-entry.invariant.1)
+loop-entry-preserved c = (slice_fold_next (entry_after c.args.schema.now) unit_declaration (progress_of c.loop-entry.self) (progress_of c.add.new.self) c.args.entries.now c.loop-entry.entry-index c.entry-item.result _ c.loop-entry-test.true c.entry-item.is c.in_ok-add.ensures.gives c.loop-entry.invariant.0, c.in_ok-add.ensures.schema ∙ c.loop-entry.invariant.1)
 
-pub returns : goal.returns
-returns c = slice_fold_end (entry_after c.args.schema.now) unit_declaration c.loop-entry.self c.args.entries.now c.loop-entry.entry-index _ c.loop-entry-test.false c.loop-entry.invariant.0
+pub returns-clause-gives : goal.returns-clause-gives
+returns-clause-gives c = slice_fold_end (entry_after c.args.schema.now) unit_declaration (progress_of c.loop-entry.self) c.args.entries.now c.loop-entry.entry-index _ c.loop-entry-test.false c.loop-entry.invariant.0

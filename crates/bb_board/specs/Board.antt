@@ -1,0 +1,40 @@
+-- A blackboard (Hayes-Roth, 1985): its schema, its state, and whether memory was refused to a change. From then on each
+-- change is refused.
+use Rattle.std.specs.Prelude.{Bool, true, false, length, ◌==◌, ◌&&◌, if◌then◌else◌}
+use Rattle.bb_schema.specs.Schema.{Schema}
+use Rattle.bb_units.specs.declared.fault.CreateFault.{CreateFault}
+use Rattle.bb_units.specs.declared.fault.CreateFault.TheVariants as creates
+use Rattle.bb_board.specs.declared.units_fault.UnitsFault.{UnitsFault}
+use Rattle.bb_board.specs.declared.world.World.{World}
+use Rattle.bb_board.specs.UnitsFaults.{is_memory}
+use Rattle.bb_board.specs.World.{empty_world}
+
+pub record Board : Type 0 where
+  pub schema : Schema
+  pub world : World
+  pub refused : Bool
+
+-- a blackboard before anything was created
+abbrev pub new_board : Schema → Board
+new_board s = record { schema = s; world = empty_world s; refused = false }
+
+-- the same blackboard in another state
+abbrev pub with_world : Board → World → Board
+with_world b w = record { schema = b.schema; world = w; refused = b.refused }
+
+-- the same blackboard, once memory was refused
+abbrev pub when_refused : Board → Board
+when_refused b = record { schema = b.schema; world = b.world; refused = true }
+
+-- after a unit could not be created
+abbrev pub after_create_fault : Board → CreateFault → Board
+after_create_fault b creates.Full = b
+after_create_fault b creates.Memory = when_refused b
+
+-- after a document of first units was refused
+abbrev pub after_units_fault : Board → UnitsFault → Board
+after_units_fault b fault = if is_memory fault then when_refused b else b
+
+-- nothing was created, and no note is left to take
+abbrev pub is_fresh : Board → Bool
+is_fresh b = b.world.units.next == 1 && length b.world.notes == 0
