@@ -186,6 +186,40 @@ def moving(name, count):
     yield from linked(name, 3, ((0, "next", 1 + i % 2) for i in range(count)))
 
 
+def placed(spaces, dims, name, count, pairs):
+    """Units of one class with a number, and pairs of unit and space."""
+    yield '%%schema\n{"classes":[{"name":"note","slots":[{"name":"at","kind":"int"}]}],"spaces":[%s]}\n' % ",".join(
+        '{"name":"s%d","classes":["note"],"dims":[%s]}' % (i, dims) for i in range(spaces)
+    )
+    yield '%units\n{"units":['
+    yield from separated('{"name":"%s","class":"note","slots":{"at":%d}}' % (name(i), i) for i in range(count))
+    yield '],"spaces":['
+    yield from separated('["%s","s%d"]' % (name(i), space) for i, space in pairs)
+    yield "]}\n"
+
+
+DIMENSION = '{"name":"at","kind":"ordered"}'
+
+
+def members(name, count):
+    """Each unit enters one space."""
+    yield from placed(1, DIMENSION, name, count, ((i, 0) for i in range(count)))
+
+
+def backwards(name, count):
+    """The same, the last unit first."""
+    yield from placed(1, DIMENSION, name, count, ((i, 0) for i in reversed(range(count))))
+
+
+SPACES = 256
+
+
+def everywhere(name, count):
+    """So many pairs: each unit enters all spaces."""
+    many = count // SPACES
+    yield from placed(SPACES, DIMENSION, name, many, ((i, space) for i in range(many) for space in range(SPACES)))
+
+
 def short(number):
     return "c%d" % number
 
@@ -196,6 +230,9 @@ KINDS = [
     ("Units linked one to one", "units", chain, [("others", other), ("colliding", colliding)], 4_096, 65_536),
     ("Units linked to one hub", "units", hub, [("short", short)], 4_096, 65_536),
     ("Links that displace one another", "links", moving, [("short", short)], 12_500, 400_000),
+    ("Units that enter a space", "units", members, [("short", short)], 4_096, 65_536),
+    ("The same, the last unit first", "units", backwards, [("short", short)], 4_096, 65_536),
+    ("Units that enter 256 spaces", "pairs", everywhere, [("short", short)], 12_800, 409_600),
     ("Values of no slot", "values", values_of_no_slot, [("others", other), ("colliding", colliding)], 12_500, 400_000),
     ("Class entries", "classes", classes, [("others", other), ("colliding", colliding)], 10_000, 320_000),
     ("Links to a class of many slots", "slots", inverses, [("short", short)], 18_750, 300_000),

@@ -1,7 +1,7 @@
 -- What holds of a blackboard holds after a delete.
-use Rattle.std.proofs.Common.{◌≡◌, ℕ, Bool, true, false, cond, not, List, [], ◌∷◌, ◌++◌, map, filter, Option, Some, None, option_map, refl, sym, ap, ◌∙◌, arith}
-use Rattle.std.specs.Prelude.{◌==◌, ◌&&◌, ◌||◌, slice_get}
-use Rattle.std.specs.List.{list_all, flat_map}
+use Rattle.std.proofs.Common.{◌≡◌, ℕ, zero, suc, ◌+◌, ◌≤◌, Bool, true, false, cond, not, List, [], ◌∷◌, ◌++◌, map, filter, length, Option, Some, None, option_map, refl, sym, ap, ◌∙◌, arith}
+use Rattle.std.specs.Prelude.{◌==◌, ◌&&◌, ◌||◌, nat_lt, slice_get}
+use Rattle.std.specs.List.{list_all, flat_map, range_with_len}
 use Rattle.std.specs.Option.{option_map_or}
 use Rattle.std.specs.Ordering.{nat_cmp, eq_by_cmp}
 use Rattle.std.specs.Cmp.{nat_cmp_total, Equal-is}
@@ -21,15 +21,19 @@ use Rattle.bb_links.specs.Pairs.{near, far}
 use Rattle.bb_links.specs.Links.{partners, ends}
 use Rattle.bb_links.specs.Couples.{Couple, forgotten, pairs_of, after_forget}
 use Rattle.bb_links.specs.Fits as links
-use Rattle.bb_board.specs.declared.event.Change.TheVariants.{Delete}
+use Rattle.bb_board.specs.declared.event.Change.TheVariants.{Delete, Leave}
 use Rattle.bb_board.specs.declared.world.World.{World}
 use Rattle.bb_board.specs.World.{event, class_at}
+use Rattle.bb_space.specs.Spaces.{is_member}
+use Rattle.bb_board.specs.Told.{spaces_of}
+use Rattle.bb_board.specs.Spaces.{leavings}
 use Rattle.bb_board.specs.Links.{parting, is_turn, slot_partings, after_delete}
 use Rattle.bb_board.specs.Fits.{is_noted, is_of_owner, Fits}
 use Rattle.bb_board.specs.proving.Outlives.{Outlives}
 use Rattle.bb_board.proofs.AllLemmas.{all_append, all_filter, all_flat_map}
-use Rattle.bb_board.proofs.NoteLemmas.{notes_kept}
+use Rattle.bb_board.proofs.NoteLemmas.{below, notes_kept}
 use Rattle.bb_board.proofs.KeepLemmas.{owner_kept, event_of_live}
+use Rattle.bb_board.proofs.KnowLemmas.{knows_deleted}
 use Rattle.bb_board.proofs.SideLemmas.{link_at}
 use Rattle.bb_board.proofs.LinkLemmas.{no_flat, pairs_live, parting_noted}
 
@@ -71,6 +75,10 @@ same_singular : (n : ℕ) (couples : List Couple) → map (λ k. k.singular) (ma
 same_singular n [] = refl
 same_singular n (k ∷ ks) = ap (λ xs. k.singular ∷ xs) (same_singular n ks)
 
+range_below : (m n a : ℕ) → a + n ≤ m → list_all (λ x. nat_lt x m) (range_with_len a n) ≡ true
+range_below m zero a le = refl
+range_below m (suc n) a le = and_from (nat_lt a m) (list_all (λ x. nat_lt x m) (range_with_len (a + 1) n)) (below a m (omega (arith, le))) (range_below m n (a + 1) (omega (arith, le)))
+
 module _ (s : Schema) (w : World) (sf : schemas.Fits s) (fits : Fits s w) (n : ℕ) (live : is_live w.units n ≡ true) where
   abbrev left : Units
   left = without_unit w.units n
@@ -90,6 +98,13 @@ module _ (s : Schema) (w : World) (sf : schemas.Fits s) (fits : Fits s w) (n : �
       all_flat_map (is_live w.units) (is_noted s left) (parting s w n slot) (λ m partner. parting_noted s w sf fits left (deleted_outlives w.units n) slot link.0 link.1 n m live partner)
       (filter (is_turn e.1 n) (ends w.links n slot)) (all_filter (is_live w.units) (is_live w.units) (is_turn e.1 n) (λ m kept is. is) (ends w.links n slot) listed)
 
+  leavings_noted : list_all (is_noted s left) (leavings w n) ≡ true
+  leavings_noted =
+      list_all-map (is_noted s left) (λ space. event n (class_at w n) (Leave space)) (spaces_of w.spaces n)
+      ∙ all_filter (λ space. nat_lt space (length s.spaces)) (λ space. is_noted s left (event n (class_at w n) (Leave space))) (λ space. is_member w.spaces space n)
+      (λ space kept there. event_of_live s w left n (Leave space) fits (deleted_outlives w.units n) live there)
+      (range_with_len 0 (length w.spaces.spaces)) (range_below (length s.spaces) (length w.spaces.spaces) 0 (omega (arith, fits.spaces.spaces)))
+
   pub delete_keeps : units.Fits left → links.Fits (after_forget w.links n) → Fits s (after_delete s w n)
   delete_keeps u l = record {
     units = u;
@@ -101,9 +116,11 @@ module _ (s : Schema) (w : World) (sf : schemas.Fits s) (fits : Fits s w) (n : �
         ap (λ o. list_all (λ p. is_of_owner s left (near e.1 p) slot) (option_map_or (λ (k : Couple). k.pairs) o [])) (slice_get-map (forgotten n) w.links.couples e.0)
         ∙ forgotten_by (λ p. is_of_owner s w.units (near e.1 p) slot) (λ p. is_of_owner s left (near e.1 p) slot) n (slice_get w.links.couples e.0)
         (λ p kept owns. owner_kept s w.units left (near e.1 p) slot (λ c. others_stay w.units n (near e.1 p) c (is_apart e.1 n p kept)) owns) (fits.pairs slot e is);
-    notes = all_append (is_noted s left) w.notes (flat_map (slot_partings s w n) (slots_of s (class_at w n)) ++ event n (class_at w n) Delete ∷ [])
+    spaces = knows_deleted s w.units w.spaces fits.spaces n;
+    notes = all_append (is_noted s left) w.notes (flat_map (slot_partings s w n) (slots_of s (class_at w n)) ++ leavings w n ++ event n (class_at w n) Delete ∷ [])
         (notes_kept s w.units left (deleted_outlives w.units n) w.notes fits.notes)
-        (all_append (is_noted s left) (flat_map (slot_partings s w n) (slots_of s (class_at w n))) (event n (class_at w n) Delete ∷ [])
-        (no_flat (is_noted s left) (slot_partings s w n) (λ slot. slot_noted slot (couple_of s slot) refl) (slots_of s (class_at w n)))
+        (all_append (is_noted s left) (flat_map (slot_partings s w n) (slots_of s (class_at w n)) ++ leavings w n) (event n (class_at w n) Delete ∷ [])
+        (all_append (is_noted s left) (flat_map (slot_partings s w n) (slots_of s (class_at w n))) (leavings w n)
+        (no_flat (is_noted s left) (slot_partings s w n) (λ slot. slot_noted slot (couple_of s slot) refl) (slots_of s (class_at w n))) leavings_noted)
         (and_from (is_noted s left (event n (class_at w n) Delete)) true (event_of_live s w left n Delete fits (deleted_outlives w.units n) live refl) refl));
   }

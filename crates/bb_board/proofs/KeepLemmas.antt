@@ -6,7 +6,7 @@ use Rattle.std.specs.Option.{option_map_or}
 use Rattle.std.proofs.lemmas.Bool.Decides.{nat_tests}
 use Rattle.std.specs.Ordering.{nat_cmp, eq_by_cmp}
 use Rattle.std.specs.Cmp.{nat_cmp_total, eq_by_cmp_equiv}
-use Rattle.std.specs.FinMap.{FinMap, get, insert, get-insert, nat_cmp-IsAntisymmetric}
+use Rattle.std.specs.FinMap.{get, get-insert, nat_cmp-IsAntisymmetric}
 use Rattle.std.specs.Cmp.{Equal-is}
 use Rattle.std.proofs.lemmas.Bool.{and_parts}
 use Rattle.std.proofs.lemmas.List.{length-map}
@@ -19,13 +19,14 @@ use Rattle.bb_schema.specs.Schema.{Schema, default_in}
 use Rattle.bb_schema.specs.Couples.{couple_of}
 use Rattle.bb_units.specs.declared.unit.Unit.{Unit}
 use Rattle.bb_units.specs.Layout.{Layout, layout_of, default_at, can_hold}
-use Rattle.bb_units.specs.Units.{Units, no_units, is_live, class_of, value_of, takes, new_unit, with_slot, after_create as with_new_unit, after_set as with_value}
+use Rattle.bb_units.specs.Units.{Units, no_units, is_live, class_of, value_of, takes, new_unit, after_create as with_new_unit, after_set as with_value}
 use Rattle.bb_units.specs.Fits as units
 use Rattle.bb_links.specs.declared.couple.Singular.{Singular}
 use Rattle.bb_links.specs.Pairs.{near}
 use Rattle.bb_links.specs.Layout.{singulars}
 use Rattle.bb_links.specs.Couples.{Couples, no_pairs, no_links, pairs_of, end_of}
 use Rattle.bb_links.specs.Fits as links
+use Rattle.bb_query.specs.Knows.{Knows}
 use Rattle.bb_board.specs.declared.event.Change.{Change}
 use Rattle.bb_board.specs.declared.event.Change.TheVariants.{Create, Update}
 use Rattle.bb_board.specs.declared.world.World.{World}
@@ -34,6 +35,8 @@ use Rattle.bb_board.specs.Fits.{names_slot_of, is_noted, is_of_if_live, is_of_ow
 use Rattle.bb_board.specs.May.{class_has}
 use Rattle.bb_board.specs.proving.Outlives.{Outlives}
 use Rattle.bb_board.proofs.AllLemmas.{all_weaker}
+use Rattle.bb_board.proofs.ClassLemmas.{same_class_of}
+use Rattle.bb_board.proofs.KnowLemmas.{knows_none, knows_created, knows_set}
 use Rattle.bb_board.proofs.NoteLemmas.{below, still, notes_kept, noted_more, event_of}
 
 without_pairs : (xs : List Singular) → map (λ k. k.singular) (map no_pairs xs) ≡ xs
@@ -72,6 +75,7 @@ empty_fits s w is u l ends = record {
   ends = ends;
   singular = ap (λ (x : World). map (λ k. k.singular) x.links.couples) is ∙ without_pairs (singulars s);
   pairs = subst (λ (x : World). PairsFit s x.units x.links) (sym is) (no_pairs_fit s (no_units (layout_of s)));
+  spaces = subst (λ (x : World). Knows s x.units x.spaces) (sym is) (knows_none s (empty_world s).units);
   notes = ap (λ (x : World). list_all (is_noted s x.units) x.notes) is;
 }
 
@@ -114,25 +118,12 @@ create_keeps s w class fits u there = record {
   ends = fits.ends;
   singular = fits.singular;
   pairs = pairs_kept s w.units (with_new_unit w.units class) w.links (created_persists w.units class fits.units) fits.pairs;
+  spaces = knows_created s w.units w.spaces fits.spaces class fits.units;
   notes = noted_more s (with_new_unit w.units class) w.notes (event w.units.next class Create)
       (notes_kept s w.units (with_new_unit w.units class) (created_outlives w.units class) w.notes fits.notes)
       (event_of s (with_new_unit w.units class) w.units.next class Create (omega arith)
       (of_if_live (with_new_unit w.units class) w.units.next class (ap (option_map (λ y. y.class)) (get-insert nat_cmp_total w.units.units w.units.next (new_unit w.units.layout class) w.units.next) ∙ at_next w.units.layout class w.units.next (eq_by_cmp nat_cmp w.units.next w.units.next) (get w.units.units w.units.next) refl)) there refl);
 }
-
--- a unit keeps its class where a slot of it is set
-set_at : (m : FinMap nat_cmp Unit) (n slot k : ℕ) (value : Value) (x : Unit) (b : Bool) → eq_by_cmp nat_cmp k n ≡ b → get m n ≡ Some x
-    → option_map (λ y. y.class) (cond b (Some (with_slot x slot value)) (get m k)) ≡ option_map (λ y. y.class) (get m k)
-set_at m n slot k value x true same is = let e = nat_cmp-IsAntisymmetric k n ((Equal-is (nat_cmp k n)).0 same) in sym (ap (λ i. option_map (λ y. y.class) (get m i)) e ∙ ap (option_map (λ y. y.class)) is)
-set_at m n slot k value x false other is = refl
-
-set_class : (m : FinMap nat_cmp Unit) (n slot k : ℕ) (value : Value) (found : Option Unit) → get m n ≡ found
-    → option_map (λ y. y.class) (get (option_map_or (λ x. insert m n (with_slot x slot value)) found m) k) ≡ option_map (λ y. y.class) (get m k)
-set_class m n slot k value None is = refl
-set_class m n slot k value (Some x) is = ap (option_map (λ y. y.class)) (get-insert nat_cmp_total m n (with_slot x slot value) k) ∙ set_at m n slot k value x (eq_by_cmp nat_cmp k n) refl is
-
-same_class_of : (u : Units) (n slot k : ℕ) (value : Value) → class_of (with_value u n slot value) k ≡ class_of u k
-same_class_of u n slot k value = set_class u.units n slot k value (get u.units n) refl
 
 set_outlives : (u : Units) (n slot : ℕ) (value : Value) → Outlives u (with_value u n slot value)
 set_outlives u n slot value = record { next = omega arith; classes = λ k c lt is. sym (same_class_of u n slot k value) ∙ is }
@@ -167,7 +158,7 @@ class_there s w n fits live =
     (found.0, omega (arith, found.1, count, length-map s.classes (λ (k : Class). k.slots)))
 
 pub set_keeps : (s : Schema) (w : World) (n slot : ℕ) (value : Value) → Fits s w → units.Fits (with_value w.units n slot value) → IsTrue (is_live w.units n) → IsTrue (takes w.units n slot value)
-    → Fits s (after_set w n slot value)
+    → Fits s (after_set s w n slot value)
 set_keeps s w n slot value fits u live takes_it = record {
   units = u;
   layout = fits.layout;
@@ -175,6 +166,7 @@ set_keeps s w n slot value fits u live takes_it = record {
   ends = fits.ends;
   singular = fits.singular;
   pairs = pairs_kept s w.units (with_value w.units n slot value) w.links (λ k c is. same_class_of w.units n slot k value ∙ is) fits.pairs;
+  spaces = knows_set s w.units w.spaces fits.spaces n slot value;
   notes =
       let takes_is : takes w.units n slot value ≡ true = search (rules, takes_it) in
       let held = (and_parts (is_some (value_of w.units n slot)) (can_hold w.units.layout slot value) takes_is).1 in

@@ -7,3 +7,8 @@ pub mod AllLemmas
 pub mod SideLemmas
 pub mod LinkLemmas
 pub mod DeleteLemmas
+pub mod ClassLemmas
+pub mod MemberLemmas
+pub mod KnowLemmas
+pub mod SettingLemmas
+pub mod SpaceLemmas

@@ -239,6 +239,7 @@ module _ (s : Schema) (w : World) (sf : schemas.Fits s) (fits : Fits s w) where
           singular = rest.1 ∙ fits.singular;
           pairs = λ k e is. all_changed (λ q. is_of_owner s w.units (near e.1 q) k) (linked p.0 p.1) w.links end.0 e.0
               (λ c same all. link_all (λ q. is_of_owner s w.units (near e.1 q) k) c.singular p.0 p.1 c.pairs (new_pair k e is same) all) (fits.pairs k e is);
+          spaces = fits.spaces;
           notes = all_append (is_noted s w.units) w.notes (option_map_or (link_notes s w end.1 n slot m) (taken w.links end.0 p.0 p.1) []) fits.notes
               (notes_by slot asked.link asked.is end n m p.0 p.1 (slice_get w.links.couples end.0) asked.live asked.partner (pairs_live slot end end_is));
         }
@@ -258,6 +259,7 @@ module _ (s : Schema) (w : World) (sf : schemas.Fits s) (fits : Fits s w) where
           singular = rest.1 ∙ fits.singular;
           pairs = λ k e is. all_changed (λ q. is_of_owner s w.units (near e.1 q) k) (unlinked p.0 p.1) w.links end.0 e.0
               (λ c same all. let test = λ (q : ℕ × ℕ). is_of_owner s w.units (near e.1 q) k in all_filter test test (λ q. not (same_pair (p.0, p.1) q)) (λ q kept is. is) c.pairs all) (fits.pairs k e is);
+          spaces = fits.spaces;
           notes = all_append (is_noted s w.units) w.notes (if are_linked w.links end.0 p.0 p.1 then parting s w n slot m else []) fits.notes
               (parted_noted w.units (record { next = omega arith; classes = λ i c lt is. is }) slot asked.link asked.is n m (are_linked w.links end.0 p.0 p.1) asked.live asked.partner);
         }

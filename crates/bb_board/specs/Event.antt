@@ -14,6 +14,8 @@ kind_of changes.Delete = kinds.Delete
 kind_of (changes.Update slot) = kinds.Update slot
 kind_of (changes.Link slot partner) = kinds.Link slot
 kind_of (changes.Unlink slot partner) = kinds.Unlink slot
+kind_of (changes.Enter space) = kinds.Enter space
+kind_of (changes.Leave space) = kinds.Leave space
 
 -- the unit that changed, 0 where none did
 abbrev pub unit_of : Event → ℕ

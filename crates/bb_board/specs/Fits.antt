@@ -14,8 +14,9 @@ use Rattle.bb_links.specs.Pairs.{near}
 use Rattle.bb_links.specs.Layout.{singulars}
 use Rattle.bb_links.specs.Couples.{Couples, end_of, pairs_of}
 use Rattle.bb_links.specs.Fits as links
+use Rattle.bb_query.specs.Knows.{Knows}
 use Rattle.bb_board.specs.declared.event.Change.{Change}
-use Rattle.bb_board.specs.declared.event.Change.TheVariants.{Create, Delete, Update, Link, Unlink}
+use Rattle.bb_board.specs.declared.event.Change.TheVariants.{Create, Delete, Update, Link, Unlink, Enter, Leave}
 use Rattle.bb_board.specs.declared.event.Event.{Event}
 use Rattle.bb_board.specs.declared.event.Event.TheVariants as events
 use Rattle.bb_board.specs.declared.note.Note.{Note}
@@ -25,13 +26,15 @@ use Rattle.bb_board.specs.declared.note.Said.TheVariants as saids
 use Rattle.bb_board.specs.declared.world.World.{World}
 use Rattle.bb_board.specs.May.{class_has}
 
--- the slot that a change names is one of the schema
+-- the slot or space that a change names is one of the schema
 abbrev pub names_slot_of : Schema → Change → Bool
 names_slot_of s Create = true
 names_slot_of s Delete = true
 names_slot_of s (Update slot) = nat_lt slot (length s.slots)
 names_slot_of s (Link slot partner) = nat_lt slot (length s.slots)
 names_slot_of s (Unlink slot partner) = nat_lt slot (length s.slots)
+names_slot_of s (Enter space) = nat_lt space (length s.spaces)
+names_slot_of s (Leave space) = nat_lt space (length s.spaces)
 
 -- a unit is of this class, if it is live
 abbrev pub is_of_if_live : Units → (unit class : ℕ) → Bool
@@ -77,5 +80,7 @@ pub record Fits (s : Schema) (w : World) : Type 0 where
   pub ends : (slot : ℕ) → end_of w.links slot ≡ couple_of s slot
   pub singular : map (λ k. k.singular) w.links.couples ≡ singulars s
   pub pairs : PairsFit s w.units w.links
+  -- members of spaces are live and of classes that these take, and the spaces were told their present values
+  pub spaces : Knows s w.units w.spaces
   -- notes that are not yet taken
   pub notes : list_all (is_noted s w.units) w.notes ≡ true

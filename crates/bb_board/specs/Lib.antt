@@ -2,6 +2,10 @@
 pub mod Event
 -- the state of a blackboard, and what each change makes of it
 pub mod World
+-- what spaces are told of a unit
+pub mod Told
+-- which spaces units enter and leave
+pub mod Spaces
 -- what links change, and what a deleted unit takes along
 pub mod Links
 -- a blackboard: its schema, its state, and whether it still takes changes

@@ -13,10 +13,12 @@ use Rattle.bb_links.specs.Layout.{inverse_of}
 use Rattle.bb_links.specs.Pairs.{near, far, pair_of}
 use Rattle.bb_links.specs.Couples.{taken, are_linked, after_link as with_pair, after_unlink as without_pair, after_forget}
 use Rattle.bb_links.specs.Links.{ends}
+use Rattle.bb_space.specs.Spaces.{after_forget as out_of_spaces}
 use Rattle.bb_board.specs.declared.event.Change.TheVariants.{Delete, Link, Unlink}
 use Rattle.bb_board.specs.declared.note.Note.{Note}
 use Rattle.bb_board.specs.declared.world.World.{World}
 use Rattle.bb_board.specs.World.{event, class_at}
+use Rattle.bb_board.specs.Spaces.{leavings}
 
 -- the notes that a unit is linked by a slot: by the slot, and by its inverse
 abbrev pub joining : Schema → World → (unit slot partner : ℕ) → List Note
@@ -54,6 +56,7 @@ abbrev pub linked_at : Schema → World → (unit slot partner : ℕ) → ℕ ×
 linked_at s w n slot m e = let p = pair_of e.1 n m in record {
   units = w.units;
   links = with_pair w.links e.0 p.0 p.1;
+  spaces = w.spaces;
   notes = w.notes ++ option_map_or (link_notes s w e.1 n slot m) (taken w.links e.0 p.0 p.1) [];
 }
 
@@ -66,6 +69,7 @@ abbrev pub unlinked_at : Schema → World → (unit slot partner : ℕ) → ℕ 
 unlinked_at s w n slot m e = let p = pair_of e.1 n m in record {
   units = w.units;
   links = without_pair w.links e.0 p.0 p.1;
+  spaces = w.spaces;
   notes = w.notes ++ (if are_linked w.links e.0 p.0 p.1 then parting s w n slot m else []);
 }
 
@@ -85,10 +89,13 @@ slot_partings s w n slot =
     option_map_or (λ e. flat_map (parting s w n slot) (filter (is_turn e.1 n) (ends w.links n slot)))
     (couple_of s slot) []
 
--- the unit is gone, with all its links: they are noted slot by slot in class order, and its end comes last
+-- the unit is gone, with all its links and out of all spaces. The links are noted slot by slot in class order, then the
+-- spaces by their numbers, and its end comes last.
 abbrev pub after_delete : Schema → World → (unit : ℕ) → World
 after_delete s w n = record {
   units = without_unit w.units n;
   links = after_forget w.links n;
-  notes = w.notes ++ (flat_map (slot_partings s w n) (slots_of s (class_at w n)) ++ event n (class_at w n) Delete ∷ []);
+  spaces = out_of_spaces w.spaces n;
+  notes = w.notes
+      ++ (flat_map (slot_partings s w n) (slots_of s (class_at w n)) ++ leavings w n ++ event n (class_at w n) Delete ∷ []);
 }

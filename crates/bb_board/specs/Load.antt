@@ -7,7 +7,7 @@ use Rattle.std.specs.List.{list_all}
 use Rattle.std.specs.Option.{option_map_or}
 use Rattle.std.specs.Str.{bytes_eq}
 use Rattle.bb_basis.specs.Results.{◌>>=◌, ok_or, map_err, try_fold}
-use Rattle.bb_document.specs.UnitsDocument.{GivenDeclaration, UnitDeclaration, FirstLinkDeclaration, units_document_of}
+use Rattle.bb_document.specs.UnitsDocument.{GivenDeclaration, UnitDeclaration, FirstLinkDeclaration, MemberDeclaration, units_document_of}
 use Rattle.bb_document.specs.UnitsDocument.{ValueDeclaration, int_value, text_value, bool_value, interval_value}
 use Rattle.bb_document.specs.declared.fault.DocumentFault.{DocumentFault}
 use Rattle.bb_document.specs.declared.fault.DocumentFault.TheVariants as documents
@@ -15,7 +15,7 @@ use Rattle.bb_classes.specs.declared.kind.Kind.{Kind as SlotKind}
 use Rattle.bb_classes.specs.declared.kind.Kind.TheVariants as kinds
 use Rattle.bb_classes.specs.declared.value.Value.{Value}
 use Rattle.bb_classes.specs.declared.value.Value.TheVariants as values
-use Rattle.bb_schema.specs.Schema.{Schema, class_named, slot_named, label_named, name_of_slot, kind_of_slot, default_of, slots_of}
+use Rattle.bb_schema.specs.Schema.{Schema, class_named, slot_named, space_named, label_named, name_of_slot, kind_of_slot, default_of, slots_of}
 use Rattle.bb_units.specs.Units.{is_full}
 use Rattle.bb_board.specs.declared.units_fault.UnitsFault.{UnitsFault}
 use Rattle.bb_board.specs.declared.units_fault.UnitsFault.TheVariants.{Json, Shape, Twice, Unknown, Kind, Full, Memory}
@@ -24,6 +24,7 @@ use Rattle.bb_board.specs.World.{empty_world, class_at, after_create, after_set}
 use Rattle.bb_board.specs.UnitsFaults.{of_reason}
 use Rattle.bb_board.specs.Links.{after_link}
 use Rattle.bb_board.specs.May.{may_set, may_link}
+use Rattle.bb_board.specs.Spaces.{may_enter, after_enter}
 use Rattle.bb_board.specs.Board.{Board, with_world}
 
 -- a fault of the document as one of its units
@@ -76,7 +77,7 @@ value_at schema slot given = option_and_then (λ kind. value_in schema kind give
 unfoldable pub with_value : Schema → (unit : ℕ) → World → (slot : ℕ) → ValueDeclaration → Result World UnitsFault
 with_value schema n w slot given = do
   value ← ok_or (value_at schema slot given) Kind
-  if is_ok (may_set w n slot value) then Ok (after_set w n slot value) else Err Kind
+  if is_ok (may_set w n slot value) then Ok (after_set schema w n slot value) else Err Kind
 
 -- the same, if a value is given
 abbrev pub if_given : Schema → (unit : ℕ) → World → (slot : ℕ) → Option ValueDeclaration → Result World UnitsFault
@@ -114,12 +115,23 @@ link_after schema names w entry = do
   allowed ← map_err of_reason (may_link schema w n slot m)
   Ok (after_link schema w n slot m)
 
--- the state that a text means: what it makes of a blackboard before anything was created, first its units, then its links
+-- a blackboard's state after one more unit is in a space, or what is wrong with its entry: a unit or a space that is not
+-- there, and then a unit of a class that the space does not take
+unfoldable pub member_after : Schema → map.FinMap (slice_cmp nat_cmp) ℕ → World → MemberDeclaration → Result World UnitsFault
+member_after schema names w entry = do
+  n ← ok_or (map.get names entry.unit) Unknown
+  space ← ok_or (space_named schema entry.space) Unknown
+  allowed ← map_err of_reason (may_enter schema w n space)
+  Ok (after_enter schema w n space)
+
+-- the state that a text means: what it makes of a blackboard before anything was created, first its units, then its
+-- links, and then who is in its spaces
 unfoldable pub load : Schema → List ℕ → Result World UnitsFault
 load schema text = do
   declared ← map_err fault_of (units_document_of text)
   units ← try_fold (entry_after schema) (no_progress schema) declared.units
-  try_fold (link_after schema units.names) units.world declared.links
+  linked ← try_fold (link_after schema units.names) units.world declared.links
+  try_fold (member_after schema units.names) linked declared.spaces
 
 -- a blackboard in that state
 abbrev pub loaded : Board → List ℕ → Result Board UnitsFault

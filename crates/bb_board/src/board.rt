@@ -1,15 +1,19 @@
 //! The blackboard. The machine changes it (bb_machine), and a run takes its notes (bb_shell).
 
-ghost use Rattle.std.specs.Prelude.{◌≡◌, ◌<◌, ℕ, Ok, Some, true, length, slice_get, IfOk, IfErr, IsErr, IsOk, IsTrue, IsSome, OnOk, OnErr};
+ghost use Rattle.std.specs.Prelude.{◌≡◌, ◌<◌, ℕ, Ok, Some, true, length, map, slice_get, IfOk, IfErr, IsErr, IsOk, IsTrue, IsSome, OnOk, OnErr};
 ghost use Rattle.std.specs.List.{list_all};
 ghost use Rattle.bb_basis.specs.Results.{Gives};
+ghost use Rattle.bb_pattern.specs.Fits.{query_fits};
+ghost use Rattle.bb_pattern.specs.Values.{kind_of_operand};
 ghost use Rattle.bb_units.specs.Units.{is_live, class_of, value_of, next_number};
 ghost use Rattle.bb_links.specs.Links.{ends};
+ghost use Rattle.bb_query.specs.Answer.{answer};
 ghost use Rattle.bb_board.specs.declared.units_fault.UnitsFault.TheVariants.{Memory as OutOfMemory};
 ghost use Rattle.bb_board.specs.World.{class_at, after_create, after_set, after_say, after_take};
 ghost use Rattle.bb_board.specs.Links.{after_link, after_unlink, after_delete};
 ghost use Rattle.bb_board.specs.Board.{new_board, with_world, when_refused, after_create_fault, after_units_fault, is_fresh};
 ghost use Rattle.bb_board.specs.May.{may_set, may_link, was};
+ghost use Rattle.bb_board.specs.Spaces.{may_enter, after_enter, after_leave};
 ghost use Rattle.bb_board.specs.Fits.{Fits, is_said_of};
 ghost use Rattle.bb_board.specs.Load.{loaded};
 
@@ -21,7 +25,8 @@ use crate::shared_schema::SharedSchema;
 use crate::units_fault::UnitsFault;
 use crate::world::World;
 use bb_basis::{Items, Memory};
-use bb_schema::{ClassId, Schema, SlotId, UnitId, Value};
+use bb_query::{DimValue, Query, find};
+use bb_schema::{ClassId, Schema, SlotId, SpaceId, UnitId, Value};
 use bb_units::CreateFault;
 use std::alloc::{AllocError, Global};
 use std::marker::Model;
@@ -158,6 +163,38 @@ impl Board {
         self.world.units.get(unit, slot)
     }
 
+    /// Whether a unit may enter a space, or the first reason why not: `Deleted` where the unit is not live, `Space` where
+    /// the space is not there or does not take units of its class.
+    pub fn may_enter(&self, unit: UnitId, space: SpaceId) -> Result<(), Reason>
+        ensures { result ≡ may_enter self.now.schema self.now.world unit space }
+    {
+        if !self.world.units.live(unit) {
+            return Err(Reason::Deleted);
+        }
+        if !self
+            .schema
+            .get()
+            .allowed(space, self.world.units.class_of(unit))
+        {
+            return Err(Reason::Space);
+        }
+        Ok(())
+    }
+
+    /// The answer of a query that fits the schema, with operands of its kinds: the units in its space, of its class or
+    /// one below it, of which its pattern holds by their present values, rising (GBBopen Reference Manual,
+    /// find-instances).
+    pub fn find(&self, query: &Query, operands: &[DimValue]) -> Result<Vec<UnitId>, Memory>
+        requires fits { query_fits self.now.schema query.now ≡ Ok tt }
+        requires kinds { map kind_of_operand operands.now ≡ query.now.kinds }
+        ensures { IfOk result (λ found.
+            found.items ≡ answer self.now.schema self.now.world.units self.now.world.spaces query.now operands.now) }
+    {
+        let World { units, spaces, .. } = &self.world;
+        let schema = self.schema.get();
+        find(self.alloc, schema, units, spaces, query, operands)
+    }
+
     /// Whether a slot of a unit may be set to a value, or the first reason why not: `Deleted` where the unit is not
     /// live, `Slot` where its class has no such ordinary slot, `Kind` where the slot can't hold the value.
     pub fn may_set(&self, unit: UnitId, slot: SlotId, value: &Value) -> Result<(), Reason>
@@ -234,18 +271,21 @@ impl Board {
         }
     }
 
-    /// Sets a slot of a unit to a value that it may be set to, and notes the event, also where the value is equal.
+    /// Sets a slot of a unit to a value that it may be set to, tells the unit's spaces, and notes the event, also where
+    /// the value is equal.
     /// `Memory`: this change was refused, or one before it.
     pub fn set(&mut self, unit: UnitId, slot: SlotId, value: Value) -> Result<(), Memory>
         requires { may_set self.old.world unit slot value ≡ Ok tt }
-        ensures ok { OnOk result (self.new ≡ with_world self.old (after_set self.old.world unit slot value)) }
+        ensures ok { OnOk result (self.new ≡
+            with_world self.old (after_set self.old.schema self.old.world unit slot value)) }
         ensures err { OnErr result (self.new ≡ when_refused self.old) }
         ensures closed { IsTrue self.old.refused → IsErr result }
     {
         if self.refused {
             return Err(AllocError);
         }
-        match self.world.set(unit, slot, value) {
+        let schema = self.schema.get();
+        match self.world.set(self.alloc, schema, unit, slot, value) {
             Ok(()) => {
                 self.world.fits();
                 Ok(())
@@ -310,8 +350,9 @@ impl Board {
         }
     }
 
-    /// Deletes a live unit with all its links. It notes each link, slot by slot in class order, at both of its units, and
-    /// then that the unit is gone. Its number is never used again. `Memory`: this change was refused, or one before it.
+    /// Deletes a live unit with all its links, and takes it out of all spaces. It notes each link, slot by slot in class
+    /// order, at both of its units, then that it leaves its spaces, by their numbers, and then that it is gone. Its
+    /// number is never used again. `Memory`: this change was refused, or one before it.
     pub fn delete(&mut self, unit: UnitId) -> Result<(), Memory>
         requires { IsTrue (is_live self.old.world.units unit) }
         ensures ok { OnOk result (self.new ≡ with_world self.old (after_delete self.old.schema self.old.world unit)) }
@@ -355,6 +396,55 @@ impl Board {
         }
     }
 
+    /// Lets a unit enter a space that it may enter, with its present values, and notes it. Where it is a member nothing
+    /// changes. `Memory`: this change was refused, or one before it.
+    pub fn enter(&mut self, unit: UnitId, space: SpaceId) -> Result<(), Memory>
+        requires { may_enter self.old.schema self.old.world unit space ≡ Ok tt }
+        ensures ok { OnOk result (self.new ≡
+            with_world self.old (after_enter self.old.schema self.old.world unit space)) }
+        ensures err { OnErr result (self.new ≡ when_refused self.old) }
+        ensures closed { IsTrue self.old.refused → IsErr result }
+    {
+        if self.refused {
+            return Err(AllocError);
+        }
+        let schema = self.schema.get();
+        match self.world.enter(self.alloc, schema, unit, space) {
+            Ok(()) => {
+                self.world.fits();
+                Ok(())
+            }
+            Err(refused) => {
+                self.refused = true;
+                Err(refused)
+            }
+        }
+    }
+
+    /// Lets a live unit leave a space of the schema, and notes it. Where it is no member nothing changes. `Memory`: this
+    /// change was refused, or one before it.
+    pub fn leave(&mut self, unit: UnitId, space: SpaceId) -> Result<(), Memory>
+        requires live { IsTrue (is_live self.old.world.units unit) }
+        requires space { space < length self.old.schema.spaces }
+        ensures ok { OnOk result (self.new ≡ with_world self.old (after_leave self.old.world unit space)) }
+        ensures err { OnErr result (self.new ≡ when_refused self.old) }
+        ensures closed { IsTrue self.old.refused → IsErr result }
+    {
+        if self.refused {
+            return Err(AllocError);
+        }
+        match self.world.leave(unit, space) {
+            Ok(()) => {
+                self.world.fits();
+                Ok(())
+            }
+            Err(refused) => {
+                self.refused = true;
+                Err(refused)
+            }
+        }
+    }
+
     /// Takes the notes, in order, and leaves none.
     pub fn take_notes(&mut self) -> Vec<Note>
         ensures notes { result.items ≡ self.old.world.notes }
@@ -364,11 +454,12 @@ impl Board {
     }
 
     /// Creates the first units of a JSON document on a fresh blackboard, sets the values that it gives them, links them,
-    /// and notes all that. Or tells the document's first fault: `Json` where the text is not JSON, then `Shape` where the
-    /// JSON has another form, then the first fault of the units in their order, then that of the links. Of a unit the
-    /// name is checked first, then its class, then whether there is room, then its values; of a link the names of its
-    /// units and of its slot, then the class of the second unit. A fault leaves the blackboard as it was. `Memory` may
-    /// come at any point; then this load was refused, or a change before it.
+    /// lets them enter spaces, and notes all that. Or tells the document's first fault: `Json` where the text is not
+    /// JSON, then `Shape` where the JSON has another form, then the first fault of the units in their order, then that
+    /// of the links, and then that of the spaces. Of a unit the name is checked first, then its class, then whether
+    /// there is room, then its values; of a link the names of its units and of its slot, then the class of the second
+    /// unit; of a space its unit's name and its own, then whether it takes the unit's class. A fault leaves the
+    /// blackboard as it was. `Memory` may come at any point; then this load was refused, or a change before it.
     pub fn load(&mut self, text: &str) -> Result<(), UnitsFault>
         requires { is_fresh self.old ≡ true }
         ensures gives { Gives OutOfMemory (λ _. self.new) result (loaded self.old text.now) }
@@ -394,7 +485,8 @@ impl Board {
 
     /// Does nothing, and says what holds of the blackboard at any time: what holds of its units and links; units have
     /// the slots of their classes; each pair of a couple joins units that are live and of classes that have its slots;
-    /// and the notes not yet taken are of units that are live, or were, and of classes, slots and labels of the schema.
+    /// members of spaces are live, of classes that these take, and the spaces were told their present values; and the
+    /// notes not yet taken are of units that are live, or were, and of classes, slots, spaces and labels of the schema.
     pub fn fits(&self)
         ensures { Fits self.now.schema self.now.world }
     {

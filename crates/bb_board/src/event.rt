@@ -3,7 +3,7 @@
 ghost use Rattle.std.specs.Prelude.{◌≡◌};
 ghost use Rattle.bb_board.specs.Event.{kind_of, unit_of};
 
-use bb_schema::{ClassId, SlotId, UnitId};
+use bb_schema::{ClassId, SlotId, SpaceId, UnitId};
 
 /// What changed of a unit (GBBopen Reference Manual, events).
 #[derive(Clone, Copy, Debug, PartialEq, Eq)]
@@ -18,6 +18,10 @@ pub enum Change {
     Link { slot: SlotId, partner: UnitId },
     /// It is no longer linked to a partner by a link slot.
     Unlink { slot: SlotId, partner: UnitId },
+    /// It entered a space.
+    Enter(SpaceId),
+    /// It left a space.
+    Leave(SpaceId),
 }
 
 /// The kind of a change, for which sources wait: its slot, if it has one, but no partner.
@@ -33,6 +37,10 @@ pub enum ChangeKind {
     Link(SlotId),
     /// A unit lost a link by a link slot.
     Unlink(SlotId),
+    /// A unit entered a space.
+    Enter(SpaceId),
+    /// A unit left a space.
+    Leave(SpaceId),
 }
 
 impl Change {
@@ -46,6 +54,8 @@ impl Change {
             Change::Update(slot) => ChangeKind::Update(slot),
             Change::Link { slot, .. } => ChangeKind::Link(slot),
             Change::Unlink { slot, .. } => ChangeKind::Unlink(slot),
+            Change::Enter(space) => ChangeKind::Enter(space),
+            Change::Leave(space) => ChangeKind::Leave(space),
         }
     }
 }

@@ -1,4 +1,4 @@
-//! The blackboard: its units, what happens on it, and the document of its first units.
+//! The blackboard: its units, their links, their spaces, what happens on it, and the document of its first units.
 #![tactic(auto)]
 
 mod board;
@@ -6,9 +6,13 @@ mod event;
 mod links;
 mod loader;
 mod may;
+mod members;
+mod moves;
 mod note;
 mod reason;
 mod shared_schema;
+#[cfg(test)]
+mod space_tests;
 #[cfg(test)]
 mod tests;
 mod unit_names;

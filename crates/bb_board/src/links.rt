@@ -92,7 +92,7 @@ impl World {
     }
 
     /// The note of a change of a unit.
-    fn event(&self, unit: UnitId, change: Change) -> Note
+    pub(crate) fn event(&self, unit: UnitId, change: Change) -> Note
         ensures { result ≡ event unit (class_at self.now unit) change }
     {
         Note::Event(Event::Change {
@@ -307,7 +307,7 @@ impl World {
         Ok(())
     }
 
-    /// Deletes a live unit with all its links, and notes them and its end. An error changes nothing.
+    /// Deletes a live unit with all its links, takes it out of its spaces, and notes all that and its end. An error changes nothing.
     pub(crate) fn delete(
         &mut self,
         alloc: Global,
@@ -316,15 +316,18 @@ impl World {
     ) -> Result<(), Memory>
         requires live { IsTrue (is_live self.old.units unit) }
         requires class { class_at self.old unit < length schema.now.classes }
+        requires spaces { length self.old.spaces.spaces ≡ length schema.now.spaces }
         ensures ok { OnOk result (self.new ≡ after_delete schema.now self.old unit) }
         ensures err { OnErr result (self.new ≡ self.old) }
     {
         let class = self.class_at(unit);
         let mut notes = Vec::new(alloc);
         self.add_all_partings(&mut notes, schema, unit, schema.slots(class))?;
+        self.add_leavings(&mut notes, schema, unit)?;
         notes.push(self.event(unit, Change::Delete))?;
         self.notes.append(notes)?;
         self.links.forget(unit);
+        self.spaces.forget(unit);
         self.units.delete(unit);
         Ok(())
     }

@@ -1,12 +1,12 @@
-//! The first units of a blackboard and their links, from a JSON document. The board calls it.
+//! The first units of a blackboard, their links, and who is in its spaces, from a JSON document. The board calls it.
 
 ghost use Rattle.std.specs.Prelude.{◌≡◌, ◌<◌, length, map, IfOk, OnOk};
 ghost use Rattle.bb_basis.specs.Results.{Gives, map_err, try_fold};
-ghost use Rattle.bb_document.specs.UnitsDocument.{units_declaration, first_link_declaration, units_document_of};
+ghost use Rattle.bb_document.specs.UnitsDocument.{units_declaration, first_link_declaration, member_declaration, units_document_of};
 ghost use Rattle.bb_board.specs.declared.units_fault.UnitsFault.TheVariants.{Memory as OutOfMemory};
 ghost use Rattle.bb_board.specs.Board.{new_board};
 ghost use Rattle.bb_board.specs.Fits.{Fits};
-ghost use Rattle.bb_board.specs.Load.{fault_of, link_after, load, with_unit};
+ghost use Rattle.bb_board.specs.Load.{fault_of, link_after, load, member_after, with_unit};
 
 use crate::board::Board;
 use crate::shared_schema::SharedSchema;
@@ -15,7 +15,7 @@ use crate::units_fault::UnitsFault;
 use crate::values::set_values;
 use crate::world::World;
 use bb_basis::Memory;
-use bb_document::{DocumentFault, FirstLinkEntry, UnitEntry, UnitsDocument};
+use bb_document::{DocumentFault, FirstLinkEntry, MemberEntry, UnitEntry, UnitsDocument};
 use bb_schema::{ClassId, Schema, UnitId};
 use std::alloc::Global;
 
@@ -129,6 +129,46 @@ fn add_links(
     Ok(())
 }
 
+/// Lets a unit enter a space as an entry asks.
+#[tactic(auto, unfolding(crate::specs::Load::member_after))]
+fn add_member(
+    board: &mut Board,
+    schema: &Schema,
+    names: &UnitNames,
+    entry: &MemberEntry,
+) -> Result<(), UnitsFault>
+    requires { board.old.schema ≡ schema.now }
+    ensures gives { Gives OutOfMemory (λ _. board.new.world) result
+        (member_after schema.now names.now board.old.world (member_declaration entry.now)) }
+    ensures schema { OnOk result (board.new.schema ≡ board.old.schema) }
+{
+    let unit = names.get(entry.unit.as_str()).ok_or(UnitsFault::Unknown)?;
+    let space = schema
+        .space(entry.space.as_str())
+        .ok_or(UnitsFault::Unknown)?;
+    board.may_enter(unit, space)?;
+    board.enter(unit, space)?;
+    Ok(())
+}
+
+/// Lets units enter spaces as some entries ask, one after another.
+fn add_members(
+    board: &mut Board,
+    schema: &Schema,
+    names: &UnitNames,
+    entries: &[MemberEntry],
+) -> Result<(), UnitsFault>
+    requires { board.old.schema ≡ schema.now }
+    ensures gives { Gives OutOfMemory (λ _. board.new.world) result
+        (try_fold (member_after schema.now names.now) board.old.world (map member_declaration entries.now)) }
+    ensures schema { OnOk result (board.new.schema ≡ board.old.schema) }
+{
+    for entry in entries {
+        add_member(board, schema, names, entry)?;
+    }
+    Ok(())
+}
+
 fn document(alloc: Global, text: &str) -> Result<UnitsDocument, UnitsFault>
     ensures { Gives OutOfMemory units_declaration result (map_err fault_of (units_document_of text.now)) }
 {
@@ -140,8 +180,8 @@ fn document(alloc: Global, text: &str) -> Result<UnitsDocument, UnitsFault>
     }
 }
 
-/// The state of a blackboard with the first units of a JSON document and their links, or the document's first
-/// fault.
+/// The state of a blackboard with the first units of a JSON document, their links, and who is in its spaces, or the
+/// document's first fault.
 #[tactic(auto, unfolding(crate::specs::Load::load))]
 pub(crate) fn read_units(
     alloc: Global,
@@ -156,5 +196,6 @@ pub(crate) fn read_units(
     progress.add_all(alloc, schema.get(), &document.units)?;
     let Progress { names, mut board } = progress;
     add_links(&mut board, schema.get(), &names, &document.links)?;
+    add_members(&mut board, schema.get(), &names, &document.spaces)?;
     Ok(board.into_world())
 }

@@ -31,7 +31,7 @@ fn empty(alloc: Global) -> Result<Board, Fail> {
 }
 
 /// What a fresh blackboard answers to a document of first units.
-fn load(board: &mut Board, text: &str) -> Result<(), UnitsFault> {
+pub(crate) fn load(board: &mut Board, text: &str) -> Result<(), UnitsFault> {
     if !board.fresh() {
         return Err(UnitsFault::Memory);
     }
@@ -54,7 +54,12 @@ fn four(alloc: Global, links: &str) -> Result<Board, Fail> {
 }
 
 /// Links two units where they may be linked, or says why they may not.
-fn link(board: &mut Board, unit: UnitId, slot: SlotId, partner: UnitId) -> Result<u8, Fail> {
+pub(crate) fn link(
+    board: &mut Board,
+    unit: UnitId,
+    slot: SlotId,
+    partner: UnitId,
+) -> Result<u8, Fail> {
     match board.may_link(unit, slot, partner) {
         Ok(()) => {
             board.link(unit, slot, partner)?;
@@ -71,7 +76,7 @@ fn unlink(board: &mut Board, unit: UnitId, slot: SlotId, partner: UnitId) -> Res
     Ok(())
 }
 
-fn delete(board: &mut Board, unit: UnitId) -> Result<(), Fail> {
+pub(crate) fn delete(board: &mut Board, unit: UnitId) -> Result<(), Fail> {
     if board.live(unit) {
         board.delete(unit)?;
     }
@@ -85,12 +90,24 @@ fn add_change(
     unit: UnitId,
     change: Change,
 ) -> Result<(), Fail> {
+    match change {
+        Change::Enter(space) => {
+            let name = schema.space_name(space).unwrap_or("?");
+            return Ok(write!(text, "enter {unit} {name}, ")?);
+        }
+        Change::Leave(space) => {
+            let name = schema.space_name(space).unwrap_or("?");
+            return Ok(write!(text, "leave {unit} {name}, ")?);
+        }
+        _ => {}
+    }
     let (word, slot, partner) = match change {
         Change::Create => ("create", None, 0),
         Change::Delete => ("delete", None, 0),
         Change::Update(slot) => ("set", Some(slot), 0),
         Change::Link { slot, partner } => ("link", Some(slot), partner),
         Change::Unlink { slot, partner } => ("unlink", Some(slot), partner),
+        _ => ("", None, 0),
     };
     write!(text, "{word} {unit}")?;
     if let Some(slot) = slot {
@@ -104,7 +121,7 @@ fn add_change(
 }
 
 /// What a blackboard noted, which is taken from it.
-fn noted(alloc: Global, board: &mut Board) -> Result<String, Fail> {
+pub(crate) fn noted(alloc: Global, board: &mut Board) -> Result<String, Fail> {
     let mut text = String::new(alloc);
     let notes = board.take_notes();
     for note in &notes {

@@ -102,6 +102,7 @@ fn set_value(
     slot: SlotId,
     given: &GivenValue,
 ) -> Result<(), UnitsFault>
+    requires { board.old.schema ≡ schema.now }
     ensures gives { Gives OutOfMemory (λ _. board.new.world) result
         (with_value schema.now unit board.old.world slot (value_declaration given.now)) }
     ensures schema { OnOk result (board.new.schema ≡ board.old.schema) }
@@ -124,6 +125,7 @@ fn set_slot(
     slot: SlotId,
     given: &[GivenEntry],
 ) -> Result<(), UnitsFault>
+    requires { board.old.schema ≡ schema.now }
     ensures gives { Gives OutOfMemory (λ _. board.new.world) result
         (slot_after schema.now unit (map given_declaration given.now) board.old.world slot) }
     ensures schema { OnOk result (board.new.schema ≡ board.old.schema) }
@@ -143,6 +145,7 @@ fn set_slots(
     slots: &[SlotId],
     given: &[GivenEntry],
 ) -> Result<(), UnitsFault>
+    requires { board.old.schema ≡ schema.now }
     ensures gives { Gives OutOfMemory (λ _. board.new.world) result
         (try_fold (slot_after schema.now unit (map given_declaration given.now)) board.old.world slots.now) }
     ensures schema { OnOk result (board.new.schema ≡ board.old.schema) }
@@ -163,7 +166,8 @@ pub(crate) fn set_values(
     class: ClassId,
     given: &[GivenEntry],
 ) -> Result<(), UnitsFault>
-    requires { class < length schema.now.classes }
+    requires class { class < length schema.now.classes }
+    requires schema { board.old.schema ≡ schema.now }
     ensures gives { Gives OutOfMemory (λ _. board.new.world) result
         (with_values schema.now unit class (map given_declaration given.now) board.old.world) }
     ensures schema { OnOk result (board.new.schema ≡ board.old.schema) }

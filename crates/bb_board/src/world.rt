@@ -10,10 +10,12 @@ ghost use Rattle.bb_links.specs.Fits as links;
 ghost use Rattle.bb_board.specs.World.{empty_world, event, after_note, after_create, after_set, after_say, after_take};
 
 use crate::event::{Change, Event};
+use crate::moves::moves_of;
 use crate::note::{Note, Said};
 use bb_basis::{Items, Memory};
 use bb_links::Couples;
 use bb_schema::{ClassId, Schema, SlotId, UnitId, Value};
+use bb_space::Spaces;
 use bb_units::{CreateFault, Units};
 use std::alloc::Global;
 use std::mem;
@@ -22,6 +24,7 @@ use std::mem;
 pub struct World {
     pub units: Units,
     pub links: Couples,
+    pub spaces: Spaces,
     pub notes: Items<Note>,
 }
 
@@ -31,6 +34,7 @@ impl Drop for World {
         let World {
             units: _,
             links: _,
+            spaces: _,
             notes: _,
         } = self;
     }
@@ -45,6 +49,7 @@ impl World {
         Ok(World {
             units: Units::new(alloc, schema)?,
             links: Couples::new(alloc, schema)?,
+            spaces: Spaces::new(alloc, schema)?,
             notes: Items::new(alloc),
         })
     }
@@ -59,7 +64,12 @@ impl World {
     }
 
     /// Notes a change of a unit, which is of this class. An error changes nothing.
-    fn note(&mut self, unit: UnitId, class: ClassId, change: Change) -> Result<(), Memory>
+    pub(crate) fn note(
+        &mut self,
+        unit: UnitId,
+        class: ClassId,
+        change: Change,
+    ) -> Result<(), Memory>
         ensures ok { OnOk result (self.new ≡ after_note self.old (event unit class change)) }
         ensures err { OnErr result (self.new ≡ self.old) }
     {
@@ -90,17 +100,36 @@ impl World {
         }
     }
 
-    /// Sets a slot that takes the value, and notes it. An error changes nothing.
-    pub(crate) fn set(&mut self, unit: UnitId, slot: SlotId, value: Value) -> Result<(), Memory>
+    /// Sets a slot that takes the value, tells the unit's spaces, and notes it. An error changes nothing.
+    pub(crate) fn set(
+        &mut self,
+        alloc: Global,
+        schema: &Schema,
+        unit: UnitId,
+        slot: SlotId,
+        value: Value,
+    ) -> Result<(), Memory>
         requires live { IsTrue (is_live self.old.units unit) }
         requires takes { IsTrue (takes self.old.units unit slot value) }
-        ensures ok { OnOk result (self.new ≡ after_set self.old unit slot value) }
+        requires spaces { length self.old.spaces.spaces ≡ length schema.now.spaces }
+        ensures ok { OnOk result (self.new ≡ after_set schema.now self.old unit slot value) }
         ensures err { OnErr result (self.new ≡ self.old) }
     {
+        let moves = moves_of(alloc, schema, &self.units, &self.spaces, unit, slot, &value)?;
+        // The note comes first: it can be taken back.
+        let noted = self.notes.len();
         let class = self.units.class_of(unit);
         self.note(unit, class, Change::Update(slot))?;
-        self.units.set(unit, slot, value);
-        Ok(())
+        match self.spaces.moved_all(unit, moves) {
+            Ok(()) => {
+                self.units.set(unit, slot, value);
+                Ok(())
+            }
+            Err(refused) => {
+                self.notes.truncate(noted);
+                Err(refused)
+            }
+        }
     }
 
     /// Notes that values are said. An error changes nothing.

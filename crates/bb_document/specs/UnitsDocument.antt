@@ -9,6 +9,7 @@ use Rattle.bb_document.specs.declared.document.FirstLinkEntry.{FirstLinkEntry}
 use Rattle.bb_document.specs.declared.document.GivenEntry.{GivenEntry}
 use Rattle.bb_document.specs.declared.document.GivenValue.{GivenValue}
 use Rattle.bb_document.specs.declared.document.GivenValue.TheVariants.{Int, Text, Bool as Truth, Interval, Other}
+use Rattle.bb_document.specs.declared.document.MemberEntry.{MemberEntry}
 use Rattle.bb_document.specs.declared.document.UnitEntry.{UnitEntry}
 use Rattle.bb_document.specs.declared.document.UnitsDocument.{UnitsDocument}
 use Rattle.bb_document.specs.declared.fault.DocumentFault.{DocumentFault}
@@ -41,10 +42,16 @@ pub record FirstLinkDeclaration : Type 0 where
   pub slot : List ℕ
   pub to : List ℕ
 
+-- a first unit that a space has as a member, by their names
+pub record MemberDeclaration : Type 0 where
+  pub unit : List ℕ
+  pub space : List ℕ
+
 -- a whole document
 pub record UnitsDeclaration : Type 0 where
   pub units : List UnitDeclaration
   pub links : List FirstLinkDeclaration
+  pub spaces : List MemberDeclaration
 
 -- what an entry means
 abbrev pub value_declaration : GivenValue → ValueDeclaration
@@ -67,10 +74,14 @@ unit_declaration e = record {
 abbrev pub first_link_declaration : FirstLinkEntry → FirstLinkDeclaration
 first_link_declaration e = record { from = string_bytes e.from; slot = string_bytes e.slot; to = string_bytes e.to }
 
+abbrev pub member_declaration : MemberEntry → MemberDeclaration
+member_declaration e = record { unit = string_bytes e.unit; space = string_bytes e.space }
+
 abbrev pub units_declaration : UnitsDocument → UnitsDeclaration
 units_declaration d = record {
   units = map unit_declaration d.units.items;
   links = map first_link_declaration d.links.items;
+  spaces = map member_declaration d.spaces.items;
 }
 
 -- the value that JSON gives: a number that is an i64, a text, a truth value, two numbers in order, or another
@@ -118,14 +129,32 @@ first_link_of d = do
   names ← ok_or (as_list d) Shape
   first_link_of_names names
 
--- the whole document: a list of units and a list of links, an absent one empty
+-- the two names of a member and its space, and nothing else
+unfoldable pub member_of_names : List Data → Result MemberDeclaration DocumentFault
+member_of_names [] = Err Shape
+member_of_names (a ∷ []) = Err Shape
+member_of_names (a ∷ b ∷ []) = do
+  unit ← text_of a
+  space ← text_of b
+  Ok (record { unit = unit; space = space })
+member_of_names (a ∷ b ∷ c ∷ ds) = Err Shape
+
+-- a member: an array of two texts
+unfoldable pub member_of : Data → Result MemberDeclaration DocumentFault
+member_of d = do
+  names ← ok_or (as_list d) Shape
+  member_of_names names
+
+-- the whole document: lists of units, of links and of members, an absent one empty
 unfoldable pub units_declaration_of : Data → Result UnitsDeclaration DocumentFault
-units_declaration_of d = if is_object_with (codes "units" ∷ codes "links" ∷ []) d then (do
+units_declaration_of d = if is_object_with (codes "units" ∷ codes "links" ∷ codes "spaces" ∷ []) d then (do
   given_units ← ok_or (list_at (codes "units") d) Shape
   units ← try_map unit_of given_units
   given_links ← ok_or (list_at (codes "links") d) Shape
   links ← try_map first_link_of given_links
-  Ok (record { units = units; links = links })) else Err Shape
+  given_spaces ← ok_or (list_at (codes "spaces") d) Shape
+  spaces ← try_map member_of given_spaces
+  Ok (record { units = units; links = links; spaces = spaces })) else Err Shape
 
 -- what a text declares: the JSON, then its form
 unfoldable pub units_document_of : List ℕ → Result UnitsDeclaration DocumentFault

@@ -75,6 +75,7 @@ pub struct DimEntry {
 pub struct UnitsDocument {
     pub units: Vec<UnitEntry>,
     pub links: Vec<FirstLinkEntry>,
+    pub spaces: Vec<MemberEntry>,
 }
 
 /// A first unit, with the name by which its document refers to it.
@@ -113,4 +114,11 @@ pub struct FirstLinkEntry {
     pub from: String,
     pub slot: String,
     pub to: String,
+}
+
+/// A first unit that a space has as a member. The unit goes by the name that the document gives it.
+#[derive(Debug, Drop)]
+pub struct MemberEntry {
+    pub unit: String,
+    pub space: String,
 }

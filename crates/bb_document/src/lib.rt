@@ -14,6 +14,6 @@ mod units_form;
 
 pub use document::{
     ClassEntry, DefaultEntry, DimEntry, Document, FirstLinkEntry, GivenEntry, GivenValue,
-    LabelSetEntry, LinkEntry, SlotEntry, SpaceEntry, UnitEntry, UnitsDocument,
+    LabelSetEntry, LinkEntry, MemberEntry, SlotEntry, SpaceEntry, UnitEntry, UnitsDocument,
 };
 pub use fault::DocumentFault;

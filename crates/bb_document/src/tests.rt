@@ -275,6 +275,18 @@ fn first_units(rt: HostRuntime) -> Result<(), Fail> {
     let empty = UnitsDocument::read(rt.alloc(), "{}")?;
     assert!(rt; empty.units.is_empty());
     assert!(rt; empty.links.is_empty());
+    assert!(rt; empty.spaces.is_empty());
+    Ok(())
+}
+
+#[test]
+fn members(rt: HostRuntime) -> Result<(), Fail> {
+    let document = UnitsDocument::read(rt.alloc(), r#"{"spaces":[["a","plane"],["",""]]}"#)?;
+    let members = format!(in rt.alloc(); "{:?}", document.spaces)?;
+    assert_eq!(rt;
+        members.as_str(),
+        r#"[MemberEntry { unit: "a", space: "plane" }, MemberEntry { unit: "", space: "" }]"#
+    );
     Ok(())
 }
 
@@ -364,7 +376,7 @@ fn shapeless_units(rt: HostRuntime) {
         "[]",
         r#"{"classes":[]}"#,
         r#"{"units":null}"#,
-        r#"{"units":[],"spaces":[]}"#,
+        r#"{"units":[],"classes":[]}"#,
         r#"{"units":[{"name":"a"}]}"#,
         r#"{"units":[{"name":"a","class":null}]}"#,
         r#"{"units":[{"name":"a","class":"b","links":{}}]}"#,
@@ -384,6 +396,11 @@ fn shapeless_units(rt: HostRuntime) {
         r#"{"links":[["a",null,"b"]]}"#,
         r#"{"links":[["a","s",["b"]]]}"#,
         r#"{"units":[{"name":"a","class":"b"}],"links":[["x","y","z"],["a","s"]]}"#,
+        r#"{"spaces":null}"#,
+        r#"{"spaces":["ab"]}"#,
+        r#"{"spaces":[["a"]]}"#,
+        r#"{"spaces":[["a","w","b"]]}"#,
+        r#"{"spaces":[["a",1]]}"#,
     ] {
         match UnitsDocument::read(rt.alloc(), text) {
             Ok(_) => assert!(rt; false, "{text} is read"),

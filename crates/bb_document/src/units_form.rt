@@ -7,9 +7,12 @@ ghost use Rattle.bb_basis.specs.Results.{Gives};
 ghost use Rattle.bb_document.specs.UnitsDocument.{value_declaration, given_declaration, units_declaration};
 ghost use Rattle.bb_document.specs.UnitsDocument.{given_value_of, givens_of, given_slots_of};
 ghost use Rattle.bb_document.specs.UnitsDocument.{first_link_declaration, first_link_of_names};
+ghost use Rattle.bb_document.specs.UnitsDocument.{member_declaration, member_of_names};
 ghost use Rattle.bb_document.specs.UnitsDocument.{units_declaration_of, units_document_of};
 
-use crate::document::{FirstLinkEntry, GivenEntry, GivenValue, UnitEntry, UnitsDocument};
+use crate::document::{
+    FirstLinkEntry, GivenEntry, GivenValue, MemberEntry, UnitEntry, UnitsDocument,
+};
 use crate::entry::{Entry, entries, string_at};
 use crate::fault::DocumentFault;
 use crate::form::interval;
@@ -35,14 +38,20 @@ impl UnitsDocument {
 fn units_document(alloc: Global, value: &Value) -> Result<UnitsDocument, DocumentFault>
     ensures { Gives OutOfMemory units_declaration result (units_declaration_of (view value.now)) }
 {
-    if !is_object_with(value, &["units", "links"]) {
+    if !is_object_with(value, &["units", "links", "spaces"]) {
         return Err(DocumentFault::Shape);
     }
     let units = list_at(value, "units").ok_or(DocumentFault::Shape)?;
     let units = entries(alloc, units)?;
     let links = list_at(value, "links").ok_or(DocumentFault::Shape)?;
     let links = entries(alloc, links)?;
-    Ok(UnitsDocument { units, links })
+    let spaces = list_at(value, "spaces").ok_or(DocumentFault::Shape)?;
+    let spaces = entries(alloc, spaces)?;
+    Ok(UnitsDocument {
+        units,
+        links,
+        spaces,
+    })
 }
 
 impl Entry for UnitEntry {
@@ -136,6 +145,37 @@ fn first_link(alloc: Global, names: &[Value]) -> Result<FirstLinkEntry, Document
             let slot = String::of(alloc, slot)?;
             let to = String::of(alloc, to)?;
             Ok(FirstLinkEntry { from, slot, to })
+        }
+        _ => Err(DocumentFault::Shape),
+    }
+}
+
+impl Entry for MemberEntry {
+    ghost use Rattle.bb_document.specs.UnitsDocument.{MemberDeclaration, member_declaration, member_of};
+
+    ghost Declared = { MemberDeclaration };
+
+    ghost declared = { member_declaration };
+
+    ghost form = { member_of };
+
+    #[tactic(auto, unfolding(crate::specs::UnitsDocument::member_of))]
+    fn of(alloc: Global, value: &Value) -> Result<MemberEntry, DocumentFault> {
+        let names = as_list(value).ok_or(DocumentFault::Shape)?;
+        member(alloc, names)
+    }
+}
+
+/// A member by its name and that of its space.
+#[tactic(auto, unfolding(crate::specs::UnitsDocument::member_of_names))]
+fn member(alloc: Global, names: &[Value]) -> Result<MemberEntry, DocumentFault>
+    ensures { Gives OutOfMemory member_declaration result (member_of_names (map view names.now)) }
+{
+    match names {
+        [unit, space] => {
+            let unit = String::of(alloc, unit)?;
+            let space = String::of(alloc, space)?;
+            Ok(MemberEntry { unit, space })
         }
         _ => Err(DocumentFault::Shape),
     }

@@ -3,7 +3,7 @@ use Rattle.std.specs.Prelude.{Bool, true, false, ◌&&◌, ◌==◌}
 use Rattle.std.specs.List.{list_any}
 use Rattle.bb_schema.specs.Schema.{Schema, descends}
 use Rattle.bb_board.specs.declared.event.ChangeKind.{ChangeKind}
-use Rattle.bb_board.specs.declared.event.ChangeKind.TheVariants.{Create, Delete, Update, Link, Unlink}
+use Rattle.bb_board.specs.declared.event.ChangeKind.TheVariants.{Create, Delete, Update, Link, Unlink, Enter, Leave}
 use Rattle.bb_board.specs.declared.event.Event.{Event}
 use Rattle.bb_board.specs.declared.event.Event.TheVariants as events
 use Rattle.bb_board.specs.Event.{kind_of}
@@ -11,13 +11,15 @@ use Rattle.bb_rules.specs.declared.clause.Clause.{Clause}
 use Rattle.bb_rules.specs.declared.clause.Clause.TheVariants as clauses
 use Rattle.bb_rules.specs.declared.source.Source.{Source}
 
--- the two kinds of change are one, with its slot
+-- the two kinds of change are one, with its slot or space
 abbrev pub is_same_kind : ChangeKind → ChangeKind → Bool
 is_same_kind Create Create = true
 is_same_kind Delete Delete = true
 is_same_kind (Update slot) (Update other) = slot == other
 is_same_kind (Link slot) (Link other) = slot == other
 is_same_kind (Unlink slot) (Unlink other) = slot == other
+is_same_kind (Enter space) (Enter other) = space == other
+is_same_kind (Leave space) (Leave other) = space == other
 is_same_kind _ _ = false
 
 -- both are quiescence, or the event is a change of the clause's kind and its class descends from the clause's

@@ -64,7 +64,7 @@ fn triggered_by_classes_below(rt: HostRuntime) -> Result<(), Fail> {
 #[test]
 fn kinds_of_change(rt: HostRuntime) -> Result<(), Fail> {
     let schema = Schema::read(rt.alloc(), SCHEMA)?;
-    // Slots of any number will do: a clause compares numbers.
+    // Slots and spaces of any number will do: a clause compares numbers.
     let changes = [
         Change::Create,
         Change::Delete,
@@ -86,6 +86,10 @@ fn kinds_of_change(rt: HostRuntime) -> Result<(), Fail> {
             slot: 5,
             partner: 3,
         },
+        Change::Enter(4),
+        Change::Enter(5),
+        Change::Leave(4),
+        Change::Leave(5),
     ];
     let kinds = [
         ChangeKind::Create,
@@ -96,6 +100,10 @@ fn kinds_of_change(rt: HostRuntime) -> Result<(), Fail> {
         ChangeKind::Link(5),
         ChangeKind::Unlink(4),
         ChangeKind::Unlink(5),
+        ChangeKind::Enter(4),
+        ChangeKind::Enter(5),
+        ChangeKind::Leave(4),
+        ChangeKind::Leave(5),
     ];
     for (row, kind) in kinds.into_iter().enumerate() {
         let clause = Clause::Change { kind, class: 1 };

@@ -4,11 +4,11 @@ use Rattle.std.specs.List.{flat_map}
 use Rattle.std.specs.Fmt.{decimal, signed_decimal}
 use Rattle.serde_json.specs.Data.{string}
 use Rattle.serde_json.specs.Written.{compact_text}
-use Rattle.bb_schema.specs.Schema.{Schema, name_of_class, name_of_label, name_of_slot}
+use Rattle.bb_schema.specs.Schema.{Schema, name_of_class, name_of_label, name_of_slot, name_of_space}
 use Rattle.bb_classes.specs.declared.value.Value.{Value}
 use Rattle.bb_classes.specs.declared.value.Value.TheVariants as values
 use Rattle.bb_board.specs.declared.event.Change.{Change}
-use Rattle.bb_board.specs.declared.event.Change.TheVariants.{Create, Delete, Update, Link, Unlink}
+use Rattle.bb_board.specs.declared.event.Change.TheVariants.{Create, Delete, Update, Link, Unlink, Enter, Leave}
 use Rattle.bb_board.specs.declared.event.Event.{Event}
 use Rattle.bb_board.specs.declared.event.Event.TheVariants as events
 use Rattle.bb_board.specs.declared.note.Note.{Note as BoardNote}
@@ -58,13 +58,20 @@ slot_name s slot = unwrap_or (name_of_slot s slot) []
 abbrev pub slot_text : Schema → (unit slot : ℕ) → List ℕ
 slot_text s n slot = decimal n ++ codes "." ++ slot_name s slot
 
--- `create U CLASS`, `delete U`, `set U.SLOT`, `link U.SLOT PARTNER` or `unlink U.SLOT PARTNER`
+-- `U SPACE`: a unit and a space, whose name is empty where there is none
+abbrev pub space_text : Schema → (unit space : ℕ) → List ℕ
+space_text s n space = decimal n ++ codes " " ++ unwrap_or (name_of_space s space) []
+
+-- `create U CLASS`, `delete U`, `set U.SLOT`, `link U.SLOT PARTNER`, `unlink U.SLOT PARTNER`, `enter U SPACE` or
+-- `leave U SPACE`
 abbrev pub change_text : Schema → (unit class : ℕ) → Change → List ℕ
 change_text s n class Create = codes "create " ++ decimal n ++ codes " " ++ class_name s class
 change_text s n class Delete = codes "delete " ++ decimal n
 change_text s n class (Update slot) = codes "set " ++ slot_text s n slot
 change_text s n class (Link slot partner) = codes "link " ++ slot_text s n slot ++ codes " " ++ decimal partner
 change_text s n class (Unlink slot partner) = codes "unlink " ++ slot_text s n slot ++ codes " " ++ decimal partner
+change_text s n class (Enter space) = codes "enter " ++ space_text s n space
+change_text s n class (Leave space) = codes "leave " ++ space_text s n space
 
 -- a change, or `quiescence`
 abbrev pub event_text : Schema → Event → List ℕ

@@ -89,6 +89,14 @@ fn add_change(
             let name = slot_name(schema, slot);
             writeln!(text, "unlink {unit}.{name} {partner}")
         }
+        Change::Enter(space) => {
+            let name = schema.space_name(space).unwrap_or("");
+            writeln!(text, "enter {unit} {name}")
+        }
+        Change::Leave(space) => {
+            let name = schema.space_name(space).unwrap_or("");
+            writeln!(text, "leave {unit} {name}")
+        }
     }
 }
 

@@ -26,6 +26,8 @@ mod schema_limits;
 #[cfg(test)]
 mod schemas;
 #[cfg(test)]
+mod spaces;
+#[cfg(test)]
 mod traces;
 #[cfg(test)]
 mod unit_values;

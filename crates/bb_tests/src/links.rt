@@ -147,7 +147,7 @@ fn faults_of_units_first(rt: HostRuntime) -> Result<(), Fail> {
             r#"{"links":[["a","mate"]],"units":[{"name":"a","class":"none"}]}"#,
             "refused units 2",
         ),
-        (r#"{"links":[],"spaces":[]}"#, "refused units 2"),
+        (r#"{"links":[],"members":[]}"#, "refused units 2"),
     ] {
         assert_eq!(rt; told(rt.alloc(), units, "")?.as_str(), line, "{units}");
     }

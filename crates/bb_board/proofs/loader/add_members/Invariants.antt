@@ -1,0 +1,11 @@
+use Rattle.std.proofs.Common.{◌≡◌, drop, map}
+use Rattle.bb_basis.specs.Results.{try_fold}
+use Rattle.bb_document.specs.UnitsDocument.{member_declaration}
+use Rattle.bb_board.specs.Load.{member_after}
+use Rattle.bb_board.proofs.loader.add_members.Given as goal
+
+abbrev pub invariant-loop-entry : goal.invariant-loop-entry
+invariant-loop-entry l =
+    (try_fold (member_after l.schema l.names) l.board.world (drop l.entry-index (map member_declaration l.entries))
+    ≡ try_fold (member_after l.fn.schema l.fn.names) l.fn.board.world (map member_declaration l.fn.entries))
+    × (l.board.schema ≡ l.fn.board.schema)
