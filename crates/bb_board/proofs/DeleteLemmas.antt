@@ -1,12 +1,12 @@
 -- What holds of a blackboard holds after a delete.
 use Rattle.std.proofs.Common.{◌≡◌, ℕ, zero, suc, ◌+◌, ◌≤◌, Bool, true, false, cond, not, List, [], ◌∷◌, ◌++◌, map, filter, length, Option, Some, None, option_map, refl, sym, ap, ◌∙◌, arith}
-use Rattle.std.specs.Prelude.{◌==◌, ◌&&◌, ◌||◌, nat_lt, slice_get}
+use Rattle.std.specs.Prelude.{◌==◌, ◌||◌, nat_lt, slice_get}
 use Rattle.std.specs.List.{list_all, flat_map, range_with_len}
 use Rattle.std.specs.Option.{option_map_or}
 use Rattle.std.specs.Ordering.{nat_cmp, eq_by_cmp}
 use Rattle.std.specs.Cmp.{nat_cmp_total, Equal-is}
 use Rattle.std.specs.FinMap.{get, get-remove, nat_cmp-IsAntisymmetric}
-use Rattle.std.proofs.lemmas.Bool.{and_parts, and_from, or_parts, eq-eqb}
+use Rattle.std.proofs.lemmas.Bool.{and_from, or_parts, eq-eqb}
 use Rattle.std.proofs.lemmas.List.Folds.{list_all-map}
 use Rattle.std.proofs.lemmas.Option.{slice_get-map}
 use Rattle.bb_schema.specs.declared.couple.Side.{Side}
@@ -17,7 +17,7 @@ use Rattle.bb_schema.specs.Fits as schemas
 use Rattle.bb_units.specs.declared.unit.Unit.{Unit as OneUnit}
 use Rattle.bb_units.specs.Units.{Units, is_live, class_of, after_delete as without_unit}
 use Rattle.bb_units.specs.Fits as units
-use Rattle.bb_links.specs.Pairs.{near, far}
+use Rattle.bb_links.specs.Pairs.{near}
 use Rattle.bb_links.specs.Links.{partners, ends}
 use Rattle.bb_links.specs.Couples.{Couple, forgotten, pairs_of, after_forget}
 use Rattle.bb_links.specs.Fits as links
@@ -35,7 +35,8 @@ use Rattle.bb_board.proofs.NoteLemmas.{below, notes_kept}
 use Rattle.bb_board.proofs.KeepLemmas.{owner_kept, event_of_live}
 use Rattle.bb_board.proofs.KnowLemmas.{knows_deleted}
 use Rattle.bb_board.proofs.SideLemmas.{link_at}
-use Rattle.bb_board.proofs.LinkLemmas.{no_flat, pairs_live, parting_noted}
+use Rattle.bb_board.proofs.LinkLemmas.{no_flat, parting_noted}
+use Rattle.bb_board.proofs.FewLemmas.{partners_live}
 
 -- units without one
 
@@ -83,18 +84,12 @@ module _ (s : Schema) (w : World) (sf : schemas.Fits s) (fits : Fits s w) (n : �
   abbrev left : Units
   left = without_unit w.units n
 
-  partners_live : (slot : ℕ) (e : ℕ × Side) → couple_of s slot ≡ Some e → list_all (is_live w.units) (partners e.1 n (pairs_of w.links e.0)) ≡ true
-  partners_live slot e is =
-      list_all-map (is_live w.units) (far e.1) (filter (λ p. near e.1 p == n) (pairs_of w.links e.0))
-      ∙ all_filter (λ p. is_live w.units (near e.1 p) && is_live w.units (far e.1 p)) (λ p. is_live w.units (far e.1 p)) (λ p. near e.1 p == n)
-      (λ p kept both. (and_parts (is_live w.units (near e.1 p)) (is_live w.units (far e.1 p)) both).1) (pairs_of w.links e.0) (pairs_live s w sf fits slot e is)
-
   slot_noted : (slot : ℕ) (e : Option (ℕ × Side)) → couple_of s slot ≡ e
       → list_all (is_noted s left) (option_map_or (λ f. flat_map (parting s w n slot) (filter (is_turn f.1 n) (ends w.links n slot))) e []) ≡ true
   slot_noted slot None is = refl
   slot_noted slot (Some e) is =
       let link = link_at s sf.coupled slot e is in
-      let listed = ap (λ o. list_all (is_live w.units) (option_map_or (λ (f : ℕ × Side). partners f.1 n (pairs_of w.links f.0)) o [])) (fits.ends slot ∙ is) ∙ partners_live slot e is in
+      let listed = ap (λ o. list_all (is_live w.units) (option_map_or (λ (f : ℕ × Side). partners f.1 n (pairs_of w.links f.0)) o [])) (fits.ends slot ∙ is) ∙ partners_live s w sf fits n slot e is in
       all_flat_map (is_live w.units) (is_noted s left) (parting s w n slot) (λ m partner. parting_noted s w sf fits left (deleted_outlives w.units n) slot link.0 link.1 n m live partner)
       (filter (is_turn e.1 n) (ends w.links n slot)) (all_filter (is_live w.units) (is_live w.units) (is_turn e.1 n) (λ m kept is. is) (ends w.links n slot) listed)
 

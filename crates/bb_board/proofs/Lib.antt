@@ -7,6 +7,7 @@ pub mod AllLemmas
 pub mod SideLemmas
 pub mod LinkLemmas
 pub mod DeleteLemmas
+pub mod FewLemmas
 pub mod ClassLemmas
 pub mod MemberLemmas
 pub mod KnowLemmas

@@ -1,18 +1,20 @@
 //! The blackboard. The machine changes it (bb_machine), and a run takes its notes (bb_shell).
 
-ghost use Rattle.std.specs.Prelude.{◌≡◌, ◌<◌, ℕ, Ok, Some, true, length, map, slice_get, IfOk, IfErr, IsErr, IsOk, IsTrue, IsSome, OnOk, OnErr};
+ghost use Rattle.std.specs.Prelude.{◌≡◌, ◌<◌, ◌≤◌, ◌↔◌, ℕ, Ok, Some, true, length, map, slice_get, IfOk, IfErr, IsErr, IsOk, IsTrue, IsSome, OnOk, OnErr};
 ghost use Rattle.std.specs.List.{list_all};
 ghost use Rattle.bb_basis.specs.Results.{Gives};
 ghost use Rattle.bb_pattern.specs.Fits.{query_fits};
 ghost use Rattle.bb_pattern.specs.Values.{kind_of_operand};
-ghost use Rattle.bb_units.specs.Units.{is_live, class_of, value_of, next_number};
+ghost use Rattle.bb_units.specs.Layout.{layout_of, can_hold};
+ghost use Rattle.bb_units.specs.Units.{is_live, class_of, value_of, has_slot, next_number};
+ghost use Rattle.bb_units.specs.declared.units.TheConstants.{UNIT_LIMIT};
 ghost use Rattle.bb_links.specs.Links.{ends};
 ghost use Rattle.bb_query.specs.Answer.{answer};
 ghost use Rattle.bb_board.specs.declared.units_fault.UnitsFault.TheVariants.{Memory as OutOfMemory};
 ghost use Rattle.bb_board.specs.World.{class_at, after_create, after_set, after_say, after_take};
 ghost use Rattle.bb_board.specs.Links.{after_link, after_unlink, after_delete};
 ghost use Rattle.bb_board.specs.Board.{new_board, with_world, when_refused, after_create_fault, after_units_fault, is_fresh};
-ghost use Rattle.bb_board.specs.May.{may_set, may_link, was};
+ghost use Rattle.bb_board.specs.May.{has_link, may_set, may_link, was};
 ghost use Rattle.bb_board.specs.Spaces.{may_enter, after_enter, after_leave};
 ghost use Rattle.bb_board.specs.Fits.{Fits, is_said_of};
 ghost use Rattle.bb_board.specs.Load.{loaded};
@@ -163,6 +165,22 @@ impl Board {
         self.world.units.get(unit, slot)
     }
 
+    /// Whether a number names a unit whose class has the ordinary slot.
+    pub fn has(&self, unit: UnitId, slot: SlotId) -> bool
+        ensures value { IsTrue result ↔ IsSome (value_of self.now.world.units unit slot) }
+        ensures listed { result ≡ has_slot self.now.world.units unit slot }
+    {
+        self.world.units.has(unit, slot)
+    }
+
+    /// Whether a slot is an ordinary one of the schema, and can hold a value: one of its kind, a text of at most 65,535
+    /// bytes, a label that is there, an interval in order.
+    pub fn can_hold(&self, slot: SlotId, value: &Value) -> bool
+        ensures { result ≡ can_hold (layout_of self.now.schema) slot value.now }
+    {
+        self.world.units.can_hold(slot, value)
+    }
+
     /// Whether a unit may enter a space, or the first reason why not: `Deleted` where the unit is not live, `Space` where
     /// the space is not there or does not take units of its class.
     pub fn may_enter(&self, unit: UnitId, space: SpaceId) -> Result<(), Reason>
@@ -183,12 +201,13 @@ impl Board {
 
     /// The answer of a query that fits the schema, with operands of its kinds: the units in its space, of its class or
     /// one below it, of which its pattern holds by their present values, rising (GBBopen Reference Manual,
-    /// find-instances).
+    /// find-instances). They are 65,536 at most.
     pub fn find(&self, query: &Query, operands: &[DimValue]) -> Result<Vec<UnitId>, Memory>
         requires fits { query_fits self.now.schema query.now ≡ Ok tt }
         requires kinds { map kind_of_operand operands.now ≡ query.now.kinds }
-        ensures { IfOk result (λ found.
+        ensures answer { IfOk result (λ found.
             found.items ≡ answer self.now.schema self.now.world.units self.now.world.spaces query.now operands.now) }
+        ensures few { IfOk result (λ found. length found.items ≤ UNIT_LIMIT) }
     {
         let World { units, spaces, .. } = &self.world;
         let schema = self.schema.get();
@@ -203,7 +222,7 @@ impl Board {
         if !self.world.units.live(unit) {
             return Err(Reason::Deleted);
         }
-        if !self.world.units.has(unit, slot) {
+        if !self.has(unit, slot) {
             return Err(Reason::Slot);
         }
         if !self.world.units.takes(unit, slot, value) {
@@ -212,10 +231,13 @@ impl Board {
         Ok(())
     }
 
-    /// The partners of a unit by a slot, in order of addition. A slot that is no link slot has none.
+    /// The partners of a unit by a slot, in order of addition, 65,536 at most. A slot that is no link slot has none.
     pub fn links(&self, unit: UnitId, slot: SlotId) -> &[UnitId]
-        ensures { result.now ≡ ends self.now.world.links unit slot }
+        ensures links { result.now ≡ ends self.now.world.links unit slot }
+        ensures few { length result.now ≤ UNIT_LIMIT }
     {
+        // Each is live, and none comes twice.
+        self.schema.get().fits();
         self.world.links.ends(unit, slot)
     }
 
@@ -224,6 +246,25 @@ impl Board {
         ensures { result ≡ slice_get (ends self.now.world.links unit slot) 0 }
     {
         self.world.links.one(unit, slot)
+    }
+
+    /// Whether the class of a live unit has a link slot.
+    pub fn has_link(&self, unit: UnitId, slot: SlotId) -> bool
+        ensures { result ≡ has_link self.now.schema (class_at self.now.world unit) slot }
+    {
+        has_link(self.schema.get(), self.world.class_at(unit), slot)
+    }
+
+    /// Whether a value can be said: a label is one of the schema.
+    pub fn can_say(&self, said: &Said) -> bool
+        ensures { result ≡ is_said_of self.now.schema said.now }
+    {
+        match said {
+            Said::Value(Value::Label(set, label)) => {
+                self.schema.get().label_name(*set, *label).is_some()
+            }
+            _ => true,
+        }
     }
 
     /// Whether a unit may be linked to another by a slot, or the first reason why not: `Deleted` where one of them is not

@@ -1,20 +1,29 @@
 -- The laws of whole codes: what is read was spelled so, and what is spelled so is read again.
-use Rattle.std.proofs.Common.{◌≡◌, ℕ, cond, eqb, List, [], ◌∷◌, ◌++◌, length, Result, Ok, Err, refl, sym, ap, subst, ◌∙◌, append_assoc, arith}
-use Rattle.std.specs.Prelude.{IfOk}
+use Rattle.std.proofs.Common.{◌≡◌, ◌≤◌, ℕ, cond, eqb, List, [], ◌∷◌, ◌++◌, length, Result, Ok, Err, refl, sym, ap, subst, ◌∙◌, append_assoc, arith}
+use Rattle.std.specs.Prelude.{IfOk, All}
 use Rattle.std.proofs.lemmas.Bool.{eqb-true}
 use Rattle.std.proofs.lemmas.List.{append-nil, nil_from_length}
 use Rattle.std.proofs.lemmas.List.Elements.{All-from_recursion, recursion_from_All}
+use Rattle.bb_pattern.specs.declared.query.Query.{Query}
 use Rattle.bb_code.specs.declared.fault.CodeFault.{CodeFault}
 use Rattle.bb_code.specs.declared.fault.CodeFault.TheVariants.{Magic, Version, Trailing, Memory}
-use Rattle.bb_code.specs.declared.code.TheConstants.{LOCAL_LIMIT, TEXT_LIMIT, OP_LIMIT}
+use Rattle.bb_code.specs.declared.code.TheConstants.{LOCAL_LIMIT, TEXT_LIMIT, QUERY_LIMIT, FRAME_LIMIT, LOOP_LIMIT, OP_LIMIT}
+use Rattle.bb_code.specs.declared.frame.FrameEntry.{FrameEntry}
+use Rattle.bb_code.specs.declared.frame.Loop.{Loop}
 use Rattle.bb_code.specs.declared.op.Op.{Op}
-use Rattle.bb_code.specs.Code.{Code, IsText, IsOp, IsCode}
-use Rattle.bb_code.specs.Spelling.{two_bytes, text_bytes, op_bytes, listed, head, nothing, spelling}
+use Rattle.bb_code.specs.Code.{Code, IsText, IsQuery, IsFrame, IsLoop, IsOp, IsCode}
+use Rattle.bb_code.specs.Spelling.{text_bytes, query_bytes, frame_bytes, loop_bytes, op_bytes, listed, head, spelling}
 use Rattle.bb_basis.specs.Results.{◌>>=◌, Gives}
-use Rattle.bb_code.specs.Reading.{text_at, op_at, list_at, count_at, expected_at, head_at, locals_at, nothing_at, code_at, code_of}
+use Rattle.bb_code.specs.Fields.{Field, short_count_at, list_at, text_at, frame_at, loop_at}
+use Rattle.bb_code.specs.Patterns.{query_at}
+use Rattle.bb_code.specs.Ops.{op_at}
+use Rattle.bb_code.specs.Reading.{expected_at, head_at, code_at, code_of}
 use Rattle.bb_basis.proofs.ResultLemmas.{bind_ok, same_ok}
-use Rattle.bb_code.proofs.Fields.{IsBytes, IsBytes-rest, met, Takes, Takes-then, IsSpelled, IsWithin, byte_spelled, within_spelled, count_spelled, text_spelled, op_spelled}
+use Rattle.bb_code.proofs.Fields.{IsBytes, IsBytes-rest, met, Takes, Takes-then, IsSpelled, IsWithin, single, short_count_spelled, text_spelled}
 use Rattle.bb_code.proofs.Lists.{AreListed, list_spelled}
+use Rattle.bb_code.proofs.Frames.{frame_spelled, loop_spelled}
+use Rattle.bb_code.proofs.OpLaws.{op_spelled}
+use Rattle.bb_code.proofs.PatternLaws.{query_spelled}
 
 -- ---- what every code begins with
 
@@ -43,97 +52,211 @@ head_again : (rest : List ℕ) → head_at (head ++ rest) ≡ Ok rest
 unfolding head_at
 head_again rest = refl
 
--- ---- locals
+-- ---- the parts
 
-locals_spelled : IsSpelled ℕ locals_at (λ n. n ∷ []) (IsWithin 1 LOCAL_LIMIT)
-unfolding locals_at
-locals_spelled = within_spelled _ (λ n. n ∷ []) 256 1 32 (omega arith) byte_spelled
-
--- ---- the lists of which there are none
-
-none_takes : (bytes : List ℕ) (x : ℕ × List ℕ) → IsBytes bytes → count_at 0 0 bytes ≡ Ok x → Takes bytes nothing x.1
-none_takes bytes x fits e =
-    let took = (count_spelled 0 0 (omega arith)).takes bytes x fits e in
-    let none : x.0 ≡ 0 = omega (arith, took.1.1) in
-    subst (λ (n : ℕ). Takes bytes (two_bytes n) x.1) none took.0
-
-nothing_takes : (bytes rest : List ℕ) → IsBytes bytes → nothing_at bytes ≡ Ok rest → Takes bytes (nothing ++ nothing ++ nothing) rest
-unfolding nothing_at
-nothing_takes bytes rest fits e =
-    let a = bind_ok (count_at 0 0 bytes) (λ queries. count_at 0 0 queries.1 >>= λ frames. count_at 0 0 frames.1 >>= λ loops. Ok loops.1) rest e in
-    let b = bind_ok (count_at 0 0 a.0.1) (λ frames. count_at 0 0 frames.1 >>= λ loops. Ok loops.1) rest a.2 in
-    let c = bind_ok (count_at 0 0 b.0.1) (λ loops. Ok loops.1) rest b.2 in
-    let t0 = none_takes bytes a.0 fits a.1 in
-    let t1 = none_takes a.0.1 b.0 t0.rest_fits b.1 in
-    let t2 = none_takes b.0.1 c.0 t1.rest_fits c.1 in
-    let both = Takes-then bytes nothing a.0.1 nothing b.0.1 t0 t1 in
-    subst (λ (r : List ℕ). Takes bytes (nothing ++ nothing ++ nothing) r) (same_ok c.0.1 rest c.2) (Takes-then bytes (nothing ++ nothing) b.0.1 nothing c.0.1 both t2)
-
-none_again : (rest : List ℕ) → count_at 0 0 (nothing ++ rest) ≡ Ok (0, rest)
-none_again rest = (count_spelled 0 0 (omega arith)).again 0 rest (omega arith, omega arith)
-
-nothing_again : (rest : List ℕ) → nothing_at (nothing ++ (nothing ++ (nothing ++ rest))) ≡ Ok rest
-unfolding nothing_at
-nothing_again rest = rw (none_again (nothing ++ (nothing ++ rest)), none_again (nothing ++ rest), none_again rest) refl
-
--- ---- the whole
+locals_spelled : IsSpelled ℕ (short_count_at 1 LOCAL_LIMIT) single (IsWithin 1 LOCAL_LIMIT)
+locals_spelled = short_count_spelled 1 LOCAL_LIMIT (omega arith)
 
 texts_spelled : IsSpelled (List (List ℕ)) (list_at 0 TEXT_LIMIT text_at) (listed text_bytes) (AreListed (List ℕ) IsText 0 TEXT_LIMIT)
 texts_spelled = list_spelled (List ℕ) text_at text_bytes IsText text_spelled 0 TEXT_LIMIT (omega arith)
 
+queries_spelled : IsSpelled (List Query) (list_at 0 QUERY_LIMIT query_at) (listed query_bytes) (AreListed Query IsQuery 0 QUERY_LIMIT)
+queries_spelled = list_spelled Query query_at query_bytes IsQuery query_spelled 0 QUERY_LIMIT (omega arith)
+
+frames_spelled : (locals : ℕ) → IsSpelled (List FrameEntry) (list_at 0 FRAME_LIMIT (frame_at locals)) (listed frame_bytes) (AreListed FrameEntry (IsFrame locals) 0 FRAME_LIMIT)
+frames_spelled locals = list_spelled FrameEntry (frame_at locals) frame_bytes (IsFrame locals) (frame_spelled locals) 0 FRAME_LIMIT (omega arith)
+
+loops_spelled : IsSpelled (List Loop) (list_at 0 LOOP_LIMIT loop_at) (listed loop_bytes) (AreListed Loop IsLoop 0 LOOP_LIMIT)
+loops_spelled = list_spelled Loop loop_at loop_bytes IsLoop loop_spelled 0 LOOP_LIMIT (omega arith)
+
 ops_spelled : IsSpelled (List Op) (list_at 1 OP_LIMIT op_at) (listed op_bytes) (AreListed Op IsOp 1 OP_LIMIT)
 ops_spelled = list_spelled Op op_at op_bytes IsOp op_spelled 1 OP_LIMIT (omega arith)
+
+-- ---- the whole
+
+-- a code and the bytes after it
+abbrev read_one : Code → List ℕ → Result (Code × List ℕ) CodeFault
+read_one c rest = Ok (c, rest)
+
+-- a whole code was read from parts that were read before, and from bytes that spell the others
+record IsRest (bytes : List ℕ) (x : Code × List ℕ) (text : Code → List ℕ) (Holds : Code → Type 0) (Same : Code → Type 0) : Type 0 where
+  takes : Takes bytes (text x.0) x.1
+  holds : Holds x.0
+  same : Same x.0
+
+-- one part more
+with_part : (A : Type 0) (field : Field A) (bytes_of : A → List ℕ) (Fits : A → Type 0) (spelled : IsSpelled A field bytes_of Fits) (part : Code → A) (others : A → Field Code) (text : Code → List ℕ) (Holds : A → Code → Type 0) (Same : Code → Type 0)
+    → ((a : A) (bytes : List ℕ) (x : Code × List ℕ) → IsBytes bytes → others a bytes ≡ Ok x → IsRest bytes x text (Holds a) (λ c. (part c ≡ a) × Same c))
+    → (bytes : List ℕ) (x : Code × List ℕ) → IsBytes bytes → (field bytes >>= λ a. others a.0 a.1) ≡ Ok x → IsRest bytes x (λ c. bytes_of (part c) ++ text c) (λ c. Fits (part c) × Holds (part c) c) Same
+with_part A field bytes_of Fits spelled part others text Holds Same next bytes x fits e =
+    let a = bind_ok (field bytes) (λ a. others a.0 a.1) x e in
+    let one = spelled.takes bytes a.0 fits a.1 in
+    let rest = next a.0.0 a.0.1 x one.0.rest_fits a.2 in
+    let is : part x.0 ≡ a.0.0 = rest.same.0 in
+    let both = Takes-then bytes (bytes_of a.0.0) a.0.1 (text x.0) x.1 one.0 rest.takes in
+    record {
+      takes = subst (λ (v : A). Takes bytes (bytes_of v ++ text x.0) x.1) (sym is) both;
+      holds = (subst Fits (sym is) one.1, subst (λ (v : A). Holds v x.0) (sym is) rest.holds);
+      same = rest.same.1;
+    }
+
+-- the parts that were read are those of the code
+abbrev Same-locals : ℕ → Code → Type 0
+Same-locals locals c = (c.locals ≡ locals) × Unit {0}
+
+abbrev Same-texts : ℕ → List (List ℕ) → Code → Type 0
+Same-texts locals texts c = (c.texts ≡ texts) × Same-locals locals c
+
+abbrev Same-queries : ℕ → List (List ℕ) → List Query → Code → Type 0
+Same-queries locals texts queries c = (c.queries ≡ queries) × Same-texts locals texts c
+
+abbrev Same-frames : ℕ → List (List ℕ) → List Query → List FrameEntry → Code → Type 0
+Same-frames locals texts queries frames c = (c.frames ≡ frames) × Same-queries locals texts queries c
+
+abbrev Same-loops : ℕ → List (List ℕ) → List Query → List FrameEntry → List Loop → Code → Type 0
+Same-loops locals texts queries frames loops c = (c.loops ≡ loops) × Same-frames locals texts queries frames c
+
+abbrev Same-ops : ℕ → List (List ℕ) → List Query → List FrameEntry → List Loop → List Op → Code → Type 0
+Same-ops locals texts queries frames loops ops c = (c.ops ≡ ops) × Same-loops locals texts queries frames loops c
+
+-- the bytes from each part on, and what holds of them
+abbrev text-ops : Code → List ℕ
+text-ops c = listed op_bytes c.ops ++ []
+
+abbrev text-loops : Code → List ℕ
+text-loops c = listed loop_bytes c.loops ++ text-ops c
+
+abbrev text-frames : Code → List ℕ
+text-frames c = listed frame_bytes c.frames ++ text-loops c
+
+abbrev text-queries : Code → List ℕ
+text-queries c = listed query_bytes c.queries ++ text-frames c
+
+abbrev text-texts : Code → List ℕ
+text-texts c = listed text_bytes c.texts ++ text-queries c
+
+abbrev text-locals : Code → List ℕ
+text-locals c = single c.locals ++ text-texts c
+
+abbrev Holds-ops : ℕ → Code → Type 0
+Holds-ops locals c = AreListed Op IsOp 1 OP_LIMIT c.ops × Unit {0}
+
+abbrev Holds-loops : ℕ → Code → Type 0
+Holds-loops locals c = AreListed Loop IsLoop 0 LOOP_LIMIT c.loops × Holds-ops locals c
+
+abbrev Holds-frames : ℕ → Code → Type 0
+Holds-frames locals c = AreListed FrameEntry (IsFrame locals) 0 FRAME_LIMIT c.frames × Holds-loops locals c
+
+abbrev Holds-queries : ℕ → Code → Type 0
+Holds-queries locals c = AreListed Query IsQuery 0 QUERY_LIMIT c.queries × Holds-frames locals c
+
+abbrev Holds-texts : ℕ → Code → Type 0
+Holds-texts locals c = AreListed (List ℕ) IsText 0 TEXT_LIMIT c.texts × Holds-queries locals c
+
+abbrev Holds-locals : Code → Type 0
+Holds-locals c = IsWithin 1 LOCAL_LIMIT c.locals × Holds-texts c.locals c
+
+abbrev from-ops : ℕ → List (List ℕ) → List Query → List FrameEntry → List Loop → Field Code
+from-ops locals texts queries frames loops bytes = list_at 1 OP_LIMIT op_at bytes >>= λ ops. Ok (record { locals = locals; texts = texts; queries = queries; frames = frames; loops = loops; ops = ops.0 }, ops.1)
+
+abbrev from-loops : ℕ → List (List ℕ) → List Query → List FrameEntry → Field Code
+from-loops locals texts queries frames bytes = list_at 0 LOOP_LIMIT loop_at bytes >>= λ loops. from-ops locals texts queries frames loops.0 loops.1
+
+abbrev from-frames : ℕ → List (List ℕ) → List Query → Field Code
+from-frames locals texts queries bytes = list_at 0 FRAME_LIMIT (frame_at locals) bytes >>= λ frames. from-loops locals texts queries frames.0 frames.1
+
+abbrev from-queries : ℕ → List (List ℕ) → Field Code
+from-queries locals texts bytes = list_at 0 QUERY_LIMIT query_at bytes >>= λ queries. from-frames locals texts queries.0 queries.1
+
+abbrev from-texts : ℕ → Field Code
+from-texts locals bytes = list_at 0 TEXT_LIMIT text_at bytes >>= λ texts. from-queries locals texts.0 texts.1
+
+abbrev from-locals : Field Code
+from-locals bytes = short_count_at 1 LOCAL_LIMIT bytes >>= λ locals. from-texts locals.0 locals.1
+
+nothing_more : (locals : ℕ) (texts : List (List ℕ)) (queries : List Query) (frames : List FrameEntry) (loops : List Loop) (ops : List Op) (bytes : List ℕ) (x : Code × List ℕ) → IsBytes bytes → read_one (record { locals = locals; texts = texts; queries = queries; frames = frames; loops = loops; ops = ops }) bytes ≡ Ok x → IsRest bytes x (λ c. []) (λ c. Unit {0}) (Same-ops locals texts queries frames loops ops)
+nothing_more locals texts queries frames loops ops bytes x fits e =
+    subst (λ (y : Code × List ℕ). IsRest bytes y (λ c. []) (λ c. Unit {0}) (Same-ops locals texts queries frames loops ops)) (same_ok _ x e)
+    (record { takes = record { parts = refl; rest_fits = fits }; holds = tt; same = (refl, (refl, (refl, (refl, (refl, (refl, tt)))))) })
+
+ops_read : (locals : ℕ) (texts : List (List ℕ)) (queries : List Query) (frames : List FrameEntry) (loops : List Loop) (bytes : List ℕ) (x : Code × List ℕ) → IsBytes bytes → from-ops locals texts queries frames loops bytes ≡ Ok x → IsRest bytes x text-ops (Holds-ops locals) (Same-loops locals texts queries frames loops)
+ops_read locals texts queries frames loops bytes x fits e =
+    with_part (List Op) (list_at 1 OP_LIMIT op_at) (listed op_bytes) (AreListed Op IsOp 1 OP_LIMIT) ops_spelled (λ c. c.ops) (λ ops bytes. read_one (record { locals = locals; texts = texts; queries = queries; frames = frames; loops = loops; ops = ops }) bytes) (λ c. []) (λ a c. Unit {0}) (Same-loops locals texts queries frames loops) (nothing_more locals texts queries frames loops) bytes x fits e
+
+loops_read : (locals : ℕ) (texts : List (List ℕ)) (queries : List Query) (frames : List FrameEntry) (bytes : List ℕ) (x : Code × List ℕ) → IsBytes bytes → from-loops locals texts queries frames bytes ≡ Ok x → IsRest bytes x text-loops (Holds-loops locals) (Same-frames locals texts queries frames)
+loops_read locals texts queries frames bytes x fits e =
+    with_part (List Loop) (list_at 0 LOOP_LIMIT loop_at) (listed loop_bytes) (AreListed Loop IsLoop 0 LOOP_LIMIT) loops_spelled (λ c. c.loops) (from-ops locals texts queries frames) text-ops (λ a. Holds-ops locals) (Same-frames locals texts queries frames) (ops_read locals texts queries frames) bytes x fits e
+
+frames_read : (locals : ℕ) (texts : List (List ℕ)) (queries : List Query) (bytes : List ℕ) (x : Code × List ℕ) → IsBytes bytes → from-frames locals texts queries bytes ≡ Ok x → IsRest bytes x text-frames (Holds-frames locals) (Same-queries locals texts queries)
+frames_read locals texts queries bytes x fits e =
+    with_part (List FrameEntry) (list_at 0 FRAME_LIMIT (frame_at locals)) (listed frame_bytes) (AreListed FrameEntry (IsFrame locals) 0 FRAME_LIMIT) (frames_spelled locals) (λ c. c.frames) (from-loops locals texts queries) text-loops (λ a. Holds-loops locals) (Same-queries locals texts queries) (loops_read locals texts queries) bytes x fits e
+
+queries_read : (locals : ℕ) (texts : List (List ℕ)) (bytes : List ℕ) (x : Code × List ℕ) → IsBytes bytes → from-queries locals texts bytes ≡ Ok x → IsRest bytes x text-queries (Holds-queries locals) (Same-texts locals texts)
+queries_read locals texts bytes x fits e =
+    with_part (List Query) (list_at 0 QUERY_LIMIT query_at) (listed query_bytes) (AreListed Query IsQuery 0 QUERY_LIMIT) queries_spelled (λ c. c.queries) (from-frames locals texts) text-frames (λ a. Holds-frames locals) (Same-texts locals texts) (frames_read locals texts) bytes x fits e
+
+texts_read : (locals : ℕ) (bytes : List ℕ) (x : Code × List ℕ) → IsBytes bytes → from-texts locals bytes ≡ Ok x → IsRest bytes x text-texts (Holds-texts locals) (Same-locals locals)
+texts_read locals bytes x fits e =
+    with_part (List (List ℕ)) (list_at 0 TEXT_LIMIT text_at) (listed text_bytes) (AreListed (List ℕ) IsText 0 TEXT_LIMIT) texts_spelled (λ c. c.texts) (from-queries locals) text-queries (λ a. Holds-queries locals) (Same-locals locals) (queries_read locals) bytes x fits e
+
+locals_read : (bytes : List ℕ) (x : Code × List ℕ) → IsBytes bytes → from-locals bytes ≡ Ok x → IsRest bytes x text-locals Holds-locals (λ c. Unit {0})
+locals_read bytes x fits e =
+    with_part (ℕ) (short_count_at 1 LOCAL_LIMIT) single (IsWithin 1 LOCAL_LIMIT) locals_spelled (λ c. c.locals) from-texts text-texts (λ a. Holds-texts a) (λ c. Unit {0}) texts_read bytes x fits e
+
+joined : (a b c d e f g : List ℕ) → a ++ (b ++ (c ++ (d ++ (e ++ (f ++ (g ++ [])))))) ≡ ((((((a ++ b) ++ c) ++ d) ++ e) ++ f) ++ g)
+joined a b c d e f g = ap (λ (t : List ℕ). a ++ (b ++ (c ++ (d ++ (e ++ (f ++ t)))))) (append-nil g) ∙ sym (simp append_assoc)
+
+parts_joined : (c : Code) → head ++ text-locals c ≡ spelling c
+parts_joined c = joined head (single c.locals) (listed text_bytes c.texts) (listed query_bytes c.queries) (listed frame_bytes c.frames) (listed loop_bytes c.loops) (listed op_bytes c.ops)
+
+fitting : (c : Code) → Holds-locals c → IsCode c
+fitting c is = record {
+  locals_low = is.0.0;
+  locals_high = is.0.1;
+  texts = record { few = is.1.0.few; each = All-from_recursion IsText c.texts is.1.0.each };
+  queries = record { few = is.1.1.0.few; each = All-from_recursion IsQuery c.queries is.1.1.0.each };
+  frames = record { few = is.1.1.1.0.few; each = All-from_recursion (IsFrame c.locals) c.frames is.1.1.1.0.each };
+  loops = record { few = is.1.1.1.1.0.few; each = All-from_recursion IsLoop c.loops is.1.1.1.1.0.each };
+  ops = record { some = is.1.1.1.1.1.0.enough; few = is.1.1.1.1.1.0.few; each = All-from_recursion IsOp c.ops is.1.1.1.1.1.0.each };
+}
 
 code_takes : (bytes : List ℕ) (x : Code × List ℕ) → IsBytes bytes → code_at bytes ≡ Ok x → Takes bytes (spelling x.0) x.1 × IsCode x.0
 unfolding code_at
 code_takes bytes x fits e =
-    let a = bind_ok (head_at bytes) (λ start. locals_at start >>= λ locals. list_at 0 TEXT_LIMIT text_at locals.1 >>= λ texts. nothing_at texts.1 >>= λ middle. list_at 1 OP_LIMIT op_at middle >>= λ ops. Ok (record { locals = locals.0; texts = texts.0; ops = ops.0 }, ops.1)) x e in
-    let b = bind_ok (locals_at a.0) (λ locals. list_at 0 TEXT_LIMIT text_at locals.1 >>= λ texts. nothing_at texts.1 >>= λ middle. list_at 1 OP_LIMIT op_at middle >>= λ ops. Ok (record { locals = locals.0; texts = texts.0; ops = ops.0 }, ops.1)) x a.2 in
-    let c = bind_ok (list_at 0 TEXT_LIMIT text_at b.0.1) (λ texts. nothing_at texts.1 >>= λ middle. list_at 1 OP_LIMIT op_at middle >>= λ ops. Ok (record { locals = b.0.0; texts = texts.0; ops = ops.0 }, ops.1)) x b.2 in
-    let d = bind_ok (nothing_at c.0.1) (λ middle. list_at 1 OP_LIMIT op_at middle >>= λ ops. Ok (record { locals = b.0.0; texts = c.0.0; ops = ops.0 }, ops.1)) x c.2 in
-    let f = bind_ok (list_at 1 OP_LIMIT op_at d.0) (λ ops. Ok (record { locals = b.0.0; texts = c.0.0; ops = ops.0 }, ops.1)) x d.2 in
-    let t0 = head_takes bytes a.0 fits a.1 in
-    let t1 = locals_spelled.takes a.0 b.0 t0.rest_fits b.1 in
-    let t2 = texts_spelled.takes b.0.1 c.0 t1.0.rest_fits c.1 in
-    let t3 = nothing_takes c.0.1 d.0 t2.0.rest_fits d.1 in
-    let t4 = ops_spelled.takes d.0 f.0 t3.rest_fits f.1 in
-    let made : Code = record { locals = b.0.0; texts = c.0.0; ops = f.0.0 } in
-    let to_locals = Takes-then bytes head a.0 (b.0.0 ∷ []) b.0.1 t0 t1.0 in
-    let to_texts = Takes-then bytes (head ++ b.0.0 ∷ []) b.0.1 (listed text_bytes c.0.0) c.0.1 to_locals t2.0 in
-    let middle : List ℕ = nothing ++ nothing ++ nothing in
-    let to_middle = Takes-then bytes (head ++ (b.0.0 ∷ []) ++ listed text_bytes c.0.0) c.0.1 middle d.0 to_texts t3 in
-    let to_ops = Takes-then bytes (head ++ (b.0.0 ∷ []) ++ listed text_bytes c.0.0 ++ middle) d.0 (listed op_bytes f.0.0) f.0.1 to_middle t4.0 in
-    let front : List ℕ = head ++ (b.0.0 ∷ []) ++ listed text_bytes c.0.0 in
-    let same : front ++ middle ++ listed op_bytes f.0.0 ≡ spelling made = ap (λ (t : List ℕ). t ++ listed op_bytes f.0.0) (sym (append_assoc (front ++ nothing) nothing nothing ∙ append_assoc front nothing (nothing ++ nothing))) in
-    let whole : Takes bytes (spelling made) f.0.1 = subst (λ (t : List ℕ). Takes bytes t f.0.1) {x = front ++ middle ++ listed op_bytes f.0.0} {y = spelling made} same to_ops in
-    let is : IsCode made = record {
-      locals_low = t1.1.0;
-      locals_high = t1.1.1;
-      texts = record { few = t2.1.few; each = All-from_recursion IsText c.0.0 t2.1.each };
-      ops = record { some = t4.1.enough; few = t4.1.few; each = All-from_recursion IsOp f.0.0 t4.1.each };
-    } in
-    subst (λ (y : Code × List ℕ). Takes bytes (spelling y.0) y.1 × IsCode y.0) {x = (made, f.0.1)} {y = x} (same_ok (made, f.0.1) x f.2) (whole, is)
+    let start = bind_ok (head_at bytes) from-locals x e in
+    let first = head_takes bytes start.0 fits start.1 in
+    let others = locals_read start.0 x first.rest_fits start.2 in
+    let whole = Takes-then bytes head start.0 (text-locals x.0) x.1 first others.takes in
+    (subst (λ (t : List ℕ). Takes bytes t x.1) {x = head ++ text-locals x.0} {y = spelling x.0} (parts_joined x.0) whole, fitting x.0 others.holds)
+
+before_rest : (a b c d e f g rest : List ℕ) → ((((((a ++ b) ++ c) ++ d) ++ e) ++ f) ++ g) ++ rest ≡ a ++ (b ++ (c ++ (d ++ (e ++ (f ++ (g ++ rest))))))
+before_rest a b c d e f g rest = simp append_assoc
+
+listed_fit : {A : Type 0} (Fits : A → Type 0) (high : ℕ) (xs : List A) → length xs ≤ high → All Fits xs → AreListed A Fits 0 high xs
+listed_fit Fits high xs few each = record { enough = omega arith; few = few; each = recursion_from_All Fits xs each }
 
 pub code_again : (c : Code) (rest : List ℕ) → IsCode c → code_at (spelling c ++ rest) ≡ Ok (c, rest)
 unfolding code_at
 code_again c rest fits =
-    let ops : List ℕ = listed op_bytes c.ops in
-    let texts : List ℕ = listed text_bytes c.texts in
-    let after_middle : List ℕ = ops ++ rest in
-    let after_texts : List ℕ = nothing ++ (nothing ++ (nothing ++ after_middle)) in
-    let after_locals : List ℕ = texts ++ after_texts in
-    let after_head : List ℕ = c.locals ∷ after_locals in
-    let to_texts : List ℕ = head ++ (c.locals ∷ []) ++ texts in
+    let after_loops : List ℕ = listed op_bytes c.ops ++ rest in
+    let after_frames : List ℕ = listed loop_bytes c.loops ++ after_loops in
+    let after_queries : List ℕ = listed frame_bytes c.frames ++ after_frames in
+    let after_texts : List ℕ = listed query_bytes c.queries ++ after_queries in
+    let after_locals : List ℕ = listed text_bytes c.texts ++ after_texts in
+    let after_head : List ℕ = single c.locals ++ after_locals in
     let regrouped : spelling c ++ rest ≡ head ++ after_head =
-    append_assoc (to_texts ++ nothing ++ nothing ++ nothing) ops rest
-    ∙ append_assoc (to_texts ++ nothing ++ nothing) nothing after_middle
-    ∙ append_assoc (to_texts ++ nothing) nothing (nothing ++ after_middle)
-    ∙ append_assoc to_texts nothing (nothing ++ (nothing ++ after_middle))
-    ∙ append_assoc (head ++ c.locals ∷ []) texts after_texts in
-    let texts_fit : AreListed (List ℕ) IsText 0 TEXT_LIMIT c.texts = record { enough = omega arith; few = fits.texts.few; each = recursion_from_All IsText c.texts fits.texts.each } in
+    before_rest head (single c.locals) (listed text_bytes c.texts) (listed query_bytes c.queries) (listed frame_bytes c.frames) (listed loop_bytes c.loops) (listed op_bytes c.ops) rest in
     let ops_fit : AreListed Op IsOp 1 OP_LIMIT c.ops = record { enough = fits.ops.some; few = fits.ops.few; each = recursion_from_All IsOp c.ops fits.ops.each } in
     ap code_at regrouped
-    ∙ rw (head_again after_head, locals_spelled.again c.locals after_locals (fits.locals_low, fits.locals_high), texts_spelled.again c.texts after_texts texts_fit, nothing_again after_middle, ops_spelled.again c.ops rest ops_fit) refl
+    ∙ rw (
+      head_again after_head,
+      locals_spelled.again c.locals after_locals (fits.locals_low, fits.locals_high),
+      texts_spelled.again c.texts after_texts (listed_fit IsText TEXT_LIMIT c.texts fits.texts.few fits.texts.each),
+      queries_spelled.again c.queries after_queries (listed_fit IsQuery QUERY_LIMIT c.queries fits.queries.few fits.queries.each),
+      (frames_spelled c.locals).again c.frames after_frames (listed_fit (IsFrame c.locals) FRAME_LIMIT c.frames fits.frames.few fits.frames.each),
+      loops_spelled.again c.loops after_loops (listed_fit IsLoop LOOP_LIMIT c.loops fits.loops.few fits.loops.each),
+      ops_spelled.again c.ops rest ops_fit,
+    ) refl
 
 -- ---- all of the bytes
 

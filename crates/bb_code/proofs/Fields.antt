@@ -1,23 +1,21 @@
 -- The laws of one field: what is read was spelled so, and what is spelled so is read again.
-use Rattle.std.proofs.Common.{◌≡◌, ℕ, suc, ◌+◌, ◌^◌, ◌<◌, ◌≤◌, Bool, true, false, cond, ltb, eqb, List, [], ◌∷◌, ◌++◌, length, get_or, take, drop, Result, Ok, Err, refl, sym, ap, subst, ◌∙◌, append_assoc, arith, inl, inr, ◌⊎◌}
-use Rattle.std.specs.Int.{w16, from_be_bytes}
+use Rattle.std.proofs.Common.{◌≡◌, ℕ, suc, ℤ, Fits, ◌+◌, ◌^◌, ◌<◌, ◌≤◌, Bool, true, false, cond, ltb, eqb, List, [], ◌∷◌, ◌++◌, length, get_or, take, drop, Result, Ok, Err, refl, sym, ap, subst, ◌∙◌, append_assoc, arith, inl, inr, ◌⊎◌}
+use Rattle.std.specs.Int.{w16, w64, to_be_bytes, from_be_bytes, cast_signed, cast_unsigned}
 use Rattle.std.specs.Str.{is_utf8}
-use Rattle.std.specs.Prelude.{IsUtf8}
+use Rattle.std.specs.Prelude.{IsUtf8, FitsSigned}
 use Rattle.std.proofs.lemmas.Bool.{cases_lt, ltb-false, le-ltb, eqb-true, false_from_ne_true}
 use Rattle.std.proofs.lemmas.List.{take_at, drop_at, take-append-drop, length-append, length-take, get_or-drop, get_or-take, get_or_past}
-use Rattle.std.proofs.lemmas.Nat.{be_bytes_2, from_be_bytes-to_be_bytes_2}
+use Rattle.std.proofs.lemmas.Nat.{be_bytes_2, be_bytes_8, from_be_bytes-to_be_bytes_2, from_be_bytes-to_be_bytes_8}
+use Rattle.std.proofs.lemmas.Int.{of_z-to_z, to_z-of_z}
+use Rattle.std.proofs.Math.Facts.{sfits_to_z, Fits-of_z}
 use Rattle.std.proofs.lemmas.Str.{IsUtf8-from_is_utf8, is_utf8-from_IsUtf8}
 use Rattle.bb_code.specs.declared.fault.CodeFault.{CodeFault}
-use Rattle.bb_code.specs.declared.fault.CodeFault.TheVariants.{Short, Limit, Operand, Opcode}
-use Rattle.bb_code.specs.declared.code.TheConstants.{SAID_LIMIT}
-use Rattle.bb_code.specs.declared.opcode.TheConstants.{PUSH_TEXT, SAY, DONE}
-use Rattle.bb_code.specs.declared.op.Op.{Op}
-use Rattle.bb_code.specs.declared.op.Op.TheVariants.{PushText, Say, Done}
-use Rattle.bb_code.specs.Code.{IsText, IsOp}
-use Rattle.bb_code.specs.Spelling.{two_bytes, text_bytes, op_bytes}
+use Rattle.bb_code.specs.declared.fault.CodeFault.TheVariants.{Short, Limit, Operand}
+use Rattle.bb_code.specs.Code.{IsText}
+use Rattle.bb_code.specs.Spelling.{two_bytes, eight_bytes, bool_byte, text_bytes}
 use Rattle.bb_basis.specs.Results.{◌>>=◌}
 use Rattle.bb_basis.proofs.ResultLemmas.{bind_ok, guard_ok, same_ok}
-use Rattle.bb_code.specs.Reading.{byte_at, number_at, within, count_at, text_at, push_text_at, say_at, operand_at, op_at}
+use Rattle.bb_code.specs.Fields.{Field, byte_at, number_at, int_at, bool_at, within, count_at, short_count_at, text_at}
 
 -- ---- tools
 
@@ -60,18 +58,61 @@ pub Takes-then : (a x b y c : List ℕ) → Takes a x b → Takes b y c → Take
 Takes-then a x b y c first second = record { parts = first.parts ∙ ap (λ (t : List ℕ). x ++ t) second.parts ∙ sym (append_assoc x y c); rest_fits = second.rest_fits }
 
 -- the two laws of a field, which spells its values by bytes_of
-pub record IsSpelled (A : Type 0) (field : List ℕ → Result (A × List ℕ) CodeFault) (bytes_of : A → List ℕ) (Fits : A → Type 0) : Type 0 where
+pub record IsSpelled (A : Type 0) (field : Field A) (bytes_of : A → List ℕ) (Fits : A → Type 0) : Type 0 where
   pub takes : (bytes : List ℕ) (x : A × List ℕ) → IsBytes bytes → field bytes ≡ Ok x → Takes bytes (bytes_of x.0) x.1 × Fits x.0
   pub again : (a : A) (rest : List ℕ) → Fits a → field (bytes_of a ++ rest) ≡ Ok (a, rest)
 
+-- ---- what is made of one field or of two, behind bytes that were read before
+
+module _ (A B : Type 0) (field : Field B) (bytes_b : B → List ℕ) (FitsB : B → Type 0) (spelled : IsSpelled B field bytes_b FitsB) (make : B → A) where
+  pub one_takes : (front : List ℕ) (bytes_of : A → List ℕ) (Fits : A → Type 0) → ((b : B) → FitsB b → (bytes_of (make b) ≡ front ++ bytes_b b) × Fits (make b))
+      → (bytes : List ℕ) (x : A × List ℕ) → IsBytes bytes → (field bytes >>= λ b. Ok (make b.0, b.1)) ≡ Ok x → Takes (front ++ bytes) (bytes_of x.0) x.1 × Fits x.0
+  one_takes front bytes_of Fits is bytes x fits e =
+      let b = bind_ok (field bytes) (λ b. Ok (make b.0, b.1)) x e in
+      let took = spelled.takes bytes b.0 fits b.1 in
+      let law = is b.0.0 took.1 in
+      subst (λ (y : A × List ℕ). Takes (front ++ bytes) (bytes_of y.0) y.1 × Fits y.0) (same_ok (make b.0.0, b.0.1) x b.2)
+      (record { parts = ap (λ (t : List ℕ). front ++ t) took.0.parts ∙ sym (append_assoc front (bytes_b b.0.0) b.0.1) ∙ ap (λ (t : List ℕ). t ++ b.0.1) (sym law.0); rest_fits = took.0.rest_fits }, law.1)
+
+  pub one_again : (b : B) (rest : List ℕ) → FitsB b → (field (bytes_b b ++ rest) >>= λ b. read {A = A × List ℕ} (make b.0, b.1)) ≡ read (make b, rest)
+  one_again b rest fits = ap (λ (r : Result (B × List ℕ) CodeFault). r >>= λ b. read {A = A × List ℕ} (make b.0, b.1)) (spelled.again b rest fits)
+
+module _ (A B C : Type 0) (field : Field B) (bytes_b : B → List ℕ) (FitsB : B → Type 0) (spelled : IsSpelled B field bytes_b FitsB) (second : Field C) (bytes_c : C → List ℕ) (FitsC : C → Type 0) (also : IsSpelled C second bytes_c FitsC) (make : B → C → A) where
+  pub two_takes : (front : List ℕ) (bytes_of : A → List ℕ) (Fits : A → Type 0) → ((b : B) (c : C) → FitsB b → FitsC c → (bytes_of (make b c) ≡ front ++ (bytes_b b ++ bytes_c c)) × Fits (make b c))
+      → (bytes : List ℕ) (x : A × List ℕ) → IsBytes bytes → (field bytes >>= λ b. second b.1 >>= λ c. Ok (make b.0 c.0, c.1)) ≡ Ok x → Takes (front ++ bytes) (bytes_of x.0) x.1 × Fits x.0
+  two_takes front bytes_of Fits is bytes x fits e =
+      let b = bind_ok (field bytes) (λ b. second b.1 >>= λ c. Ok (make b.0 c.0, c.1)) x e in
+      let c = bind_ok (second b.0.1) (λ c. Ok (make b.0.0 c.0, c.1)) x b.2 in
+      let took = spelled.takes bytes b.0 fits b.1 in
+      let then' = also.takes b.0.1 c.0 took.0.rest_fits c.1 in
+      let both = Takes-then bytes (bytes_b b.0.0) b.0.1 (bytes_c c.0.0) c.0.1 took.0 then'.0 in
+      let law = is b.0.0 c.0.0 took.1 then'.1 in
+      subst (λ (y : A × List ℕ). Takes (front ++ bytes) (bytes_of y.0) y.1 × Fits y.0) (same_ok (make b.0.0 c.0.0, c.0.1) x c.2)
+      (record { parts = ap (λ (t : List ℕ). front ++ t) both.parts ∙ sym (append_assoc front (bytes_b b.0.0 ++ bytes_c c.0.0) c.0.1) ∙ ap (λ (t : List ℕ). t ++ c.0.1) (sym law.0); rest_fits = both.rest_fits }, law.1)
+
+  pub two_again : (b : B) (c : C) (rest : List ℕ) → FitsB b → FitsC c → (field (bytes_b b ++ (bytes_c c ++ rest)) >>= λ b. second b.1 >>= λ c. read {A = A × List ℕ} (make b.0 c.0, c.1)) ≡ read (make b c, rest)
+  two_again b c rest fits_b fits_c =
+      ap (λ (r : Result (B × List ℕ) CodeFault). r >>= λ b. second b.1 >>= λ c. read {A = A × List ℕ} (make b.0 c.0, c.1)) (spelled.again b (bytes_c c ++ rest) fits_b)
+      ∙ ap (λ (r : Result (C × List ℕ) CodeFault). r >>= λ c. read {A = A × List ℕ} (make b c.0, c.1)) (also.again c rest fits_c)
+
 -- ---- a byte
 
-byte_takes : (bytes : List ℕ) (x : ℕ × List ℕ) → IsBytes bytes → byte_at bytes ≡ Ok x → Takes bytes (x.0 ∷ []) x.1 × (x.0 < 256)
+pub byte_takes : (bytes : List ℕ) (x : ℕ × List ℕ) → IsBytes bytes → byte_at bytes ≡ Ok x → Takes bytes (x.0 ∷ []) x.1 × (x.0 < 256)
 byte_takes [] x fits e = absurd cc
 byte_takes (b ∷ bytes) x fits e =
     subst (λ (y : ℕ × List ℕ). Takes (b ∷ bytes) (y.0 ∷ []) y.1 × (y.0 < 256)) (same_ok (b, bytes) x e) (record { parts = refl; rest_fits = IsBytes-rest b bytes fits }, fits 0)
 
-pub byte_spelled : IsSpelled ℕ byte_at (λ n. n ∷ []) (λ n. n < 256)
+-- a byte alone
+abbrev pub single : ℕ → List ℕ
+single n = n ∷ []
+
+abbrev pub Byte : ℕ → Type 0
+Byte n = n < 256
+
+abbrev pub Number : ℕ → Type 0
+Number n = n < 2 ^ 16
+
+pub byte_spelled : IsSpelled ℕ byte_at single Byte
 byte_spelled = record { takes = byte_takes; again = λ n rest fits. refl }
 
 -- ---- a number in two bytes
@@ -90,8 +131,68 @@ number_takes (high ∷ low ∷ rest) x fits e =
 number_again : (n : ℕ) (rest : List ℕ) → n < 2 ^ 16 → number_at (two_bytes n ++ rest) ≡ Ok (n, rest)
 number_again n rest fits = ap (λ (k : ℕ). read (k, rest)) (from_be_bytes-to_be_bytes_2 n fits)
 
-pub number_spelled : IsSpelled ℕ number_at two_bytes (λ n. n < 2 ^ 16)
+pub number_spelled : IsSpelled ℕ number_at two_bytes Number
 number_spelled = record { takes = number_takes; again = number_again }
+
+-- ---- a number with a sign
+
+int_takes : (bytes : List ℕ) (x : ℤ × List ℕ) → IsBytes bytes → int_at bytes ≡ Ok x → Takes bytes (eight_bytes x.0) x.1 × FitsSigned w64 x.0
+int_takes bytes x fits e =
+    let front : List ℕ = take 8 bytes in
+    let n : ℕ = from_be_bytes w64 (take 8 bytes) in
+    let enough = guard_ok (ltb (length bytes) 8) Short (Ok (cast_signed w64 (from_be_bytes w64 (take 8 bytes)), drop 8 bytes)) x e in
+    let long : 8 ≤ length bytes = ltb-false _ _ enough.0 in
+    let len : length (take 8 bytes) ≡ 8 = omega (arith, length-take 8 bytes) in
+    let front_fits : IsBytes (take 8 bytes) = IsBytes-take 8 bytes fits in
+    let small : n < 2 ^ 64 = omega (arith, front_fits 0, front_fits 1, front_fits 2, front_fits 3, front_fits 4, front_fits 5, front_fits 6, front_fits 7) in
+    let same : eight_bytes (cast_signed w64 n) ≡ take 8 bytes = ap (to_be_bytes w64) (of_z-to_z w64 n small) ∙ be_bytes_8 (take 8 bytes) n len front_fits refl in
+    subst (λ (y : ℤ × List ℕ). Takes bytes (eight_bytes y.0) y.1 × FitsSigned w64 y.0) (same_ok (cast_signed w64 n, drop 8 bytes) x enough.1)
+    (record { parts = sym (take-append-drop 8 bytes) ∙ ap (λ (t : List ℕ). t ++ drop 8 bytes) (sym same); rest_fits = IsBytes-drop 8 bytes fits }, sfits_to_z (let in_word : Fits w64 n = omega (arith, small) in in_word))
+
+int_of : (front rest : List ℕ) → length front ≡ 8 → int_at (front ++ rest) ≡ Ok (cast_signed w64 (from_be_bytes w64 front), rest)
+int_of front rest len =
+    let long : ltb (length (front ++ rest)) 8 ≡ false = le-ltb _ _ (omega (arith, length-append front rest)) in
+    rw (long, take_at front rest 8 len, drop_at front rest 8 len) refl
+
+int_bits : (n : ℕ) (rest : List ℕ) → n < 2 ^ 64 → int_at (to_be_bytes w64 n ++ rest) ≡ Ok (cast_signed w64 n, rest)
+int_bits n rest fits = int_of (to_be_bytes w64 n) rest refl ∙ ap (λ (k : ℕ). read (cast_signed w64 k, rest)) (from_be_bytes-to_be_bytes_8 n fits)
+
+int_again : (n : ℤ) (rest : List ℕ) → FitsSigned w64 n → int_at (eight_bytes n ++ rest) ≡ Ok (n, rest)
+int_again n rest fits = int_bits (cast_unsigned w64 n) rest (let small : cast_unsigned w64 n < 2 ^ 64 = omega (arith, Fits-of_z fits) in small) ∙ ap (λ (z : ℤ). read (z, rest)) (to_z-of_z w64 n fits)
+
+pub int_spelled : IsSpelled ℤ int_at eight_bytes (FitsSigned w64)
+int_spelled = record { takes = int_takes; again = int_again }
+
+-- ---- a truth value
+
+abbrev pub bool_bytes : Bool → List ℕ
+bool_bytes b = bool_byte b ∷ []
+
+abbrev pub Always : {A : Type 0} → A → Type 0
+Always a = Unit {0}
+
+bool_takes : (bytes : List ℕ) (x : Bool × List ℕ) → IsBytes bytes → bool_at bytes ≡ Ok x → Takes bytes (bool_bytes x.0) x.1 × Always x.0
+unfolding bool_at
+bool_takes bytes x fits e =
+    let b = bind_ok (byte_at bytes) (λ b. cond (eqb b.0 0) (Ok (false, b.1)) (cond (eqb b.0 1) (Ok (true, b.1)) (Err Operand))) x e in
+    let took = byte_takes bytes b.0 fits b.1 in
+    let is = λ (n : ℕ) (v : Bool) (same : b.0.0 ≡ n) (byte : n ≡ bool_byte v) (made : read (v, b.0.1) ≡ Ok x).
+    subst (λ (y : Bool × List ℕ). Takes bytes (bool_bytes y.0) y.1 × Always y.0) (same_ok (v, b.0.1) x made)
+    (subst (λ (k : ℕ). Takes bytes (single k) b.0.1) (same ∙ byte) took.0, tt) in
+    elim (chosen (eqb b.0.0 0) (Ok (false, b.0.1)) _ (Ok x) b.2) [
+      | inl c ↦ is 0 false (eqb-true _ _ c.0) refl c.1
+      | inr c ↦
+          let one = met (eqb b.0.0 1) Operand (Ok (true, b.0.1)) x c.1 in
+          is 1 true (eqb-true _ _ one.0) refl one.1
+    ]
+
+bool_again : (b : Bool) (rest : List ℕ) → Always b → bool_at (bool_bytes b ++ rest) ≡ Ok (b, rest)
+unfolding bool_at
+bool_again false rest fits = refl
+bool_again true rest fits = refl
+
+pub bool_spelled : IsSpelled Bool bool_at bool_bytes Always
+bool_spelled = record { takes = bool_takes; again = bool_again }
 
 -- ---- a number within limits
 
@@ -112,7 +213,7 @@ abbrev pub IsWithin : ℕ → ℕ → ℕ → Type 0
 IsWithin low high n = (low ≤ n) × (n ≤ high)
 
 -- a field of a number that is tested
-pub within_spelled : (field : List ℕ → Result (ℕ × List ℕ) CodeFault) (bytes_of : ℕ → List ℕ) (limit low high : ℕ) → high < limit → IsSpelled ℕ field bytes_of (λ n. n < limit)
+pub within_spelled : (field : Field ℕ) (bytes_of : ℕ → List ℕ) (limit low high : ℕ) → high < limit → IsSpelled ℕ field bytes_of (λ n. n < limit)
     → IsSpelled ℕ (λ bytes. field bytes >>= within low high) bytes_of (IsWithin low high)
 within_spelled field bytes_of limit low high small spelled = record {
   takes = λ bytes x fits e.
@@ -126,6 +227,10 @@ within_spelled field bytes_of limit low high small spelled = record {
 pub count_spelled : (low high : ℕ) → high < 2 ^ 16 → IsSpelled ℕ (count_at low high) two_bytes (IsWithin low high)
 unfolding count_at
 count_spelled low high small = within_spelled number_at two_bytes (2 ^ 16) low high small number_spelled
+
+pub short_count_spelled : (low high : ℕ) → high < 256 → IsSpelled ℕ (short_count_at low high) single (IsWithin low high)
+unfolding short_count_at
+short_count_spelled low high small = within_spelled byte_at single 256 low high small byte_spelled
 
 -- ---- a text
 
@@ -172,57 +277,3 @@ text_read bytes n rest front counted enough is text =
     let long : ltb (length rest) n ≡ false = le-ltb _ _ enough in
     let valid : is_utf8 (take n rest) ≡ true = ap is_utf8 (sym is) ∙ is_utf8-from_IsUtf8 front text in
     rw (counted, long, valid) (ap (λ (t : List ℕ). read (t, drop n rest)) (sym is))
-
--- ---- an op
-
--- an opcode and what follows it spell an op
-abbrev IsOperand : ℕ → List ℕ → Op × List ℕ → Type 0
-IsOperand opcode bytes x = Takes (opcode ∷ bytes) (op_bytes x.0) x.1 × IsOp x.0
-
-push_text_takes : (bytes : List ℕ) (x : Op × List ℕ) → IsBytes bytes → push_text_at bytes ≡ Ok x → IsOperand PUSH_TEXT bytes x
-unfolding push_text_at
-push_text_takes bytes x fits e =
-    let n = bind_ok (number_at bytes) (λ n. Ok (PushText n.0, n.1)) x e in
-    let took = number_takes bytes n.0 fits n.1 in
-    subst (IsOperand PUSH_TEXT bytes) (same_ok (PushText n.0.0, n.0.1) x n.2) (record { parts = ap (λ (t : List ℕ). PUSH_TEXT ∷ t) took.0.parts; rest_fits = took.0.rest_fits }, took.1)
-
-say_takes : (bytes : List ℕ) (x : Op × List ℕ) → IsBytes bytes → say_at bytes ≡ Ok x → IsOperand SAY bytes x
-unfolding say_at
-say_takes bytes x fits e =
-    let n = bind_ok (byte_at bytes) (λ n. cond (ltb SAID_LIMIT n.0) (Err Operand) (Ok (Say n.0, n.1))) x e in
-    let took = byte_takes bytes n.0 fits n.1 in
-    let few = guard_ok (ltb SAID_LIMIT n.0.0) Operand (Ok (Say n.0.0, n.0.1)) x n.2 in
-    subst (IsOperand SAY bytes) (same_ok (Say n.0.0, n.0.1) x few.1) (record { parts = ap (λ (t : List ℕ). SAY ∷ t) took.0.parts; rest_fits = took.0.rest_fits }, ltb-false _ _ few.0)
-
-done_takes : (bytes : List ℕ) (x : Op × List ℕ) → IsBytes bytes → read (Done, bytes) ≡ Ok x → IsOperand DONE bytes x
-done_takes bytes x fits e = subst (IsOperand DONE bytes) (same_ok (Done, bytes) x e) (record { parts = refl; rest_fits = fits }, tt)
-
-operand_takes : (opcode : ℕ) (bytes : List ℕ) (x : Op × List ℕ) → IsBytes bytes → operand_at opcode bytes ≡ Ok x → IsOperand opcode bytes x
-unfolding operand_at
-operand_takes opcode bytes x fits e =
-    let at = λ (n : ℕ). IsOperand n bytes x in
-    elim (chosen (eqb opcode PUSH_TEXT) (push_text_at bytes) _ (Ok x) e) [
-      | inl c ↦ subst at (sym (eqb-true _ _ c.0)) (push_text_takes bytes x fits c.1)
-      | inr c ↦ elim (chosen (eqb opcode SAY) (say_at bytes) _ (Ok x) c.1) [
-        | inl d ↦ subst at (sym (eqb-true _ _ d.0)) (say_takes bytes x fits d.1)
-        | inr d ↦
-            let last = met (eqb opcode DONE) Opcode (Ok (Done, bytes)) x d.1 in
-            subst at (sym (eqb-true _ _ last.0)) (done_takes bytes x fits last.1)
-      ]
-    ]
-
-op_takes : (bytes : List ℕ) (x : Op × List ℕ) → IsBytes bytes → op_at bytes ≡ Ok x → Takes bytes (op_bytes x.0) x.1 × IsOp x.0
-unfolding op_at
-op_takes [] x fits e = absurd cc
-op_takes (opcode ∷ bytes) x fits e = operand_takes opcode bytes x (IsBytes-rest opcode bytes fits) e
-
-op_again : (op : Op) (rest : List ℕ) → IsOp op → op_at (op_bytes op ++ rest) ≡ Ok (op, rest)
-unfolding op_at operand_at push_text_at say_at
-op_again (PushText text) rest fits = ap (λ (r : Result (ℕ × List ℕ) CodeFault). r >>= λ n. Ok (PushText n.0, n.1)) (number_again text rest fits)
-op_again (Say count) rest fits =
-    let few : ltb SAID_LIMIT count ≡ false = le-ltb _ _ fits in
-    rw few refl
-op_again Done rest fits = refl
-
-pub op_spelled : IsSpelled Op op_at op_bytes IsOp
-op_spelled = record { takes = op_takes; again = op_again }

@@ -1,4 +1,10 @@
+pub mod Turns
+pub mod PatternTurns
+pub mod Parts
+pub mod Tables
 pub mod Fields
 pub mod Lists
+pub mod Frames
+pub mod OpLaws
+pub mod PatternLaws
 pub mod Codes
-pub mod Loop

@@ -1,10 +1,13 @@
 //! A code in memory. Whoever makes or executes codes (bb_compile, bb_verify) calls it.
 
-ghost use Rattle.std.specs.Prelude.{◌≡◌, ◌↔◌, IsTrue, IsSome, IfSome};
-ghost use Rattle.bb_code.specs.Code.{IsText, AreTexts, IsOp, AreOps, IsCode};
+ghost use Rattle.std.specs.Prelude.{◌≡◌, ◌↔◌, IsSome, IfSome};
+ghost use Rattle.bb_code.specs.Code.{IsCode};
 
+use crate::frame::{FrameEntry, Loop};
+use crate::limits::are_parts;
 use crate::op::Op;
-use bb_basis::Text;
+use bb_basis::{Items, Text};
+use bb_pattern::Query;
 use std::marker::Model;
 
 /// The greatest number of locals of a code.
@@ -16,6 +19,15 @@ pub const TEXT_LIMIT: u16 = 1024;
 /// The greatest number of bytes of a text.
 pub const TEXT_BYTES_LIMIT: u16 = 65535;
 
+/// The greatest number of queries of a code.
+pub const QUERY_LIMIT: u16 = 256;
+
+/// The greatest number of declared frames of a code.
+pub const FRAME_LIMIT: u16 = 4096;
+
+/// The greatest number of loops of a code.
+pub const LOOP_LIMIT: u16 = 1024;
+
 /// The greatest number of ops of a code.
 pub const OP_LIMIT: u16 = 4096;
 
@@ -25,47 +37,63 @@ pub const SAID_LIMIT: u8 = 16;
 /// The greatest number of entries of the stack of an activation.
 pub const STACK_LIMIT: usize = 64;
 
-/// A code that bytes can spell: contracts see its locals, the bytes of its texts, and its ops.
+/// The parts of a code.
+#[derive(Debug, Drop)]
+pub struct CodeParts {
+    /// The number of locals, from 1 to `LOCAL_LIMIT`.
+    pub locals: u8,
+    /// At most `TEXT_LIMIT` of at most `TEXT_BYTES_LIMIT` bytes each.
+    pub texts: Items<Text>,
+    /// At most `QUERY_LIMIT`.
+    pub queries: Items<Query>,
+    /// At most `FRAME_LIMIT`, each with a kind for each local.
+    pub frames: Items<FrameEntry>,
+    /// At most `LOOP_LIMIT`.
+    pub loops: Items<Loop>,
+    /// From 1 to `OP_LIMIT`.
+    pub ops: Items<Op>,
+}
+
+/// A code that bytes can spell. Contracts see its parts.
 #[derive(Debug, Drop)]
 pub struct Code {
-    locals: u8,
-    texts: Vec<Text>,
-    ops: Vec<Op>,
+    parts: CodeParts,
 }
 
 impl Model for Code {
     ghost use Rattle.bb_code.specs.Code as code;
+    ghost use Rattle.bb_code.specs.proving.Codes.{parts_code};
 
     ghost Value = { code.Code };
 
-    ghost view = { λ a. record { locals = a.locals; texts = a.texts.items; ops = a.ops.items } };
+    ghost coded = { parts_code };
 
-    ghost invariant = { λ a.
-        code.IsCode (record { locals = a.locals; texts = a.texts.items; ops = a.ops.items }) };
+    ghost view = { λ c. c.parts };
+
+    ghost invariant = { λ c. code.IsCode c.parts };
 }
 
 impl Code {
-    /// A code of these parts, where they are within the limits above: there are 1 local and 1 op or more, and no more
-    /// of anything than its limit.
-    pub fn new(locals: u8, texts: Vec<Text>, ops: Vec<Op>) -> Option<Code>
-        ensures some { IsSome result ↔
-            IsCode (record { locals = locals; texts = texts.items; ops = ops.items }) }
-        ensures value { IfSome result (λ code.
-            code ≡ record { locals = locals; texts = texts.items; ops = ops.items }) }
+    /// A code of these parts, where they are within their limits: also each frame has a kind for each local, each query
+    /// at most 16 operands and a pattern of at most 64 nodes, each divisor is 1 or more, and no op says more than
+    /// `SAID_LIMIT` values.
+    pub fn new(parts: CodeParts) -> Option<Code>
+        ensures some { IsSome result ↔ IsCode parts }
+        ensures value { IfSome result (λ code. code ≡ parts) }
     {
-        if are_parts(locals, &texts, &ops) {
-            Some(Code::from_parts(locals, texts, ops))
+        if are_parts(&parts) {
+            Some(Code::from_parts(parts))
         } else {
             None
         }
     }
 
     /// A code of parts that are known to be within their limits.
-    pub(crate) fn from_parts(locals: u8, texts: Vec<Text>, ops: Vec<Op>) -> Code
-        requires { IsCode (record { locals = locals; texts = texts.items; ops = ops.items }) }
-        ensures { result ≡ record { locals = locals; texts = texts.items; ops = ops.items } }
+    pub(crate) fn from_parts(parts: CodeParts) -> Code
+        requires { IsCode parts }
+        ensures { result ≡ parts }
     {
-        Code { locals, texts, ops }
+        Code { parts }
     }
 
     /// The number of locals, from 1 to `LOCAL_LIMIT`.
@@ -73,7 +101,7 @@ impl Code {
         ensures value { result ≡ self.now.locals }
         ensures fits { IsCode self.now }
     {
-        self.locals
+        self.parts.locals
     }
 
     /// The texts, at most `TEXT_LIMIT` of at most `TEXT_BYTES_LIMIT` bytes each.
@@ -81,7 +109,31 @@ impl Code {
         ensures value { result.now ≡ self.now.texts }
         ensures fits { IsCode self.now }
     {
-        &self.texts
+        self.parts.texts.as_slice()
+    }
+
+    /// The queries, at most `QUERY_LIMIT`.
+    pub fn queries(&self) -> &[Query]
+        ensures value { result.now ≡ self.now.queries }
+        ensures fits { IsCode self.now }
+    {
+        self.parts.queries.as_slice()
+    }
+
+    /// The declared frames, at most `FRAME_LIMIT`.
+    pub fn frames(&self) -> &[FrameEntry]
+        ensures value { result.now ≡ self.now.frames }
+        ensures fits { IsCode self.now }
+    {
+        self.parts.frames.as_slice()
+    }
+
+    /// The loops, at most `LOOP_LIMIT`.
+    pub fn loops(&self) -> &[Loop]
+        ensures value { result.now ≡ self.now.loops }
+        ensures fits { IsCode self.now }
+    {
+        self.parts.loops.as_slice()
     }
 
     /// The ops, from 1 to `OP_LIMIT`.
@@ -89,59 +141,6 @@ impl Code {
         ensures value { result.now ≡ self.now.ops }
         ensures fits { IsCode self.now }
     {
-        &self.ops
-    }
-}
-
-fn are_parts(locals: u8, texts: &[Text], ops: &[Op]) -> bool
-    ensures { IsTrue result ↔ IsCode (record { locals = locals; texts = texts.now; ops = ops.now }) }
-{
-    if locals < 1 || LOCAL_LIMIT < locals {
-        return false;
-    }
-    are_texts(texts) && are_ops(ops)
-}
-
-fn are_texts(texts: &[Text]) -> bool
-    ensures { IsTrue result ↔ AreTexts texts.now }
-{
-    if texts.len() > TEXT_LIMIT as usize {
-        return false;
-    }
-    for text in texts {
-        if !is_text(text) {
-            return false;
-        }
-    }
-    true
-}
-
-fn is_text(text: &Text) -> bool
-    ensures { IsTrue result ↔ IsText text.now }
-{
-    text.as_str().len() <= TEXT_BYTES_LIMIT as usize
-}
-
-fn are_ops(ops: &[Op]) -> bool
-    ensures { IsTrue result ↔ AreOps ops.now }
-{
-    if ops.is_empty() || ops.len() > OP_LIMIT as usize {
-        return false;
-    }
-    for op in ops {
-        if !is_op(*op) {
-            return false;
-        }
-    }
-    true
-}
-
-fn is_op(op: Op) -> bool
-    ensures { IsTrue result ↔ IsOp op }
-{
-    match op {
-        Op::PushText(_text) => true,
-        Op::Say(count) => count <= SAID_LIMIT,
-        Op::Done => true,
+        self.parts.ops.as_slice()
     }
 }

@@ -6,3 +6,5 @@ pub mod Rate
 pub mod Line
 -- the sources of a bundle
 pub mod Bundle
+-- for models alone
+pub mod proving

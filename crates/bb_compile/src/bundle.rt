@@ -32,8 +32,11 @@ struct BundleParser {
 
 impl Model for BundleParser {
     ghost use Rattle.bb_compile.specs.Bundle.{Parser};
+    ghost use Rattle.bb_compile.specs.proving.Codes.{parser_code};
 
     ghost Value = { Parser };
+
+    ghost coded = { parser_code };
 
     ghost view = { λ p. record { lines = p.lines; sources = p.sources.items; partial = p.partial } };
 }

@@ -1,2 +1,3 @@
-pub mod StepLemmas
-pub mod ExecuteLemmas
+pub mod StackLemmas
+pub mod SaidLemmas
+pub mod ExecutionLemmas

@@ -1,11 +1,18 @@
 //! The defensive machine: it executes a code on a blackboard, and tests all that could go wrong.
 #![tactic(auto)]
 
+mod arithmetic;
+mod changes;
+mod execution;
+mod halt;
+mod jumps;
 mod machine;
 mod outcome;
-#[cfg(test)]
-mod tests;
+mod reading;
+mod sequence;
+mod step;
 mod value;
+mod words;
 
-pub use machine::execute;
-pub use outcome::{Answer, Ending, Outcome, Stuck};
+pub use execution::trial;
+pub use outcome::{Answer, Entry, Outcome, Stop, Stuck};

@@ -1,38 +1,172 @@
-//! The values that a code works with. The machine keeps them on its stack.
+//! The values that a code works with. The machine keeps them in its locals and on its stack.
 
-ghost use Rattle.std.specs.Prelude.{◌≡◌, IfOk, map};
-ghost use Rattle.bb_machine.specs.Value.{said_value};
-ghost use Rattle.bb_machine.specs.proving.Leads.{value_of, values_of};
+ghost use Rattle.std.specs.Prelude.{◌≡◌, IfOk};
+ghost use Rattle.bb_basis.specs.Results.{Gives};
+ghost use Rattle.bb_code.specs.Fields.{map_ok};
+ghost use Rattle.bb_machine.specs.declared.halt.Halt.TheVariants.{Memory as OutOfMemory};
+ghost use Rattle.bb_machine.specs.Value.{int_of, text_of, bool_of, label_of, interval_of, unit_of, sequence_of};
+ghost use Rattle.bb_machine.specs.Value.{copy_of, value_from, slot_value_of, said_of};
 
+use crate::halt::Halt;
+use crate::outcome::Stuck;
+use crate::sequence::Sequence;
+use crate::words::Words;
 use bb_basis::{Memory, Text};
 use bb_board::Said;
-use bb_schema::UnitId;
+use bb_schema::{LabelId, LabelSetId, UnitId, Value as SlotValue};
 use std::alloc::Global;
 
-/// A value with its sort. A text is lent from the code.
-#[derive(Clone, Copy, Debug)]
+/// A value with its sort.
+#[derive(Debug, Drop)]
 pub(crate) enum Value<'a> {
-    Text(&'a str),
+    Int(i64),
+    Text(Words<'a>),
+    Bool(bool),
+    /// A label of a set.
+    Label(LabelSetId, LabelId),
+    /// From the first number to the second, which is no less.
+    Interval(i64, i64),
+    /// A unit, which may be deleted, or 0.
     Unit(UnitId),
+    Seq(Sequence),
 }
 
-/// The value as a board notes it.
-fn said(alloc: Global, value: Value<'_>) -> Result<Said, Memory>
-    ensures { IfOk result (λ said. said ≡ said_value (value_of value.entry)) }
-{
-    Ok(match value {
-        Value::Text(text) => Said::Value(bb_schema::Value::Text(Text::from_str(alloc, text)?)),
-        Value::Unit(unit) => Said::Unit(unit),
-    })
-}
+// An operand of another sort than is due.
+const KIND: Halt = Halt::Stuck(Stuck::Kind);
 
-/// The values as a board notes them, in order.
-pub(crate) fn said_values(alloc: Global, values: &[Value<'_>]) -> Result<Vec<Said>, Memory>
-    ensures { IfOk result (λ said. said.items ≡ map said_value (values_of values.now)) }
-{
-    let mut said_values = Vec::new(alloc);
-    for value in values {
-        said_values.push(said(alloc, *value)?)?;
+impl<'a> Value<'a> {
+    /// The number that is due.
+    pub(crate) fn int(&self) -> Result<i64, Halt>
+        ensures { result ≡ int_of self.now }
+    {
+        match self {
+            Value::Int(number) => Ok(*number),
+            _ => Err(KIND),
+        }
     }
-    Ok(said_values)
+
+    /// The text that is due.
+    pub(crate) fn text(&self) -> Result<&str, Halt>
+        ensures { map_ok (λ t. t.now) result ≡ text_of self.now }
+    {
+        match self {
+            Value::Text(words) => Ok(words.as_str()),
+            _ => Err(KIND),
+        }
+    }
+
+    /// The truth value that is due.
+    pub(crate) fn truth(&self) -> Result<bool, Halt>
+        ensures { result ≡ bool_of self.now }
+    {
+        match self {
+            Value::Bool(truth) => Ok(*truth),
+            _ => Err(KIND),
+        }
+    }
+
+    /// The label that is due, with its set.
+    pub(crate) fn label(&self) -> Result<(LabelSetId, LabelId), Halt>
+        ensures { result ≡ label_of self.now }
+    {
+        match self {
+            Value::Label(set, label) => Ok((*set, *label)),
+            _ => Err(KIND),
+        }
+    }
+
+    /// The interval that is due, by its ends.
+    pub(crate) fn interval(&self) -> Result<(i64, i64), Halt>
+        ensures { result ≡ interval_of self.now }
+    {
+        match self {
+            Value::Interval(low, high) => Ok((*low, *high)),
+            _ => Err(KIND),
+        }
+    }
+
+    /// The unit that is due, which may be deleted.
+    pub(crate) fn unit(&self) -> Result<UnitId, Halt>
+        ensures { result ≡ unit_of self.now }
+    {
+        match self {
+            Value::Unit(unit) => Ok(*unit),
+            _ => Err(KIND),
+        }
+    }
+
+    /// The sequence that is due.
+    pub(crate) fn sequence(&self) -> Result<&Sequence, Halt>
+        ensures { map_ok (λ q. q.now) result ≡ sequence_of self.now }
+    {
+        match self {
+            Value::Seq(sequence) => Ok(sequence),
+            _ => Err(KIND),
+        }
+    }
+
+    /// The sequence that is due, taken out of the value.
+    pub(crate) fn into_sequence(self) -> Result<Sequence, Halt>
+        ensures { result ≡ sequence_of self.entry }
+    {
+        match self {
+            Value::Seq(sequence) => Ok(sequence),
+            _ => Err(KIND),
+        }
+    }
+
+    /// A copy of a value that is no sequence. It shares a text.
+    pub(crate) fn copy(&self) -> Result<Value<'a>, Halt>
+        ensures { Gives OutOfMemory (λ v. v) result (copy_of self.now) }
+    {
+        Ok(match self {
+            Value::Int(number) => Value::Int(*number),
+            Value::Text(words) => Value::Text(words.share()?),
+            Value::Bool(truth) => Value::Bool(*truth),
+            Value::Label(set, label) => Value::Label(*set, *label),
+            Value::Interval(low, high) => Value::Interval(*low, *high),
+            Value::Unit(unit) => Value::Unit(*unit),
+            Value::Seq(_) => return Err(KIND),
+        })
+    }
+
+    /// What a slot holds, as a value.
+    pub(crate) fn of_slot(alloc: Global, held: &SlotValue) -> Result<Value<'a>, Memory>
+        ensures { IfOk result (λ v. v ≡ value_from held.now) }
+    {
+        Ok(match held {
+            SlotValue::Int(number) => Value::Int(*number),
+            SlotValue::Text(text) => Value::Text(Words::copied(alloc, text)?),
+            SlotValue::Bool(truth) => Value::Bool(*truth),
+            SlotValue::Label(set, label) => Value::Label(*set, *label),
+            SlotValue::Interval(low, high) => Value::Interval(*low, *high),
+        })
+    }
+
+    /// The value as a slot holds it, `None` where it is a unit or a sequence.
+    pub(crate) fn to_slot(&self, alloc: Global) -> Result<Option<SlotValue>, Memory>
+        ensures { IfOk result (λ held. held ≡ slot_value_of self.now) }
+    {
+        Ok(Some(match self {
+            Value::Int(number) => SlotValue::Int(*number),
+            Value::Text(words) => SlotValue::Text(Text::from_str(alloc, words.as_str())?),
+            Value::Bool(truth) => SlotValue::Bool(*truth),
+            Value::Label(set, label) => SlotValue::Label(*set, *label),
+            Value::Interval(low, high) => SlotValue::Interval(*low, *high),
+            Value::Unit(_) | Value::Seq(_) => return Ok(None),
+        }))
+    }
+
+    /// The value as it is said, `None` where it is a sequence.
+    pub(crate) fn to_said(&self, alloc: Global) -> Result<Option<Said>, Memory>
+        ensures { IfOk result (λ said. said ≡ said_of self.now) }
+    {
+        if let Value::Unit(unit) = self {
+            return Ok(Some(Said::Unit(*unit)));
+        }
+        match self.to_slot(alloc)? {
+            Some(held) => Ok(Some(Said::Value(held))),
+            None => Ok(None),
+        }
+    }
 }

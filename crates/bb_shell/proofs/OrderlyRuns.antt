@@ -1,5 +1,5 @@
 -- Each stretch of a run goes on orderly after the notes before it.
-use Rattle.std.proofs.Common.{◌≡◌, ◌≤◌, ◌<◌, inl, inr, ℕ, zero, suc, ℤ, ◌+◌, ◌-◌, Bool, true, false, cond, List, [], ◌∷◌, ◌++◌, length, map, slice_get, Option, Some, None, refl, sym, ap, subst, ◌∙◌, append_assoc, arith}
+use Rattle.std.proofs.Common.{◌≡◌, ◌≤◌, ◌<◌, inl, inr, ℕ, zero, suc, ℤ, ◌+◌, ◌-◌, Bool, true, false, cond, List, [], ◌∷◌, ◌++◌, length, map, slice_get, Option, Some, None, Result, Ok, Err, refl, sym, ap, subst, ◌∙◌, append_assoc, arith}
 use Rattle.std.specs.Prelude.{⊤, Contains, ◌≤ℤ◌}
 use Rattle.std.specs.List.{flat_map}
 use Rattle.std.proofs.lemmas.List.{append-nil}
@@ -18,9 +18,9 @@ use Rattle.bb_agenda.proofs.ChosenLemmas.{chosen_some}
 use Rattle.bb_code.specs.Code.{Code}
 use Rattle.bb_verify.specs.Budget.{budget}
 use Rattle.bb_verify.specs.declared.checked.TheConstants.{FOUND_LIMIT}
-use Rattle.bb_machine.specs.declared.outcome.Ending.{Ending}
-use Rattle.bb_machine.specs.declared.outcome.Ending.TheVariants as endings
 use Rattle.bb_machine.specs.declared.outcome.Outcome.{Outcome}
+use Rattle.bb_machine.specs.declared.outcome.Stop.{Stop}
+use Rattle.bb_machine.specs.declared.outcome.Stop.TheVariants as stops
 use Rattle.bb_machine.specs.Activation.{activation}
 use Rattle.bb_rules.specs.declared.source.Act.{Act}
 use Rattle.bb_rules.specs.declared.source.Act.TheVariants as acts
@@ -34,7 +34,7 @@ use Rattle.bb_shell.specs.declared.shell.Shell.{Shell}
 use Rattle.bb_shell.specs.declared.state.State.{State}
 use Rattle.bb_shell.specs.Stretch.{Stretch, telling, over, after_segments, and_then, and_then_unless}
 use Rattle.bb_shell.specs.Processing.{Response, noted_first, response_by, response, processing, processing_all, events_in}
-use Rattle.bb_shell.specs.Run.{choice, wait_for, wait, with_notes_taken, report, after_execution, acting, acting_at, cycle, if_chosen, cycles, start, finish_segments, with_finish, unfinished, run}
+use Rattle.bb_shell.specs.Run.{choice, wait_for, wait, with_notes_taken, report, end_by, after_execution, entry_of, acting, acting_at, cycle, if_chosen, cycles, start, finish_segments, with_finish, unfinished, run}
 use Rattle.bb_shell.specs.Order.{notes_of, At, triggered_in, chosen_in, ends_in, pending_after, IsCounted, ActsOnPending, ExecutesInTurn, IsFinished, KeepsLimit, IsChosenAfter}
 use Rattle.bb_shell.proofs.OrderLemmas.{Comes, comes_none, comes_one, comes_then, comes_or_last}
 use Rattle.bb_shell.proofs.PendingLemmas.{IsKnown, Stands, IsSilent, chosen_then, stands_first, stands_silent, stands_triggered, stands_chosen}
@@ -231,18 +231,21 @@ module _ (shell : Shell) (board : Blackboard) where
 
   -- ---- a cycle
 
-  executes : (code : Code) (w : Blackboard) (agenda : Agenda) (o : Outcome) (ending : Ending) (past : List Note) (made : ℕ) → Agrees past (made + 1) made agenda → Tells past (made + 1) (made + 1) (after_execution shell code w agenda o ending)
-  executes code w agenda o (endings.Answered answer) past made stands =
+  early_end : (stop : Stop) → IsEarly (Some (end_by stop))
+  early_end (stops.Full steps found) = tt
+  early_end (stops.Stuck reason steps found) = tt
+  early_end stops.Memory = tt
+
+  executes : (code : Code) (w : Blackboard) (agenda : Agenda) (r : Result Outcome Stop) (past : List Note) (made : ℕ) → Agrees past (made + 1) made agenda → Tells past (made + 1) (made + 1) (after_execution shell code w agenda r)
+  executes code w agenda (Ok o) past made stands =
       reports past (made + 1) (made + 1) w agenda (Ended o.steps o.found (budget code o.found) ∷ []) None (keeps_ended past made o.steps o.found (budget code o.found) w agenda stands)
-  executes code w agenda o endings.Full past made stands =
-      reports past (made + 1) (made + 1) w agenda [] (Some finishes.Full) (keeps_board past (made + 1) made (made + 1) w agenda (Some finishes.Full) tt (λ none. absurd cc) stands)
-  executes code w agenda o (endings.Stuck reason) past made stands =
-      reports past (made + 1) (made + 1) w agenda [] (Some (finishes.Stuck reason)) (keeps_board past (made + 1) made (made + 1) w agenda (Some (finishes.Stuck reason)) tt (λ none. absurd cc) stands)
+  executes code w agenda (Err stop) past made stands =
+      reports past (made + 1) (made + 1) w agenda [] (Some (end_by stop)) (keeps_board past (made + 1) made (made + 1) w agenda (Some (end_by stop)) (early_end stop) (λ none. absurd cc) stands)
 
   acts_by : (act : Act) (a : Activation) (s : State) (past : List Note) (made : ℕ) → Agrees past (made + 1) made s.agenda → Tells past (made + 1) (made + 1) (acting shell act a s)
   acts_by (acts.Code code) a s past made stands =
-      let e = activation (budget code FOUND_LIMIT) code a.unit s.board in
-      executes code e.1 s.agenda e.0 e.0.ending past made stands
+      let e = activation (budget code FOUND_LIMIT) code (entry_of a) s.board in
+      executes code e.1 s.agenda e.0 past made stands
 
   -- each place within a list has its item
   within_some : {X : Type 0} (xs : List X) (i : ℕ) → i < length xs → slice_get xs i ≡ None → ⊥

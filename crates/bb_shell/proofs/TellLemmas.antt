@@ -15,9 +15,6 @@ use Rattle.bb_agenda.specs.Rating.{rating}
 use Rattle.bb_code.specs.Code.{Code}
 use Rattle.bb_verify.specs.Budget.{budget}
 use Rattle.bb_verify.specs.declared.checked.TheConstants.{FOUND_LIMIT}
-use Rattle.bb_machine.specs.declared.outcome.Ending.{Ending}
-use Rattle.bb_machine.specs.declared.outcome.Outcome.{Outcome}
-use Rattle.bb_machine.specs.Activation.{activation}
 use Rattle.bb_rules.specs.declared.source.Act.TheVariants as acts
 use Rattle.bb_rules.specs.declared.source.Source.{Source}
 use Rattle.bb_shell.specs.declared.finish.End.{End}
@@ -283,12 +280,6 @@ module _ (shell : Shell) (a b : Place) (board : Blackboard) (agenda : Agenda) (m
       (subst (λ es. Makes shell b c (processing_all shell es s) t r) are m)
 
 -- ---- an execution
-
-pub executed : (shell : Shell) (code given : Code) (a : Activation) (s : State) (limit : ℕ) (o : Outcome) (board : Blackboard) (ending : Ending) → limit ≡ budget code FOUND_LIMIT → given ≡ code → activation limit given a.unit s.board ≡ (o, board) → o.ending ≡ ending
-    → acting shell (acts.Code code) a s ≡ after_execution shell code board s.agenda o ending
-executed shell code given a s limit o board ending bound same ran ends =
-    let after : Outcome × Blackboard → Stretch = λ e. after_execution shell code e.1 s.agenda e.0 e.0.ending in
-    ap (λ n. after (activation n code a.unit s.board)) (sym bound) ∙ ap (λ k. after (activation limit k a.unit s.board)) (sym same) ∙ ap after ran ∙ ap (after_execution shell code board s.agenda o) ends
 
 -- ---- a cycle
 

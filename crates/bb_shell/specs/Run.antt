@@ -1,5 +1,5 @@
 -- The run of the blackboard machine (the control cycle of the GBBopen Agenda Shell).
-use Rattle.std.specs.Prelude.{ℕ, zero, suc, ◌+◌, List, [], ◌∷◌, ◌++◌, map, Option, Some, None, slice_get}
+use Rattle.std.specs.Prelude.{ℕ, zero, suc, ◌+◌, List, [], ◌∷◌, ◌++◌, map, Option, Some, None, Result, Ok, Err, slice_get}
 use Rattle.bb_board.specs.declared.event.Event.TheVariants.{Quiescence as quiescence}
 use Rattle.bb_board.specs.declared.note.Note.TheVariants.{Event as happened}
 use Rattle.bb_board.specs.Board.{Board as Blackboard, with_world}
@@ -11,9 +11,10 @@ use Rattle.bb_agenda.specs.Chosen.{chosen}
 use Rattle.bb_code.specs.Code.{Code}
 use Rattle.bb_verify.specs.Budget.{budget}
 use Rattle.bb_verify.specs.declared.checked.TheConstants.{FOUND_LIMIT}
-use Rattle.bb_machine.specs.declared.outcome.Ending.{Ending}
-use Rattle.bb_machine.specs.declared.outcome.Ending.TheVariants as endings
+use Rattle.bb_machine.specs.declared.outcome.Entry.{Entry}
 use Rattle.bb_machine.specs.declared.outcome.Outcome.{Outcome}
+use Rattle.bb_machine.specs.declared.outcome.Stop.{Stop}
+use Rattle.bb_machine.specs.declared.outcome.Stop.TheVariants as stops
 use Rattle.bb_machine.specs.Activation.{activation}
 use Rattle.bb_rules.specs.declared.source.Act.{Act}
 use Rattle.bb_rules.specs.declared.source.Act.TheVariants as acts
@@ -54,19 +55,27 @@ report shell board agenda more end =
     and_then (telling (map Board board.world.notes ++ more) (with_notes_taken board agenda) end)
     (processing_all shell (events_in board.world.notes))
 
+-- how the run ends where an execution stops before an answer; an execution of the definitions has all memory it needs
+abbrev pub end_by : Stop → End
+end_by (stops.Full steps found) = finishes.Full
+end_by (stops.Stuck reason steps found) = finishes.Stuck reason
+end_by stops.Memory = finishes.Full
+
 -- what an execution leads to: the run is over where it did not come to an answer
-abbrev pub after_execution : Shell → Code → Blackboard → Agenda → Outcome → Ending → Stretch
-after_execution shell code board agenda o (endings.Answered answer) =
+abbrev pub after_execution : Shell → Code → Blackboard → Agenda → Result Outcome Stop → Stretch
+after_execution shell code board agenda (Ok o) =
     report shell board agenda (Ended o.steps o.found (budget code o.found) ∷ []) None
-after_execution shell code board agenda o endings.Full = report shell board agenda [] (Some finishes.Full)
-after_execution shell code board agenda o (endings.Stuck reason) =
-    report shell board agenda [] (Some (finishes.Stuck reason))
+after_execution shell code board agenda (Err stop) = report shell board agenda [] (Some (end_by stop))
+
+-- an activation's execution begins with its unit
+abbrev pub entry_of : Activation → Entry
+entry_of a = record { it = a.unit; ev = None }
 
 -- a source acts for an activation
 abbrev pub acting : Shell → Act → Activation → State → Stretch
 acting shell (acts.Code code) a s =
-    let e = activation (budget code FOUND_LIMIT) code a.unit s.board in
-    after_execution shell code e.1 s.agenda e.0 e.0.ending
+    let e = activation (budget code FOUND_LIMIT) code (entry_of a) s.board in
+    after_execution shell code e.1 s.agenda e.0
 
 -- the source at the activation's place acts; each pending activation has one
 abbrev pub acting_at : Shell → Option Source → Activation → State → Stretch

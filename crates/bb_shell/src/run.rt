@@ -4,7 +4,6 @@ ghost use Rattle.std.specs.Prelude.{◌≡◌, ◌≤◌, ◌∷◌, ◌++◌, [
 ghost use Rattle.std.specs.Io.KnownBytes.{Appends};
 ghost use Rattle.bb_agenda.specs.Agenda.{no_activations};
 ghost use Rattle.bb_rules.specs.declared.source.Act.TheVariants.{Code};
-ghost use Rattle.bb_agenda.specs.declared.activation.Activation.{Activation as Chosen};
 ghost use Rattle.bb_shell.specs.declared.note.Note.TheVariants.{Board as BoardNote};
 ghost use Rattle.bb_shell.specs.declared.sources.TheConstants.{SOURCE_LIMIT};
 ghost use Rattle.bb_shell.specs.Finish.{WritesFront, end_of, is_write};
@@ -24,7 +23,7 @@ use crate::shell::Shell;
 use crate::state::State;
 use bb_agenda::{Activation, Agenda};
 use bb_board::{Board, Event};
-use bb_machine::{Ending, execute};
+use bb_machine::{Entry, Stop, trial};
 use bb_rules::{Act, Source};
 use bb_verify::{Checked, FOUND_LIMIT};
 use std::alloc::{AllocError, Global};
@@ -200,18 +199,22 @@ fn execute_code<O: Out>(
     page: &mut Page,
     shell: &Shell,
     code: &Checked,
+    activation: Activation,
     state: &mut State,
 ) -> Result<Option<End>, Halt>
     requires open { O.has_failed out.old ≡ false }
     requires few { length shell.now.sources ≤ SOURCE_LIMIT }
-    ensures made { (a : Chosen) → Makes shell.now (at (O.taken out.old) page.old) (at (O.taken out.new) page.new)
-        (acting shell.now (Code code.now) a state.old) state.new result }
+    ensures made { Makes shell.now (at (O.taken out.old) page.old) (at (O.taken out.new) page.new)
+        (acting shell.now (Code code.now) activation state.old) state.new result }
     ensures failed { O.has_failed out.new ≡ stopped_by_write result }
 {
     let limit = code.budget(FOUND_LIMIT);
-    let outcome = execute(page.alloc(), code.code(), limit, &mut state.board)?;
-    match outcome.ending {
-        Ending::Answered(_) => {
+    let entry = Entry {
+        it: activation.unit,
+        ev: None,
+    };
+    match trial(page.alloc(), code.code(), &mut state.board, entry, limit) {
+        Ok(outcome) => {
             let ended = Note::Ended {
                 steps: outcome.steps,
                 found: outcome.found,
@@ -219,8 +222,11 @@ fn execute_code<O: Out>(
             };
             report(out, page, shell, Some(ended), None, state)
         }
-        Ending::Full => report(out, page, shell, None, Some(End::Full), state),
-        Ending::Stuck(reason) => { report(out, page, shell, None, Some(End::Stuck(reason)), state) }
+        Err(Stop::Full { .. }) => report(out, page, shell, None, Some(End::Full), state),
+        Err(Stop::Stuck { reason, .. }) => {
+            report(out, page, shell, None, Some(End::Stuck(reason)), state)
+        }
+        Err(Stop::Memory) => Err(Halt::Memory),
     }
 }
 
@@ -262,7 +268,7 @@ fn make_cycle<O: Out>(
     tell(out, page, shell, &[chosen])?;
     state.agenda.executed(activation.number);
     match source_at(shell.sources.as_slice(), activation.source) {
-        Some(source) => execute_code(out, page, shell, code_of(&source.act), state),
+        Some(source) => { execute_code(out, page, shell, code_of(&source.act), activation, state) },
         None => Ok(None),
     }
 }

@@ -1,7 +1,8 @@
 //! Bundles that the tests make.
 
-use bb_basis::Text;
-use bb_code::{Code, Op};
+use crate::trials::code_of;
+use bb_basis::{Items, Text};
+use bb_code::{CodeParts, Op};
 use std::alloc::Global;
 use std::fmt::Write;
 use std::test::Fail;
@@ -38,11 +39,18 @@ pub(crate) fn numbered_bundle(alloc: Global, count: u32, class: &str) -> Result<
 
 /// The hex digits of a code of one local.
 pub(crate) fn code(alloc: Global, texts: &[&str], ops: &[Op]) -> Result<String, Fail> {
-    let mut kept = Vec::new(alloc);
+    let mut kept = Items::new(alloc);
     for text in texts {
         kept.push(Text::from_str(alloc, text)?)?;
     }
-    let code = Code::new(1, kept, ops.to_vec(alloc)?).ok_or("the parts are within their limits")?;
+    let code = code_of(CodeParts {
+        locals: 1,
+        texts: kept,
+        queries: Items::new(alloc),
+        frames: Items::new(alloc),
+        loops: Items::new(alloc),
+        ops: Items::from(ops.to_vec(alloc)?),
+    })?;
     Ok(hex::encode(alloc, code.encode(alloc)?)?)
 }
 

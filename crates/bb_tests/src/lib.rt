@@ -4,6 +4,10 @@
 #[cfg(test)]
 mod bundles;
 #[cfg(test)]
+mod execution_cases;
+#[cfg(test)]
+mod executions;
+#[cfg(test)]
 mod first_run;
 #[cfg(test)]
 mod input;
@@ -11,6 +15,8 @@ mod input;
 mod limits;
 #[cfg(test)]
 mod links;
+#[cfg(test)]
+mod loops;
 #[cfg(test)]
 mod outputs;
 #[cfg(test)]
@@ -28,6 +34,10 @@ mod schemas;
 #[cfg(test)]
 mod spaces;
 #[cfg(test)]
+mod stuck;
+#[cfg(test)]
 mod traces;
+#[cfg(test)]
+mod trials;
 #[cfg(test)]
 mod unit_values;

@@ -8,7 +8,7 @@ use std::alloc::Global;
 use std::test::Fail;
 
 /// A class with each kind of slot and three links, a class that descends from it, and two spaces.
-const THING_SCHEMA: &str = r#"{"labels":[{"name":"hue","values":["red","green"]}],
+pub(crate) const THING_SCHEMA: &str = r#"{"labels":[{"name":"hue","values":["red","green"]}],
 "classes":[{"name":"thing","slots":[{"name":"pos","kind":"interval"},
 {"name":"hue","kind":"label","of":"hue"},{"name":"score","kind":"int"}],
 "links":[{"name":"mate","to":"thing","many":false,"inverse":"mate_of"},

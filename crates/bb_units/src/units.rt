@@ -4,7 +4,7 @@ ghost use Rattle.std.specs.Prelude.{◌≡◌, ◌<◌, ◌↔◌, IsTrue, IsSom
 ghost use Rattle.std.specs.FinMap as map;
 ghost use Rattle.bb_basis.specs.Results.{Gives};
 ghost use Rattle.bb_units.specs.Fits.{Fits};
-ghost use Rattle.bb_units.specs.Layout.{layout_of};
+ghost use Rattle.bb_units.specs.Layout.{layout_of, can_hold};
 ghost use Rattle.bb_units.specs.Units.{no_units, is_live, class_of, value_of, has_slot, takes, next_number};
 ghost use Rattle.bb_units.specs.Units.{after_create, after_delete, after_set, units_of, value_among, with_value_of};
 
@@ -139,12 +139,20 @@ impl Units {
         value_in(&self.units, unit, slot).is_some()
     }
 
+    /// Whether a slot is an ordinary one of the schema, and can hold a value: one of its kind, a text of at most 65,535
+    /// bytes, a label that is there, an interval in order.
+    pub fn can_hold(&self, slot: SlotId, value: &Value) -> bool
+        ensures { result ≡ can_hold self.now.layout slot value.now }
+    {
+        self.layout.can_hold(slot, value)
+    }
+
     /// Whether a number names a unit whose class has the ordinary slot, and the slot can hold a value: one of its kind,
     /// a text of at most 65,535 bytes, a label that is there, an interval in order.
     pub fn takes(&self, unit: UnitId, slot: SlotId, value: &Value) -> bool
         ensures { result ≡ takes self.now unit slot value.now }
     {
-        self.has(unit, slot) && self.layout.can_hold(slot, value)
+        self.has(unit, slot) && self.can_hold(slot, value)
     }
 
     /// Creates a unit of a class that is there, each of its slots at its default, and returns its number, the next one.

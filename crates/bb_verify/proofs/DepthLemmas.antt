@@ -15,7 +15,7 @@ use Rattle.bb_code.specs.declared.op.Op.TheVariants.{PushText, Say, Done}
 use Rattle.bb_verify.specs.declared.flaw.Flaw.{Flaw}
 use Rattle.bb_verify.specs.declared.flaw.Flaw.TheVariants as flaws
 use Rattle.bb_verify.specs.declared.flaw.VerifyFault.{VerifyFault}
-use Rattle.bb_verify.specs.Accepted.{fault_at, check_entries, check_tables, check_end, check_frames, entry_frame, accepted}
+use Rattle.bb_verify.specs.Accepted.{fault_at, check_entries, check_tables, check_end, check_frames, entry_frame, check_ops}
 use Rattle.bb_verify.specs.Budget.{budget}
 use Rattle.bb_verify.specs.proving.Depths.{depth_after, check_depth_end, check_depths, next_depth, depth_step}
 use Rattle.bb_verify.specs.Effect.{a_text, Frame, effect}
@@ -42,6 +42,7 @@ effect_depth : (op : Op) (f : Frame) → depth_or_flaw (effect op f) ≡ depth_a
 effect_depth (PushText t) f = pushed_depth (nat_le STACK_LIMIT (length f.stack)) f
 effect_depth (Say count) f = said_depth (nat_lt (length f.stack) count) count f
 effect_depth Done f = refl
+effect_depth _ f = refl
 
 -- after one op, where the rest is the same
 same_after : (place : ℕ) (r : Result (Option Frame) Flaw) (ops : List Op) → ((next : Option Frame) → check_frames (place + 1) next ops ≡ check_depths (place + 1) (depth_of next) ops)
@@ -62,16 +63,16 @@ frames-depths place (Some f) (op ∷ ops) =
     same_after place (effect op f) ops (λ next. frames-depths (place + 1) next ops)
     ∙ ap (λ r. map_err (fault_at place) r >>= λ next. check_depth_end place next ops >>= λ _. check_depths (place + 1) next ops) (effect_depth op f)
 
--- a code is accepted exactly where both checks pass
-pub accepted_by_depths : (code : Code) (class : ℕ) → accepted code class ≡ (check_tables (length code.texts) 0 code.ops >>= λ _. check_depths 0 (Some 0) code.ops)
-accepted_by_depths code class = ap (λ r. check_tables (length code.texts) 0 code.ops >>= λ _. r) (frames-depths 0 (Some (entry_frame code class)) code.ops)
+-- the ops pass exactly where both checks do
+pub checked_by_depths : (code : Code) (class : ℕ) → check_ops code class ≡ (check_tables (length code.texts) 0 code.ops >>= λ _. check_depths 0 (Some 0) code.ops)
+checked_by_depths code class = ap (λ r. check_tables (length code.texts) 0 code.ops >>= λ _. r) (frames-depths 0 (Some (entry_frame code class)) code.ops)
 
 -- where the tables are in order, the depths decide
 pub depths_decide : (code : Code) (class : ℕ) (texts : List (List ℕ)) (ops again : List Op) (x : Unit {0}) (r : Result (Unit {0}) VerifyFault) → texts ≡ code.texts → ops ≡ code.ops → again ≡ code.ops
-    → Ok x ≡ check_tables (length texts) 0 ops → r ≡ check_depths 0 (Some 0) again → accepted code class ≡ r
+    → Ok x ≡ check_tables (length texts) 0 ops → r ≡ check_depths 0 (Some 0) again → check_ops code class ≡ r
 depths_decide code class texts ops again x r texts_are ops_are again_are passed is =
     let now : Ok x ≡ check_tables (length code.texts) 0 code.ops = passed ∙ (ap (λ ts. check_tables (length ts) 0 ops) texts_are ∙ ap (check_tables (length code.texts) 0) ops_are) in
-    accepted_by_depths code class ∙ (ap (λ t. t >>= λ _. check_depths 0 (Some 0) code.ops) (sym now) ∙ (sym (ap (check_depths 0 (Some 0)) again_are) ∙ sym is))
+    checked_by_depths code class ∙ (ap (λ t. t >>= λ _. check_depths 0 (Some 0) code.ops) (sym now) ∙ (sym (ap (check_depths 0 (Some 0)) again_are) ∙ sym is))
 
 -- a turn of the loop over the tables
 tables-drop : (texts : ℕ) (ops : List Op) (i : ℕ) (d : Op) → i < length ops → check_tables texts i (drop i ops) ≡ (check_entries texts i (get_or ops i d) >>= λ _. check_tables texts (i + 1) (drop (i + 1) ops))

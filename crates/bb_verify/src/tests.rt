@@ -1,17 +1,33 @@
 use super::*;
-use bb_basis::Text;
-use bb_code::{Code, Op};
+use bb_basis::{Items, Text};
+use bb_code::{Code, CodeParts, Frame, FrameEntry, Kind, Loop, Node, Op, Pattern, Query};
 use std::alloc::Global;
 use std::test::Fail;
 
 // What the verifier says of a code of one local, with so many texts and these ops.
 fn verified(alloc: Global, texts: usize, ops: &[Op]) -> Result<Result<Checked, VerifyFault>, Fail> {
+    Ok(verify(1, code_of(parts(alloc, texts, ops)?)?))
+}
+
+// A code, where its parts are within their limits.
+fn code_of(parts: CodeParts) -> Result<Code, Fail> {
+    Ok(Code::new(parts).ok_or("the parts are within their limits")?)
+}
+
+// A code of one local, with so many texts and these ops.
+fn parts(alloc: Global, texts: usize, ops: &[Op]) -> Result<CodeParts, Fail> {
     let mut kept = Vec::new(alloc);
     for _ in 0..texts {
         kept.push(Text::from_str(alloc, "hello")?)?;
     }
-    let code = Code::new(1, kept, ops.to_vec(alloc)?).ok_or("the parts are within their limits")?;
-    Ok(verify(1, code))
+    Ok(CodeParts {
+        locals: 1,
+        texts: Items::from(kept),
+        queries: Items::new(alloc),
+        frames: Items::new(alloc),
+        loops: Items::new(alloc),
+        ops: Items::from(ops.to_vec(alloc)?),
+    })
 }
 
 #[test]
@@ -36,6 +52,8 @@ fn first_flaws(rt: HostRuntime) -> Result<(), Fail> {
             Flaw::Table,
         ),
         (0, [Op::Done, Op::Done].as_slice(), 1, Flaw::Frame),
+        // Another op is refused as a whole, before the tables.
+        (0, [Op::PushText(0), Op::Jump(0)].as_slice(), 0, Flaw::Frame),
         (0, [Op::Say(1), Op::Done].as_slice(), 0, Flaw::Depth),
         (1, [Op::PushText(0)].as_slice(), 0, Flaw::End),
         (0, [Op::Say(0), Op::Say(0)].as_slice(), 1, Flaw::End),
@@ -57,6 +75,45 @@ fn first_flaws(rt: HostRuntime) -> Result<(), Fail> {
         let fault = VerifyFault { place, flaw };
         assert_eq!(rt; verified(rt.alloc(), texts, ops)?.err(), Some(fault));
     }
+    Ok(())
+}
+
+fn a_query(alloc: Global) -> Query {
+    Query {
+        class: 1,
+        space: 0,
+        kinds: Items::new(alloc),
+        pattern: Pattern::new(Node::All),
+    }
+}
+
+fn a_frame(alloc: Global) -> Result<FrameEntry, Fail> {
+    let mut locals = Items::new(alloc);
+    locals.push(Kind::Old(1))?;
+    Ok(FrameEntry {
+        place: 0,
+        frame: Frame {
+            locals,
+            stack: Items::new(alloc),
+        },
+    })
+}
+
+#[test]
+fn tables_that_are_not_empty(rt: HostRuntime) -> Result<(), Fail> {
+    let refused = Some(VerifyFault {
+        place: 0,
+        flaw: Flaw::Frame,
+    });
+    let mut query = parts(rt.alloc(), 0, &[Op::Done])?;
+    query.queries.push(a_query(rt.alloc()))?;
+    assert_eq!(rt; verify(1, code_of(query)?).err(), refused);
+    let mut frame = parts(rt.alloc(), 0, &[Op::Done])?;
+    frame.frames.push(a_frame(rt.alloc())?)?;
+    assert_eq!(rt; verify(1, code_of(frame)?).err(), refused);
+    let mut turns = parts(rt.alloc(), 0, &[Op::Done])?;
+    turns.loops.push(Loop { head: 0, end: 1 })?;
+    assert_eq!(rt; verify(1, code_of(turns)?).err(), refused);
     Ok(())
 }
 

@@ -1,8 +1,9 @@
 //! The verifier. Whoever makes sources (bb_rules, bb_shell) calls it once for each code.
 
-ghost use Rattle.std.specs.Prelude.{◌≡◌, ◌≤◌, MatchResult, Ok, Err, Some, length};
+ghost use Rattle.std.specs.Prelude.{◌≡◌, ◌≤◌, ℕ, MatchResult, Ok, Err, Some, length};
+ghost use Rattle.std.specs.List.{list_all};
 ghost use Rattle.bb_code.specs.declared.code.TheConstants.{OP_LIMIT};
-ghost use Rattle.bb_verify.specs.Accepted.{accepted, check_entries, check_tables};
+ghost use Rattle.bb_verify.specs.Accepted.{accepted, is_plain_op, is_plain, check_plain, check_ops, check_entries, check_tables};
 ghost use Rattle.bb_verify.specs.proving.Depths.{depth_after, depth_step, check_depths};
 
 use crate::checked::Checked;
@@ -10,14 +11,56 @@ use crate::flaw::{Flaw, VerifyFault};
 use bb_code::{Code, Op, STACK_LIMIT};
 use bb_schema::ClassId;
 
-/// Accepts a code for the executions of a class, or returns its first fault: first the operands of all ops are looked
-/// up in their tables, then each op is checked at the frame that the op before it leaves. It allocates nothing.
+/// Accepts a code for the executions of a class, or returns its first fault: a code with a query, a declared frame, a
+/// loop, or an op other than `PushText`, `Say` and `Done` has a fault at place 0; then the operands of all ops are looked
+/// up in their tables, and then each op is checked at the frame that the op before it leaves. It allocates nothing.
 pub fn verify(class: ClassId, code: Code) -> Result<Checked, VerifyFault>
     ensures { MatchResult result (λ c. (accepted code class ≡ Ok tt) × (c ≡ code)) (λ e. accepted code class ≡ Err e) }
 {
-    check_tables(code.texts().len(), code.ops())?;
-    check_frames(code.ops())?;
+    check_plain(&code)?;
+    check_ops(&code)?;
     Ok(Checked::new(code))
+}
+
+fn is_plain_op(op: Op) -> bool
+    ensures { result ≡ is_plain_op op }
+{
+    matches!(op, Op::PushText(_) | Op::Say(_) | Op::Done)
+}
+
+fn are_plain(ops: &[Op]) -> bool
+    ensures { result ≡ list_all is_plain_op ops.now }
+{
+    ops.iter().all(|op| is_plain_op(*op))
+}
+
+fn is_plain(code: &Code) -> bool
+    ensures { result ≡ is_plain code.now }
+{
+    code.queries().is_empty()
+        && code.frames().is_empty()
+        && code.loops().is_empty()
+        && are_plain(code.ops())
+}
+
+fn check_plain(code: &Code) -> Result<(), VerifyFault>
+    ensures { result ≡ check_plain code.now }
+{
+    if !is_plain(code) {
+        return Err(VerifyFault {
+            place: 0,
+            flaw: Flaw::Frame,
+        });
+    }
+    Ok(())
+}
+
+// The class of the unit in local 0 decides nothing yet.
+fn check_ops(code: &Code) -> Result<(), VerifyFault>
+    ensures { (class : ℕ) → result ≡ check_ops code.now class }
+{
+    check_tables(code.texts().len(), code.ops())?;
+    check_frames(code.ops())
 }
 
 fn check_tables(texts: usize, ops: &[Op]) -> Result<(), VerifyFault>
@@ -39,7 +82,7 @@ fn check_entries(texts: usize, place: u16, op: Op) -> Result<(), VerifyFault>
             place,
             flaw: Flaw::Table,
         }),
-        Op::PushText(_) | Op::Say(_) | Op::Done => Ok(()),
+        _ => Ok(()),
     }
 }
 
@@ -90,5 +133,6 @@ fn depth_after(op: Op, depth: usize) -> Result<Option<usize>, Flaw>
         Op::Say(count) if depth < count as usize => Err(Flaw::Depth),
         Op::Say(count) => Ok(Some(depth - count as usize)),
         Op::Done => Ok(None),
+        _ => Err(Flaw::Frame),
     }
 }

@@ -15,6 +15,7 @@ abbrev pub depth_after : Op → ℕ → Result (Option ℕ) Flaw
 depth_after (PushText t) d = if nat_le STACK_LIMIT d then Err flaws.Depth else Ok (Some (d + 1))
 depth_after (Say count) d = if nat_lt d count then Err flaws.Depth else Ok (Some (d - count))
 depth_after Done d = Ok None
+depth_after _ d = Err flaws.Frame
 
 -- the last op ends the activation
 abbrev pub check_depth_end : ℕ → Option ℕ → List Op → Result (Unit {0}) VerifyFault

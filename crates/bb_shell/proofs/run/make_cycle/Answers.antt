@@ -36,4 +36,4 @@ returns-in-Some-clause-made g c =
     (acting_at c.args.shell.now (Some c.in-Some.source.now) c.args.activation t) c.execute_code.new.state c.execute_code.result
     (choice_told c.args.shell.now (at (g.O.Out.taken c.args.out.now) c.args.page.now) b c.args.number c.args.activation c.args.state.now (to_z w64 (of_z w64 c.rating.result)) t (Some c.in-Some.source.now) (to_z-of_z w64 c.rating.result (search rules) ∙ c.rating.ensures)
     (ap (λ (a : Agenda). let s : State = record { board = c.args.state.now.board; agenda = a } in s) c.executed.ensures) there c.in_ok-tell.ensures.told)
-    (subst (λ (x : Act). Makes c.args.shell.now b (at (g.O.Out.taken c.execute_code.new.out) c.execute_code.new.page) (acting c.args.shell.now x c.args.activation t) c.execute_code.new.state c.execute_code.result) (sym c.code_of.ensures) (c.execute_code.ensures.made c.args.activation))
+    (subst (λ (x : Act). Makes c.args.shell.now b (at (g.O.Out.taken c.execute_code.new.out) c.execute_code.new.page) (acting c.args.shell.now x c.args.activation t) c.execute_code.new.state c.execute_code.result) (sym c.code_of.ensures) c.execute_code.ensures.made)

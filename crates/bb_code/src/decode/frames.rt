@@ -1,0 +1,96 @@
+//! Declared frames and loops at the front of bytes. `decode` calls it.
+
+ghost use Rattle.std.specs.Prelude.{◌≡◌};
+ghost use Rattle.bb_basis.specs.Results.{Gives};
+ghost use Rattle.bb_code.specs.Fields.{map_ok, kind_after, frame_at, list_at};
+
+use super::fields::{Field, read_byte, read_count, read_each, read_number, read_short_list};
+use crate::code::{FRAME_LIMIT, STACK_LIMIT};
+use crate::fault::CodeFault;
+use crate::frame::{Frame, FrameEntry, Kind, Loop};
+use crate::table::{KindForm, kind_form};
+use bb_basis::Items;
+use std::alloc::Global;
+
+#[tactic(auto, unfolding(crate::specs::Fields::kind_after))]
+fn read_kind_after(form: KindForm, bytes: &[u8]) -> Result<(Kind, &[u8]), CodeFault>
+    ensures { map_ok (λ x. (x.0, x.1.now)) result ≡ kind_after form bytes.now }
+{
+    match form {
+        KindForm::Plain(kind) => Ok((kind, bytes)),
+        KindForm::Label => {
+            let (set, rest) = read_number(bytes)?;
+            Ok((Kind::Label(set), rest))
+        }
+        KindForm::Ref => {
+            let (class, rest) = read_number(bytes)?;
+            Ok((Kind::Ref(class), rest))
+        }
+        KindForm::Old => {
+            let (class, rest) = read_number(bytes)?;
+            Ok((Kind::Old(class), rest))
+        }
+        KindForm::Seq => {
+            let (class, rest) = read_number(bytes)?;
+            Ok((Kind::Seq(class), rest))
+        }
+    }
+}
+
+impl Field for Kind {
+    ghost use Rattle.bb_code.specs.Fields.{kind_at};
+
+    ghost at = { kind_at };
+
+    #[tactic(auto, unfolding(crate::specs::Fields::kind_at))]
+    fn read(_alloc: Global, bytes: &[u8]) -> Result<(Kind, &[u8]), CodeFault> {
+        let (tag, rest) = read_byte(bytes)?;
+        let form = kind_form(tag).ok_or(CodeFault::Operand)?;
+        read_kind_after(form, rest)
+    }
+}
+
+impl Field for Loop {
+    ghost use Rattle.bb_code.specs.Fields.{loop_at};
+
+    ghost at = { loop_at };
+
+    #[tactic(auto, unfolding(crate::specs::Fields::loop_at))]
+    fn read(_alloc: Global, bytes: &[u8]) -> Result<(Loop, &[u8]), CodeFault> {
+        let (head, rest) = read_number(bytes)?;
+        let (end, rest) = read_number(rest)?;
+        Ok((Loop { head, end }, rest))
+    }
+}
+
+/// A frame of a code with so many locals.
+#[tactic(auto, unfolding(crate::specs::Fields::frame_at))]
+fn read_frame(alloc: Global, locals: u8, bytes: &[u8]) -> Result<(FrameEntry, &[u8]), CodeFault>
+    ensures { Gives CodeFault.Memory (λ x. (x.0, x.1.now)) result (frame_at locals bytes.now) }
+{
+    let (place, rest) = read_number(bytes)?;
+    let (locals, rest) = read_each(alloc, locals as usize, rest)?;
+    let (stack, rest) = read_short_list(alloc, rest, STACK_LIMIT)?;
+    let frame = Frame { locals, stack };
+    Ok((FrameEntry { place, frame }, rest))
+}
+
+/// The frames of a code with so many locals.
+#[tactic(auto, unfolding(crate::specs::Fields::list_at))]
+pub(crate) fn read_frames(
+    alloc: Global,
+    locals: u8,
+    bytes: &[u8],
+) -> Result<(Items<FrameEntry>, &[u8]), CodeFault>
+    ensures { Gives CodeFault.Memory (λ x. (x.0, x.1.now)) result
+        (list_at 0 FRAME_LIMIT (frame_at locals) bytes.now) }
+{
+    let (count, mut rest) = read_count(bytes, 0, FRAME_LIMIT)?;
+    let mut frames = Items::new(alloc);
+    for _ in 0..count {
+        let (frame, after) = read_frame(alloc, locals, rest)?;
+        frames.push(frame)?;
+        rest = after;
+    }
+    Ok((frames, rest))
+}

@@ -1,0 +1,46 @@
+//! Frames and loops: what a code declares of its places. The verifier checks them, and the machine does not read them.
+
+use crate::op::Place;
+use bb_basis::Items;
+use bb_schema::{ClassId, LabelSetId};
+
+/// What is known of a local or of an entry of the stack.
+#[derive(Clone, Copy, Debug, PartialEq, Eq)]
+pub enum Kind {
+    /// Anything, or nothing. It can't be used.
+    Any,
+    Int,
+    Text,
+    Bool,
+    /// A label of this set.
+    Label(LabelSetId),
+    Interval,
+    /// A live unit of this class or one below it.
+    Ref(ClassId),
+    /// No unit, or one that was created and, if it is live, is of this class or one below it.
+    Old(ClassId),
+    /// A sequence of units of this class or one below it, which may be deleted.
+    Seq(ClassId),
+}
+
+/// The kinds of all locals and of the stack at a place.
+#[derive(Debug, PartialEq, Drop)]
+pub struct Frame {
+    pub locals: Items<Kind>,
+    /// The deepest entry first.
+    pub stack: Items<Kind>,
+}
+
+/// A place and the frame that a code declares for it.
+#[derive(Debug, Drop)]
+pub struct FrameEntry {
+    pub place: Place,
+    pub frame: Frame,
+}
+
+/// A loop: the places from its head to before its end.
+#[derive(Clone, Copy, Debug, PartialEq, Eq)]
+pub struct Loop {
+    pub head: Place,
+    pub end: Place,
+}
