@@ -22,3 +22,9 @@ pub mod Kept
 pub mod Step
 -- an execution: steps from the first place
 pub mod Activation
+-- the values of a kind, and the states that suit a frame
+pub mod Kinds
+-- steps that lead to a state that suits
+pub mod Safe
+-- for proofs alone
+pub mod proving

@@ -2,11 +2,11 @@
 use Rattle.std.specs.Prelude.{ℕ, List, Result, Ok, Err, if◌then◌else◌}
 use Rattle.bb_basis.specs.Results.{◌>>=◌, ok_or, try_map}
 use Rattle.bb_board.specs.declared.event.ChangeKind.TheVariants.{Create}
-use Rattle.bb_code.specs.Code.{Code}
 use Rattle.bb_compile.specs.declared.source_code.ClauseText.{ClauseText}
 use Rattle.bb_compile.specs.declared.source_code.ClauseText.TheVariants as texts
 use Rattle.bb_compile.specs.declared.source_code.SourceHeader.{SourceHeader}
 use Rattle.bb_schema.specs.Schema.{Schema, class_named, descends}
+use Rattle.bb_verify.specs.Accepted.{Checked}
 use Rattle.bb_rules.specs.declared.clause.Clause.{Clause}
 use Rattle.bb_rules.specs.declared.clause.Clause.TheVariants.{Change}
 use Rattle.bb_rules.specs.declared.fault.RuleFault.{RuleFault}
@@ -31,7 +31,7 @@ clause_of s class (texts.Create name) = do
   Ok (Change Create created)
 
 -- first the class of the source is looked up, then each clause
-unfoldable pub source_of : Schema → SourceHeader → Code → Result Source RuleFault
+unfoldable pub source_of : Schema → SourceHeader → Checked → Result Source RuleFault
 source_of s header body = do
   class ← class_of s header.class
   triggers ← try_map (clause_of s class) header.triggers

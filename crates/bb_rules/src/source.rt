@@ -16,14 +16,14 @@ use bb_verify::Checked;
 use std::alloc::Global;
 
 /// What an activation of a source does.
-#[derive(Debug, Drop)]
+#[derive(Drop)]
 pub enum Act {
     /// It executes a code.
     Code(Checked),
 }
 
 /// A source whose names are looked up and whose code is accepted (GBBopen Reference Manual, knowledge sources).
-#[derive(Debug, Drop)]
+#[derive(Drop)]
 pub struct Source {
     pub name: Text,
     /// The class of the units that it works on.

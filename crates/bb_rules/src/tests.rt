@@ -2,7 +2,7 @@ use super::*;
 use bb_board::{Change, ChangeKind, Event};
 use bb_compile::unbundle;
 use bb_schema::{ClassId, Schema};
-use bb_verify::verify;
+use bb_verify::{Part, verify};
 use std::alloc::Global;
 use std::test::Fail;
 
@@ -26,7 +26,7 @@ fn source_of(
     text.push_str("do 4242430101000000000000000000012e")?;
     let mut sources = unbundle(alloc, &text)?;
     let source = sources.pop().ok_or("one source is written")?;
-    let body = verify(1, source.body)?;
+    let body = verify(alloc, schema, Part::Do { class: 1 }, source.body)?;
     Ok(Source::new(alloc, schema, source.header, body))
 }
 

@@ -243,9 +243,9 @@ module _ (shell : Shell) (board : Blackboard) where
       reports past (made + 1) (made + 1) w agenda [] (Some (end_by stop)) (keeps_board past (made + 1) made (made + 1) w agenda (Some (end_by stop)) (early_end stop) (λ none. absurd cc) stands)
 
   acts_by : (act : Act) (a : Activation) (s : State) (past : List Note) (made : ℕ) → Agrees past (made + 1) made s.agenda → Tells past (made + 1) (made + 1) (acting shell act a s)
-  acts_by (acts.Code code) a s past made stands =
-      let e = activation (budget code FOUND_LIMIT) code (entry_of a) s.board in
-      executes code e.1 s.agenda e.0 past made stands
+  acts_by (acts.Code body) a s past made stands =
+      let e = activation (budget body.code FOUND_LIMIT) body.code (entry_of a) s.board in
+      executes body.code e.1 s.agenda e.0 past made stands
 
   -- each place within a list has its item
   within_some : {X : Type 0} (xs : List X) (i : ℕ) → i < length xs → slice_get xs i ≡ None → ⊥

@@ -20,6 +20,8 @@ use Rattle.bb_machine.specs.Reading.{push_text}
 use Rattle.bb_machine.specs.Changing.{say}
 use Rattle.bb_machine.specs.Step.{step}
 use Rattle.bb_machine.specs.Activation.{steps_from}
+use Rattle.bb_code.specs.declared.code.CodeParts.{CodeParts}
+use Rattle.bb_verify.specs.declared.part.Part.TheVariants.{Do}
 use Rattle.bb_rules.specs.declared.clause.Clause.TheVariants as clause
 use Rattle.bb_rules.specs.declared.source.Act.TheVariants.{Code}
 use Rattle.bb_rules.specs.declared.source.Source.{Source}
@@ -38,8 +40,11 @@ note_schema = record {
   spaces = [];
 }
 
+hello : CodeParts
+hello = record { locals = 1; texts = codes "hello" ∷ []; queries = []; frames = []; loops = []; ops = PushText 0 ∷ Say 1 ∷ Done ∷ [] }
+
 hail : Source
-hail = record { name = codes "hail"; class = 1; triggers = clause.Change kinds.Create 1 ∷ []; rate = pos 100; act = Code (record { locals = 1; texts = codes "hello" ∷ []; queries = []; frames = []; loops = []; ops = PushText 0 ∷ Say 1 ∷ Done ∷ [] }) }
+hail = record { name = codes "hail"; class = 1; triggers = clause.Change kinds.Create 1 ∷ []; rate = pos 100; act = Code (record { code = hello; part = Do 1; frames = [] }) }
 
 shell : ℤ → Shell
 shell floor = record { schema = note_schema; sources = hail ∷ []; floor = floor }
@@ -53,15 +58,15 @@ waiting = record { number = 1; source = 0; unit = 1; base = pos 100 }
 first_run : (run (shell (pos 0)) one_note 100).segments ≡
     (Board (noted.Event (happens 1 1 Create)) ∷ []) ∷ (Triggered waiting ∷ []) ∷ (Chosen 1 waiting (pos 100) ∷ [])
     ∷ (Board (noted.Said (saids.Value (Text (codes "hello")) ∷ [])) ∷ Ended 3 0 3 ∷ []) ∷ (Board (noted.Event Quiescence) ∷ []) ∷ (Finished ends.Quiescence ∷ []) ∷ []
-unfolding shell hail note_schema one_note waiting climbs try_map room push push_text pop_many say step steps_from response_by processing_all cycles
+unfolding shell hail hello note_schema one_note waiting climbs try_map room push push_text pop_many say step steps_from response_by processing_all cycles
 first_run = refl
 
 limit_zero : (run (shell (pos 0)) one_note 0).segments ≡
     (Board (noted.Event (happens 1 1 Create)) ∷ []) ∷ (Triggered waiting ∷ []) ∷ (Finished ends.Limit ∷ []) ∷ []
-unfolding shell hail note_schema one_note waiting climbs try_map room push push_text pop_many say step steps_from response_by processing_all cycles
+unfolding shell hail hello note_schema one_note waiting climbs try_map room push push_text pop_many say step steps_from response_by processing_all cycles
 limit_zero = refl
 
 floor_above : (run (shell (pos 101)) one_note 100).segments ≡
     (Board (noted.Event (happens 1 1 Create)) ∷ []) ∷ (Triggered waiting ∷ []) ∷ (Board (noted.Event Quiescence) ∷ []) ∷ (Finished ends.Quiescence ∷ []) ∷ []
-unfolding shell hail note_schema one_note waiting climbs try_map room push push_text pop_many say step steps_from response_by processing_all cycles
+unfolding shell hail hello note_schema one_note waiting climbs try_map room push push_text pop_many say step steps_from response_by processing_all cycles
 floor_above = refl

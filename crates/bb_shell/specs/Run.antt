@@ -73,9 +73,9 @@ entry_of a = record { it = a.unit; ev = None }
 
 -- a source acts for an activation
 abbrev pub acting : Shell → Act → Activation → State → Stretch
-acting shell (acts.Code code) a s =
-    let e = activation (budget code FOUND_LIMIT) code (entry_of a) s.board in
-    after_execution shell code e.1 s.agenda e.0
+acting shell (acts.Code body) a s =
+    let e = activation (budget body.code FOUND_LIMIT) body.code (entry_of a) s.board in
+    after_execution shell body.code e.1 s.agenda e.0
 
 -- the source at the activation's place acts; each pending activation has one
 abbrev pub acting_at : Shell → Option Source → Activation → State → Stretch

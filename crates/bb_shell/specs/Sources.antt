@@ -5,7 +5,8 @@ use Rattle.std.specs.List.{list_any}
 use Rattle.std.specs.Str.{bytes_eq}
 use Rattle.bb_basis.specs.Results.{◌>>=◌, map_err, try_map, try_fold}
 use Rattle.bb_schema.specs.Schema.{Schema, class_named}
-use Rattle.bb_verify.specs.Accepted.{accepted}
+use Rattle.bb_verify.specs.Accepted.{checked}
+use Rattle.bb_verify.specs.declared.part.Part.TheVariants as parts
 use Rattle.bb_compile.specs.declared.source_code.SourceCode.{SourceCode}
 use Rattle.bb_rules.specs.declared.fault.RuleFault.TheVariants as rules
 use Rattle.bb_rules.specs.declared.source.Source.{Source}
@@ -17,15 +18,15 @@ use Rattle.bb_shell.specs.declared.sources.AcceptedSource.{AcceptedSource}
 use Rattle.bb_shell.specs.declared.sources.TheConstants.{SOURCE_LIMIT}
 
 -- a code that is accepted for the class of its source
-abbrev pub accepted_for : SourceCode → Option ℕ → Result AcceptedSource InputFault
-accepted_for code None = Err (Rule code.header.name rules.Class)
-accepted_for code (Some class) = do
-  _ ← map_err (Verify code.header.name Do) (accepted code.body class)
-  Ok (record { header = code.header; body = code.body })
+abbrev pub accepted_for : Schema → SourceCode → Option ℕ → Result AcceptedSource InputFault
+accepted_for s code None = Err (Rule code.header.name rules.Class)
+accepted_for s code (Some class) = do
+  body ← map_err (Verify code.header.name Do) (checked s (parts.Do class) code.body)
+  Ok (record { header = code.header; body = body })
 
 -- the class is looked up, then the code is verified
 abbrev pub accepted_source : Schema → SourceCode → Result AcceptedSource InputFault
-accepted_source s code = accepted_for code (class_named s code.header.class)
+accepted_source s code = accepted_for s code (class_named s code.header.class)
 
 -- the names of a source are resolved
 abbrev pub resolved_source : Schema → AcceptedSource → Result Source InputFault

@@ -9,7 +9,7 @@ use bb_basis::{Items, Names, Text};
 use bb_compile::{SourceCode, SourceHeader};
 use bb_rules::{RuleFault, Source};
 use bb_schema::Schema;
-use bb_verify::{Checked, verify};
+use bb_verify::{Checked, Flaw, VerifyFault, verify};
 use std::alloc::Global;
 
 /// The greatest number of sources.
@@ -47,13 +47,13 @@ fn accept_all(
 {
     let mut accepted = Vec::new(alloc);
     for code in codes {
-        accepted.push(accept(schema, code)?)?;
+        accepted.push(accept(alloc, schema, code)?)?;
     }
     Ok(accepted)
 }
 
-fn accept(schema: &Schema, code: SourceCode) -> Result<AcceptedSource, InputFault>
-    ensures { result ≡ accepted_source schema.now code }
+fn accept(alloc: Global, schema: &Schema, code: SourceCode) -> Result<AcceptedSource, InputFault>
+    ensures { Gives InputFault.Memory (λ s. s) result (accepted_source schema.now code) }
 {
     let SourceCode { header, body } = code;
     let Some(class) = schema.class(header.class.as_str()) else {
@@ -63,8 +63,14 @@ fn accept(schema: &Schema, code: SourceCode) -> Result<AcceptedSource, InputFaul
             fault: RuleFault::Class,
         });
     };
-    match verify(class, body) {
+    match verify(alloc, schema, bb_verify::Part::Do { class }, body) {
         Ok(body) => Ok(AcceptedSource { header, body }),
+        Err(
+            VerifyFault {
+                flaw: Flaw::Memory,
+                ..
+            },
+        ) => Err(InputFault::Memory),
         Err(fault) => {
             let SourceHeader { name, .. } = header;
             Err(InputFault::Verify {

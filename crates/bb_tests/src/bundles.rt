@@ -43,15 +43,22 @@ pub(crate) fn code(alloc: Global, texts: &[&str], ops: &[Op]) -> Result<String, 
     for text in texts {
         kept.push(Text::from_str(alloc, text)?)?;
     }
-    let code = code_of(CodeParts {
-        locals: 1,
-        texts: kept,
-        queries: Items::new(alloc),
-        frames: Items::new(alloc),
-        loops: Items::new(alloc),
-        ops: Items::from(ops.to_vec(alloc)?),
-    })?;
-    Ok(hex::encode(alloc, code.encode(alloc)?)?)
+    hex_of(
+        alloc,
+        CodeParts {
+            locals: 1,
+            texts: kept,
+            queries: Items::new(alloc),
+            frames: Items::new(alloc),
+            loops: Items::new(alloc),
+            ops: Items::from(ops.to_vec(alloc)?),
+        },
+    )
+}
+
+/// The hex digits of the code of these parts.
+pub(crate) fn hex_of(alloc: Global, parts: CodeParts) -> Result<String, Fail> {
+    Ok(hex::encode(alloc, code_of(parts)?.encode(alloc)?)?)
 }
 
 /// A source `hail` on notes with a code.

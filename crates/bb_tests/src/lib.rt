@@ -16,6 +16,8 @@ mod limits;
 #[cfg(test)]
 mod links;
 #[cfg(test)]
+mod loop_runs;
+#[cfg(test)]
 mod loops;
 #[cfg(test)]
 mod outputs;

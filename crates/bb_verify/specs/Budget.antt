@@ -1,12 +1,14 @@
--- The budget of a code: how many steps an activation of it can make at most.
-use Rattle.std.specs.Prelude.{ℕ, ◌+◌, ◌^◌, sum_by, length}
-use Rattle.std.specs.List.{range_with_len}
+-- How many steps an activation of a code can make at most (of this project).
+use Rattle.std.specs.Prelude.{ℕ, ◌+◌, ◌^◌}
+use Rattle.std.specs.List.{sum_by}
 use Rattle.bb_code.specs.Code.{Code}
+use Rattle.bb_verify.specs.Tables.{places}
+use Rattle.bb_verify.specs.Loops.{depth}
 
--- the number of loops around a place: no code has loops yet
-abbrev pub depth : Code → ℕ → ℕ
-depth code place = 0
+-- how often a place can come, where so many loops hold it and no sequence has more than m elements
+abbrev pub turns : (m loops : ℕ) → ℕ
+turns m loops = (m + 1) ^ loops
 
--- where no sequence has more than m elements: each place counts once for each turn of the loops around it
+-- each place counts as often as it can come
 abbrev pub budget : Code → ℕ → ℕ
-budget code m = sum_by (λ place. (m + 1) ^ depth code place) (range_with_len 0 (length code.ops))
+budget code m = sum_by (λ place. turns m (depth code place)) (places code)

@@ -1,8 +1,9 @@
--- The numbers by which refusals name what is wrong with a code.
+-- What is wrong with a code, and the numbers by which refusals name it.
 use Rattle.std.specs.Prelude.{ℕ}
 use Rattle.bb_verify.specs.declared.flaw.Flaw.{Flaw}
 use Rattle.bb_verify.specs.declared.flaw.Flaw.TheVariants.{Table, Jump, Loop, Frame, Depth, Kind, Dead, Slot, LinkClass}
-use Rattle.bb_verify.specs.declared.flaw.Flaw.TheVariants.{Space, Query, Effect, End}
+use Rattle.bb_verify.specs.declared.flaw.Flaw.TheVariants.{Space, Query, Effect, End, Memory}
+use Rattle.bb_verify.specs.declared.flaw.VerifyFault.{VerifyFault}
 
 abbrev pub fault_number : Flaw → ℕ
 fault_number Table = 1
@@ -18,3 +19,12 @@ fault_number Space = 10
 fault_number Query = 11
 fault_number Effect = 12
 fault_number End = 13
+fault_number Memory = 14
+
+-- a flaw at a place
+abbrev pub fault_at : ℕ → Flaw → VerifyFault
+fault_at place flaw = record { place = place; flaw = flaw }
+
+-- a call that ran out of memory says nothing of the code
+abbrev pub out_of_memory : VerifyFault
+out_of_memory = fault_at 0 Memory

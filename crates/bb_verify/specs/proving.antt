@@ -1,2 +1,2 @@
--- the depth of the stack, in place of its kinds
-pub mod Depths
+-- how accepted codes are stored as data that can be told apart
+pub mod Codes

@@ -1,7 +1,10 @@
 //! What the verifier refuses. Refusal lines name it by its number.
 
 ghost use Rattle.std.specs.Prelude.{◌≡◌};
-ghost use Rattle.bb_verify.specs.Flaws.{fault_number};
+ghost use Rattle.bb_verify.specs.Flaws.{fault_number, out_of_memory};
+ghost use Rattle.bb_verify.specs.declared.flaw.Flaw.TheVariants.{Memory};
+
+use std::alloc::{AllocError, AllocFailed};
 
 /// What is wrong with a code at a place.
 #[derive(Clone, Copy, Debug, PartialEq, Eq)]
@@ -32,10 +35,12 @@ pub enum Flaw {
     Effect,
     /// The end of another part, or a last op that can go on.
     End,
+    /// Memory ran out. It says nothing of the code.
+    Memory,
 }
 
 impl Flaw {
-    /// The number by which a refusal line names the flaw, from 1 to 13.
+    /// The number by which a refusal line names the flaw, from 1 to 14.
     pub fn number(self) -> u8
         ensures { result ≡ fault_number self }
     {
@@ -53,6 +58,7 @@ impl Flaw {
             Flaw::Query => 11,
             Flaw::Effect => 12,
             Flaw::End => 13,
+            Flaw::Memory => 14,
         }
     }
 }
@@ -60,7 +66,45 @@ impl Flaw {
 /// Why a code is not accepted: its first flaw.
 #[derive(Clone, Copy, Debug, PartialEq, Eq)]
 pub struct VerifyFault {
-    /// The place of the op, from 0.
+    /// The place of the op, from 0. At `Memory` it is 0.
     pub place: u16,
     pub flaw: Flaw,
+}
+
+impl<T: Drop> From<AllocFailed<T>> for Flaw {
+    ghost from_gives = { λ _ flaw. flaw ≡ Memory };
+
+    fn from(_error: AllocFailed<T>) -> Flaw {
+        Flaw::Memory
+    }
+}
+
+impl From<AllocError> for Flaw {
+    ghost from_gives = { λ _ flaw. flaw ≡ Memory };
+
+    fn from(_error: AllocError) -> Flaw {
+        Flaw::Memory
+    }
+}
+
+impl From<AllocError> for VerifyFault {
+    ghost from_gives = { λ _ fault. fault ≡ out_of_memory };
+
+    fn from(_error: AllocError) -> VerifyFault {
+        VerifyFault {
+            place: 0,
+            flaw: Flaw::Memory,
+        }
+    }
+}
+
+impl<T: Drop> From<AllocFailed<T>> for VerifyFault {
+    ghost from_gives = { λ _ fault. fault ≡ out_of_memory };
+
+    fn from(_error: AllocFailed<T>) -> VerifyFault {
+        VerifyFault {
+            place: 0,
+            flaw: Flaw::Memory,
+        }
+    }
 }

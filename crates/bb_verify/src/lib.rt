@@ -1,13 +1,32 @@
-//! The verifier: which codes are accepted for the executions of a class. Whoever makes sources (bb_rules, bb_shell)
-//! calls it, and the machine executes only what it accepted.
+//! The verifier: which codes are accepted for the parts of a source. Whoever makes sources (bb_rules, bb_shell) calls
+//! it, and the machine executes only what it accepted.
 #![tactic(auto)]
 
 mod checked;
+mod due;
+mod edges;
+mod effect;
 mod flaw;
+mod frame;
+mod jumps;
+mod kind;
+mod locals;
+mod loops;
+mod ops;
+mod part;
+mod places;
+mod stack;
+mod tables;
 #[cfg(test)]
 mod tests;
 mod verifier;
+mod walk;
 
 pub use checked::{Checked, FOUND_LIMIT};
 pub use flaw::{Flaw, VerifyFault};
+pub use frame::Frame;
+pub use locals::Locals;
+pub use loops::NESTING_LIMIT;
+pub use part::Part;
+pub use stack::Stack;
 pub use verifier::verify;

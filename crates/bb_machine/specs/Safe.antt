@@ -1,0 +1,45 @@
+-- Steps after which the state suits a frame that the verifier gives for the place.
+use Rattle.std.specs.Prelude.{◌≡◌, ◌⊎◌, ℕ, Option, Some, None, Result, Ok, Err}
+use Rattle.bb_basis.specs.Results.{◌>>=◌}
+use Rattle.bb_board.specs.Fits.{Fits}
+use Rattle.bb_schema.specs.Schema.{Schema}
+use Rattle.bb_code.specs.Code.{Code}
+use Rattle.bb_code.specs.declared.op.Op.{Op}
+use Rattle.bb_verify.specs.declared.flaw.Flaw.{Flaw}
+use Rattle.bb_verify.specs.declared.frame.Frame.{Frame}
+use Rattle.bb_verify.specs.declared.part.Part.{Part}
+use Rattle.bb_verify.specs.Effect.{effect}
+use Rattle.bb_verify.specs.Jumps.{target_of}
+use Rattle.bb_machine.specs.declared.halt.Halt.{Halt}
+use Rattle.bb_machine.specs.declared.halt.Halt.TheVariants.{Answered, Full, Stuck, Memory}
+use Rattle.bb_machine.specs.Changing.{State}
+use Rattle.bb_machine.specs.Kinds.{Suits}
+
+-- the frames that an op leaves for the next place, and for the place that it goes to
+abbrev pub edges_of : Schema → Part → Code → Op → Frame → Result (Option Frame × Option Frame) Flaw
+edges_of s part code op f = effect s part code op f >>= λ e. Ok (e.on, e.target)
+
+-- the edge is there, and a state suits its frame
+abbrev pub SuitsEdge : Option Frame → State → Type 0
+SuitsEdge None state = ⊥
+SuitsEdge (Some f) state = Suits state.1.schema state.1.world state.0 f
+
+-- a state stands at the next place, or at the one that the op goes to, and suits the frame of the edge to it
+abbrev pub IsAtEdge : (next : ℕ) → Op → Option Frame × Option Frame → State → Type 0
+IsAtEdge next op edges state =
+    ((state.0.place ≡ next) × SuitsEdge edges.0 state)
+    ⊎ ((target_of op ≡ Some (state.0.place)) × SuitsEdge edges.1 state)
+
+-- the blackboard is still one of the schema and fits it, and the state suits an edge of the op
+pub record Leads (s : Schema) (next : ℕ) (op : Op) (edges : Option Frame × Option Frame) (state : State) : Type 0 where
+  pub schema : state.1.schema ≡ s
+  pub fits : Fits s state.1.world
+  pub edge : IsAtEdge next op edges state
+
+-- an op leads on, ends with an answer, or finds no room for one more unit
+abbrev pub IsSafe : Schema → (next : ℕ) → Op → Option Frame × Option Frame → Result State Halt → Type 0
+IsSafe s next op edges (Ok state) = Leads s next op edges state
+IsSafe s next op edges (Err (Answered a)) = Unit {0}
+IsSafe s next op edges (Err Full) = Unit {0}
+IsSafe s next op edges (Err (Stuck reason)) = ⊥
+IsSafe s next op edges (Err Memory) = ⊥

@@ -1,0 +1,73 @@
+-- Loops that test one thing after another.
+use Rattle.std.proofs.Common.{◌≡◌, ℕ, suc, ◌+◌, ◌-◌, ◌<◌, ◌≤◌, List, ◌∷◌, length, drop, get_or, Result, Ok, Err, refl, sym, ap, ◌∙◌, arith, add-one, drop-cons}
+use Rattle.std.specs.List.{range_with_len}
+use Rattle.std.proofs.lemmas.List.{drop_all}
+use Rattle.bb_basis.specs.Results.{◌>>=◌, try_fold}
+use Rattle.bb_code.specs.declared.frame.Kind.{Kind}
+use Rattle.bb_pattern.specs.declared.value.OperandKind.{OperandKind}
+use Rattle.bb_verify.specs.declared.flaw.Flaw.{Flaw}
+use Rattle.bb_verify.specs.Each.{each}
+use Rattle.bb_verify.specs.Due.{operand_due, operands_due}
+
+-- ---- over a slice
+
+each-drop : {A E : Type 0} (f : A → Result (Unit {0}) E) (xs : List A) (i : ℕ) (d : A) → i < length xs → each f (drop i xs) ≡ (f (get_or xs i d) >>= λ _. each f (drop (i + 1) xs))
+unfolding each
+each-drop f xs i d lt = rw (drop-cons xs i d lt, add-one) refl
+
+pub each_next : {A E : Type 0} (f : A → Result (Unit {0}) E) (xs : List A) (i : ℕ) (d : A) (x : Unit {0}) (total : Result (Unit {0}) E) → i < length xs → Ok x ≡ f (get_or xs i d) → each f (drop i xs) ≡ total → each f (drop (i + 1) xs) ≡ total
+each_next f xs i d x total lt ok so_far = ap (λ r. r >>= λ _. each f (drop (i + 1) xs)) ok ∙ (sym (each-drop f xs i d lt) ∙ so_far)
+
+pub each_error : {A E : Type 0} (f : A → Result (Unit {0}) E) (xs : List A) (i : ℕ) (d : A) (e : E) (total : Result (Unit {0}) E) → i < length xs → Err e ≡ f (get_or xs i d) → each f (drop i xs) ≡ total → Err e ≡ total
+each_error f xs i d e total lt failed so_far = ap (λ r. r >>= λ _. each f (drop (i + 1) xs)) failed ∙ (sym (each-drop f xs i d lt) ∙ so_far)
+
+pub each_end : {A E : Type 0} (f : A → Result (Unit {0}) E) (xs : List A) (i : ℕ) (total : Result (Unit {0}) E) → length xs ≤ i → each f (drop i xs) ≡ total → Ok tt ≡ total
+unfolding each
+each_end f xs i total le so_far = sym (ap (each f) (drop_all i xs le)) ∙ so_far
+
+-- ---- over numbers
+
+grown : (i n : ℕ) → i < n → n - i ≡ suc (n - (i + 1))
+grown i n lt = omega (arith, lt)
+
+pub range-cons : (i n : ℕ) → i < n → range_with_len i (n - i) ≡ i ∷ range_with_len (i + 1) (n - (i + 1))
+range-cons i n lt = ap (range_with_len i) (grown i n lt)
+
+each-range : {E : Type 0} (f : ℕ → Result (Unit {0}) E) (i n : ℕ) → i < n → each f (range_with_len i (n - i)) ≡ (f i >>= λ _. each f (range_with_len (i + 1) (n - (i + 1))))
+unfolding each
+each-range f i n lt = ap (each f) (range-cons i n lt)
+
+pub range_next : {E : Type 0} (f : ℕ → Result (Unit {0}) E) (i n : ℕ) (x : Unit {0}) (total : Result (Unit {0}) E) → i < n → Ok x ≡ f i → each f (range_with_len i (n - i)) ≡ total → each f (range_with_len (i + 1) (n - (i + 1))) ≡ total
+range_next f i n x total lt ok so_far = ap (λ r. r >>= λ _. each f (range_with_len (i + 1) (n - (i + 1)))) ok ∙ (sym (each-range f i n lt) ∙ so_far)
+
+pub range_error : {E : Type 0} (f : ℕ → Result (Unit {0}) E) (i n : ℕ) (e : E) (total : Result (Unit {0}) E) → i < n → Err e ≡ f i → each f (range_with_len i (n - i)) ≡ total → Err e ≡ total
+range_error f i n e total lt failed so_far = ap (λ r. r >>= λ _. each f (range_with_len (i + 1) (n - (i + 1)))) failed ∙ (sym (each-range f i n lt) ∙ so_far)
+
+none : (i n : ℕ) → n ≤ i → n - i ≡ 0
+none i n le = omega (arith, le)
+
+pub range_end : {E : Type 0} (f : ℕ → Result (Unit {0}) E) (i n : ℕ) (total : Result (Unit {0}) E) → n ≤ i → each f (range_with_len i (n - i)) ≡ total → Ok tt ≡ total
+unfolding each
+range_end f i n total le so_far = sym (ap (λ k. each f (range_with_len i k)) (none i n le)) ∙ so_far
+
+-- ---- over operands and their kinds
+
+operands-drop : (os : List OperandKind) (ks : List Kind) (i : ℕ) (o : OperandKind) (k : Kind) → i < length os → length os ≡ length ks → operands_due (drop i os) (drop i ks) ≡ (operand_due (get_or os i o) (get_or ks i k) >>= λ _. operands_due (drop (i + 1) os) (drop (i + 1) ks))
+unfolding operands_due
+operands-drop os ks i o k lt same = rw (drop-cons os i o lt, drop-cons ks i k (omega (arith, lt, same)), add-one) refl
+
+pub operands_next : (os : List OperandKind) (ks : List Kind) (i : ℕ) (o : OperandKind) (k : Kind) (x : Unit {0}) (total : Result (Unit {0}) Flaw) → i < length os → length os ≡ length ks → Ok x ≡ operand_due (get_or os i o) (get_or ks i k) → operands_due (drop i os) (drop i ks) ≡ total → operands_due (drop (i + 1) os) (drop (i + 1) ks) ≡ total
+operands_next os ks i o k x total lt same ok so_far = ap (λ r. r >>= λ _. operands_due (drop (i + 1) os) (drop (i + 1) ks)) ok ∙ (sym (operands-drop os ks i o k lt same) ∙ so_far)
+
+pub operands_error : (os : List OperandKind) (ks : List Kind) (i : ℕ) (o : OperandKind) (k : Kind) (e : Flaw) (total : Result (Unit {0}) Flaw) → i < length os → length os ≡ length ks → Err e ≡ operand_due (get_or os i o) (get_or ks i k) → operands_due (drop i os) (drop i ks) ≡ total → Err e ≡ total
+operands_error os ks i o k e total lt same failed so_far = ap (λ r. r >>= λ _. operands_due (drop (i + 1) os) (drop (i + 1) ks)) failed ∙ (sym (operands-drop os ks i o k lt same) ∙ so_far)
+
+pub operands_end : (os : List OperandKind) (ks : List Kind) (i : ℕ) (total : Result (Unit {0}) Flaw) → length os ≤ i → operands_due (drop i os) (drop i ks) ≡ total → Ok tt ≡ total
+unfolding operands_due
+operands_end os ks i total le so_far = sym (ap (λ l. operands_due l (drop i ks)) (drop_all i os le)) ∙ so_far
+
+-- ---- a change at each number
+
+pub fold_end : {S E : Type 0} (f : S → ℕ → Result S E) (s : S) (i n : ℕ) (total : Result S E) → n ≤ i → try_fold f s (range_with_len i (n - i)) ≡ total → total ≡ Ok s
+unfolding try_fold
+fold_end f s i n total le so_far = sym so_far ∙ ap (λ k. try_fold f s (range_with_len i k)) (none i n le)

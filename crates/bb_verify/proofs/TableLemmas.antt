@@ -1,0 +1,84 @@
+-- The places of declared frames rise.
+use Rattle.std.proofs.Common.{◌≡◌, ℕ, ◌+◌, ◌<◌, ◌≤◌, Bool, true, false, List, ◌∷◌, length, drop, get_or, Result, Ok, Err, refl, sym, ap, ◌∙◌, arith, add-one, drop-cons, cond, set, Option, Some}
+use Rattle.std.specs.Prelude.{nat_le, nat_lt, ◌||◌}
+use Rattle.std.proofs.lemmas.List.{drop_all}
+use Rattle.std.proofs.lemmas.Bool.Decides.{nat_tests}
+use Rattle.bb_basis.specs.Results.{◌>>=◌, map_err}
+use Rattle.bb_basis.proofs.ResultLemmas.{bind_ok, guard_ok}
+use Rattle.bb_schema.specs.Schema.{Schema}
+use Rattle.bb_code.specs.Code.{Code}
+use Rattle.bb_code.specs.declared.frame.FrameEntry.{FrameEntry}
+use Rattle.bb_verify.specs.declared.flaw.Flaw.{Flaw}
+use Rattle.bb_verify.specs.declared.flaw.Flaw.TheVariants.{Table}
+use Rattle.bb_verify.specs.declared.frame.Frame.{Frame}
+use Rattle.bb_verify.specs.declared.part.Part.{Part}
+use Rattle.bb_verify.specs.Each.{each}
+use Rattle.bb_verify.specs.Flaws.{fault_at}
+use Rattle.bb_verify.specs.Part.{units_of}
+use Rattle.bb_verify.specs.Tables.{places_rise, known_frame, enough_locals, frames_in_order, tables, table_at, places}
+use Rattle.bb_verify.specs.Places.{frame_of, with_frames}
+
+pub drop_next : (fs : List FrameEntry) (i : ℕ) (e : FrameEntry) → i < length fs → e ≡ get_or fs i e → drop i fs ≡ e ∷ drop (i + 1) fs
+drop_next fs i e lt is = drop-cons fs i e lt ∙ (ap (λ k. get_or fs i e ∷ drop k fs) (sym (add-one i)) ∙ ap (λ x. x ∷ drop (i + 1) fs) (sym is))
+
+first_place : (floor count : ℕ) (fs : List FrameEntry) (i : ℕ) (e : FrameEntry) → i < length fs → e ≡ get_or fs i e
+    → places_rise floor count (drop i fs) ≡ cond (nat_lt e.place floor || nat_le count e.place) (Err Table) (places_rise (e.place + 1) count (drop (i + 1) fs))
+unfolding places_rise
+first_place floor count fs i e lt is = ap (places_rise floor count) (drop_next fs i e lt is)
+
+either_way : (a b : Bool) → b ≡ true → (a || b) ≡ true
+either_way true b yes' = refl
+either_way false b yes' = yes'
+
+pub rise_low : (floor count : ℕ) (fs : List FrameEntry) (i : ℕ) (e : FrameEntry) (total : Result (Unit {0}) Flaw) → i < length fs → e ≡ get_or fs i e → e.place < floor → places_rise floor count (drop i fs) ≡ total → Err Table ≡ total
+rise_low floor count fs i e total lt is low so_far =
+    let test : nat_lt e.place floor ≡ true = grind (arith, nat_tests) in
+    sym (ap (λ b. cond (b || nat_le count e.place) (Err Table) (places_rise (e.place + 1) count (drop (i + 1) fs))) test) ∙ (sym (first_place floor count fs i e lt is) ∙ so_far)
+
+pub rise_high : (floor count : ℕ) (fs : List FrameEntry) (i : ℕ) (e : FrameEntry) (total : Result (Unit {0}) Flaw) → i < length fs → e ≡ get_or fs i e → count ≤ e.place → places_rise floor count (drop i fs) ≡ total → Err Table ≡ total
+rise_high floor count fs i e total lt is high so_far =
+    let test : nat_le count e.place ≡ true = grind (arith, nat_tests) in
+    sym (ap (λ b. cond b (Err Table) (places_rise (e.place + 1) count (drop (i + 1) fs))) (either_way (nat_lt e.place floor) (nat_le count e.place) test)) ∙ (sym (first_place floor count fs i e lt is) ∙ so_far)
+
+pub rise_next : (floor count : ℕ) (fs : List FrameEntry) (i : ℕ) (e : FrameEntry) (total : Result (Unit {0}) Flaw) → i < length fs → e ≡ get_or fs i e → floor ≤ e.place → e.place < count → places_rise floor count (drop i fs) ≡ total → places_rise (e.place + 1) count (drop (i + 1) fs) ≡ total
+rise_next floor count fs i e total lt is low high so_far =
+    let first : nat_lt e.place floor ≡ false = grind (arith, nat_tests) in
+    let second : nat_le count e.place ≡ false = grind (arith, nat_tests) in
+    sym (ap (λ b. cond (b || nat_le count e.place) (Err Table) (places_rise (e.place + 1) count (drop (i + 1) fs))) first ∙ ap (λ b. cond b (Err Table) (places_rise (e.place + 1) count (drop (i + 1) fs))) second) ∙ (sym (first_place floor count fs i e lt is) ∙ so_far)
+
+pub rise_end : (floor count : ℕ) (fs : List FrameEntry) (i : ℕ) (total : Result (Unit {0}) Flaw) → length fs ≤ i → places_rise floor count (drop i fs) ≡ total → Ok tt ≡ total
+unfolding places_rise
+rise_end floor count fs i total le so_far = sym (ap (places_rise floor count) (drop_all i fs le)) ∙ so_far
+
+-- ---- declared frames put at their places
+
+pub frames_next : (all new : List (Option Frame)) (fs : List FrameEntry) (i : ℕ) (e : FrameEntry) (total : List (Option Frame)) → i < length fs → e ≡ get_or fs i e → new ≡ set all e.place (Some (frame_of e.frame)) → with_frames all (drop i fs) ≡ total → with_frames new (drop (i + 1) fs) ≡ total
+unfolding with_frames
+frames_next all new fs i e total lt is put so_far = ap (λ t. with_frames t (drop (i + 1) fs)) put ∙ (sym (ap (with_frames all) (drop_next fs i e lt is)) ∙ so_far)
+
+pub frames_end : (all : List (Option Frame)) (fs : List FrameEntry) (i : ℕ) (total : List (Option Frame)) → length fs ≤ i → with_frames all (drop i fs) ≡ total → all ≡ total
+unfolding with_frames
+frames_end all fs i total le so_far = sym (ap (with_frames all) (drop_all i fs le)) ∙ so_far
+
+-- ---- where the tables are in order, there is a local for each unit of the part
+
+units_fit : (part : Part) (code : Code) → enough_locals part code ≡ Ok tt → length (units_of part) ≤ code.locals
+unfolding enough_locals
+units_fit part code h = let g = guard_ok (nat_lt code.locals (length (units_of part))) Table (Ok tt) tt h in let test = g.0 in grind (arith, nat_tests)
+
+frames_fit : (s : Schema) (part : Part) (code : Code) → frames_in_order s part code ≡ Ok tt → length (units_of part) ≤ code.locals
+unfolding frames_in_order
+frames_fit s part code h =
+    let one = bind_ok (places_rise 0 (length code.ops) code.frames) (λ _. each (known_frame s) code.frames >>= λ _. enough_locals part code) tt h in
+    let two = bind_ok (each (known_frame s) code.frames) (λ _. enough_locals part code) tt one.2 in
+    units_fit part code two.2
+
+no_fault : {E F : Type 0} (f : E → F) (r : Result (Unit {0}) E) (x : Unit {0}) → map_err f r ≡ Ok x → r ≡ Ok tt
+no_fault f (Ok y) x h = refl
+no_fault f (Err e) x h = absurd cc
+
+pub tables_fit : (s : Schema) (part : Part) (code : Code) (x : Unit {0}) → Ok x ≡ tables s part code → length (units_of part) ≤ code.locals
+unfolding tables
+tables_fit s part code x h =
+    let one = bind_ok (map_err (fault_at 0) (frames_in_order s part code)) (λ _. each (table_at s code) (places code)) x (sym h) in
+    frames_fit s part code (no_fault (fault_at 0) (frames_in_order s part code) one.0 one.1)

@@ -1,0 +1,21 @@
+use Rattle.std.proofs.Common.{arith, ap, length}
+use Rattle.std.proofs.lemmas.Result.{err_from_is_err_and}
+use Rattle.bb_verify.specs.Loops.{loop_at}
+use Rattle.bb_verify.proofs.EachLemmas.{range_next, range_error, range_end}
+use Rattle.bb_verify.proofs.loops.loops_at_all.Goals as goal
+
+pub returns-in_err-loop_at : goal.returns-in_err-loop_at
+returns-in_err-loop_at c =
+    let p = err_from_is_err_and c.from_residual.result c.from_residual.ensures.1 in
+    let same = ap (λ l. length l) c.ops.ensures.value in
+    rw (p.1, p.2) (range_error (loop_at c.args.code.now) c.loop-place.place (length c.args.code.now.ops) c.in_err-loop_at.field-0.0 _ (omega (arith, c.loop-place-test.true, same)) c.in_err-loop_at.ensures c.loop-place.invariant)
+
+pub loop-place-preserved : goal.loop-place-preserved
+loop-place-preserved c =
+    let same = ap (λ l. length l) c.ops.ensures.value in
+    range_next (loop_at c.args.code.now) c.loop-place.place (length c.args.code.now.ops) c.in_ok-loop_at.field-0 _ (omega (arith, c.loop-place-test.true, same)) c.in_ok-loop_at.ensures c.loop-place.invariant
+
+pub returns : goal.returns
+returns c =
+    let same = ap (λ l. length l) c.ops.ensures.value in
+    range_end (loop_at c.args.code.now) c.loop-place.place (length c.args.code.now.ops) _ (omega (arith, c.loop-place-test.false, same)) c.loop-place.invariant

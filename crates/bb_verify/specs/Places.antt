@@ -1,0 +1,112 @@
+-- The frames of all places of a code (of this project).
+use Rattle.std.specs.Prelude.{ℕ, ◌+◌, ◌-◌, nat_le, List, [], ◌∷◌, ◌++◌, length, reverse, replicate, set, slice_get}
+use Rattle.std.specs.Prelude.{Option, Some, None, option_and_then, Result, Ok, Err, if◌then◌else◌}
+use Rattle.bb_basis.specs.Results.{◌>>=◌, ok_or, map_err, try_fold}
+use Rattle.bb_schema.specs.Schema.{Schema}
+use Rattle.bb_code.specs.Code.{Code}
+use Rattle.bb_code.specs.declared.frame.Frame.{Frame as DeclaredFrame}
+use Rattle.bb_code.specs.declared.frame.FrameEntry.{FrameEntry}
+use Rattle.bb_code.specs.declared.frame.Kind.TheVariants.{Any}
+use Rattle.bb_code.specs.declared.op.Op.{Op}
+use Rattle.bb_verify.specs.declared.flaw.Flaw.{Flaw}
+use Rattle.bb_verify.specs.declared.flaw.Flaw.TheVariants as flaws
+use Rattle.bb_verify.specs.declared.flaw.VerifyFault.{VerifyFault}
+use Rattle.bb_verify.specs.declared.frame.Frame.{Frame}
+use Rattle.bb_verify.specs.declared.part.Part.{Part}
+use Rattle.bb_verify.specs.declared.walk.Walk.{Walk}
+use Rattle.bb_verify.specs.Flaws.{fault_at}
+use Rattle.bb_verify.specs.Part.{units_of}
+use Rattle.bb_verify.specs.Kinds.{frame_weakens}
+use Rattle.bb_verify.specs.Effect.{effect}
+use Rattle.bb_verify.specs.Tables.{places}
+use Rattle.bb_verify.specs.Jumps.{target_of}
+
+-- ---- declared frames
+
+-- a declared frame, the newest entry of its stack first
+abbrev pub frame_of : DeclaredFrame → Frame
+frame_of f = record { locals = f.locals; stack = reverse f.stack }
+
+-- the list of all places, with declared frames put at theirs
+unfoldable pub with_frames : List (Option Frame) → List FrameEntry → List (Option Frame)
+with_frames all [] = all
+with_frames all (e ∷ es) = with_frames (set all e.place (Some (frame_of e.frame))) es
+
+-- for each place of a code the frame that it declares there
+unfoldable pub declared_frames : Code → List (Option Frame)
+declared_frames code = with_frames (replicate (length code.ops) None) code.frames
+
+-- the frame that is declared for a place, where this is the list of all places
+abbrev pub declared_at : List (Option Frame) → ℕ → Option Frame
+declared_at declared place = option_and_then (λ f. f) (slice_get declared place)
+
+-- the frame before the first op: the part's units are in the first locals, and nothing is known of the others
+abbrev pub entry_frame : Part → ℕ → Frame
+entry_frame part locals = record {
+  locals = units_of part ++ replicate (locals - length (units_of part)) Any;
+  stack = [];
+}
+
+-- ---- one place
+
+-- the frame of a place: the declared one, or else what the op before leaves
+abbrev pub frame_at : (declared next : Option Frame) → Result Frame Flaw
+frame_at (Some f) next = Ok f
+frame_at None next = ok_or next flaws.Frame
+
+-- what an op leaves may stand where a frame is declared
+unfoldable pub fits_declared : Schema → (left declared : Frame) → Result (Unit {0}) Flaw
+fits_declared s left declared = if frame_weakens s left declared then Ok tt else Err flaws.Frame
+
+-- the edge to the next place, where a frame may be declared
+abbrev pub on_due : Schema → (left declared : Option Frame) → Result (Unit {0}) Flaw
+on_due s (Some left) (Some declared) = fits_declared s left declared
+on_due s _ _ = Ok tt
+
+-- the edge to a place that an op goes to, where a frame has to be declared
+abbrev pub target_due : Schema → (left declared : Option Frame) → Result (Unit {0}) Flaw
+target_due s (Some left) (Some declared) = fits_declared s left declared
+target_due s (Some left) None = Err flaws.Frame
+target_due s None declared = Ok tt
+
+-- the last op does not go on: a code of so many ops has another place
+abbrev pub has_next : (count place : ℕ) → Option Frame → Result (Unit {0}) Flaw
+has_next count place (Some left) = if nat_le count place then Err flaws.End else Ok tt
+has_next count place None = Ok tt
+
+-- the frame of the place that an op goes to
+abbrev pub declared_for : List (Option Frame) → Op → Option Frame
+declared_for declared op = option_and_then (declared_at declared) (target_of op)
+
+-- one more place, with its frame and what its op leaves for the next place
+abbrev pub one_more : Frame → Option Frame → Walk → Walk
+one_more f next walk = record { frames = walk.frames ++ f ∷ []; next = next }
+
+-- an op at a place
+unfoldable pub visit_op : Schema → Part → Code → List (Option Frame) → ℕ → Op → Walk → Result Walk Flaw
+visit_op s part code declared place op walk = do
+  f ← frame_at (declared_at declared place) walk.next
+  edges ← effect s part code op f
+  _ ← has_next (length code.ops) (place + 1) edges.on
+  _ ← on_due s edges.on (declared_at declared (place + 1))
+  _ ← target_due s edges.target (declared_for declared op)
+  Ok (one_more f edges.on walk)
+
+-- the op at a place
+unfoldable pub visit : Schema → Part → Code → List (Option Frame) → Walk → ℕ → Result Walk VerifyFault
+visit s part code declared walk place =
+    elim (slice_get code.ops place)
+    [ None ↦ Ok walk | Some op ↦ map_err (fault_at place) (visit_op s part code declared place op walk) ]
+
+-- ---- all places
+
+-- before the first place: the entry leads to it
+abbrev pub first_walk : Part → Code → Walk
+first_walk part code = record { frames = []; next = Some (entry_frame part code.locals) }
+
+-- the frames of all places
+unfoldable pub frames_of : Schema → Part → Code → Result (List Frame) VerifyFault
+frames_of s part code = do
+  _ ← map_err (fault_at 0) (on_due s (first_walk part code).next (declared_at (declared_frames code) 0))
+  walk ← try_fold (visit s part code (declared_frames code)) (first_walk part code) (places code)
+  Ok walk.frames

@@ -1,0 +1,87 @@
+//! Kinds, and which may stand where others are declared. The checks of ops and of edges call it.
+
+ghost use Rattle.std.specs.Prelude.{◌≡◌};
+ghost use Rattle.std.specs.Cmp.Lexicographic.{pointwise};
+ghost use Rattle.bb_verify.specs.Kinds.{is_same_plain, weakens, weakens_local, frame_weakens};
+
+use crate::frame::Frame;
+use bb_code::Kind;
+use bb_schema::Schema;
+
+/// Whether both are one kind of values that are neither units nor sequences.
+pub(crate) fn is_same_plain(kind: Kind, other: Kind) -> bool
+    ensures { result ≡ is_same_plain kind other }
+{
+    match (kind, other) {
+        (Kind::Int, Kind::Int) => true,
+        (Kind::Text, Kind::Text) => true,
+        (Kind::Bool, Kind::Bool) => true,
+        (Kind::Label(set), Kind::Label(of)) => set == of,
+        (Kind::Interval, Kind::Interval) => true,
+        _ => false,
+    }
+}
+
+/// Whether an entry of the stack may stand where another kind is declared.
+#[tactic(auto, unfolding(crate::specs::Kinds::weakens))]
+pub(crate) fn weakens(schema: &Schema, kind: Kind, declared: Kind) -> bool
+    ensures { result ≡ weakens schema.now kind declared }
+{
+    match (kind, declared) {
+        (Kind::Ref(class), Kind::Ref(ancestor)) => schema.descends(class, ancestor),
+        (Kind::Ref(class), Kind::Old(ancestor)) => schema.descends(class, ancestor),
+        (Kind::Old(class), Kind::Old(ancestor)) => schema.descends(class, ancestor),
+        (Kind::Seq(class), Kind::Seq(ancestor)) => schema.descends(class, ancestor),
+        _ => is_same_plain(kind, declared),
+    }
+}
+
+/// Whether a local may stand where another kind is declared.
+#[tactic(auto, unfolding(crate::specs::Kinds::weakens_local))]
+pub(crate) fn weakens_local(schema: &Schema, kind: Kind, declared: Kind) -> bool
+    ensures { result ≡ weakens_local schema.now kind declared }
+{
+    match declared {
+        Kind::Any => true,
+        _ => weakens(schema, kind, declared),
+    }
+}
+
+fn all_weaken(schema: &Schema, kinds: &[Kind], declared: &[Kind]) -> bool
+    ensures { result ≡ pointwise (weakens schema.now) kinds.now declared.now }
+{
+    if kinds.len() != declared.len() {
+        return false;
+    }
+    for i in 0..kinds.len() {
+        if !weakens(schema, kinds[i], declared[i]) {
+            return false;
+        }
+    }
+    true
+}
+
+fn all_locals_weaken(schema: &Schema, kinds: &[Kind], declared: &[Kind]) -> bool
+    ensures { result ≡ pointwise (weakens_local schema.now) kinds.now declared.now }
+{
+    if kinds.len() != declared.len() {
+        return false;
+    }
+    for i in 0..kinds.len() {
+        if !weakens_local(schema, kinds[i], declared[i]) {
+            return false;
+        }
+    }
+    true
+}
+
+/// Whether a frame may stand where another is declared.
+#[tactic(auto, unfolding(crate::specs::Kinds::frame_weakens), using(crate::proofs::StackLemmas::pointwise_reverse))]
+pub(crate) fn frame_weakens(schema: &Schema, frame: &Frame, declared: &Frame) -> bool
+    ensures { result ≡ frame_weakens schema.now frame.now declared.now }
+{
+    if !all_locals_weaken(schema, frame.locals.kinds(), declared.locals.kinds()) {
+        return false;
+    }
+    all_weaken(schema, frame.stack.entries(), declared.stack.entries())
+}

@@ -1,0 +1,128 @@
+//! The kinds of the entries of a stack. Frames hold it.
+
+ghost use Rattle.std.specs.Prelude.{◌≡◌, ◌<◌, ◌≤◌, length, [], ◌∷◌, List, Option, Some, None, drop, reverse, take, map};
+ghost use Rattle.bb_code.specs.declared.code.TheConstants.{STACK_LIMIT};
+ghost use Rattle.bb_verify.specs.Due.{struck};
+ghost use Rattle.bb_verify.specs.Stack.{newest};
+
+use crate::due::strike;
+use bb_code::{ClassId, Kind, STACK_LIMIT};
+use bb_schema::Schema;
+use std::marker::Model;
+
+/// The kinds of at most `STACK_LIMIT` entries. Contracts see them as a list, the newest first.
+#[derive(Drop)]
+pub struct Stack {
+    // The deepest first. Those from `len` on mean nothing.
+    kinds: [Kind; STACK_LIMIT],
+    len: usize,
+}
+
+impl Model for Stack {
+    ghost use Rattle.std.specs.Prelude.{◌≡◌, ◌≤◌, List, length, reverse, take};
+    ghost use Rattle.bb_code.specs.declared.frame.Kind.{Kind as Entry};
+
+    ghost Value = { List Entry };
+
+    ghost view = { λ s. reverse (take s.len s.kinds) };
+
+    ghost invariant = { λ s. (length s.kinds ≡ 64) × (s.len ≤ 64) };
+}
+
+impl Stack {
+    /// The same once more.
+    pub(crate) fn copied(&self) -> Stack
+        ensures { result ≡ self.now }
+    {
+        Stack {
+            kinds: self.kinds,
+            len: self.len,
+        }
+    }
+
+    /// The empty stack.
+    pub(crate) fn new() -> Stack
+        ensures { result ≡ [] }
+    {
+        Stack {
+            kinds: [Kind::Any; STACK_LIMIT],
+            len: 0,
+        }
+    }
+
+    /// The stack of these entries, the deepest first.
+    pub(crate) fn of(entries: &[Kind]) -> Stack
+        requires { length entries.now ≤ STACK_LIMIT }
+        ensures { result ≡ reverse entries.now }
+    {
+        let mut stack = Stack::new();
+        for kind in entries {
+            stack = stack.with(*kind);
+        }
+        stack
+    }
+
+    /// The number of entries.
+    pub fn len(&self) -> usize
+        ensures { result ≡ length self.now }
+    {
+        self.len
+    }
+
+    /// One more entry.
+    pub(crate) fn with(self, kind: Kind) -> Stack
+        requires { length self < STACK_LIMIT }
+        ensures { result ≡ kind ∷ self }
+    {
+        let mut stack = self;
+        stack.kinds[stack.len] = kind;
+        stack.len += 1;
+        stack
+    }
+
+    /// The newest entry, and the stack without it.
+    pub(crate) fn newest(self) -> Option<(Kind, Stack)>
+        ensures { result ≡ newest self }
+    {
+        if self.len == 0 {
+            return None;
+        }
+        let mut rest = self;
+        rest.len -= 1;
+        Some((rest.kinds[rest.len], rest))
+    }
+
+    /// Without so many of the newest entries.
+    pub(crate) fn without(self, count: usize) -> Stack
+        requires { count ≤ length self }
+        ensures { result ≡ drop count self }
+    {
+        let mut stack = self;
+        stack.len -= count;
+        stack
+    }
+
+    /// So many of the newest entries, the deepest first.
+    pub(crate) fn top(&self, count: usize) -> &[Kind]
+        requires { count ≤ length self.now }
+        ensures { result.now ≡ reverse (take count self.now) }
+    {
+        &self.kinds[self.len - count..self.len]
+    }
+
+    /// All entries, the deepest first.
+    pub fn entries(&self) -> &[Kind]
+        ensures { result.now ≡ reverse self.now }
+    {
+        &self.kinds[..self.len]
+    }
+
+    /// What is known of the entries once a unit of a class was deleted.
+    pub(crate) fn struck(self, schema: &Schema, deleted: ClassId) -> Stack
+        ensures { result ≡ map (struck schema.now deleted) self }
+    {
+        let mut stack = self;
+        strike(schema, deleted, &mut stack.kinds);
+        stack
+    }
+}

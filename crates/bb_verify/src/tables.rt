@@ -1,0 +1,176 @@
+//! The tables of a code, and the operands that index them. It is the verifier's first phase.
+
+ghost use Rattle.std.specs.Prelude.{◌≡◌};
+ghost use Rattle.bb_verify.specs.Each.{each};
+ghost use Rattle.bb_verify.specs.Tables.{entry, known_kind, known_entry, known_frame, places_rise, enough_locals, frames_in_order, known_label, in_tables, table_at, tables, places};
+
+use crate::flaw::{Flaw, VerifyFault};
+use crate::part::Part;
+use bb_code::{Code, FrameEntry, Kind, LabelId, LabelSetId, Op, Place};
+use bb_schema::Schema;
+
+// A table of so many has an entry of this number.
+fn entry(count: usize, number: usize) -> Result<(), Flaw>
+    ensures { result ≡ entry count number }
+{
+    if number < count {
+        return Ok(());
+    }
+    Err(Flaw::Table)
+}
+
+// The class or the label set of a kind is one of the schema.
+fn known_kind(schema: &Schema, kind: Kind) -> Result<(), Flaw>
+    ensures { result ≡ known_kind schema.now kind }
+{
+    match kind {
+        Kind::Label(set) => entry(schema.label_set_count(), set as usize),
+        Kind::Ref(class) => entry(schema.class_count(), class as usize),
+        Kind::Old(class) => entry(schema.class_count(), class as usize),
+        Kind::Seq(class) => entry(schema.class_count(), class as usize),
+        _ => Ok(()),
+    }
+}
+
+// The same, and it is known what an entry of a stack is.
+fn known_entry(schema: &Schema, kind: Kind) -> Result<(), Flaw>
+    ensures { result ≡ known_entry schema.now kind }
+{
+    match kind {
+        Kind::Any => Err(Flaw::Table),
+        _ => known_kind(schema, kind),
+    }
+}
+
+fn known_kinds(schema: &Schema, kinds: &[Kind]) -> Result<(), Flaw>
+    ensures { result ≡ each (known_kind schema.now) kinds.now }
+{
+    for kind in kinds {
+        known_kind(schema, *kind)?;
+    }
+    Ok(())
+}
+
+fn known_entries(schema: &Schema, kinds: &[Kind]) -> Result<(), Flaw>
+    ensures { result ≡ each (known_entry schema.now) kinds.now }
+{
+    for kind in kinds {
+        known_entry(schema, *kind)?;
+    }
+    Ok(())
+}
+
+// The kinds of a declared frame.
+#[tactic(auto, unfolding(crate::specs::Tables::known_frame))]
+fn known_frame(schema: &Schema, entry: &FrameEntry) -> Result<(), Flaw>
+    ensures { result ≡ known_frame schema.now entry.now }
+{
+    known_kinds(schema, entry.frame.locals.as_slice())?;
+    known_entries(schema, entry.frame.stack.as_slice())
+}
+
+fn known_frames(schema: &Schema, frames: &[FrameEntry]) -> Result<(), Flaw>
+    ensures { result ≡ each (known_frame schema.now) frames.now }
+{
+    for frame in frames {
+        known_frame(schema, frame)?;
+    }
+    Ok(())
+}
+
+// The places of declared frames rise and are inside a code of so many ops.
+fn places_rise(count: usize, frames: &[FrameEntry]) -> Result<(), Flaw>
+    ensures { result ≡ places_rise 0 count frames.now }
+{
+    let mut floor = 0;
+    for frame in frames {
+        let place = frame.place as usize;
+        if place < floor {
+            return Err(Flaw::Table);
+        }
+        if place >= count {
+            return Err(Flaw::Table);
+        }
+        floor = place + 1;
+    }
+    Ok(())
+}
+
+// There is a local for each unit that the part begins with.
+#[tactic(auto, unfolding(crate::specs::Tables::enough_locals))]
+fn enough_locals(part: Part, code: &Code) -> Result<(), Flaw>
+    ensures { result ≡ enough_locals part code.now }
+{
+    if code.locals() < part.unit_count() {
+        return Err(Flaw::Table);
+    }
+    Ok(())
+}
+
+// The declared frames.
+#[tactic(auto, unfolding(crate::specs::Tables::frames_in_order))]
+fn frames_in_order(schema: &Schema, part: Part, code: &Code) -> Result<(), Flaw>
+    ensures { result ≡ frames_in_order schema.now part code.now }
+{
+    places_rise(code.ops().len(), code.frames())?;
+    known_frames(schema, code.frames())?;
+    enough_locals(part, code)
+}
+
+// A set of the schema has the label.
+fn known_label(schema: &Schema, set: LabelSetId, label: LabelId) -> Result<(), Flaw>
+    ensures { result ≡ known_label schema.now set label }
+{
+    match schema.label_name(set, label) {
+        None => Err(Flaw::Table),
+        Some(_) => Ok(()),
+    }
+}
+
+// The operands of an op name entries of their tables.
+#[tactic(auto, unfolding(crate::specs::Tables::in_tables))]
+fn in_tables(schema: &Schema, code: &Code, op: Op) -> Result<(), Flaw>
+    ensures { result ≡ in_tables schema.now code.now op }
+{
+    match op {
+        Op::PushText(text) => entry(code.texts().len(), text as usize),
+        Op::PushLabel(set, label) => known_label(schema, set, label),
+        Op::Load(local) => entry(code.locals() as usize, local as usize),
+        Op::Store(local) => entry(code.locals() as usize, local as usize),
+        Op::Next(local, _) => entry(code.locals() as usize, local as usize),
+        Op::Find(query) => entry(code.queries().len(), query as usize),
+        Op::As(class, _) => entry(schema.class_count(), class as usize),
+        Op::New(class) => entry(schema.class_count(), class as usize),
+        _ => Ok(()),
+    }
+}
+
+// The same of the op at a place.
+#[tactic(auto, unfolding(crate::specs::Tables::table_at))]
+fn table_at(schema: &Schema, code: &Code, place: Place) -> Result<(), VerifyFault>
+    ensures { result ≡ table_at schema.now code.now place }
+{
+    match code.ops().get(place as usize) {
+        None => Ok(()),
+        Some(op) => in_tables(schema, code, *op).map_err(|flaw| VerifyFault { place, flaw }),
+    }
+}
+
+fn all_in_tables(schema: &Schema, code: &Code) -> Result<(), VerifyFault>
+    ensures { result ≡ each (table_at schema.now code.now) (places code.now) }
+{
+    let count = code.ops().len() as u16;
+    for place in 0..count {
+        table_at(schema, code, place)?;
+    }
+    Ok(())
+}
+
+/// The tables of a code, and then the operands of all its ops.
+#[tactic(auto, unfolding(crate::specs::Tables::tables))]
+pub(crate) fn check_tables(schema: &Schema, part: Part, code: &Code) -> Result<(), VerifyFault>
+    ensures { result ≡ tables schema.now part code.now }
+{
+    frames_in_order(schema, part, code).map_err(|flaw| VerifyFault { place: 0, flaw })?;
+    all_in_tables(schema, code)
+}
