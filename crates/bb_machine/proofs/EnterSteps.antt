@@ -77,7 +77,7 @@ module _ (part : Part) (code : Code) (b : Board) (sf : schemas.Fits b.schema) (f
       let of_class = admitted_by (allowed b.schema space unit.0.0) admits.0 admits.1 in
       let live = is_live_of b.schema b.world fits.units unit.0.0 p.n p.of in
       let admitted : allowed b.schema space (class_at b.world p.n) ≡ true =
-          ap (allowed b.schema space) (class_at_of b.schema b.world fits.units unit.0.0 p.n p.of) ∙ any_up b.schema p.of.own unit.0.0 sf p.of.under (classes_in b.schema space) of_class in
+      ap (allowed b.schema space) (class_at_of b.schema b.world fits.units unit.0.0 p.n p.of) ∙ any_up b.schema p.of.own unit.0.0 sf p.of.under (classes_in b.schema space) of_class in
       let asked = may_on b.schema b.world p.n space live admitted in
       let same = entered_units b.schema b.world p.n space (is_member b.world.spaces space p.n) refl in
       changes part code b fits m f suits e (ops.Enter space) out.0 (with_stack p.rest m) (after_enter b.schema b.world p.n space) (enter b space m) out.2 refl (enter_on b space m p.n p.rest p.stack asked)

@@ -36,7 +36,7 @@ zip_set R (a ∷ xs) (b ∷ ys) zero x y all has = (has, all.1)
 zip_set R (a ∷ xs) (b ∷ ys) (suc i) x y all has = (all.0, zip_set R xs ys i x y all.1 has)
 
 -- what a local of a known kind holds
-known_at : (o : Option Kind) (k : Kind) → (elim o [ | None ↦ Any | Some j ↦ j ]) ≡ k → (k ≡ Any → ⊥) → o ≡ Some k
+known_at : (o : Option Kind) (k : Kind) → (elim o [ None ↦ Any | Some j ↦ j ]) ≡ k → (k ≡ Any → ⊥) → o ≡ Some k
 known_at None k is known = absurd (known (sym is))
 known_at (Some j) k is known = ap (λ i. Some i) is
 
@@ -107,7 +107,7 @@ module _ (s : Schema) (w : World) (m : Machine) (f g : Frame) (suits : Suits s w
       let one = bind_ok (frames.pop f) (λ (k : Kind × Frame). Ok (frames.with_local l k.0 k.1)) g h in
       let p = pops s w m f one.0 one.1 suits in
       let stored : Suits s w (with_local l p.value (with_stack p.rest m)) (frames.with_local l one.0.0 one.0.1) =
-          record { locals = zip_set (LocalHas s w) one.0.1.locals m.locals l one.0.0 (Some p.value) p.suits.locals p.has; stack = p.suits.stack } in
+      record { locals = zip_set (LocalHas s w) one.0.1.locals m.locals l one.0.0 (Some p.value) p.suits.locals p.has; stack = p.suits.stack } in
       record {
         next = with_local l p.value (with_stack p.rest m);
         is = store_on l m p.value p.rest p.stack there;
