@@ -1,8 +1,11 @@
 -- Loops that test one thing after another.
-use Rattle.std.proofs.Common.{◌≡◌, ℕ, suc, ◌+◌, ◌-◌, ◌<◌, ◌≤◌, List, ◌∷◌, length, drop, get_or, Result, Ok, Err, refl, sym, ap, ◌∙◌, arith, add-one, drop-cons}
+use Rattle.std.proofs.Common.{◌≡◌, ℕ, zero, suc, ◌+◌, ◌-◌, ◌<◌, ◌≤◌, List, [], ◌∷◌, length, drop, get_or, Result, Ok, Err, refl, sym, ap, ◌∙◌, arith, add-one, drop-cons}
+use Rattle.std.specs.Prelude.{All}
 use Rattle.std.specs.List.{range_with_len}
 use Rattle.std.proofs.lemmas.List.{drop_all}
-use Rattle.bb_basis.specs.Results.{◌>>=◌, try_fold}
+use Rattle.std.proofs.lemmas.List.Elements.{All-nil, All-cons}
+use Rattle.bb_basis.specs.Results.{◌>>=◌, map_err, try_fold}
+use Rattle.bb_basis.proofs.ResultLemmas.{bind_ok, same_ok}
 use Rattle.bb_code.specs.declared.frame.Kind.{Kind}
 use Rattle.bb_pattern.specs.declared.value.OperandKind.{OperandKind}
 use Rattle.bb_verify.specs.declared.flaw.Flaw.{Flaw}
@@ -71,3 +74,25 @@ operands_end os ks i total le so_far = sym (ap (λ l. operands_due l (drop i ks)
 pub fold_end : {S E : Type 0} (f : S → ℕ → Result S E) (s : S) (i n : ℕ) (total : Result S E) → n ≤ i → try_fold f s (range_with_len i (n - i)) ≡ total → total ≡ Ok s
 unfolding try_fold
 fold_end f s i n total le so_far = sym so_far ∙ ap (λ k. try_fold f s (range_with_len i k)) (none i n le)
+
+-- ---- what passed all tests passed each
+
+pub each_all : {A E : Type 0} (f : A → Result (Unit {0}) E) (xs : List A) → each f xs ≡ Ok tt → All (λ x. f x ≡ Ok tt) xs
+unfolding each
+each_all f [] h = All-nil (λ x. f x ≡ Ok tt)
+each_all f (x ∷ xs) h = let one = bind_ok (f x) (λ _. each f xs) tt h in All-cons (λ y. f y ≡ Ok tt) x xs one.1 (each_all f xs one.2)
+
+range_each : {E : Type 0} (f : ℕ → Result (Unit {0}) E) (a n i : ℕ) → i < n → each f (range_with_len a n) ≡ Ok tt → f (a + i) ≡ Ok tt
+unfolding each
+range_each f a zero i lt h = absurd (omega (arith, lt))
+range_each f a (suc n) zero lt h = let one = bind_ok (f a) (λ _. each f (range_with_len (a + 1) n)) tt h in ap f (omega arith) ∙ one.1
+range_each f a (suc n) (suc i) lt h =
+    let one = bind_ok (f a) (λ _. each f (range_with_len (a + 1) n)) tt h in
+    ap f (omega arith) ∙ range_each f (a + 1) n i (omega (arith, lt)) one.2
+
+pub range_at : {E : Type 0} (f : ℕ → Result (Unit {0}) E) (n i : ℕ) → i < n → each f (range_with_len 0 n) ≡ Ok tt → f i ≡ Ok tt
+range_at f n i lt h = ap f (omega arith) ∙ range_each f 0 n i lt h
+
+pub no_fault : {X E F : Type 0} (f : E → F) (r : Result X E) (x : X) → map_err f r ≡ Ok x → r ≡ Ok x
+no_fault f (Ok y) x h = ap (λ z. Ok z) (same_ok y x h)
+no_fault f (Err e) x h = absurd cc

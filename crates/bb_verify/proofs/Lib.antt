@@ -4,3 +4,14 @@ pub mod TableLemmas
 pub mod LoopLemmas
 pub mod BudgetLemmas
 pub mod WalkLemmas
+pub mod PackedLemmas
+pub mod PhaseLemmas
+pub mod StandLemmas
+pub mod KnownLemmas
+pub mod KnownFrames
+pub mod FactLemmas
+pub mod LoopTableLemmas
+pub mod OpenLemmas
+pub mod SortedLemmas
+pub mod NumberedLemmas
+pub mod EffectLemmas

@@ -1,5 +1,5 @@
 -- The loops of a code.
-use Rattle.std.proofs.Common.{◌≡◌, ℕ, zero, suc, ◌+◌, ◌-◌, ◌<◌, ◌≤◌, Bool, true, false, List, [], ◌∷◌, length, drop, get_or, Option, Some, None, Result, Ok, Err, refl, sym, ap, ◌∙◌, arith, add-one, drop-cons, cond, length-drop}
+use Rattle.std.proofs.Common.{◌≡◌, ℕ, zero, suc, ◌+◌, ◌-◌, ◌<◌, ◌≤◌, Bool, true, false, List, ◌∷◌, length, drop, get_or, Option, Some, None, Result, Ok, Err, refl, sym, ap, ◌∙◌, arith, add-one, drop-cons, cond}
 use Rattle.std.specs.Prelude.{nat_le, nat_lt, slice_get}
 use Rattle.std.specs.List.{range_with_len}
 use Rattle.std.proofs.lemmas.List.{drop_all}
@@ -11,51 +11,23 @@ use Rattle.bb_code.specs.Code.{Code}
 use Rattle.bb_code.specs.declared.frame.Loop.{Loop}
 use Rattle.bb_code.specs.declared.op.Op.{Op}
 use Rattle.bb_code.specs.declared.op.Op.TheVariants as ops
-use Rattle.bb_verify.specs.declared.flaw.Flaw.{Flaw}
 use Rattle.bb_verify.specs.declared.loops.TheConstants.{NESTING_LIMIT}
 use Rattle.bb_verify.specs.Each.{each}
 use Rattle.bb_verify.specs.Flaws.{fault_at}
-use Rattle.bb_verify.specs.Loops.{never, in_order, is_misplaced, rising, lesser, lowest_outside, depth, head_due, op_due, place_due, loop_at, loops, none_outside}
+use Rattle.bb_verify.specs.Loops.{in_order, rising, lesser, lowest_outside, depth, head_due, op_due, place_due, loop_at, loops, none_outside}
 
--- ---- the list rises
+-- ---- two loops of the list, one behind the other
 
 next_is : (ls : List Loop) (i : ℕ) (d : Loop) → i < length ls → drop i ls ≡ get_or ls i d ∷ drop (i + 1) ls
 next_is ls i d lt = drop-cons ls i d lt ∙ ap (λ k. get_or ls i d ∷ drop k ls) (sym (add-one i))
 
-two_next : (ls : List Loop) (next : ℕ) (d e : Loop) → 1 ≤ next → next < length ls → drop (next - 1) ls ≡ get_or ls (next - 1) d ∷ get_or ls next e ∷ drop (next + 1) ls
+pub two_next : (ls : List Loop) (next : ℕ) (d e : Loop) → 1 ≤ next → next < length ls → drop (next - 1) ls ≡ get_or ls (next - 1) d ∷ get_or ls next e ∷ drop (next + 1) ls
 two_next ls next d e some lt =
     next_is ls (next - 1) d (omega (arith, some, lt))
     ∙ ap (λ l. get_or ls (next - 1) d ∷ l) (ap (λ k. drop k ls) (omega (arith, some)) ∙ next_is ls next e lt)
 
-after_one : (ls : List Loop) (next : ℕ) (e : Loop) → next < length ls → drop (next + 1 - 1) ls ≡ get_or ls next e ∷ drop (next + 1) ls
+pub after_one : (ls : List Loop) (next : ℕ) (e : Loop) → next < length ls → drop (next + 1 - 1) ls ≡ get_or ls next e ∷ drop (next + 1) ls
 after_one ls next e lt = ap (λ k. drop k ls) (omega arith) ∙ next_is ls next e lt
-
-rising_step : (place : ℕ) (ls : List Loop) (next : ℕ) (d e : Loop) → 1 ≤ next → next < length ls
-    → rising place (drop (next - 1) ls) ≡ (never (is_misplaced place (get_or ls (next - 1) d) (get_or ls next e)) >>= λ _. rising place (drop (next + 1 - 1) ls))
-unfolding rising
-rising_step place ls next d e some lt =
-    ap (rising place) (two_next ls next d e some lt)
-    ∙ ap (λ l. never (is_misplaced place (get_or ls (next - 1) d) (get_or ls next e)) >>= λ _. rising place l) (sym (after_one ls next e lt))
-
-pub rising_next : (place : ℕ) (ls : List Loop) (next : ℕ) (d e : Loop) (x : Unit {0}) (total : Result (Unit {0}) Flaw) → 1 ≤ next → next < length ls
-    → Ok x ≡ never (is_misplaced place (get_or ls (next - 1) d) (get_or ls next e)) → rising place (drop (next - 1) ls) ≡ total → rising place (drop (next + 1 - 1) ls) ≡ total
-rising_next place ls next d e x total some lt ok so_far = ap (λ r. r >>= λ _. rising place (drop (next + 1 - 1) ls)) ok ∙ (sym (rising_step place ls next d e some lt) ∙ so_far)
-
-pub rising_error : (place : ℕ) (ls : List Loop) (next : ℕ) (d e : Loop) (f : Flaw) (total : Result (Unit {0}) Flaw) → 1 ≤ next → next < length ls
-    → Err f ≡ never (is_misplaced place (get_or ls (next - 1) d) (get_or ls next e)) → rising place (drop (next - 1) ls) ≡ total → Err f ≡ total
-rising_error place ls next d e f total some lt failed so_far = ap (λ r. r >>= λ _. rising place (drop (next + 1 - 1) ls)) failed ∙ (sym (rising_step place ls next d e some lt) ∙ so_far)
-
-rising_short : (place : ℕ) (ls : List Loop) → length ls ≤ 1 → rising place ls ≡ Ok tt
-unfolding rising
-rising_short place [] short = refl
-rising_short place (l ∷ []) short = refl
-rising_short place (l ∷ k ∷ ls) short = absurd (omega (arith, short))
-
-short_rest : (ls : List Loop) (next : ℕ) → 1 ≤ next → length ls ≤ next → length (drop (next - 1) ls) ≤ 1
-short_rest ls next some le = let d : length (drop (next - 1) ls) ≡ length ls - (next - 1) = length-drop (next - 1) ls in omega (arith, d, some, le)
-
-pub rising_end : (place : ℕ) (ls : List Loop) (next : ℕ) (total : Result (Unit {0}) Flaw) → 1 ≤ next → length ls ≤ next → rising place (drop (next - 1) ls) ≡ total → Ok tt ≡ total
-rising_end place ls next total some le so_far = sym (rising_short place (drop (next - 1) ls) (short_rest ls next some le)) ∙ so_far
 
 -- ---- heads outside the code
 
@@ -83,7 +55,7 @@ outside_end count so_far ls i total le before = sym (ap (lowest_outside count so
 
 -- ---- how many loops hold a place of a code whose loops are in order
 
-each_at : {E : Type 0} (f : ℕ → Result (Unit {0}) E) (a n i : ℕ) → i < n → each f (range_with_len a n) ≡ Ok tt → f (a + i) ≡ Ok tt
+pub each_at : {E : Type 0} (f : ℕ → Result (Unit {0}) E) (a n i : ℕ) → i < n → each f (range_with_len a n) ≡ Ok tt → f (a + i) ≡ Ok tt
 unfolding each
 each_at f a zero i lt h = absurd (omega (arith, lt))
 each_at f a (suc n) zero lt h =
@@ -93,7 +65,7 @@ each_at f a (suc n) (suc i) lt h =
     let one = bind_ok (f a) (λ _. each f (range_with_len (a + 1) n)) tt h in
     ap f (omega arith) ∙ each_at f (a + 1) n i (omega (arith, lt)) one.2
 
-without_fault : {E F : Type 0} (f : E → F) (r : Result (Unit {0}) E) → map_err f r ≡ Ok tt → r ≡ Ok tt
+pub without_fault : {E F : Type 0} (f : E → F) (r : Result (Unit {0}) E) → map_err f r ≡ Ok tt → r ≡ Ok tt
 without_fault f (Ok x) h = refl
 without_fault f (Err e) h = absurd cc
 

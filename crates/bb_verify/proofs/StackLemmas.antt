@@ -104,6 +104,9 @@ pointwise_reverse w (x ∷ xs) (y ∷ ys) =
     ap (λ l. pointwise w l (reverse (y ∷ ys))) (reverse_cons x xs) ∙ (ap (pointwise w (reverse xs ++ x ∷ [])) (reverse_cons y ys)
     ∙ (pointwise_snoc w (reverse xs) (reverse ys) x y ∙ (ap (λ b. b && w x y) (pointwise_reverse w xs ys) ∙ swap (pointwise w xs ys) (w x y))))
 
+pub pointwise_onto : (w : Kind → Kind → Bool) (xs ys : List Kind) → pointwise w (reverse xs) ys ≡ pointwise w xs (reverse ys)
+pointwise_onto w xs ys = ap (pointwise w (reverse xs)) (sym (reverse-reverse ys)) ∙ pointwise_reverse w xs (reverse ys)
+
 -- a turn of a loop that changes each entry
 as_long : (f : Kind → Kind) (xs ys : List Kind) (i : ℕ) → i < length xs → ys ≡ map f (take i xs) ++ drop i xs → i < length ys
 as_long f xs ys i lt is =

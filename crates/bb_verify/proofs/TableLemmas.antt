@@ -17,6 +17,7 @@ use Rattle.bb_verify.specs.Flaws.{fault_at}
 use Rattle.bb_verify.specs.Part.{units_of}
 use Rattle.bb_verify.specs.Tables.{places_rise, known_frame, enough_locals, frames_in_order, tables, table_at, places}
 use Rattle.bb_verify.specs.Places.{frame_of, with_frames}
+use Rattle.bb_verify.proofs.EachLemmas.{no_fault}
 
 pub drop_next : (fs : List FrameEntry) (i : ℕ) (e : FrameEntry) → i < length fs → e ≡ get_or fs i e → drop i fs ≡ e ∷ drop (i + 1) fs
 drop_next fs i e lt is = drop-cons fs i e lt ∙ (ap (λ k. get_or fs i e ∷ drop k fs) (sym (add-one i)) ∙ ap (λ x. x ∷ drop (i + 1) fs) (sym is))
@@ -72,10 +73,6 @@ frames_fit s part code h =
     let one = bind_ok (places_rise 0 (length code.ops) code.frames) (λ _. each (known_frame s) code.frames >>= λ _. enough_locals part code) tt h in
     let two = bind_ok (each (known_frame s) code.frames) (λ _. enough_locals part code) tt one.2 in
     units_fit part code two.2
-
-no_fault : {E F : Type 0} (f : E → F) (r : Result (Unit {0}) E) (x : Unit {0}) → map_err f r ≡ Ok x → r ≡ Ok tt
-no_fault f (Ok y) x h = refl
-no_fault f (Err e) x h = absurd cc
 
 pub tables_fit : (s : Schema) (part : Part) (code : Code) (x : Unit {0}) → Ok x ≡ tables s part code → length (units_of part) ≤ code.locals
 unfolding tables

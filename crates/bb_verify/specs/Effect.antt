@@ -9,7 +9,7 @@ use Rattle.bb_code.specs.declared.frame.Kind.{Kind}
 use Rattle.bb_code.specs.declared.frame.Kind.TheVariants.{Int, Text, Bool as Truth, Label, Interval, Ref, Seq}
 use Rattle.bb_code.specs.declared.op.Op.{Op}
 use Rattle.bb_code.specs.declared.op.Op.TheVariants as ops
-use Rattle.bb_verify.specs.declared.edges.Edges.{Edges}
+use Rattle.bb_verify.specs.Edges.{Edges}
 use Rattle.bb_verify.specs.declared.flaw.Flaw.{Flaw}
 use Rattle.bb_verify.specs.declared.flaw.Flaw.TheVariants as flaws
 use Rattle.bb_verify.specs.declared.frame.Frame.{Frame}

@@ -12,6 +12,8 @@ pub mod Frame
 pub mod Kinds
 -- which kinds ops have to meet
 pub mod Due
+-- the frames that an op leaves
+pub mod Edges
 -- what an op does to a frame
 pub mod Effect
 -- tables, and the operands that index them
@@ -26,5 +28,7 @@ pub mod Loops
 pub mod Budget
 -- which codes are accepted
 pub mod Accepted
+-- what holds of an accepted code
+pub mod Facts
 -- for models alone
 pub mod proving

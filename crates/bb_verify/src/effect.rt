@@ -1,10 +1,11 @@
 //! What an op does to the frame of its place. The pass over the places calls it.
 
-ghost use Rattle.std.specs.Prelude.{◌≡◌};
-ghost use Rattle.bb_verify.specs.Effect.{effect, on, either, only_there, ended, one, alive, as_class, unless, next_unit, done, rate, decline, answer};
+ghost use Rattle.std.specs.Prelude.{◌≡◌, None, Ok, true};
+ghost use Rattle.bb_code.specs.Fields.{map_ok};
+ghost use Rattle.bb_verify.specs.proving.Edges.{edges_of};
+ghost use Rattle.bb_verify.specs.Effect.{effect, only_there, one, alive, as_class, unless, next_unit, done, rate, decline, answer};
 
 use crate::due::{class_of, due, sequence_of, single_slot};
-use crate::edges::Edges;
 use crate::flaw::Flaw;
 use crate::frame::Frame;
 use crate::ops::{
@@ -15,141 +16,125 @@ use crate::part::Part;
 use bb_code::{ClassId, Code, Kind, LocalId, Op, SlotId};
 use bb_schema::Schema;
 
-// The next op alone follows.
-fn on(after: Result<Frame, Flaw>) -> Result<Edges, Flaw>
-    ensures { result ≡ on after }
+// The next op alone follows, where the frame was changed without a flaw.
+fn on(done: Result<(), Flaw>) -> Result<bool, Flaw>
+    ensures { result ≡ map_ok (λ _. true) done }
 {
-    let frame = after?;
-    Ok(Edges {
-        on: Some(frame),
-        target: None,
-    })
-}
-
-// The next op follows, or the one at the place.
-fn either(next: Frame, there: Frame) -> Edges
-    ensures { result ≡ either next there }
-{
-    Edges {
-        on: Some(next),
-        target: Some(there),
-    }
-}
-
-// The op at the place alone follows.
-fn only_there(frame: Frame) -> Edges
-    ensures { result ≡ only_there frame }
-{
-    Edges {
-        on: None,
-        target: Some(frame),
-    }
-}
-
-// The activation ends.
-fn ended() -> Edges
-    ensures { result ≡ ended }
-{
-    Edges {
-        on: None,
-        target: None,
-    }
+    done?;
+    Ok(true)
 }
 
 #[tactic(auto, unfolding(crate::specs::Effect::one))]
-fn one(schema: &Schema, slot: SlotId, frame: Frame) -> Result<Edges, Flaw>
-    ensures { result ≡ one schema.now slot frame }
+fn one(
+    schema: &Schema,
+    slot: SlotId,
+    frame: &mut Frame,
+    target: &mut Option<Frame>,
+) -> Result<bool, Flaw>
+    ensures { map_ok (edges_of frame.new target.new) result ≡ one schema.now slot frame.old }
 {
-    let (class, frame) = pop_live(frame)?;
+    let class = pop_live(frame)?;
     let link = single_slot(schema, class, slot)?;
-    let next = frame.copied().push(Kind::Ref(link.to))?;
-    Ok(either(next, frame))
+    *target = Some(frame.copied());
+    on(frame.push(Kind::Ref(link.to)))
 }
 
 #[tactic(auto, unfolding(crate::specs::Effect::alive))]
-fn alive(frame: Frame) -> Result<Edges, Flaw>
-    ensures { result ≡ alive frame }
+fn alive(frame: &mut Frame, target: &mut Option<Frame>) -> Result<bool, Flaw>
+    ensures { map_ok (edges_of frame.new target.new) result ≡ alive frame.old }
 {
-    let (kind, frame) = frame.pop()?;
+    let kind = frame.pop()?;
     let class = class_of(kind)?;
-    let next = frame.copied().push(Kind::Ref(class))?;
-    Ok(either(next, frame))
+    *target = Some(frame.copied());
+    on(frame.push(Kind::Ref(class)))
 }
 
 #[tactic(auto, unfolding(crate::specs::Effect::as_class))]
-fn as_class(class: ClassId, frame: Frame) -> Result<Edges, Flaw>
-    ensures { result ≡ as_class class frame }
+fn as_class(class: ClassId, frame: &mut Frame, target: &mut Option<Frame>) -> Result<bool, Flaw>
+    ensures { map_ok (edges_of frame.new target.new) result ≡ as_class class frame.old }
 {
-    let (_, frame) = pop_live(frame)?;
-    let next = frame.copied().push(Kind::Ref(class))?;
-    Ok(either(next, frame))
+    pop_live(frame)?;
+    *target = Some(frame.copied());
+    on(frame.push(Kind::Ref(class)))
 }
 
 #[tactic(auto, unfolding(crate::specs::Effect::unless))]
-fn unless(frame: Frame) -> Result<Edges, Flaw>
-    ensures { result ≡ unless frame }
+fn unless(frame: &mut Frame, target: &mut Option<Frame>) -> Result<bool, Flaw>
+    ensures { map_ok (edges_of frame.new target.new) result ≡ unless frame.old }
 {
-    let (kind, frame) = frame.pop()?;
+    let kind = frame.pop()?;
     due(Kind::Bool, kind)?;
-    Ok(either(frame.copied(), frame))
+    *target = Some(frame.copied());
+    Ok(true)
 }
 
 #[tactic(auto, unfolding(crate::specs::Effect::next_unit))]
-fn next_unit(local: LocalId, frame: Frame) -> Result<Edges, Flaw>
-    ensures { result ≡ next_unit local frame }
+fn next_unit(local: LocalId, frame: &mut Frame, target: &mut Option<Frame>) -> Result<bool, Flaw>
+    ensures { map_ok (edges_of frame.new target.new) result ≡ next_unit local frame.old }
 {
     frame.room()?;
     let class = sequence_of(frame.local(local))?;
-    let next = frame.copied().push(Kind::Ref(class))?;
-    Ok(either(next, frame))
+    *target = Some(frame.copied());
+    on(frame.push(Kind::Ref(class)))
+}
+
+// The op at the place alone follows.
+fn only_there(frame: &Frame, target: &mut Option<Frame>) -> Result<bool, Flaw>
+    ensures { map_ok (edges_of frame.now target.new) result ≡ Ok (only_there frame.now) }
+{
+    *target = Some(frame.copied());
+    Ok(false)
 }
 
 #[tactic(auto, unfolding(crate::specs::Effect::done))]
-fn done(part: Part) -> Result<Edges, Flaw>
-    ensures { result ≡ done part }
+fn done(part: Part, frame: &Frame) -> Result<bool, Flaw>
+    ensures { map_ok (edges_of frame.now None) result ≡ done part }
 {
     part.ends_done()?;
-    Ok(ended())
+    Ok(false)
 }
 
 #[tactic(auto, unfolding(crate::specs::Effect::rate))]
-fn rate(part: Part, frame: Frame) -> Result<Edges, Flaw>
-    ensures { result ≡ rate part frame }
+fn rate(part: Part, frame: &mut Frame) -> Result<bool, Flaw>
+    ensures { map_ok (edges_of frame.new None) result ≡ rate part frame.old }
 {
-    let (kind, _) = frame.pop()?;
+    let kind = frame.pop()?;
     due(Kind::Int, kind)?;
     part.ends_rated()?;
-    Ok(ended())
+    Ok(false)
 }
 
 #[tactic(auto, unfolding(crate::specs::Effect::decline))]
-fn decline(part: Part) -> Result<Edges, Flaw>
-    ensures { result ≡ decline part }
+fn decline(part: Part, frame: &Frame) -> Result<bool, Flaw>
+    ensures { map_ok (edges_of frame.now None) result ≡ decline part }
 {
     part.ends_rated()?;
-    Ok(ended())
+    Ok(false)
 }
 
 #[tactic(auto, unfolding(crate::specs::Effect::answer))]
-fn answer(part: Part, frame: Frame) -> Result<Edges, Flaw>
-    ensures { result ≡ answer part frame }
+fn answer(part: Part, frame: &mut Frame) -> Result<bool, Flaw>
+    ensures { map_ok (edges_of frame.new None) result ≡ answer part frame.old }
 {
-    let (kind, _) = frame.pop()?;
+    let kind = frame.pop()?;
     due(Kind::Bool, kind)?;
     part.ends_answered()?;
-    Ok(ended())
+    Ok(false)
 }
 
-/// The frames that an op leaves, or its flaw.
-#[tactic(auto, unfolding(crate::specs::Effect::effect))]
+/// Changes the frame as an op does, and returns whether the next op may come. Where the op goes to a place, `target` gets
+/// the frame there.
+#[tactic(auto, unfolding(crate::specs::Effect::effect), using(crate::proofs::EffectLemmas::on_is))]
 pub(crate) fn effect(
     schema: &Schema,
     part: Part,
     code: &Code,
     op: Op,
-    frame: Frame,
-) -> Result<Edges, Flaw>
-    ensures { result ≡ effect schema.now part code.now op frame }
+    frame: &mut Frame,
+    target: &mut Option<Frame>,
+) -> Result<bool, Flaw>
+    requires { target.old ≡ None }
+    ensures { map_ok (edges_of frame.new target.new) result ≡ effect schema.now part code.now op frame.old }
 {
     match op {
         Op::PushInt(_) => on(frame.push(Kind::Int)),
@@ -170,12 +155,12 @@ pub(crate) fn effect(
         Op::MakeInterval => on(combine(Kind::Int, Kind::Interval, frame)),
         Op::BoundOf(_) => on(turn(Kind::Interval, Kind::Int, frame)),
         Op::Get(slot) => on(get(schema, slot, frame)),
-        Op::One(slot, _) => one(schema, slot, frame),
+        Op::One(slot, _) => one(schema, slot, frame, target),
         Op::Links(slot) => on(links(schema, slot, frame)),
         Op::Find(query) => on(find(schema, code, query, frame)),
         Op::Size => on(size(frame)),
-        Op::Alive(_) => alive(frame),
-        Op::As(class, _) => as_class(class, frame),
+        Op::Alive(_) => alive(frame, target),
+        Op::As(class, _) => as_class(class, frame, target),
         Op::New(class) => on(new_unit(part, class, frame)),
         Op::Set(slot) => on(set_slot(schema, part, slot, frame)),
         Op::Relink(_, slot) => on(relink(schema, part, slot, frame)),
@@ -183,12 +168,12 @@ pub(crate) fn effect(
         Op::Leave(space) => on(leave(schema, part, space, frame)),
         Op::Delete => on(delete(schema, part, frame)),
         Op::Say(count) => on(say(part, count, frame)),
-        Op::Jump(_) | Op::Back(_) => Ok(only_there(frame)),
-        Op::Unless(_) => unless(frame),
-        Op::Next(local, _) => next_unit(local, frame),
-        Op::Done => done(part),
+        Op::Jump(_) | Op::Back(_) => only_there(frame, target),
+        Op::Unless(_) => unless(frame, target),
+        Op::Next(local, _) => next_unit(local, frame, target),
+        Op::Done => done(part, frame),
         Op::Rate => rate(part, frame),
-        Op::Decline => decline(part),
+        Op::Decline => decline(part, frame),
         Op::Answer => answer(part, frame),
     }
 }

@@ -1,6 +1,7 @@
 //! Frames: what is known of the locals and of the stack at a place. The verifier keeps one for each place.
 
 ghost use Rattle.std.specs.Prelude.{◌≡◌, ◌≤◌, length, map, IfOk, Ok};
+ghost use Rattle.bb_code.specs.Fields.{map_ok};
 ghost use Rattle.bb_code.specs.declared.code.TheConstants.{LOCAL_LIMIT, STACK_LIMIT};
 ghost use Rattle.bb_verify.specs.Places.{frame_of};
 ghost use Rattle.bb_verify.specs.Frame.{pop, pop_two, enough, top, without, room, push, local_at, with_local};
@@ -40,26 +41,25 @@ impl Frame {
         }
     }
 
-    /// The newest entry, and the frame without it.
+    /// Pops the newest entry.
     #[tactic(auto, unfolding(crate::specs::Frame::pop))]
-    pub(crate) fn pop(self) -> Result<(Kind, Frame), Flaw>
-        ensures { result ≡ pop self }
+    pub(crate) fn pop(&mut self) -> Result<Kind, Flaw>
+        ensures { map_ok (λ kind. (kind, self.new)) result ≡ pop self.old }
     {
-        let Frame { locals, stack } = self;
-        match stack.newest() {
+        match self.stack.pop() {
             None => Err(Flaw::Depth),
-            Some((kind, stack)) => Ok((kind, Frame { locals, stack })),
+            Some(kind) => Ok(kind),
         }
     }
 
-    /// The two newest entries, the deeper one first, and the frame without them.
+    /// Pops the two newest entries, of which it returns the deeper one first.
     #[tactic(auto, unfolding(crate::specs::Frame::pop_two))]
-    pub(crate) fn pop_two(self) -> Result<((Kind, Kind), Frame), Flaw>
-        ensures { result ≡ pop_two self }
+    pub(crate) fn pop_two(&mut self) -> Result<(Kind, Kind), Flaw>
+        ensures { map_ok (λ two. (two, self.new)) result ≡ pop_two self.old }
     {
-        let (second, frame) = self.pop()?;
-        let (first, frame) = frame.pop()?;
-        Ok(((first, second), frame))
+        let second = self.pop()?;
+        let first = self.pop()?;
+        Ok((first, second))
     }
 
     /// There are so many entries.
@@ -82,16 +82,12 @@ impl Frame {
         self.stack.top(count)
     }
 
-    /// The frame without so many of the newest entries.
-    pub(crate) fn without(self, count: usize) -> Frame
-        requires { count ≤ length self.stack }
-        ensures { result ≡ without count self }
+    /// Drops so many of the newest entries.
+    pub(crate) fn shorten(&mut self, count: usize)
+        requires { count ≤ length self.old.stack }
+        ensures { self.new ≡ without count self.old }
     {
-        let Frame { locals, stack } = self;
-        Frame {
-            locals,
-            stack: stack.without(count),
-        }
+        self.stack.shorten(count);
     }
 
     /// The stack has room for one more entry.
@@ -105,19 +101,16 @@ impl Frame {
         Ok(())
     }
 
-    /// One more entry.
+    /// Pushes an entry.
     #[tactic(auto, unfolding(crate::specs::Frame::push, crate::specs::Frame::room))]
-    pub(crate) fn push(self, kind: Kind) -> Result<Frame, Flaw>
-        ensures { result ≡ push kind self }
+    pub(crate) fn push(&mut self, kind: Kind) -> Result<(), Flaw>
+        ensures { map_ok (λ _. self.new) result ≡ push kind self.old }
     {
         if self.stack.len() >= STACK_LIMIT {
             return Err(Flaw::Depth);
         }
-        let Frame { locals, stack } = self;
-        Ok(Frame {
-            locals,
-            stack: stack.with(kind),
-        })
+        self.stack.push(kind);
+        Ok(())
     }
 
     /// What is known of a local.
@@ -131,14 +124,10 @@ impl Frame {
         }
     }
 
-    /// A local becomes of this kind.
-    pub(crate) fn with_local(self, local: LocalId, kind: Kind) -> Frame
-        ensures { result ≡ with_local local kind self }
+    /// Gives a local another kind.
+    pub(crate) fn set_local(&mut self, local: LocalId, kind: Kind)
+        ensures { self.new ≡ with_local local kind self.old }
     {
-        let Frame { locals, stack } = self;
-        Frame {
-            locals: locals.with(local, kind),
-            stack,
-        }
+        self.locals.put(local, kind);
     }
 }

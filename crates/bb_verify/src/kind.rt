@@ -3,9 +3,10 @@
 ghost use Rattle.std.specs.Prelude.{◌≡◌};
 ghost use Rattle.std.specs.Cmp.Lexicographic.{pointwise};
 ghost use Rattle.bb_verify.specs.Kinds.{is_same_plain, weakens, weakens_local, frame_weakens};
+ghost use Rattle.bb_verify.specs.Places.{frame_of};
 
 use crate::frame::Frame;
-use bb_code::Kind;
+use bb_code::{Frame as Declared, Kind};
 use bb_schema::Schema;
 
 /// Whether both are one kind of values that are neither units nor sequences.
@@ -76,12 +77,12 @@ fn all_locals_weaken(schema: &Schema, kinds: &[Kind], declared: &[Kind]) -> bool
 }
 
 /// Whether a frame may stand where another is declared.
-#[tactic(auto, unfolding(crate::specs::Kinds::frame_weakens), using(crate::proofs::StackLemmas::pointwise_reverse))]
-pub(crate) fn frame_weakens(schema: &Schema, frame: &Frame, declared: &Frame) -> bool
-    ensures { result ≡ frame_weakens schema.now frame.now declared.now }
+#[tactic(auto, unfolding(crate::specs::Kinds::frame_weakens), using(crate::proofs::StackLemmas::pointwise_onto))]
+pub(crate) fn frame_weakens(schema: &Schema, frame: &Frame, declared: &Declared) -> bool
+    ensures { result ≡ frame_weakens schema.now frame.now (frame_of declared.now) }
 {
-    if !all_locals_weaken(schema, frame.locals.kinds(), declared.locals.kinds()) {
+    if !all_locals_weaken(schema, frame.locals.kinds(), declared.locals.as_slice()) {
         return false;
     }
-    all_weaken(schema, frame.stack.entries(), declared.stack.entries())
+    all_weaken(schema, frame.stack.entries(), declared.stack.as_slice())
 }

@@ -4,15 +4,16 @@
 
 mod checked;
 mod due;
-mod edges;
 mod effect;
 mod flaw;
 mod frame;
 mod jumps;
 mod kind;
 mod locals;
+mod loop_tables;
 mod loops;
 mod ops;
+mod packed_frames;
 mod part;
 mod places;
 mod stack;

@@ -80,27 +80,32 @@ impl Locals {
     pub(crate) fn with(self, local: u8, kind: Kind) -> Locals
         ensures { result ≡ set self local kind }
     {
-        if local as usize >= self.count {
-            return self;
-        }
         let mut locals = self;
-        locals.kinds[local as usize] = kind;
+        locals.put(local, kind);
         locals
+    }
+
+    /// Gives a local another kind.
+    pub(crate) fn put(&mut self, local: u8, kind: Kind)
+        ensures { self.new ≡ set self.old local kind }
+    {
+        if (local as usize) < self.count {
+            self.kinds[local as usize] = kind;
+        }
     }
 
     /// All kinds.
     pub fn kinds(&self) -> &[Kind]
-        ensures { result.now ≡ self.now }
+        ensures value { result.now ≡ self.now }
+        ensures few { length self.now ≤ LOCAL_LIMIT }
     {
         &self.kinds[..self.count]
     }
 
-    /// What is known of the locals once a unit of a class was deleted.
-    pub(crate) fn struck(self, schema: &Schema, deleted: ClassId) -> Locals
-        ensures { result ≡ map (struck schema.now deleted) self }
+    /// Leaves what is known of the locals once a unit of a class was deleted.
+    pub(crate) fn strike(&mut self, schema: &Schema, deleted: ClassId)
+        ensures { self.new ≡ map (struck schema.now deleted) self.old }
     {
-        let mut locals = self;
-        strike(schema, deleted, &mut locals.kinds);
-        locals
+        strike(schema, deleted, &mut self.kinds);
     }
 }

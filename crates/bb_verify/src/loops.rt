@@ -1,12 +1,21 @@
-//! The loops of a code. It is the verifier's third phase.
+//! The loops of a code. It is the verifier's third phase. It goes through the places in order, with the loops that hold
+//! the place: so it takes time linear in the numbers of ops and of loops.
 
-ghost use Rattle.std.specs.Prelude.{◌≡◌, IfOk, None, map, slice_get};
-ghost use Rattle.std.specs.List.{list_any};
+ghost use Rattle.std.specs.Prelude.{◌≡◌, ℕ, ◌+◌, ◌<◌, ◌≤◌, ◌++◌, IfOk, None, Ok, filter, length, map, nat_le, slice_get};
+ghost use Rattle.std.specs.List.{list_any, range_with_len};
+ghost use Rattle.std.specs.Option.{option_to_list};
+ghost use Rattle.bb_basis.specs.Results.{Gives};
+ghost use Rattle.bb_verify.specs.declared.loops.TheConstants.{NESTING_LIMIT};
 ghost use Rattle.bb_verify.specs.Each.{each};
+ghost use Rattle.bb_verify.specs.Flaws.{out_of_memory};
 ghost use Rattle.bb_verify.specs.Tables.{places};
+ghost use Rattle.bb_verify.specs.Jumps.{ahead, goes_right, jump_at, jumps};
 ghost use Rattle.bb_verify.specs.Loops.{in_order, never, holds, depth, is_misplaced, rising, begins, ends, op_before, local_in, local_of, is_same_local, is_around, nests, loop_due, head_due, is_head, is_end, enters_at_head, keeps_local, op_due, place_due, loop_at, lesser, lowest_outside, none_outside, loops};
+ghost use Rattle.bb_verify.specs.proving.LoopTables.{HasTables};
+ghost use Rattle.bb_verify.specs.proving.OpenLoops.{at_head, headed, passed, lasts, entered, IsAt, rest_due, depths_below, least_misplaced, sorted_below, rest_of};
 
 use crate::flaw::{Flaw, VerifyFault};
+use crate::loop_tables::{LoopTables, loop_tables};
 use bb_basis::Items;
 use bb_code::{Code, LocalId, Loop, Op, Place};
 use std::alloc::{AllocError, Global};
@@ -39,38 +48,6 @@ fn holds(place: usize, l: Loop) -> bool
     ensures { result ≡ holds place l }
 {
     l.head as usize <= place && place < l.end as usize
-}
-
-/// How many loops of a code hold a place.
-pub(crate) fn depth(code: &Code, place: usize) -> usize
-    ensures { result ≡ depth code.now place }
-{
-    let mut count = 0;
-    for l in code.loops() {
-        if holds(place, *l) {
-            count += 1;
-        }
-    }
-    count
-}
-
-// The head of the second loop is at the place, and that of the first is not before it.
-fn is_misplaced(place: usize, first: Loop, second: Loop) -> bool
-    ensures { result ≡ is_misplaced place first second }
-{
-    second.head as usize == place && second.head <= first.head
-}
-
-// No loop with its head at the place is listed right behind one whose head is not before it.
-fn rising(place: usize, loops: &[Loop]) -> Result<(), Flaw>
-    ensures { result ≡ rising place loops.now }
-{
-    let mut next = 1;
-    while next < loops.len() {
-        never(is_misplaced(place, loops[next - 1], loops[next]))?;
-        next += 1;
-    }
-    Ok(())
 }
 
 // The op at the head is a Next that goes to the end.
@@ -160,76 +137,68 @@ fn nests_with_all(code: &Code, l: Loop, loops: &[Loop]) -> Result<(), Flaw>
     Ok(())
 }
 
+// It nests with all others, if it does so with those that hold its head.
+fn nests_around(code: &Code, l: Loop, around: &[Loop]) -> Result<(), Flaw>
+    requires { around.now ≡ filter (holds l.head) code.now.loops }
+    ensures { result ≡ each (nests code.now l) code.now.loops }
+{
+    nests_with_all(code, l, around)
+}
+
 // A loop begins and ends as it has to, and nests with all others.
 #[tactic(auto, unfolding(crate::specs::Loops::loop_due))]
-fn loop_due(code: &Code, l: Loop) -> Result<(), Flaw>
+fn loop_due(code: &Code, l: Loop, around: &[Loop]) -> Result<(), Flaw>
+    requires { around.now ≡ filter (holds l.head) code.now.loops }
     ensures { result ≡ loop_due code.now l }
 {
     in_order(begins(l, op_at(code, l.head as usize)))?;
     in_order(ends(l, op_before(code, l.end as usize)))?;
-    nests_with_all(code, l, code.loops())
+    nests_around(code, l, around)
 }
 
-// The same of a loop with its head at the place.
-#[tactic(auto, unfolding(crate::specs::Loops::head_due))]
-fn head_due(code: &Code, place: usize, l: Loop) -> Result<(), Flaw>
-    ensures { result ≡ head_due code.now place l }
+// The same of the loop with its head at the place.
+fn heads_due(code: &Code, place: Place, here: Option<Loop>, around: &[Loop]) -> Result<(), Flaw>
+    requires { IsAt code.now place here around.now }
+    ensures { result ≡ each (head_due code.now place) code.now.loops }
 {
-    if l.head as usize == place {
-        return loop_due(code, l);
+    match here {
+        None => Ok(()),
+        Some(l) => loop_due(code, l, around),
     }
-    Ok(())
 }
 
-fn heads_due(code: &Code, place: usize, loops: &[Loop]) -> Result<(), Flaw>
-    ensures { result ≡ each (head_due code.now place) loops.now }
+// A loop begins at the place.
+fn any_head(code: &Code, place: Place, here: Option<Loop>, around: &[Loop]) -> bool
+    requires { IsAt code.now place here around.now }
+    ensures { result ≡ list_any (is_head place) code.now.loops }
 {
-    for l in loops {
-        head_due(code, place, *l)?;
+    match here {
+        None => false,
+        Some(_) => true,
     }
-    Ok(())
 }
 
-fn any_head(place: usize, loops: &[Loop]) -> bool
-    ensures { result ≡ list_any (is_head place) loops.now }
+// A loop ends at the place.
+fn any_end(code: &Code, tables: &LoopTables, place: usize) -> bool
+    requires tables { HasTables code.now tables.now }
+    requires inside { place < length code.now.ops + 1 }
+    ensures { result ≡ list_any (is_end place) code.now.loops }
 {
-    for l in loops {
-        if l.head as usize == place {
-            return true;
-        }
-    }
-    false
+    tables.ends.as_slice()[place]
 }
 
-fn any_end(place: usize, loops: &[Loop]) -> bool
-    ensures { result ≡ list_any (is_end place) loops.now }
+// Each loop that holds the target holds the place.
+fn enters_at_heads(
+    code: &Code,
+    tables: &LoopTables,
+    place: Place,
+    target: Place,
+) -> Result<(), Flaw>
+    requires tables { HasTables code.now tables.now }
+    requires ahead { ahead (length code.now.ops) place target ≡ Ok tt }
+    ensures { result ≡ each (enters_at_head place target) code.now.loops }
 {
-    for l in loops {
-        if l.end as usize == place {
-            return true;
-        }
-    }
-    false
-}
-
-// A loop that holds the target holds the place.
-#[tactic(auto, unfolding(crate::specs::Loops::enters_at_head))]
-fn enters_at_head(place: usize, target: Place, l: Loop) -> Result<(), Flaw>
-    ensures { result ≡ enters_at_head place target l }
-{
-    if holds(target as usize, l) {
-        return in_order(holds(place, l));
-    }
-    Ok(())
-}
-
-fn enters_at_heads(place: usize, target: Place, loops: &[Loop]) -> Result<(), Flaw>
-    ensures { result ≡ each (enters_at_head place target) loops.now }
-{
-    for l in loops {
-        enters_at_head(place, target, *l)?;
-    }
-    Ok(())
+    never(place as usize + 1 < tables.deepest.as_slice()[target as usize + 1])
 }
 
 // A loop that holds the place has another local.
@@ -249,57 +218,230 @@ fn keeps_locals(code: &Code, place: usize, local: LocalId, loops: &[Loop]) -> Re
     Ok(())
 }
 
+// Each loop that holds the place has another local.
+fn keeps_around(
+    code: &Code,
+    place: Place,
+    local: LocalId,
+    here: Option<Loop>,
+    around: &[Loop],
+) -> Result<(), Flaw>
+    requires { IsAt code.now place here around.now }
+    ensures { result ≡ each (keeps_local code.now place local) code.now.loops }
+{
+    keeps_locals(code, place as usize, local, around)
+}
+
 // What an op may do at a place, for the loops.
-#[tactic(auto, unfolding(crate::specs::Loops::op_due))]
-fn op_due(code: &Code, at: Place, op: Op) -> Result<(), Flaw>
+#[tactic(auto, unfolding(crate::specs::Loops::op_due, crate::specs::Jumps::goes_right))]
+fn op_due(
+    code: &Code,
+    tables: &LoopTables,
+    at: Place,
+    op: Op,
+    here: Option<Loop>,
+    around: &[Loop],
+) -> Result<(), Flaw>
+    requires tables { HasTables code.now tables.now }
+    requires at { IsAt code.now at here around.now }
+    requires inside { at < length code.now.ops }
+    requires right { goes_right (length code.now.ops) at op ≡ Ok tt }
     ensures { result ≡ op_due code.now at op }
 {
-    let loops = code.loops();
-    let place = at as usize;
     match op {
-        Op::Next(_, _) => in_order(any_head(place, loops)),
-        Op::Back(_) => in_order(any_end(place + 1, loops)),
-        Op::Store(local) => keeps_locals(code, place, local, loops),
-        Op::Jump(target) => enters_at_heads(place, target, loops),
-        Op::Unless(target) => enters_at_heads(place, target, loops),
-        Op::One(_, target) => enters_at_heads(place, target, loops),
-        Op::Alive(target) => enters_at_heads(place, target, loops),
-        Op::As(_, target) => enters_at_heads(place, target, loops),
+        Op::Next(_, _) => in_order(any_head(code, at, here, around)),
+        Op::Back(_) => in_order(any_end(code, tables, at as usize + 1)),
+        Op::Store(local) => keeps_around(code, at, local, here, around),
+        Op::Jump(target) => enters_at_heads(code, tables, at, target),
+        Op::Unless(target) => enters_at_heads(code, tables, at, target),
+        Op::One(_, target) => enters_at_heads(code, tables, at, target),
+        Op::Alive(target) => enters_at_heads(code, tables, at, target),
+        Op::As(_, target) => enters_at_heads(code, tables, at, target),
         _ => Ok(()),
     }
 }
 
-// The loops with their heads at the place, how many loops hold it, and its op.
-#[tactic(auto, unfolding(crate::specs::Loops::place_due))]
-fn place_due(code: &Code, place: Place, op: Option<Op>) -> Result<(), Flaw>
+// No more loops than may nest hold the place.
+fn few_around(code: &Code, place: Place, here: Option<Loop>, around: &[Loop]) -> bool
+    requires { IsAt code.now place here around.now }
+    ensures { result ≡ nat_le (depth code.now place) NESTING_LIMIT }
+{
+    around.len() <= NESTING_LIMIT
+}
+
+// The loop with its head at the place, how many loops hold it, and its op.
+#[tactic(auto, unfolding(crate::specs::proving::OpenLoops::rest_due))]
+fn rest_due(
+    code: &Code,
+    tables: &LoopTables,
+    place: Place,
+    op: Op,
+    here: Option<Loop>,
+    around: &[Loop],
+) -> Result<(), Flaw>
+    requires tables { HasTables code.now tables.now }
+    requires at { IsAt code.now place here around.now }
+    requires inside { place < length code.now.ops }
+    requires right { goes_right (length code.now.ops) place op ≡ Ok tt }
+    ensures { result ≡ rest_due code.now place op }
+{
+    heads_due(code, place, here, around)?;
+    in_order(few_around(code, place, here, around))?;
+    op_due(code, tables, place, op, here, around)
+}
+
+// The same of the op at the place, if it is one.
+fn place_due(
+    code: &Code,
+    tables: &LoopTables,
+    place: Place,
+    op: Option<Op>,
+    here: Option<Loop>,
+    around: &[Loop],
+) -> Result<(), Flaw>
+    requires tables { HasTables code.now tables.now }
+    requires at { IsAt code.now place here around.now }
+    requires right { jump_at code.now place ≡ Ok tt }
+    requires there { op ≡ slice_get code.now.ops place }
     ensures { result ≡ place_due code.now place op }
 {
     match op {
         None => Ok(()),
-        Some(op) => {
-            rising(place as usize, code.loops())?;
-            heads_due(code, place as usize, code.loops())?;
-            in_order(depth(code, place as usize) <= NESTING_LIMIT)?;
-            op_due(code, place, op)
-        }
+        Some(op) => rest_due(code, tables, place, op, here, around),
     }
 }
 
 #[tactic(auto, unfolding(crate::specs::Loops::loop_at))]
-fn loop_at(code: &Code, place: Place) -> Result<(), VerifyFault>
+fn loop_at(
+    code: &Code,
+    tables: &LoopTables,
+    place: Place,
+    here: Option<Loop>,
+    around: &[Loop],
+) -> Result<(), VerifyFault>
+    requires tables { HasTables code.now tables.now }
+    requires at { IsAt code.now place here around.now }
+    requires right { jump_at code.now place ≡ Ok tt }
     ensures { result ≡ loop_at code.now place }
 {
-    place_due(code, place, op_at(code, place as usize)).map_err(|flaw| VerifyFault { place, flaw })
+    place_due(
+        code,
+        tables,
+        place,
+        op_at(code, place as usize),
+        here,
+        around,
+    )
+    .map_err(|flaw| VerifyFault { place, flaw })
 }
 
-fn loops_at_all(code: &Code) -> Result<(), VerifyFault>
-    ensures { result ≡ each (loop_at code.now) (places code.now) }
+fn at_head(place: Place, l: Loop) -> Option<Loop>
+    ensures { result ≡ at_head place l }
 {
-    let count = code.ops().len() as u16;
-    for place in 0..count {
-        loop_at(code, place)?;
+    if l.head == place {
+        return Some(l);
     }
+    None
+}
+
+// The next loop of the list, if its head is at the place.
+fn headed(code: &Code, place: Place, next: usize) -> Option<Loop>
+    ensures { result ≡ headed place next code.now.loops }
+{
+    match code.loops().get(next) {
+        None => None,
+        Some(l) => at_head(place, *l),
+    }
+}
+
+// How many loops of the list were met.
+fn passed(next: usize, here: Option<Loop>) -> usize
+    requires { next < 65536 }
+    ensures { result ≡ passed next here }
+{
+    match here {
+        None => next,
+        Some(_) => next + 1,
+    }
+}
+
+fn add(around: &mut Vec<Loop>, here: Option<Loop>) -> Result<(), AllocError>
+    ensures { IfOk result (λ _. around.new.items ≡ around.old.items ++ option_to_list here) }
+{
+    match here {
+        None => Ok(()),
+        Some(l) => {
+            around.push(l)?;
+            Ok(())
+        }
+    }
+}
+
+// The loops that end after the place.
+fn leave_ended(around: &mut Vec<Loop>, place: Place)
+    ensures { around.new.items ≡ filter (lasts place) around.old.items }
+{
+    around.retain(|l| place < l.end);
+}
+
+// The loops that hold the place, from those that held the place before it.
+fn enter(around: &mut Vec<Loop>, place: Place, here: Option<Loop>) -> Result<(), AllocError>
+    ensures { IfOk result (λ _. around.new.items ≡ entered place around.old.items here) }
+{
+    add(around, here)?;
+    leave_ended(around, place);
     Ok(())
+}
+
+// How many loops hold each of the first places, or the first fault there. The list rises up to them.
+#[tactic(auto, unfolding(crate::specs::proving::OpenLoops::depths_below))]
+fn depths_below(
+    alloc: Global,
+    code: &Code,
+    tables: &LoopTables,
+    sorted: Place,
+) -> Result<Items<usize>, VerifyFault>
+    requires tables { HasTables code.now tables.now }
+    requires right { jumps code.now ≡ Ok tt }
+    requires inside { sorted ≤ length code.now.ops }
+    requires rises { (place : ℕ) → place < sorted → rising place code.now.loops ≡ Ok tt }
+    ensures { Gives out_of_memory (λ depths. depths) result (depths_below code.now sorted) }
+{
+    let mut around = Vec::new(alloc);
+    let mut depths = Vec::new(alloc);
+    let mut next = 0;
+    for place in 0..sorted {
+        let here = headed(code, place, next);
+        next = passed(next, here);
+        enter(&mut around, place, here)?;
+        loop_at(code, tables, place, here, &around)?;
+        depths.push(around.len())?;
+    }
+    Ok(Items::from(depths))
+}
+
+// The lesser of a place and the head of the second loop, if it is not after that of the first.
+fn least_misplaced(so_far: Place, first: Loop, second: Loop) -> Place
+    ensures { result ≡ least_misplaced so_far first second }
+{
+    if second.head <= first.head {
+        return so_far.min(second.head);
+    }
+    so_far
+}
+
+// The list of the loops rises up to there: the lowest head of a loop that is listed right behind one whose head is not
+// before it, or the number of ops.
+fn sorted_below(count: Place, loops: &[Loop]) -> Place
+    ensures { result ≡ sorted_below count loops.now }
+{
+    let mut sorted = count;
+    let mut next = 1;
+    while next < loops.len() {
+        sorted = least_misplaced(sorted, loops[next - 1], loops[next]);
+        next += 1;
+    }
+    sorted
 }
 
 // The lesser of a number that was found so far and another.
@@ -339,23 +481,42 @@ fn none_outside(lowest: Option<Place>) -> Result<(), VerifyFault>
     }
 }
 
-/// Answers the first place at which the loops are not in order.
-#[tactic(auto, unfolding(crate::specs::Loops::loops))]
-pub(crate) fn check_loops(code: &Code) -> Result<(), VerifyFault>
-    ensures { result ≡ loops code.now }
+fn sorted_of(code: &Code) -> Place
+    ensures { result ≡ sorted_below (length code.now.ops) code.now.loops }
 {
-    loops_at_all(code)?;
+    sorted_below(code.ops().len() as u16, code.loops())
+}
+
+// No head is outside the code.
+fn all_inside(code: &Code) -> Result<(), VerifyFault>
+    ensures { result ≡ none_outside (lowest_outside (length code.now.ops) None code.now.loops) }
+{
     none_outside(lowest_outside(code.ops().len(), code.loops()))
 }
 
-/// For each place of a code how many loops hold it.
-pub(crate) fn depths(alloc: Global, code: &Code) -> Result<Items<usize>, AllocError>
-    ensures { IfOk result (λ depths. depths ≡ map (depth code.now) (places code.now)) }
+// What comes after the places up to which the list rises: the place where it does not, or a head outside the code.
+fn rest_of(code: &Code, sorted: Place) -> Result<(), VerifyFault>
+    requires { sorted ≡ sorted_below (length code.now.ops) code.now.loops }
+    ensures { result ≡ rest_of code.now }
 {
-    let mut depths = Vec::new(alloc);
-    let count = code.ops().len();
-    for place in 0..count {
-        depths.push(depth(code, place))?;
+    if (sorted as usize) < code.ops().len() {
+        return Err(VerifyFault {
+            place: sorted,
+            flaw: Flaw::Loop,
+        });
     }
-    Ok(Items::from(depths))
+    all_inside(code)
+}
+
+/// Answers how many loops hold each place, or the first place at which the loops are not in order.
+pub(crate) fn check_loops(alloc: Global, code: &Code) -> Result<Items<usize>, VerifyFault>
+    requires { jumps code.now ≡ Ok tt }
+    ensures fault { Gives out_of_memory (λ _. tt) result (loops code.now) }
+    ensures depths { IfOk result (λ depths. depths ≡ map (depth code.now) (places code.now)) }
+{
+    let tables = loop_tables(alloc, code)?;
+    let sorted = sorted_of(code);
+    let depths = depths_below(alloc, code, &tables, sorted)?;
+    rest_of(code, sorted)?;
+    Ok(depths)
 }

@@ -1,49 +1,64 @@
 //! The frames of all places of a code. It is the verifier's last phase.
 
-ghost use Rattle.std.specs.Prelude.{◌≡◌, ◌≤◌, ◌-◌, ◌∷◌, ◌++◌, All, IfOk, None, Ok, Some, length, replicate, set};
+ghost use Rattle.std.specs.Prelude.{◌≡◌, ◌≤◌, ◌-◌, ◌∷◌, ◌++◌, IfOk, IfSome, None, Ok, Some, length, option_map, replicate, set};
 ghost use Rattle.bb_basis.specs.Results.{Gives, try_fold};
-ghost use Rattle.bb_code.specs.Code.{IsFrame};
 ghost use Rattle.bb_code.specs.declared.code.TheConstants.{LOCAL_LIMIT, STACK_LIMIT};
 ghost use Rattle.bb_code.specs.declared.frame.Kind.TheVariants.{Any, Old};
 ghost use Rattle.bb_verify.specs.Flaws.{out_of_memory};
 ghost use Rattle.bb_verify.specs.declared.flaw.Flaw.TheVariants.{Memory};
 ghost use Rattle.bb_verify.specs.Part.{units_of};
 ghost use Rattle.bb_verify.specs.Tables.{places};
-ghost use Rattle.bb_verify.specs.Places.{declared_at, declared_for, declared_frames, entry_frame, frame_at, fits_declared, on_due, target_due, has_next, one_more, visit_op, visit, first_walk, frames_of, frame_of, with_frames};
+ghost use Rattle.bb_verify.specs.proving.Numbered.{numbered_frame, numbered_frames};
+ghost use Rattle.bb_verify.specs.Places.{declared_at, declared_for, declared_frames, entry_frame, frame_at, fits_declared, on_due, target_due, has_next, visit_op, visit, first_walk, frames_of, frame_of, with_frames};
 
-use crate::edges::Edges;
 use crate::effect::effect;
 use crate::flaw::{Flaw, VerifyFault};
 use crate::frame::Frame;
 use crate::jumps::target_of;
 use crate::kind::frame_weakens;
 use crate::locals::Locals;
+use crate::packed_frames::PackedFrames;
 use crate::part::Part;
 use crate::stack::Stack;
 use crate::walk::Walk;
-use bb_basis::Items;
-use bb_code::{ClassId, Code, FrameEntry, Kind, Op, Place};
+use bb_code::{ClassId, Code, Frame as Declared, FrameEntry, Kind, Op, Place};
 use bb_schema::Schema;
 use std::alloc::{AllocError, Global};
 
-// The frame that is declared for a place, where this is the list of all places.
-fn declared_at(declared: &[Option<Frame>], place: usize) -> Option<Frame>
-    ensures { result ≡ declared_at declared.now place }
+// The declared frame of a number, if a code has so many.
+fn numbered_frame(code: &Code, number: usize) -> Option<&Declared>
+    ensures value { option_map (λ f. frame_of f.now) result ≡ numbered_frame code.now.frames (Some number) }
+    ensures few { IfSome result (λ f. (length f.now.locals ≤ LOCAL_LIMIT) × (length f.now.stack ≤ STACK_LIMIT)) }
+{
+    let frames = code.frames();
+    if number >= frames.len() {
+        return None;
+    }
+    code.locals();
+    Some(&frames[number].frame)
+}
+
+// The frame that a code declares for a place, where this is the number of the frame of each place.
+fn declared_at<'a>(code: &'a Code, declared: &[Option<usize>], place: usize) -> Option<&'a Declared>
+    ensures value { option_map (λ f. frame_of f.now) result
+        ≡ declared_at (numbered_frames code.now.frames declared.now) place }
+    ensures few { IfSome result (λ f. (length f.now.locals ≤ LOCAL_LIMIT) × (length f.now.stack ≤ STACK_LIMIT)) }
 {
     match declared.get(place) {
         None => None,
         Some(None) => None,
-        Some(Some(frame)) => Some(frame.copied()),
+        Some(Some(number)) => numbered_frame(code, *number),
     }
 }
 
 // The frame of the place that an op goes to.
-fn declared_for(declared: &[Option<Frame>], op: Op) -> Option<Frame>
-    ensures { result ≡ declared_for declared.now op }
+fn declared_for<'a>(code: &'a Code, declared: &[Option<usize>], op: Op) -> Option<&'a Declared>
+    ensures { option_map (λ f. frame_of f.now) result
+        ≡ declared_for (numbered_frames code.now.frames declared.now) op }
 {
     match target_of(op) {
         None => None,
-        Some(target) => declared_at(declared, target as usize),
+        Some(target) => declared_at(code, declared, target as usize),
     }
 }
 
@@ -93,7 +108,7 @@ fn entry_frame(part: Part, locals: u8) -> Frame
     }
 }
 
-fn no_frames(alloc: Global, count: usize) -> Result<Vec<Option<Frame>>, AllocError>
+fn no_frames(alloc: Global, count: usize) -> Result<Vec<Option<usize>>, AllocError>
     ensures { IfOk result (λ v. v.items ≡ replicate count None) }
 {
     let mut all = Vec::new(alloc);
@@ -103,51 +118,49 @@ fn no_frames(alloc: Global, count: usize) -> Result<Vec<Option<Frame>>, AllocErr
     Ok(all)
 }
 
-fn put_frames(all: &mut Vec<Option<Frame>>, locals: u8, frames: &[FrameEntry])
-    requires fit { All (IsFrame locals) frames.now }
-    requires few { locals ≤ LOCAL_LIMIT }
-    ensures { all.new.items ≡ with_frames all.old.items frames.now }
+fn put_frames(all: &mut Vec<Option<usize>>, frames: &[FrameEntry])
+    ensures { numbered_frames frames.now all.new.items
+        ≡ with_frames (numbered_frames frames.now all.old.items) frames.now }
 {
-    for entry in frames {
-        put_frame(all, entry);
+    for number in 0..frames.len() {
+        let entry = &frames[number];
+        put_frame(all, entry.place as usize, number);
     }
 }
 
-fn put_frame(all: &mut Vec<Option<Frame>>, entry: &FrameEntry)
-    requires locals { length entry.now.frame.locals ≤ LOCAL_LIMIT }
-    requires stack { length entry.now.frame.stack ≤ STACK_LIMIT }
-    ensures { all.new.items ≡ set all.old.items entry.now.place (Some (frame_of entry.now.frame)) }
+fn put_frame(all: &mut Vec<Option<usize>>, place: usize, number: usize)
+    ensures { all.new.items ≡ set all.old.items place (Some number) }
 {
-    let place = entry.place as usize;
     if place < all.len() {
-        all[place] = Some(Frame::of(&entry.frame));
+        all[place] = Some(number);
     }
 }
 
-// For each place of a code the frame that it declares there.
+// For each place of a code which of its declared frames is there.
 #[tactic(auto, unfolding(crate::specs::Places::declared_frames))]
-fn declared_frames(alloc: Global, code: &Code) -> Result<Vec<Option<Frame>>, AllocError>
-    ensures { IfOk result (λ v. v.items ≡ declared_frames code.now) }
+fn declared_frames(alloc: Global, code: &Code) -> Result<Vec<Option<usize>>, AllocError>
+    ensures { IfOk result (λ v. numbered_frames code.now.frames v.items ≡ declared_frames code.now) }
 {
     let mut all = no_frames(alloc, code.ops().len())?;
-    put_frames(&mut all, code.locals(), code.frames());
+    put_frames(&mut all, code.frames());
     Ok(all)
 }
 
 // The frame of a place: the declared one, or else what the op before leaves.
-fn frame_at(declared: Option<Frame>, next: Option<Frame>) -> Result<Frame, Flaw>
-    ensures { result ≡ frame_at declared next }
+fn frame_at(declared: Option<&Declared>, next: Option<Frame>) -> Result<Frame, Flaw>
+    requires { IfSome declared (λ f. (length f.now.locals ≤ LOCAL_LIMIT) × (length f.now.stack ≤ STACK_LIMIT)) }
+    ensures { result ≡ frame_at (option_map (λ f. frame_of f.now) declared.entry) next }
 {
     match declared {
-        Some(frame) => Ok(frame),
+        Some(frame) => Ok(Frame::of(frame)),
         None => next.ok_or(Flaw::Frame),
     }
 }
 
 // What an op leaves may stand where a frame is declared.
 #[tactic(auto, unfolding(crate::specs::Places::fits_declared))]
-fn fits_declared(schema: &Schema, left: &Frame, declared: &Frame) -> Result<(), Flaw>
-    ensures { result ≡ fits_declared schema.now left.now declared.now }
+fn fits_declared(schema: &Schema, left: &Frame, declared: &Declared) -> Result<(), Flaw>
+    ensures { result ≡ fits_declared schema.now left.now (frame_of declared.now) }
 {
     if frame_weakens(schema, left, declared) {
         return Ok(());
@@ -156,20 +169,24 @@ fn fits_declared(schema: &Schema, left: &Frame, declared: &Frame) -> Result<(), 
 }
 
 // The edge to the next place, where a frame may be declared.
-fn on_due(schema: &Schema, left: &Option<Frame>, declared: Option<Frame>) -> Result<(), Flaw>
-    ensures { result ≡ on_due schema.now left.now declared }
+fn on_due(schema: &Schema, left: &Option<Frame>, declared: Option<&Declared>) -> Result<(), Flaw>
+    ensures { result ≡ on_due schema.now left.now (option_map (λ f. frame_of f.now) declared.entry) }
 {
-    match (left, &declared) {
+    match (left, declared) {
         (Some(left), Some(declared)) => fits_declared(schema, left, declared),
         _ => Ok(()),
     }
 }
 
 // The edge to a place that an op goes to, where a frame has to be declared.
-fn target_due(schema: &Schema, left: &Option<Frame>, declared: Option<Frame>) -> Result<(), Flaw>
-    ensures { result ≡ target_due schema.now left.now declared }
+fn target_due(
+    schema: &Schema,
+    left: &Option<Frame>,
+    declared: Option<&Declared>,
+) -> Result<(), Flaw>
+    ensures { result ≡ target_due schema.now left.now (option_map (λ f. frame_of f.now) declared.entry) }
 {
-    match (left, &declared) {
+    match (left, declared) {
         (Some(left), Some(declared)) => fits_declared(schema, left, declared),
         (Some(_), None) => Err(Flaw::Frame),
         (None, _) => Ok(()),
@@ -191,38 +208,32 @@ fn has_next(count: usize, place: usize, left: &Option<Frame>) -> Result<(), Flaw
     }
 }
 
-// One more place, with its frame and what its op leaves for the next place.
-fn one_more(frame: Frame, next: Option<Frame>, walk: Walk) -> Result<Walk, Flaw>
-    ensures { Gives Memory (λ w. w) result (Ok (one_more frame next walk)) }
-{
-    let Walk { frames, next: _ } = walk;
-    let mut frames = frames;
-    frames.push(frame)?;
-    Ok(Walk { frames, next })
-}
-
 // An op at a place.
 #[tactic(auto, unfolding(crate::specs::Places::visit_op))]
 fn visit_op(
     schema: &Schema,
     part: Part,
     code: &Code,
-    declared: &[Option<Frame>],
+    declared: &[Option<usize>],
     place: Place,
     op: Op,
-    walk: Walk,
-) -> Result<Walk, Flaw>
-    ensures { Gives Memory (λ w. w) result (visit_op schema.now part code.now declared.now place op walk) }
+    walk: &mut Walk,
+) -> Result<(), Flaw>
+    ensures { Gives Memory (λ _. walk.new) result
+        (visit_op schema.now part code.now (numbered_frames code.now.frames declared.now) place op walk.old) }
 {
-    let Walk { frames, next } = walk;
-    let frame = frame_at(declared_at(declared, place as usize), next)?;
-    let edges = effect(schema, part, code, op, frame.copied())?;
-    let Edges { on, target } = edges;
+    let next = walk.next.take();
+    let mut frame = frame_at(declared_at(code, declared, place as usize), next)?;
+    walk.frames.push(&frame)?;
+    let mut target = None;
+    let goes_on = effect(schema, part, code, op, &mut frame, &mut target)?;
+    if goes_on {
+        walk.next = Some(frame);
+    }
     let after = place as usize + 1;
-    has_next(code.ops().len(), after, &on)?;
-    on_due(schema, &on, declared_at(declared, after))?;
-    target_due(schema, &target, declared_for(declared, op))?;
-    one_more(frame, on, Walk { frames, next: None })
+    has_next(code.ops().len(), after, &walk.next)?;
+    on_due(schema, &walk.next, declared_at(code, declared, after))?;
+    target_due(schema, &target, declared_for(code, declared, op))
 }
 
 // The op at a place.
@@ -231,16 +242,17 @@ fn visit(
     schema: &Schema,
     part: Part,
     code: &Code,
-    declared: &[Option<Frame>],
-    walk: Walk,
+    declared: &[Option<usize>],
+    walk: &mut Walk,
     place: Place,
-) -> Result<Walk, VerifyFault>
-    ensures { Gives out_of_memory (λ w. w) result (visit schema.now part code.now declared.now walk place) }
+) -> Result<(), VerifyFault>
+    ensures { Gives out_of_memory (λ _. walk.new) result
+        (visit schema.now part code.now (numbered_frames code.now.frames declared.now) walk.old place) }
 {
     match code.ops().get(place as usize) {
-        None => Ok(walk),
+        None => Ok(()),
         Some(op) => match visit_op(schema, part, code, declared, place, *op, walk) {
-            Ok(walk) => Ok(walk),
+            Ok(()) => Ok(()),
             Err(Flaw::Memory) => Err(VerifyFault {
                 place: 0,
                 flaw: Flaw::Memory,
@@ -254,18 +266,18 @@ fn visit_all(
     schema: &Schema,
     part: Part,
     code: &Code,
-    declared: &[Option<Frame>],
-    walk: Walk,
-) -> Result<Walk, VerifyFault>
-    ensures { Gives out_of_memory (λ w. w) result
-        (try_fold (visit schema.now part code.now declared.now) walk (places code.now)) }
+    declared: &[Option<usize>],
+    walk: &mut Walk,
+) -> Result<(), VerifyFault>
+    ensures { Gives out_of_memory (λ _. walk.new) result
+        (try_fold (visit schema.now part code.now (numbered_frames code.now.frames declared.now)) walk.old
+        (places code.now)) }
 {
-    let mut walk = walk;
     let count = code.ops().len() as u16;
     for place in 0..count {
-        walk = visit(schema, part, code, declared, walk, place)?;
+        visit(schema, part, code, declared, walk, place)?;
     }
-    Ok(walk)
+    Ok(())
 }
 
 /// The frames of all places.
@@ -275,21 +287,21 @@ pub(crate) fn frames_of(
     schema: &Schema,
     part: Part,
     code: &Code,
-) -> Result<Items<Frame>, VerifyFault>
+) -> Result<PackedFrames, VerifyFault>
     requires { length (units_of part) ≤ code.now.locals }
     ensures { Gives out_of_memory (λ frames. frames) result (frames_of schema.now part code.now) }
 {
     let declared = declared_frames(alloc, code)?;
     let next = Some(entry_frame(part, code.locals()));
-    match on_due(schema, &next, declared_at(&declared, 0)) {
+    match on_due(schema, &next, declared_at(code, &declared, 0)) {
         Ok(()) => {}
         Err(flaw) => return Err(VerifyFault { place: 0, flaw }),
     }
-    let first = Walk {
-        frames: Items::new(alloc),
+    let mut walk = Walk {
+        frames: PackedFrames::new(alloc),
         next,
     };
-    let walk = visit_all(schema, part, code, &declared, first)?;
+    visit_all(schema, part, code, &declared, &mut walk)?;
     let Walk { frames, next: _ } = walk;
     Ok(frames)
 }

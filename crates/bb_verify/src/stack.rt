@@ -1,6 +1,6 @@
 //! The kinds of the entries of a stack. Frames hold it.
 
-ghost use Rattle.std.specs.Prelude.{◌≡◌, ◌<◌, ◌≤◌, length, [], ◌∷◌, List, Option, Some, None, drop, reverse, take, map};
+ghost use Rattle.std.specs.Prelude.{◌≡◌, ◌<◌, ◌≤◌, length, [], ◌∷◌, List, Option, Some, None, option_map, drop, reverse, take, map};
 ghost use Rattle.bb_code.specs.declared.code.TheConstants.{STACK_LIMIT};
 ghost use Rattle.bb_verify.specs.Due.{struck};
 ghost use Rattle.bb_verify.specs.Stack.{newest};
@@ -57,7 +57,7 @@ impl Stack {
     {
         let mut stack = Stack::new();
         for kind in entries {
-            stack = stack.with(*kind);
+            stack.push(*kind);
         }
         stack
     }
@@ -69,37 +69,32 @@ impl Stack {
         self.len
     }
 
-    /// One more entry.
-    pub(crate) fn with(self, kind: Kind) -> Stack
-        requires { length self < STACK_LIMIT }
-        ensures { result ≡ kind ∷ self }
+    /// Pushes an entry.
+    pub(crate) fn push(&mut self, kind: Kind)
+        requires { length self.old < STACK_LIMIT }
+        ensures { self.new ≡ kind ∷ self.old }
     {
-        let mut stack = self;
-        stack.kinds[stack.len] = kind;
-        stack.len += 1;
-        stack
+        self.kinds[self.len] = kind;
+        self.len += 1;
     }
 
-    /// The newest entry, and the stack without it.
-    pub(crate) fn newest(self) -> Option<(Kind, Stack)>
-        ensures { result ≡ newest self }
+    /// Pops the newest entry.
+    pub(crate) fn pop(&mut self) -> Option<Kind>
+        ensures { option_map (λ kind. (kind, self.new)) result ≡ newest self.old }
     {
         if self.len == 0 {
             return None;
         }
-        let mut rest = self;
-        rest.len -= 1;
-        Some((rest.kinds[rest.len], rest))
+        self.len -= 1;
+        Some(self.kinds[self.len])
     }
 
-    /// Without so many of the newest entries.
-    pub(crate) fn without(self, count: usize) -> Stack
-        requires { count ≤ length self }
-        ensures { result ≡ drop count self }
+    /// Drops so many of the newest entries.
+    pub(crate) fn shorten(&mut self, count: usize)
+        requires { count ≤ length self.old }
+        ensures { self.new ≡ drop count self.old }
     {
-        let mut stack = self;
-        stack.len -= count;
-        stack
+        self.len -= count;
     }
 
     /// So many of the newest entries, the deepest first.
@@ -112,17 +107,16 @@ impl Stack {
 
     /// All entries, the deepest first.
     pub fn entries(&self) -> &[Kind]
-        ensures { result.now ≡ reverse self.now }
+        ensures value { result.now ≡ reverse self.now }
+        ensures few { length self.now ≤ STACK_LIMIT }
     {
         &self.kinds[..self.len]
     }
 
-    /// What is known of the entries once a unit of a class was deleted.
-    pub(crate) fn struck(self, schema: &Schema, deleted: ClassId) -> Stack
-        ensures { result ≡ map (struck schema.now deleted) self }
+    /// Leaves what is known of the entries once a unit of a class was deleted.
+    pub(crate) fn strike(&mut self, schema: &Schema, deleted: ClassId)
+        ensures { self.new ≡ map (struck schema.now deleted) self.old }
     {
-        let mut stack = self;
-        strike(schema, deleted, &mut stack.kinds);
-        stack
+        strike(schema, deleted, &mut self.kinds);
     }
 }

@@ -1,13 +1,15 @@
 //! The verifier. Whoever makes sources (bb_rules, bb_shell) calls it once for each code.
 
+ghost use Rattle.std.specs.Prelude.{IfOk};
 ghost use Rattle.bb_basis.specs.Results.{Gives};
 ghost use Rattle.bb_verify.specs.Accepted.{checked};
+ghost use Rattle.bb_verify.specs.Facts.{Facts};
 ghost use Rattle.bb_verify.specs.Flaws.{out_of_memory};
 
 use crate::checked::Checked;
 use crate::flaw::VerifyFault;
 use crate::jumps::check_jumps;
-use crate::loops::{check_loops, depths};
+use crate::loops::check_loops;
 use crate::part::Part;
 use crate::places::frames_of;
 use crate::tables::check_tables;
@@ -24,12 +26,12 @@ pub fn verify(
     part: Part,
     code: Code,
 ) -> Result<Checked, VerifyFault>
-    ensures { Gives out_of_memory (λ c. c) result (checked schema.now part code) }
+    ensures gives { Gives out_of_memory (λ c. c) result (checked schema.now part code) }
+    ensures facts { IfOk result (λ c. Facts schema.now c.part c.code c.frames) }
 {
     check_tables(schema, part, &code)?;
     check_jumps(&code)?;
-    check_loops(&code)?;
+    let depths = check_loops(alloc, &code)?;
     let frames = frames_of(alloc, schema, part, &code)?;
-    let depths = depths(alloc, &code)?;
     Ok(Checked::new(code, part, frames, depths))
 }

@@ -1,11 +1,11 @@
 //! How far the pass over the places is. It changes from place to place.
 
 use crate::frame::Frame;
-use bb_basis::Items;
+use crate::packed_frames::PackedFrames;
 
 /// The frames of the places so far, and what the last of their ops leaves for the next place.
 #[derive(Drop)]
 pub(crate) struct Walk {
-    pub(crate) frames: Items<Frame>,
+    pub(crate) frames: PackedFrames,
     pub(crate) next: Option<Frame>,
 }

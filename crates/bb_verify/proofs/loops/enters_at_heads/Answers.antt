@@ -1,15 +1,18 @@
-use Rattle.std.proofs.lemmas.Result.{err_from_is_err_and}
-use Rattle.bb_verify.specs.Loops.{enters_at_head}
-use Rattle.bb_verify.proofs.EachLemmas.{each_next, each_error, each_end}
+use Rattle.std.proofs.Common.{◌∙◌, ap, arith, length, ◌+◌}
+use Rattle.std.specs.Prelude.{nat_lt, slice_index}
+use Rattle.bb_verify.specs.Loops.{never}
+use Rattle.bb_verify.proofs.LoopTableLemmas.{in_ahead, enters_by_head}
 use Rattle.bb_verify.proofs.loops.enters_at_heads.Goals as goal
 
-pub returns-in_err-enters_at_head : goal.returns-in_err-enters_at_head
-returns-in_err-enters_at_head c =
-    let p = err_from_is_err_and c.from_residual.result c.from_residual.ensures.1 in
-    rw (p.1, p.2) (each_error (enters_at_head c.args.place c.args.target) c.args.loops.now c.loop-l.l-index _ c.in_err-enters_at_head.field-0.0 _ c.loop-l-test.true (c.in_err-enters_at_head.ensures) c.loop-l.invariant)
-
-pub loop-l-preserved : goal.loop-l-preserved
-loop-l-preserved c = each_next (enters_at_head c.args.place c.args.target) c.args.loops.now c.loop-l.l-index _ c.in_ok-enters_at_head.field-0 _ c.loop-l-test.true (c.in_ok-enters_at_head.ensures) c.loop-l.invariant
+pub bounds-as_slice-target : goal.bounds-as_slice-target
+bounds-as_slice-target c =
+    let inside = (in_ahead (length c.args.code.now.ops) c.args.place c.args.target c.requires.ahead).1 in
+    let long = c.requires.tables.heads.len in
+    let same = ap (λ l. length l) c.as_slice.ensures in
+    omega (arith, inside, long, same)
 
 pub returns : goal.returns
-returns c = each_end (enters_at_head c.args.place c.args.target) c.args.loops.now c.loop-l.l-index _ c.loop-l-test.false c.loop-l.invariant
+returns c =
+    c.never.ensures
+    ∙ (ap (λ ds. never (nat_lt (c.args.place + 1) (slice_index ds (c.args.target + 1)))) c.as_slice.ensures
+    ∙ enters_by_head (length c.args.code.now.ops) c.args.place c.args.target c.args.code.now.loops c.args.tables.now.deepest c.requires.tables.heads c.requires.ahead)

@@ -1,15 +1,16 @@
-use Rattle.std.proofs.lemmas.Result.{err_from_is_err_and}
-use Rattle.bb_verify.specs.Loops.{head_due}
-use Rattle.bb_verify.proofs.EachLemmas.{each_next, each_error, each_end}
+use Rattle.std.proofs.Common.{◌∙◌, ap, sym, filter}
+use Rattle.std.specs.Option.{option_to_list}
+use Rattle.bb_verify.specs.Loops.{holds}
+use Rattle.bb_verify.proofs.OpenLemmas.{head_place, no_head_due, one_head_due}
 use Rattle.bb_verify.proofs.loops.heads_due.Goals as goal
 
-pub returns-in_err-head_due : goal.returns-in_err-head_due
-returns-in_err-head_due c =
-    let p = err_from_is_err_and c.from_residual.result c.from_residual.ensures.1 in
-    rw (p.1, p.2) (each_error (head_due c.args.code.now c.args.place) c.args.loops.now c.loop-l.l-index _ c.in_err-head_due.field-0.0 _ c.loop-l-test.true (c.in_err-head_due.ensures) c.loop-l.invariant)
+pub loop_due-requires : goal.loop_due-requires
+loop_due-requires c =
+    c.requires.holding
+    ∙ ap (λ p. filter (holds p) c.args.code.now.loops) (sym (head_place c.args.place c.args.code.now.loops c.in-Some.l (c.requires.headed ∙ ap option_to_list c.in-Some.is)))
 
-pub loop-l-preserved : goal.loop-l-preserved
-loop-l-preserved c = each_next (head_due c.args.code.now c.args.place) c.args.loops.now c.loop-l.l-index _ c.in_ok-head_due.field-0 _ c.loop-l-test.true (c.in_ok-head_due.ensures) c.loop-l.invariant
+pub returns-in-None : goal.returns-in-None
+returns-in-None c = no_head_due c.args.code.now c.args.place (c.requires.headed ∙ ap option_to_list c.in-None.is)
 
-pub returns : goal.returns
-returns c = each_end (head_due c.args.code.now c.args.place) c.args.loops.now c.loop-l.l-index _ c.loop-l-test.false c.loop-l.invariant
+pub returns-in-Some : goal.returns-in-Some
+returns-in-Some c = c.loop_due.ensures ∙ one_head_due c.args.code.now c.args.place c.in-Some.l (c.requires.headed ∙ ap option_to_list c.in-Some.is)

@@ -1,3 +1,8 @@
+use Rattle.std.proofs.Common.{sym, subst}
+use Rattle.bb_code.specs.Code.{IsCode}
+use Rattle.bb_verify.specs.Accepted.{Checked}
+use Rattle.bb_verify.specs.Facts.{Facts}
+use Rattle.bb_verify.proofs.FactLemmas.{facts_by}
 use Rattle.bb_verify.proofs.TableLemmas.{tables_fit}
 use Rattle.bb_verify.proofs.WalkLemmas.{frames_long}
 use Rattle.bb_verify.proofs.verifier.verify.Goals as goal
@@ -7,3 +12,10 @@ frames_of-requires c = tables_fit c.args.schema.now c.args.part c.args.code c.in
 
 pub new-requires-clause-frames : goal.new-requires-clause-frames
 new-requires-clause-frames c = frames_long c.args.schema.now c.args.part c.args.code c.in_ok-frames.frames c.in_ok-frames.ensures
+
+pub returns-clause-facts : goal.returns-clause-facts
+returns-clause-facts c =
+    let code : IsCode c.args.code = subst IsCode c.code.view_is c.code.invariant in
+    let facts = facts_by c.args.schema.now c.args.part c.args.code c.in_ok-frames.frames code.ops.some (sym c.in_ok-check_tables.ensures) (sym c.in_ok-check_jumps.ensures) c.in_ok-depths.ensures.fault
+    c.in_ok-frames.ensures in
+    subst (λ (x : Checked). Facts c.args.schema.now x.part x.code x.frames) (sym c.new.ensures) facts

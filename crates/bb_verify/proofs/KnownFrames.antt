@@ -1,0 +1,98 @@
+-- Each entry of the stack of each frame of an accepted code is known.
+use Rattle.std.proofs.Common.{◌≡◌, ℕ, ◌+◌, List, [], ◌∷◌, length, set, reverse, Option, Some, None, Ok, refl, subst}
+use Rattle.std.specs.Prelude.{All, slice_get, replicate}
+use Rattle.std.proofs.lemmas.List.Elements.{All-nil, All-cons, All-head, All-tail, All-set, All-replicate, All-weaker, All-get_or}
+use Rattle.std.proofs.lemmas.List.Sorted.{All-permutation, IsPermutation-reverse}
+use Rattle.std.proofs.lemmas.Option.{slice_get_within, get_or_from_slice_get}
+use Rattle.bb_basis.specs.Results.{◌>>=◌, map_err}
+use Rattle.bb_basis.proofs.ResultLemmas.{bind_ok}
+use Rattle.bb_schema.specs.Schema.{Schema}
+use Rattle.bb_code.specs.Code.{Code}
+use Rattle.bb_code.specs.declared.frame.FrameEntry.{FrameEntry}
+use Rattle.bb_code.specs.declared.frame.Kind.{Kind}
+use Rattle.bb_code.specs.declared.frame.Kind.TheVariants.{Any, Int, Text, Bool as Truth, Label, Interval, Ref, Old, Seq}
+use Rattle.bb_verify.specs.declared.frame.Frame.{Frame}
+use Rattle.bb_verify.specs.declared.part.Part.{Part}
+use Rattle.bb_verify.specs.Each.{each}
+use Rattle.bb_verify.specs.Flaws.{fault_at}
+use Rattle.bb_verify.specs.Tables.{places, places_rise, known_kind, known_entry, known_frame, enough_locals, frames_in_order, table_at, tables}
+use Rattle.bb_verify.specs.Places.{frame_of, with_frames, declared_frames, declared_at, entry_frame, frame_at}
+use Rattle.bb_verify.proofs.EachLemmas.{each_all, no_fault}
+use Rattle.bb_verify.proofs.WalkLemmas.{Chain, Walked}
+use Rattle.bb_verify.proofs.StandLemmas.{is_declared}
+use Rattle.bb_verify.proofs.KnownLemmas.{IsKnown, AreKnown, effect_known}
+
+all_at : {X : Type 0} (P : X → Type 0) (xs : List X) (i : ℕ) (x : X) → All P xs → slice_get xs i ≡ Some x → P x
+all_at P xs i x all is = subst P (get_or_from_slice_get xs i x x is) (All-get_or P xs i x (slice_get_within xs i x is) all)
+
+-- ---- declared frames
+
+entry_known : (s : Schema) (k : Kind) → known_entry s k ≡ Ok tt → IsKnown k
+entry_known s Any h = absurd cc
+entry_known s Int h = refl
+entry_known s Text h = refl
+entry_known s Truth h = refl
+entry_known s (Label set) h = refl
+entry_known s Interval h = refl
+entry_known s (Ref c) h = refl
+entry_known s (Old c) h = refl
+entry_known s (Seq c) h = refl
+
+-- the frame of an entry is known
+abbrev IsKnownAt : FrameEntry → Type 0
+IsKnownAt e = AreKnown (frame_of e.frame)
+
+frame_known : (s : Schema) (e : FrameEntry) → known_frame s e ≡ Ok tt → IsKnownAt e
+unfolding known_frame
+frame_known s e h =
+    let one = bind_ok (each (known_kind s) e.frame.locals) (λ (u : Unit {0}). each (known_entry s) e.frame.stack) tt h in
+    let all = All-weaker (λ k. known_entry s k ≡ Ok tt) IsKnown (entry_known s) e.frame.stack (each_all (known_entry s) e.frame.stack one.2) in
+    All-permutation IsKnown e.frame.stack (reverse e.frame.stack) (IsPermutation-reverse e.frame.stack) all
+
+-- a frame is known, where one is declared
+abbrev Declares : Option Frame → Type 0
+Declares o = (d : Frame) → o ≡ Some d → AreKnown d
+
+put_known : (all : List (Option Frame)) (es : List FrameEntry) → All Declares all → All IsKnownAt es → All Declares (with_frames all es)
+unfolding with_frames
+put_known all [] before known = before
+put_known all (e ∷ es) before known =
+    let one : Declares (Some (frame_of e.frame)) = λ d is. subst AreKnown (let same : frame_of e.frame ≡ d = cc in same) (All-head IsKnownAt e es known) in
+    put_known (set all e.place (Some (frame_of e.frame))) es (All-set Declares all e.place (Some (frame_of e.frame)) one before) (All-tail IsKnownAt e es known)
+
+entries_known : (s : Schema) (part : Part) (code : Code) → tables s part code ≡ Ok tt → All IsKnownAt code.frames
+unfolding tables frames_in_order
+entries_known s part code h =
+    let one = bind_ok (map_err (fault_at 0) (frames_in_order s part code)) (λ (u : Unit {0}). each (table_at s code) (places code)) tt h in
+    let fit : frames_in_order s part code ≡ Ok tt = no_fault (fault_at 0) (frames_in_order s part code) tt one.1 in
+    let two = bind_ok (places_rise 0 (length code.ops) code.frames) (λ (u : Unit {0}). each (known_frame s) code.frames >>= λ _. enough_locals part code) tt fit in
+    let three = bind_ok (each (known_frame s) code.frames) (λ (u : Unit {0}). enough_locals part code) tt two.2 in
+    All-weaker (λ e. known_frame s e ≡ Ok tt) IsKnownAt (frame_known s) code.frames (each_all (known_frame s) code.frames three.1)
+
+declared_known : (s : Schema) (part : Part) (code : Code) → tables s part code ≡ Ok tt → (place : ℕ) → Declares (declared_at (declared_frames code) place)
+unfolding declared_frames
+declared_known s part code h place d is =
+    let none : Declares None = λ k e. absurd cc in
+    let start : All Declares (replicate (length code.ops) None) = All-replicate Declares (length code.ops) None none in
+    let all : All Declares (declared_frames code) = put_known (replicate (length code.ops) None) code.frames start (entries_known s part code h) in
+    all_at Declares (declared_frames code) place (Some d) all (is_declared (slice_get (declared_frames code) place) d is) d refl
+
+-- ---- all frames
+
+came_known : (declared next : Option Frame) (f : Frame) → Declares declared → Declares next → frame_at declared next ≡ Ok f → AreKnown f
+came_known (Some d) next f known before at = subst AreKnown (let same : d ≡ f = cc in same) (known d refl)
+came_known None (Some g) f known before at = subst AreKnown (let same : g ≡ f = cc in same) (before g refl)
+came_known None None f known before at = absurd cc
+
+chain_known : (s : Schema) (part : Part) (code : Code) (declared : List (Option Frame)) → ((place : ℕ) → Declares (declared_at declared place)) → (frames : List Frame) (place : ℕ) (next : Option Frame)
+    → Declares next → Chain s part code declared place next frames → All AreKnown frames
+chain_known s part code declared known [] place next before chain = All-nil AreKnown
+chain_known s part code declared known (f ∷ fs) place next before chain =
+    let first : AreKnown f = came_known (declared_at declared place) next f (known place) before chain.0.frame in
+    let after : Declares chain.0.edges.on = λ g is. effect_known s part code chain.0.op f chain.0.edges g first chain.0.does is in
+    All-cons AreKnown f fs first (chain_known s part code declared known fs (place + 1) chain.0.edges.on after chain.1)
+
+pub frames_known : (s : Schema) (part : Part) (code : Code) (frames : List Frame) → tables s part code ≡ Ok tt → Walked s part code frames → (place : ℕ) (f : Frame) → slice_get frames place ≡ Some f → AreKnown f
+frames_known s part code frames h w place f is =
+    let entry : Declares (Some (entry_frame part code.locals)) = λ g same. subst AreKnown (let e : entry_frame part code.locals ≡ g = cc in e) (All-nil IsKnown) in
+    all_at AreKnown frames place f (chain_known s part code (declared_frames code) (declared_known s part code h) frames 0 (Some (entry_frame part code.locals)) entry w.chain) is
