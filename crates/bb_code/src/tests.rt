@@ -244,26 +244,6 @@ fn one_wrong_byte(rt: HostRuntime) {
 }
 
 #[test]
-fn each_other_byte(rt: HostRuntime) -> Result<(), Fail> {
-    for place in 0..FIRST.len() {
-        for byte in 0..=255u8 {
-            let mut bytes = FIRST;
-            if place < bytes.len() {
-                bytes[place] = byte;
-            }
-            if let Ok(code) = Code::decode(rt.alloc(), &bytes) {
-                assert_eq!(rt;
-                    code.encode(rt.alloc())?.as_slice(),
-                    bytes.as_slice(),
-                    "{byte} at {place}"
-                );
-            }
-        }
-    }
-    Ok(())
-}
-
-#[test]
 fn full_code(rt: HostRuntime) -> Result<(), Fail> {
     let bytes = full(rt.alloc())?;
     let code = Code::decode(rt.alloc(), &bytes)?;
@@ -324,24 +304,33 @@ fn query_of_the_full_code(rt: HostRuntime) -> Result<(), Fail> {
     Ok(())
 }
 
-#[test]
-fn one_bit_of_the_full_code(rt: HostRuntime) -> Result<(), Fail> {
-    let bytes = full(rt.alloc())?;
-    let bits: [u8; 8] = [1, 2, 4, 8, 16, 32, 64, 128];
-    for place in 0..bytes.len() {
-        for bit in bits {
-            let mut other = bytes.clone()?;
-            if place < other.len() {
-                other[place] ^= bit;
-            }
-            if let Ok(code) = Code::decode(rt.alloc(), &other) {
-                assert_eq!(rt;
-                    code.encode(rt.alloc())?.as_slice(),
-                    other.as_slice(),
-                    "{bit} at {place}"
-                );
-            }
+/// Whether bytes are refused for what they are, or spell the code that they are read as.
+fn is_answered(alloc: Global, bytes: &[u8]) -> Result<bool, Fail> {
+    match Code::decode(alloc, bytes) {
+        Ok(code) => Ok(code.encode(alloc)?.as_slice() == bytes),
+        Err(fault) => Ok(fault != CodeFault::Memory),
+    }
+}
+
+/// The first byte that is answered wrongly at a place of a code.
+fn wrong_byte(alloc: Global, bytes: &[u8], place: usize) -> Result<Option<u8>, Fail> {
+    let mut other = bytes.to_vec(alloc)?;
+    for byte in 0..=255u8 {
+        if place < other.len() {
+            other[place] = byte;
         }
+        if !is_answered(alloc, &other)? {
+            return Ok(Some(byte));
+        }
+    }
+    Ok(None)
+}
+
+#[test]
+fn each_byte_of_the_full_code(rt: HostRuntime) -> Result<(), Fail> {
+    let bytes = full(rt.alloc())?;
+    for place in 0..bytes.len() {
+        assert_eq!(rt; wrong_byte(rt.alloc(), &bytes, place)?, None, "at {place}");
     }
     Ok(())
 }

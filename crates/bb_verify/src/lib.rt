@@ -18,8 +18,6 @@ mod part;
 mod places;
 mod stack;
 mod tables;
-#[cfg(test)]
-mod tests;
 mod verifier;
 mod walk;
 

@@ -1,10 +1,12 @@
-use super::*;
+//! Codes that are accepted, with their frames and budgets, and codes with one fault.
+
 use bb_basis::{Items, Text};
 use bb_code::{
     Calculation, ClassId, Code, CodeParts, Comparison, Frame as Declared, FrameEntry, Kind,
     LinkChange, Logic, Loop, Node, Op, Pattern, Place, Query, SpaceId,
 };
 use bb_schema::Schema;
+use bb_verify::{Checked, Part, VerifyFault, verify};
 use std::alloc::Global;
 use std::test::Fail;
 
