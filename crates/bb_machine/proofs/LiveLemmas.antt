@@ -13,7 +13,7 @@ use Rattle.bb_board.specs.World.{class_at}
 use Rattle.bb_board.specs.May.{was}
 use Rattle.bb_machine.specs.Kinds.{IsOf, WasOf}
 
-live_by : (found : Option OneUnit) (c : ℕ) → option_map (λ y. y.class) found ≡ Some c → is_some found ≡ true
+pub live_by : (found : Option OneUnit) (c : ℕ) → option_map (λ y. y.class) found ≡ Some c → is_some found ≡ true
 live_by None c is = absurd cc
 live_by (Some x) c is = refl
 

@@ -97,7 +97,7 @@ same_sets true g r h = (refl, h)
 same_sets false g r h = absurd cc
 
 -- two entries of the stack, by what they are
-seen : (m : Machine) (v1 v2 a b : Value) (rest : List Value) → m.stack ≡ v2 ∷ v1 ∷ rest → v1 ≡ a → v2 ≡ b → m.stack ≡ b ∷ a ∷ rest
+pub seen : (m : Machine) (v1 v2 a b : Value) (rest : List Value) → m.stack ≡ v2 ∷ v1 ∷ rest → v1 ≡ a → v2 ≡ b → m.stack ≡ b ∷ a ∷ rest
 seen m v1 v2 a b rest is one other = is ∙ (ap (λ (v : Value). v ∷ v1 ∷ rest) other ∙ ap (λ (v : Value). b ∷ v ∷ rest) one)
 
 module _ (part : Part) (code : Code) (b : Board) (fits : Fits b.schema b.world) (m : Machine) (f : Frame) (suits : Suits b.schema b.world m f) (e : Option Frame × Option Frame) where

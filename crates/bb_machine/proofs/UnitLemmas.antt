@@ -37,7 +37,7 @@ unit_was s w uf (Seq c) class v is has = absurd cc
 unit_was s w uf (Ref c) class v is has = (has.0, has.1, subst (λ d. WasOf s w d has.0) (same_ok c class is) (was_of s w uf c has.0 has.2))
 unit_was s w uf (Old c) class v is has = (has.0, has.1, subst (λ d. WasOf s w d has.0) (same_ok c class is) has.2)
 
-unit_is : (s : Schema) (w : World) (k : Kind) (class : ℕ) (v : Value) (u : Unit {0}) → dues.class_of k ≡ Ok class → dues.live k ≡ Ok u → HasKind s w k v → (n : ℕ) × (v ≡ values.Unit n) × IsOf s w class n
+pub unit_is : (s : Schema) (w : World) (k : Kind) (class : ℕ) (v : Value) (u : Unit {0}) → dues.class_of k ≡ Ok class → dues.live k ≡ Ok u → HasKind s w k v → (n : ℕ) × (v ≡ values.Unit n) × IsOf s w class n
 unit_is s w Any class v u is live has = absurd cc
 unit_is s w Int class v u is live has = absurd cc
 unit_is s w Text class v u is live has = absurd cc

@@ -26,5 +26,7 @@ pub mod Activation
 pub mod Kinds
 -- steps that lead to a state that suits
 pub mod Safe
+-- verified code never goes wrong
+pub mod NeverWrong
 -- for proofs alone
 pub mod proving

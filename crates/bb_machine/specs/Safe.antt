@@ -1,23 +1,15 @@
 -- Steps after which the state suits a frame that the verifier gives for the place.
 use Rattle.std.specs.Prelude.{◌≡◌, ◌⊎◌, ℕ, Option, Some, None, Result, Ok, Err}
-use Rattle.bb_basis.specs.Results.{◌>>=◌}
 use Rattle.bb_board.specs.Fits.{Fits}
 use Rattle.bb_schema.specs.Schema.{Schema}
-use Rattle.bb_code.specs.Code.{Code}
 use Rattle.bb_code.specs.declared.op.Op.{Op}
-use Rattle.bb_verify.specs.declared.flaw.Flaw.{Flaw}
 use Rattle.bb_verify.specs.declared.frame.Frame.{Frame}
-use Rattle.bb_verify.specs.declared.part.Part.{Part}
-use Rattle.bb_verify.specs.Effect.{effect}
 use Rattle.bb_verify.specs.Jumps.{target_of}
 use Rattle.bb_machine.specs.declared.halt.Halt.{Halt}
 use Rattle.bb_machine.specs.declared.halt.Halt.TheVariants.{Answered, Full, Stuck, Memory}
 use Rattle.bb_machine.specs.Changing.{State}
+pub use Rattle.bb_verify.specs.Facts.{edges_of}
 use Rattle.bb_machine.specs.Kinds.{Suits}
-
--- the frames that an op leaves for the next place, and for the place that it goes to
-abbrev pub edges_of : Schema → Part → Code → Op → Frame → Result (Option Frame × Option Frame) Flaw
-edges_of s part code op f = effect s part code op f >>= λ e. Ok (e.on, e.target)
 
 -- the edge is there, and a state suits its frame
 abbrev pub SuitsEdge : Option Frame → State → Type 0

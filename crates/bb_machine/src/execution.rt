@@ -1,10 +1,14 @@
 //! The execution of a code. The run calls it for each activation that is chosen (bb_shell).
 
-ghost use Rattle.std.specs.Prelude.{◌≡◌, ◌≤◌, ◌⊎◌, Err, IfOk, length, slice_get};
+ghost use Rattle.std.specs.Prelude.{◌≡◌, ◌≤◌, ◌⊎◌, ℕ, List, Some, Err, IfOk, length, slice_get};
 ghost use Rattle.bb_basis.specs.Results.{Gives};
 ghost use Rattle.bb_units.specs.declared.units.TheConstants.{UNIT_LIMIT};
+ghost use Rattle.bb_verify.specs.declared.frame.Frame.{Frame};
+ghost use Rattle.bb_verify.specs.declared.part.Part.{Part};
 ghost use Rattle.bb_machine.specs.declared.outcome.Stop.TheVariants.{Memory as OutOfMemory};
-ghost use Rattle.bb_machine.specs.Activation.{activation, halted, units_of};
+ghost use Rattle.bb_machine.specs.Activation.{activation, entry_state, halted, units_of};
+ghost use Rattle.bb_machine.specs.Changing.{State};
+ghost use Rattle.bb_machine.specs.NeverWrong.{Begins, HasTurns, after, Stands, StuckByTurns, NeverStuck, KeepsBudget};
 
 use crate::halt::Halt;
 use crate::machine::Machine;
@@ -17,7 +21,40 @@ use std::alloc::Global;
 /// Executes a code from its first place for an entry, at most `limit` steps, on a blackboard, and returns how it came
 /// out. What it changes is noted there. Each op is tested as it is met, so any code can be executed, and what it
 /// declares of frames and loops is not read. `Memory` may come at any op, after changes of those before it.
+///
+/// A code that was accepted for a part never goes wrong, where the entry is one of the part (`Begins`): each state that
+/// it passes through suits the frame of its place, and it is stuck for the limit of steps alone. Where it has no loops
+/// and the limit is at least its budget (`HasTurns`), it is never stuck, and makes no more steps than its budget.
 pub fn trial(
+    alloc: Global,
+    code: &Code,
+    board: &mut Board,
+    entry: Entry,
+    limit: u128,
+) -> Result<Outcome, Stop>
+    ensures outcome { Gives OutOfMemory (λ o. o) result (activation limit code.now entry board.old).0 }
+    ensures few { IfOk result (λ o. o.found ≤ UNIT_LIMIT) }
+    ensures board { (result ≡ Err OutOfMemory) ⊎ (board.new ≡ (activation limit code.now entry board.old).1) }
+    ensures suits { (part : Part) (frames : List Frame) (n : ℕ) (state : State) →
+        Begins part frames code.now entry board.old →
+        after n code.now (entry_state code.now entry, board.old) ≡ Some state →
+        Stands board.old.schema code.now frames state }
+    ensures turns { (part : Part) (frames : List Frame) →
+        Begins part frames code.now entry board.old → StuckByTurns result }
+    ensures never_stuck { (part : Part) (frames : List Frame) →
+        Begins part frames code.now entry board.old → HasTurns code.now limit → NeverStuck result }
+    ensures within_budget { (part : Part) (frames : List Frame) →
+        Begins part frames code.now entry board.old → HasTurns code.now limit → KeepsBudget code.now result }
+{
+    // What holds of any code, schema and blackboard.
+    let _ = code.ops();
+    board.schema().fits();
+    board.fits();
+    execute(alloc, code, board, entry, limit)
+}
+
+// The same of any code.
+fn execute(
     alloc: Global,
     code: &Code,
     board: &mut Board,
