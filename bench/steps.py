@@ -85,7 +85,7 @@ def seconds(program, runs, limit, times, words, code):
     return best
 
 
-def decoding(program, runs, times=100):
+def decoding(program, runs, times=2000):
     print("| Code | Bytes | Milliseconds |")
     print("|---|---|---|")
     for title, code in DECODED:
