@@ -1,3 +1,5 @@
+//! Tests of the agenda: which activation is chosen, and what becomes of it.
+
 use super::*;
 use std::alloc::{AllocError, Global};
 use std::test::Fail;

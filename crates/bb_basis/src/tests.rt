@@ -1,3 +1,5 @@
+//! Tests of texts, names, lists and tables.
+
 use super::*;
 use std::test::Fail;
 

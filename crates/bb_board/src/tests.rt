@@ -1,3 +1,5 @@
+//! Tests of a blackboard: units, links, notes and first units. Those of spaces stand in space_tests.rt.
+
 use crate::{Board, Change, Event, Note, Reason, Said, SharedSchema, UnitsFault};
 use bb_schema::{Schema, SlotId, UnitId, Value};
 use bb_units::CreateFault;

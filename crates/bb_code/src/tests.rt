@@ -1,3 +1,5 @@
+//! Tests of codes and their bytes: what is read and written, each fault, and the limits.
+
 use super::*;
 use bb_basis::{Items, Text};
 use std::alloc::Global;

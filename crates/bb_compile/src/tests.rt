@@ -1,3 +1,5 @@
+//! Tests of bundles: their lines, and which are refused.
+
 use super::*;
 use bb_code::{CodeFault, Op};
 use std::alloc::{AllocError, Global};

@@ -1,3 +1,5 @@
+//! Tests of the two documents: what they declare, and which have another form.
+
 use super::*;
 use std::alloc::Global;
 use std::fmt::Write;

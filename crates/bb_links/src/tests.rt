@@ -1,3 +1,5 @@
+//! Tests of links by themselves, also against a plain list of pairs.
+
 use super::*;
 use bb_schema::{CoupleId, Schema, SlotId};
 use std::alloc::{AllocError, Global};

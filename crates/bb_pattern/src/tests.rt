@@ -1,3 +1,5 @@
+//! Tests of patterns and queries: what they hold of, and which fit a schema.
+
 use super::*;
 use bb_basis::{Items, Text};
 use bb_schema::{Schema, Value};

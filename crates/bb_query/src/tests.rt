@@ -1,3 +1,5 @@
+//! Tests of what queries find.
+
 ghost use Rattle.std.specs.Prelude.{◌≡◌, IfOk, map};
 ghost use Rattle.bb_pattern.specs.Values.{kind_of_operand};
 ghost use Rattle.bb_query.specs.Knows.{Knows};

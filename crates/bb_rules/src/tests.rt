@@ -1,3 +1,5 @@
+//! Tests of sources: what triggers them, and which are refused.
+
 use super::*;
 use bb_board::{Change, ChangeKind, Event};
 use bb_compile::unbundle;

@@ -1,3 +1,5 @@
+//! Tests of spaces: their members, and what was told of these.
+
 use super::*;
 use bb_basis::Items;
 use bb_pattern::{DimValue, Relation};

@@ -1,3 +1,5 @@
+//! Tests of units: their numbers, their slots, and how many there can be.
+
 use super::*;
 use bb_schema::{ClassId, Schema, SlotId, Value};
 use std::alloc::Global;
