@@ -1,0 +1,97 @@
+//! The operands of a statement, taken one by one from the front.
+
+use crate::fault::Slip;
+use crate::labels::Labels;
+use bb_code::Place;
+
+/// The operands of a statement, of which so many were taken.
+#[derive(Drop)]
+pub(crate) struct Operands<'a> {
+    words: &'a [&'a str],
+    taken: usize,
+    labels: &'a Labels,
+}
+
+impl<'a> Operands<'a> {
+    /// The operands of a statement.
+    pub fn new(words: &'a [&'a str], labels: &'a Labels) -> Operands<'a> {
+        Operands {
+            words,
+            taken: 0,
+            labels,
+        }
+    }
+
+    /// The next word, where there is one.
+    pub fn next_word(&mut self) -> Option<&'a str> {
+        let word = self.words.get(self.taken)?;
+        self.taken = self.taken.saturating_add(1);
+        Some(*word)
+    }
+
+    /// The next word.
+    pub fn word(&mut self) -> Result<&'a str, Slip> {
+        self.next_word().ok_or(Slip::Missing)
+    }
+
+    /// Whether the next word is this one, which is then taken.
+    pub fn takes(&mut self, word: &str) -> bool {
+        let found = match self.words.get(self.taken) {
+            Some(next) => *next == word,
+            None => false,
+        };
+        if found {
+            self.taken = self.taken.saturating_add(1);
+        }
+        found
+    }
+
+    /// A number of one byte.
+    pub fn byte(&mut self) -> Result<u8, Slip> {
+        self.word()?.parse::<u8>().ok().ok_or(Slip::Number)
+    }
+
+    /// A number of two bytes.
+    pub fn number(&mut self) -> Result<u16, Slip> {
+        self.word()?.parse::<u16>().ok().ok_or(Slip::Number)
+    }
+
+    /// A whole number.
+    pub fn int(&mut self) -> Result<i64, Slip> {
+        self.word()?.parse::<i64>().ok().ok_or(Slip::Number)
+    }
+
+    /// A divisor, 1 or more.
+    pub fn divisor(&mut self) -> Result<i64, Slip> {
+        let number = self.int()?;
+        if number < 1 {
+            return Err(Slip::Number);
+        }
+        Ok(number)
+    }
+
+    /// A truth value.
+    pub fn truth(&mut self) -> Result<bool, Slip> {
+        self.word()?.parse::<bool>().ok().ok_or(Slip::Number)
+    }
+
+    /// A place, by its number or its label.
+    pub fn place(&mut self) -> Result<Place, Slip> {
+        let word = self.word()?;
+        self.labels.place(word)
+    }
+
+    /// A place that another word names.
+    pub fn place_of(&self, word: &str) -> Result<Place, Slip> {
+        self.labels.place(word)
+    }
+
+    /// Nothing is left.
+    pub fn end(&self) -> Result<(), Slip> {
+        if self.taken < self.words.len() {
+            Err(Slip::TooMany)
+        } else {
+            Ok(())
+        }
+    }
+}
