@@ -1,115 +1,112 @@
 #!/usr/bin/env python3
-"""Executes codes with crates/bb_trial, and prints what decoding and what steps of some kinds cost, as the tables of
+"""Has the program that runs cases execute loops of some ops, and prints what their steps cost, as a table of
 docs/PERFORMANCE.md.
 
-    bench/steps.py crates/bb_trial/out/bb_trial [--runs N]
+    bench/steps.py crates/bb_cases/out/bb_cases [--runs N]
 
-A time is that of a run less that of the same run without what is measured; the fastest of the runs counts.
+A loop goes back by a Jump, so only the limit of steps ends it. A case tells how it ends, what it found and said.
+A time is that of a run of this case less that of the same with limit 0; the fastest of the runs counts.
 """
 
 import argparse
 import subprocess
+import tempfile
 import time
+from typing import NamedTuple
 
-WORD = 1
-BOARD = 0
+WORDS = 1000
 
+# A blackboard of words, each at its own number, all on the board.
+BOARD = """\
+let word_schema
+    {"classes":[{"name":"word","slots":[{"name":"at","kind":"int"}]}],
+     "spaces":[{"name":"board","classes":["word"],"dims":[{"name":"at","kind":"ordered"}]}]}
 
-def number(n, size=2):
-    return n.to_bytes(size, "big")
+board words schema word_schema
+    {"units":[$(times %(others)d {"name":"w$(n)","class":"word","slots":{"at":$(n)}},
+     ){"name":"last","class":"word","slots":{"at":%(others)d}}],
+     "spaces":[$(times %(others)d ["w$(n)","board"],
+     )["last","board"]]}
 
-
-def integer(n):
-    return n.to_bytes(8, "big", signed=True)
-
-
-def push(n):
-    return b"\x01" + integer(n)
-
-
-def counted(items):
-    return number(len(items)) + b"".join(items)
+""" % {"others": WORDS - 1}
 
 
-# Queries for words on the board: all, and those within an operand.
-EVERY = number(WORD) + number(BOARD) + b"\x00\x00"
-WITHIN = number(WORD) + number(BOARD) + b"\x01\x00" + b"\x04\x00\x00"
-# The same with a pattern of 64 nodes: an `and` of 63 tests.
-LARGE = number(WORD) + number(BOARD) + b"\x01\x00" + b"\x01\x3f" + b"\x04\x00\x00" * 63
+class Loop(NamedTuple):
+    of: str
+    # The text of the code.
+    code: str
+    limit: int
+    # The steps of a turn.
+    steps: int
+    # How many units a turn finds at once, and the line of what it says.
+    found: int = 0
+    said: str = ""
 
 
-def code(ops, locals=2, texts=(), queries=()):
-    texts = [number(len(text)) + text for text in texts]
-    return b"BBC\x01" + bytes([locals]) + counted(texts) + counted(queries) + number(0) + number(0) + counted(ops)
-
-
-POP, ADD, FIND, JUMP = b"\x07", b"\x08", b"\x1e", b"\x2a"
-LOAD, STORE, MOD, SAY, INTERVAL = b"\x05\x01", b"\x06\x01", b"\x0c" + integer(7), b"\x29\x01", b"\x18"
-DONE = b"\x2e"
-
-
-def to(place):
-    return JUMP + number(place)
-
-
-ARITHMETIC = code([push(1), STORE, LOAD, push(3), ADD, MOD, STORE, to(2)])
-SAYING = code([push(5), SAY, to(0)])
-FINDING_ALL = code([FIND + number(0), POP, to(0)], queries=[EVERY])
-FINDING_SOME = code([push(10), push(20), INTERVAL, FIND + number(0), POP, to(0)], queries=[WITHIN])
-
-DECODED = [
-    ("4,096 ops `PushInt`", code([push(1)] * 4096)),
-    ("1,024 texts of 64 bytes", code([DONE], texts=[b"a" * 64] * 1024)),
-    ("256 queries of 64 nodes", code([DONE], queries=[LARGE] * 256)),
-]
-
-# What is looped over, the code, steps, words, and the steps of one turn.
-EXECUTED = [
-    ("arithmetic", ARITHMETIC, 4_000_000, 0, 6),
-    ("`Say` of a number", SAYING, 1_000_000, 0, 3),
-    ("`Find` of all 1,000 units of a space", FINDING_ALL, 3_000, 1000, 3),
-    ("`Find` of 11 of 1,000 units", FINDING_SOME, 6_000, 1000, 6),
+LOOPS = [
+    Loop(
+        "arithmetic",
+        "locals 2; PushInt 1; Store 1; turn: Load 1; PushInt 3; Add; ModBy 7; Store 1; Jump turn",
+        limit=4_000_000,
+        steps=6,
+    ),
+    Loop("`Say` of a number", "turn: PushInt 5; Say 1; Jump turn", limit=1_000_000, steps=3, said="say 5"),
+    Loop(
+        "`Find` of all 1,000 units of a space",
+        "query 1 0 where all; turn: Find 0; Pop; Jump turn",
+        limit=3000,
+        steps=3,
+        found=WORDS,
+    ),
+    Loop(
+        "`Find` of 11 of 1,000 units",
+        "query 1 0 interval where within 0 0; turn: PushInt 10; PushInt 20; MakeInterval; Find 0; Pop; Jump turn",
+        limit=6000,
+        steps=6,
+        found=11,
+    ),
 ]
 
 
-def seconds(program, runs, limit, times, words, code):
-    task = f"{limit} {times} {words} {code.hex()}\n".encode()
+def case(loop, limit):
+    """A file with the one case that a loop makes so many steps."""
+    found = loop.found if limit else 0
+    rows = [f"    0 {limit} | {loop.code}", f"      stuck 7 steps {limit} found {found}"]
+    if loop.said:
+        rows.append(f"      $(times {limit // loop.steps} {loop.said}$(byte 0a))$(join)")
+    return BOARD + "\n".join(["runs turns board words", *rows, ""])
+
+
+def seconds(program, runs, text):
+    """The seconds of the fastest run of a file of cases."""
     best = None
-    for _ in range(runs):
-        began = time.perf_counter()
-        ran = subprocess.run([program], input=task, capture_output=True, check=True)
-        took = time.perf_counter() - began
-        if f"steps {limit} " not in ran.stdout.decode():
-            raise SystemExit(f"{task[:40]}..: {ran.stdout.decode()}")
-        best = took if best is None else min(best, took)
+    with tempfile.NamedTemporaryFile("w", suffix=".case") as file:
+        file.write(text)
+        file.flush()
+        for _ in range(runs):
+            began = time.perf_counter()
+            ran = subprocess.run([program, file.name], capture_output=True, text=True)
+            took = time.perf_counter() - began
+            if ran.returncode != 0:
+                raise SystemExit(f"the case does not hold:\n{text}\n{ran.stdout}{ran.stderr}")
+            best = took if best is None else min(best, took)
     return best
 
 
-def decoding(program, runs, times=2000):
-    print("| Code | Bytes | Milliseconds |")
-    print("|---|---|---|")
-    for title, code in DECODED:
-        once = seconds(program, runs, 0, 1, 0, code)
-        took = seconds(program, runs, 0, 1 + times, 0, code) - once
-        print(f"| {title} | {len(code)} | {1000 * took / times:.2f} |")
-
-
-def executing(program, runs):
-    print("| Loop of | Steps of a turn | Steps | Seconds | Steps a second |")
-    print("|---|---|---|---|---|")
-    for title, code, limit, words, turn in EXECUTED:
-        took = seconds(program, runs, limit, 1, words, code) - seconds(program, runs, 0, 1, words, code)
-        print(f"| {title} | {turn} | {limit} | {took:.2f} | {limit / took:,.0f} |")
+def line(program, runs, loop):
+    took = seconds(program, runs, case(loop, loop.limit)) - seconds(program, runs, case(loop, 0))
+    print(f"| {loop.of} | {loop.steps} | {loop.limit:,} | {took:.2f} | {loop.limit / took:,.0f} |", flush=True)
 
 
 def main():
     parser = argparse.ArgumentParser(description=__doc__, formatter_class=argparse.RawDescriptionHelpFormatter)
-    parser.add_argument("program")
-    parser.add_argument("--runs", type=int, default=3)
+    parser.add_argument("program", help="the built program, crates/bb_cases/out/bb_cases")
+    parser.add_argument("--runs", type=int, default=3, help="runs of each case, of which the fastest counts")
     asked = parser.parse_args()
-    decoding(asked.program, asked.runs)
-    print()
-    executing(asked.program, asked.runs)
+    print("| Loop of | Steps of a turn | Steps | Seconds | Steps a second |")
+    print("|---|---|---|---|---|")
+    for loop in LOOPS:
+        line(asked.program, asked.runs, loop)
 
 
 if __name__ == "__main__":

@@ -1,7 +1,7 @@
-//! What the tests hand in, and what comes of it.
+//! What the tests of refusals hand in, and what comes of it.
 
-use bb_shell::{Finish, Pipe, run_texts};
-use std::alloc::{AllocError, Global};
+use bb_shell::{Pipe, run_texts};
+use std::alloc::Global;
 use std::test::Fail;
 
 /// A schema with one class.
@@ -34,26 +34,13 @@ pub(crate) const FIRST: Input<'static> = Input {
     floor: 0,
 };
 
-/// The trace of `FIRST`.
-pub(crate) const FIRST_TRACE: &str = "create 1 note\n\
-    trigger 1 hail unit 1 rating 100\n\
-    cycle 1 act 1 hail unit 1 rating 100\n\
-    say \"hello\"\n\
-    end steps 3 found 0 budget 3\n\
-    quiescence\n\
-    finish quiescence\n";
-
-/// What came of an input.
+/// Why an input was refused.
 #[derive(Drop)]
 pub(crate) struct Outcome {
-    /// How the run ended, `None` where the input was refused.
-    pub finish: Option<Finish>,
     /// The line of the refusal, empty where there was none.
     pub refusal: String,
     /// The number of the refusal, `None` where there was none.
     pub number: Option<u8>,
-    /// What was written.
-    pub trace: String,
 }
 
 /// Runs an input over an output in memory.
@@ -68,49 +55,15 @@ pub(crate) fn run_input(alloc: Global, input: Input<'_>) -> Result<Outcome, Fail
         input.floor,
         &mut out,
     );
-    let bytes: Vec<u8> = out.into_inner();
-    let trace = String::from_str(alloc, str::from_utf8(&bytes)?)?;
+    let _bytes: Vec<u8> = out.into_inner();
     match answer {
-        Ok(finish) => Ok(Outcome {
-            finish: Some(finish),
+        Ok(_) => Ok(Outcome {
             refusal: String::new(alloc),
             number: None,
-            trace,
         }),
         Err(fault) => Ok(Outcome {
-            finish: None,
             refusal: fault.line(alloc)?,
             number: Some(fault.number()),
-            trace,
         }),
     }
-}
-
-/// The parts of a document with a list of numbered entries: each is `open`, its number and `close`.
-#[derive(Drop)]
-pub(crate) struct Listing<'a> {
-    pub front: &'a str,
-    pub open: &'a str,
-    pub close: &'a str,
-    pub back: &'a str,
-}
-
-/// A document of so many entries.
-pub(crate) fn document_of(
-    alloc: Global,
-    listing: &Listing,
-    count: u32,
-) -> Result<String, AllocError> {
-    let mut text = String::from_str(alloc, listing.front)?;
-    for number in 0..count {
-        if number > 0 {
-            text.push_str(",")?;
-        }
-        text.push_str(listing.open)?;
-        let digits = format!(in alloc; "{number}")?;
-        text.push_str(digits.as_str())?;
-        text.push_str(listing.close)?;
-    }
-    text.push_str(listing.back)?;
-    Ok(text)
 }

@@ -1,184 +1,276 @@
-//! Executions of whole codes: arithmetic at its ends, and loops over what a query finds. Frames and loops are left out
-//! of the codes, as an execution reads neither.
+//! The loops of a code, all looked at anew at each place, by a plain program. The verifier's answer is compared with it.
 
-use crate::trials::{Told, WORD, board_of, executed, plain, searching};
-use bb_code::{Calculation, Division, Op};
-use bb_schema::UnitId;
+use bb_basis::{Items, Text};
+use bb_code::{Code, CodeParts, FrameEntry, LocalId, Loop, Op, Place, Query};
+use bb_schema::Schema;
+use bb_verify::{Flaw, NESTING_LIMIT, Part, VerifyFault, verify};
 use std::alloc::Global;
 use std::test::Fail;
 
-/// A thing, and two words on the board, units 2 and 3.
-const THING_AND_WORDS: &str = r#"{"units":[{"name":"a","class":"thing"},{"name":"b","class":"word"},
-{"name":"c","class":"word"}],"spaces":[["b","board"],["c","board"]]}"#;
+fn holds(place: usize, l: Loop) -> bool {
+    l.head as usize <= place && place < l.end as usize
+}
 
-/// Two words on the board.
-const TWO_WORDS: &str = r#"{"units":[{"name":"a","class":"word"},{"name":"b","class":"word"}],
-"spaces":[["a","board"],["b","board"]]}"#;
+fn depth(loops: &[Loop], place: usize) -> usize {
+    loops.iter().filter(|l| holds(place, **l)).count()
+}
 
-/// One thing, which is in no space.
-const ONE_THING: &str = r#"{"units":[{"name":"a","class":"thing"}]}"#;
+// A loop with its head at the place is listed right behind one whose head is not before it.
+fn is_misplaced(loops: &[Loop], place: Place) -> bool {
+    for next in 1..loops.len() {
+        if loops[next].head == place && place <= loops[next - 1].head {
+            return true;
+        }
+    }
+    false
+}
 
-/// The lines that an execution for a unit notes, and how it ends.
-fn told(alloc: Global, units: &str, locals: u8, ops: &[Op], it: UnitId) -> Result<String, Fail> {
-    let mut board = board_of(alloc, units)?;
-    let code = searching(alloc, locals, ops)?;
-    let Told { outcome, notes } = executed(alloc, &mut board, &code, it, 100)?;
-    let mut text = notes;
-    text.push_str(outcome.as_str())?;
-    Ok(text)
+fn local_at(ops: &[Op], place: Place) -> Option<LocalId> {
+    match ops.get(place as usize) {
+        Some(Op::Next(local, _)) => Some(*local),
+        _ => None,
+    }
+}
+
+fn is_same_local(one: Option<LocalId>, other: Option<LocalId>) -> bool {
+    one.is_some() && one == other
+}
+
+fn begins(ops: &[Op], l: Loop) -> bool {
+    match ops.get(l.head as usize) {
+        Some(Op::Next(_, end)) => *end == l.end,
+        _ => false,
+    }
+}
+
+fn ends(ops: &[Op], l: Loop) -> bool {
+    if l.end == 0 {
+        return false;
+    }
+    match ops.get(l.end as usize - 1) {
+        Some(Op::Back(head)) => *head == l.head,
+        _ => false,
+    }
+}
+
+fn nests(ops: &[Op], outer: Loop, l: Loop) -> bool {
+    if outer.head >= l.head || l.head >= outer.end {
+        return true;
+    }
+    l.end <= outer.end && !is_same_local(local_at(ops, outer.head), local_at(ops, l.head))
+}
+
+fn is_right(ops: &[Op], loops: &[Loop], l: Loop) -> bool {
+    for outer in loops {
+        if !nests(ops, *outer, l) {
+            return false;
+        }
+    }
+    begins(ops, l) && ends(ops, l)
+}
+
+fn enters(loops: &[Loop], place: Place, target: Place) -> bool {
+    for l in loops {
+        if holds(target as usize, *l) && !holds(place as usize, *l) {
+            return true;
+        }
+    }
+    false
+}
+
+fn stores_around(ops: &[Op], loops: &[Loop], place: Place, local: LocalId) -> bool {
+    for l in loops {
+        if holds(place as usize, *l) && local_at(ops, l.head) == Some(local) {
+            return true;
+        }
+    }
+    false
+}
+
+fn is_op_right(ops: &[Op], loops: &[Loop], place: Place) -> bool {
+    match ops.get(place as usize) {
+        Some(Op::Next(_, _)) => loops.iter().any(|l| l.head == place),
+        Some(Op::Back(_)) => loops.iter().any(|l| l.end as usize == place as usize + 1),
+        Some(Op::Store(local)) => !stores_around(ops, loops, place, *local),
+        Some(Op::Jump(target)) => !enters(loops, place, *target),
+        Some(Op::Unless(target)) => !enters(loops, place, *target),
+        Some(Op::Alive(target)) => !enters(loops, place, *target),
+        _ => true,
+    }
+}
+
+fn is_place_right(ops: &[Op], loops: &[Loop], place: Place) -> bool {
+    for l in loops {
+        if l.head == place && !is_right(ops, loops, *l) {
+            return false;
+        }
+    }
+    !is_misplaced(loops, place)
+        && depth(loops, place as usize) <= NESTING_LIMIT
+        && is_op_right(ops, loops, place)
+}
+
+// The first place at which the loops are not in order, or else the lowest head outside the code.
+fn first_fault(ops: &[Op], loops: &[Loop]) -> Option<Place> {
+    let count = u16::try_from(ops.len()).unwrap_or(0);
+    for place in 0..count {
+        if !is_place_right(ops, loops, place) {
+            return Some(place);
+        }
+    }
+    loops.iter().map(|l| l.head).filter(|h| *h >= count).min()
+}
+
+fn made(alloc: Global, ops: &[Op], loops: &[Loop]) -> Result<Code, Fail> {
+    let texts: Vec<Text> = Vec::new(alloc);
+    let queries: Vec<Query> = Vec::new(alloc);
+    let frames: Vec<FrameEntry> = Vec::new(alloc);
+    let code = Code::new(CodeParts {
+        locals: 4,
+        texts: Items::from(texts),
+        queries: Items::from(queries),
+        frames: Items::from(frames),
+        loops: Items::from(loops.to_vec(alloc)?),
+        ops: Items::from(ops.to_vec(alloc)?),
+    });
+    Ok(code.ok_or("the parts are within their limits")?)
+}
+
+/// Where the verifier finds loops that are not in order; `None` where the jumps are not.
+fn found(
+    alloc: Global,
+    schema: &Schema,
+    ops: &[Op],
+    loops: &[Loop],
+) -> Result<Option<Option<Place>>, Fail> {
+    match verify(
+        alloc,
+        schema,
+        Part::Do { class: 0 },
+        made(alloc, ops, loops)?,
+    ) {
+        Err(
+            VerifyFault {
+                flaw: Flaw::Jump,
+                ..
+            },
+        ) => Ok(None),
+        Err(
+            VerifyFault {
+                place,
+                flaw: Flaw::Loop,
+            },
+        ) => Ok(Some(Some(place))),
+        _ => Ok(Some(None)),
+    }
+}
+
+const OPS: [Op; 16] = [
+    Op::Jump(1),
+    Op::Pop,
+    Op::Next(0, 12),
+    Op::Pop,
+    Op::Next(1, 9),
+    Op::Next(2, 8),
+    Op::Store(3),
+    Op::Back(5),
+    Op::Back(4),
+    Op::Unless(11),
+    Op::Pop,
+    Op::Back(2),
+    Op::Next(0, 15),
+    Op::Alive(14),
+    Op::Back(12),
+    Op::Done,
+];
+
+/// The first four are those of `OPS`.
+const LOOPS: [Loop; 6] = [
+    Loop { head: 2, end: 12 },
+    Loop { head: 4, end: 9 },
+    Loop { head: 5, end: 8 },
+    Loop { head: 12, end: 15 },
+    Loop { head: 17, end: 18 },
+    Loop { head: 16, end: 3 },
+];
+
+// Another op.
+fn changed_op(seed: u32) -> Op {
+    let place = ((seed >> 17) % 18) as u16;
+    let local = ((seed >> 22) % 4) as u8;
+    match (seed >> 8) % 4 {
+        0 => Op::Jump(place),
+        1 => Op::Next(local, place),
+        2 => Op::Back(place),
+        _ => Op::Store(local),
+    }
+}
+
+// The same loop with another head or another end.
+fn changed_loop(seed: u32, l: Loop) -> Loop {
+    let place = ((seed >> 17) % 18) as u16;
+    if (seed >> 8) % 2 == 0 {
+        return Loop {
+            head: place,
+            end: l.end,
+        };
+    }
+    Loop {
+        head: l.head,
+        end: place,
+    }
+}
+
+fn change_op(seed: u32, ops: &mut [Op]) {
+    let at = (seed >> 12) as usize % 16;
+    if at < ops.len() {
+        ops[at] = changed_op(seed);
+    }
+}
+
+fn change_loop(seed: u32, loops: &mut [Loop]) {
+    let at = (seed >> 25) as usize % 6;
+    if at < loops.len() {
+        loops[at] = changed_loop(seed, loops[at]);
+    }
+}
+
+fn swap_loops(seed: u32, loops: &mut [Loop]) {
+    let one = (seed >> 12) as usize % 6;
+    let other = (seed >> 25) as usize % 6;
+    if one < loops.len() && other < loops.len() {
+        loops.swap(one, other);
+    }
+}
+
+/// One of the ops or one of the loops is another, or two loops change places.
+fn change(seed: u32, ops: &mut [Op], loops: &mut [Loop]) {
+    match (seed >> 10) % 7 {
+        0..=3 => change_op(seed, ops),
+        4 | 5 => change_loop(seed, loops),
+        _ => swap_loops(seed, loops),
+    }
+}
+
+fn next_seed(seed: u32) -> u32 {
+    seed.wrapping_mul(1_664_525).wrapping_add(1_013_904_223)
 }
 
 #[test]
-fn saturation(rt: HostRuntime) -> Result<(), Fail> {
-    let ops = [
-        Op::PushInt(i64::MAX),
-        Op::PushInt(1),
-        Op::Calculate(Calculation::Add),
-        Op::PushInt(-7),
-        Op::Divide(Division::Quotient, 2),
-        Op::PushInt(-7),
-        Op::Divide(Division::Remainder, 2),
-        Op::PushInt(i64::MIN),
-        Op::PushInt(-1),
-        Op::Calculate(Calculation::Mul),
-        Op::PushInt(3),
-        Op::PushInt(1),
-        Op::MakeInterval,
-        Op::Say(5),
-        Op::Done,
-    ];
-    let mut board = board_of(rt.alloc(), ONE_THING)?;
-    let code = plain(rt.alloc(), &ops)?;
-    let told = executed(rt.alloc(), &mut board, &code, 1, 15)?;
-    let line = "say 9223372036854775807 -4 1 9223372036854775807 [1,3]\n";
-    assert_eq!(rt; told.notes.as_str(), line);
-    assert_eq!(rt; told.outcome.as_str(), "done steps 15 found 0");
-    Ok(())
-}
-
-// Each word is deleted after the unit's score was set, while the unit is live.
-#[test]
-fn alias_tested_again(rt: HostRuntime) -> Result<(), Fail> {
-    let ops = [
-        Op::Load(0),
-        Op::Alive(14),
-        Op::Store(1),
-        Op::Find(0),
-        Op::Store(2),
-        Op::Next(2, 14),
-        Op::Store(3),
-        Op::Load(1),
-        Op::Alive(11),
-        Op::PushInt(1),
-        Op::Set(6),
-        Op::Load(3),
-        Op::Delete,
-        Op::Back(5),
-        Op::Done,
-    ];
-    let told_of_thing = "set 1.score\n\
-        leave 2 board\n\
-        delete 2\n\
-        set 1.score\n\
-        leave 3 board\n\
-        delete 3\n\
-        done steps 25 found 2";
-    let thing = told(rt.alloc(), THING_AND_WORDS, 4, &ops, 1)?;
-    assert_eq!(rt; thing.as_str(), told_of_thing);
-    let told_of_word = "set 1.score\n\
-        leave 1 board\n\
-        delete 1\n\
-        leave 2 board\n\
-        delete 2\n\
-        done steps 23 found 2";
-    let word = told(rt.alloc(), TWO_WORDS, 4, &ops, 1)?;
-    assert_eq!(rt; word.as_str(), told_of_word);
-    Ok(())
-}
-
-#[test]
-fn say_in_a_loop(rt: HostRuntime) -> Result<(), Fail> {
-    let ops = [
-        Op::Find(0),
-        Op::Store(1),
-        Op::Next(1, 6),
-        Op::Pop,
-        Op::Say(0),
-        Op::Back(2),
-        Op::Done,
-    ];
-    let words = told(rt.alloc(), TWO_WORDS, 2, &ops, 1)?;
-    assert_eq!(rt; words.as_str(), "say\nsay\ndone steps 12 found 2");
-    let none = told(rt.alloc(), ONE_THING, 2, &ops, 1)?;
-    assert_eq!(rt; none.as_str(), "done steps 4 found 0");
-    Ok(())
-}
-
-#[test]
-fn nested_loops(rt: HostRuntime) -> Result<(), Fail> {
-    let ops = [
-        Op::Find(0),
-        Op::Store(1),
-        Op::Next(1, 10),
-        Op::Pop,
-        Op::Find(0),
-        Op::Store(2),
-        Op::Next(2, 9),
-        Op::Pop,
-        Op::Back(6),
-        Op::Back(2),
-        Op::Done,
-    ];
-    let words = told(rt.alloc(), TWO_WORDS, 3, &ops, 1)?;
-    assert_eq!(rt; words.as_str(), "done steps 28 found 2");
-    Ok(())
-}
-
-// The second word was found, but is no longer live when its turn comes.
-#[test]
-fn delete_in_a_loop(rt: HostRuntime) -> Result<(), Fail> {
-    let ops = [
-        Op::Find(0),
-        Op::Store(1),
-        Op::Next(1, 9),
-        Op::Pop,
-        Op::Say(0),
-        Op::Load(0),
-        Op::Alive(8),
-        Op::Delete,
-        Op::Back(2),
-        Op::Done,
-    ];
-    let words = told(rt.alloc(), TWO_WORDS, 2, &ops, 2)?;
-    let lines = "say\nleave 2 board\ndelete 2\ndone steps 11 found 2";
-    assert_eq!(rt; words.as_str(), lines);
-    Ok(())
-}
-
-// The loop goes over what the first query found. What a query in it finds grows.
-#[test]
-fn find_in_a_loop(rt: HostRuntime) -> Result<(), Fail> {
-    let ops = [
-        Op::Find(0),
-        Op::Store(1),
-        Op::Next(1, 10),
-        Op::Pop,
-        Op::New(WORD),
-        Op::Enter(0),
-        Op::Find(0),
-        Op::Size,
-        Op::Say(1),
-        Op::Back(2),
-        Op::Done,
-    ];
-    let lines = "create 3 word\n\
-        enter 3 board\n\
-        say 3\n\
-        create 4 word\n\
-        enter 4 board\n\
-        say 4\n\
-        done steps 20 found 4";
-    let words = told(rt.alloc(), TWO_WORDS, 2, &ops, 1)?;
-    assert_eq!(rt; words.as_str(), lines);
+fn as_the_plain_program(rt: HostRuntime) -> Result<(), Fail> {
+    let schema = Schema::read(rt.alloc(), "{}")?;
+    let mut seed = 1;
+    for round in 0..4_000 {
+        let mut ops = OPS;
+        let mut loops = LOOPS;
+        for _ in 0..round % 4 {
+            seed = next_seed(seed);
+            change(seed, &mut ops, &mut loops);
+        }
+        let few = &loops[..4 + (round / 4) % 3];
+        if let Some(place) = found(rt.alloc(), &schema, &ops, few)? {
+            assert_eq!(rt; place, first_fault(&ops, few));
+        }
+    }
     Ok(())
 }

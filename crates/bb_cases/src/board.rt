@@ -1,0 +1,47 @@
+//! The blackboards of cases, each made anew for a case. Executions use them.
+
+use crate::fault::Fault;
+use crate::names::Scene;
+use bb_board::Board;
+use bb_schema::{Schema, UnitId};
+use std::alloc::Global;
+
+/// The schema of a document.
+pub(crate) fn schema_of(alloc: Global, document: &str) -> Result<Schema, Fault> {
+    Schema::read(alloc, document).ok().ok_or(Fault::Schema)
+}
+
+/// A blackboard that is made so, without notes.
+pub(crate) fn board_of(alloc: Global, scene: &Scene) -> Result<Board, Fault> {
+    let schema = schema_of(alloc, scene.schema.as_str())?;
+    let units = match &scene.units {
+        Some(units) => units.as_str(),
+        None => "{}",
+    };
+    let board = loaded(alloc, schema, units).ok_or(Fault::Units)?;
+    match scene.deleted {
+        Some(unit) => without(board, unit).ok_or(Fault::Delete),
+        None => Ok(board),
+    }
+}
+
+/// A blackboard of first units, without notes.
+fn loaded(alloc: Global, schema: Schema, units: &str) -> Option<Board> {
+    let mut board = Board::new(alloc, schema).ok()?;
+    if board.fresh() {
+        board.load(units).ok()?;
+    }
+    drop(board.take_notes());
+    Some(board)
+}
+
+/// The blackboard without a unit, if the unit is there.
+fn without(board: Board, unit: UnitId) -> Option<Board> {
+    let mut board = board;
+    if !board.live(unit) {
+        return None;
+    }
+    board.delete(unit).ok()?;
+    drop(board.take_notes());
+    Some(board)
+}

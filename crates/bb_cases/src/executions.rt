@@ -1,0 +1,75 @@
+//! A code is executed on a blackboard, and what comes of it is written in lines. Cases of codes and tables of runs call
+//! it.
+
+use crate::fault::Fault;
+use crate::header::number;
+use crate::notes::add_note;
+use bb_board::Board;
+use bb_code::Code;
+use bb_machine::{Answer, Entry, Outcome, Stop, trial};
+use std::alloc::{AllocError, Global};
+use std::fmt::Write;
+
+/// The units of an entry, `N` or `N:M`.
+pub(crate) fn entry_of(word: &str) -> Result<Entry, Fault> {
+    let (it, ev) = match word.split_once(':') {
+        None => (word, None),
+        Some((it, ev)) => (it, Some(number(ev)?)),
+    };
+    let it = number(it)?;
+    Ok(Entry { it, ev })
+}
+
+/// Executes a code, and appends how it ends and the lines of its notes.
+pub(crate) fn add_execution(
+    alloc: Global,
+    text: &mut String,
+    code: &Code,
+    board: &mut Board,
+    entry: Entry,
+    limit: u64,
+) -> Result<(), AllocError> {
+    let ended = trial(alloc, code, board, entry, u128::from(limit));
+    add_end(text, ended)?;
+    let notes = board.take_notes();
+    for note in &notes {
+        add_note(alloc, text, board.schema(), note)?;
+    }
+    Ok(())
+}
+
+fn add_end(text: &mut String, ended: Result<Outcome, Stop>) -> Result<(), AllocError> {
+    let (steps, found) = match ended {
+        Ok(outcome) => {
+            add_answer(text, outcome.answer)?;
+            (outcome.steps, outcome.found)
+        }
+        Err(Stop::Full { steps, found }) => {
+            text.push_str("full")?;
+            (steps, found)
+        }
+        Err(
+            Stop::Stuck {
+                reason,
+                steps,
+                found,
+            },
+        ) => {
+            let number = reason.number();
+            write!(text, "stuck {number}")?;
+            (steps, found)
+        }
+        Err(Stop::Memory) => return Err(AllocError),
+    };
+    writeln!(text, " steps {steps} found {found}")
+}
+
+fn add_answer(text: &mut String, answer: Answer) -> Result<(), AllocError> {
+    match answer {
+        Answer::Done => text.push_str("done"),
+        Answer::Rated(rating) => write!(text, "rated {rating}"),
+        Answer::Declined => text.push_str("declined"),
+        Answer::Yes => text.push_str("yes"),
+        Answer::No => text.push_str("no"),
+    }
+}

@@ -1,0 +1,105 @@
+//! Inputs go through `serve`, and the output and the status are compared. The suite calls it for a case, and tables for
+//! their rows.
+
+ghost use Rattle.std.specs.Prelude.{◌≡◌, Some, false};
+
+use crate::difference::Difference;
+use crate::fault::Fault;
+use crate::header::{Header, number};
+use crate::inserts::{Scope, expanded};
+use crate::parts::Entry;
+use bb_main::{Intake, serve};
+use bb_shell::Out;
+use std::alloc::{AllocError, Global};
+
+/// Takes `room` bytes, at most `step` in one call, and then fails.
+#[derive(Drop)]
+struct Narrow {
+    taken: Vec<u8>,
+    room: usize,
+    step: usize,
+    failed: bool,
+}
+
+impl Out for Narrow {
+    ghost taken = { λ n. Some n.taken.items };
+
+    ghost has_failed = { λ n. n.failed };
+
+    fn put(&mut self, bytes: &[u8]) -> usize {
+        let count = bytes.len().min(self.step).min(self.room);
+        if count == 0 || self.taken.extend_from_slice(&bytes[..count]).is_err() {
+            self.failed = true;
+            return 0;
+        }
+        self.room -= count;
+        count
+    }
+
+    fn failed(&self) -> bool {
+        self.failed
+    }
+}
+
+/// How inputs are served.
+#[derive(Clone, Copy)]
+pub(crate) struct Serving {
+    limit: u32,
+    floor: i64,
+    room: usize,
+    step: usize,
+}
+
+impl Serving {
+    /// What a header says of it.
+    pub fn of(header: &Header<'_>) -> Result<Serving, Fault> {
+        header.check(&["limit", "floor", "room", "by"])?;
+        Ok(Serving {
+            limit: header.number("limit", 1_000_000)?,
+            floor: header.number("floor", 0)?,
+            room: header.number("room", usize::MAX)?,
+            step: header.number("by", usize::MAX)?,
+        })
+    }
+
+    /// The first difference between what comes of an input and what is to come of it.
+    pub fn compare(
+        self,
+        alloc: Global,
+        input: &[u8],
+        status: u8,
+        output: &[u8],
+    ) -> Result<Option<Difference>, AllocError> {
+        let mut reader = Intake::new(input);
+        let mut out = Narrow {
+            taken: Vec::new(alloc),
+            room: self.room,
+            step: self.step,
+            failed: false,
+        };
+        let given = serve(alloc, self.limit, self.floor, &mut reader, &mut out);
+        let difference = Difference::of(alloc, output, &out.taken)?;
+        if difference.is_some() || given == status {
+            return Ok(difference);
+        }
+        Ok(Some(Difference {
+            line: 0,
+            wanted: format!(in alloc; "{status}")?,
+            given: format!(in alloc; "{given}")?,
+        }))
+    }
+}
+
+/// Compares a case of an input.
+pub(crate) fn compare_input(
+    alloc: Global,
+    scope: Scope<'_>,
+    entry: &Entry<'_>,
+) -> Result<Option<Difference>, Fault> {
+    let serving = Serving::of(&entry.first.header)?;
+    let gives = entry.second("gives")?;
+    let status = number(gives.header.name)?;
+    let input = expanded(scope, entry.first.text(alloc)?.as_str())?;
+    let output = expanded(scope, gives.text(alloc)?.as_str())?;
+    Ok(serving.compare(alloc, &input, status, &output)?)
+}

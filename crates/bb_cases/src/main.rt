@@ -1,0 +1,46 @@
+//! The program that runs cases: it reads files of cases, makes their calls, and compares what comes of them with what
+//! is to come of them.
+#![tactic(auto)]
+
+mod board;
+mod codes;
+mod difference;
+mod executions;
+mod fault;
+mod files;
+mod header;
+mod inputs;
+mod inserts;
+mod names;
+mod notes;
+mod parts;
+mod pieces;
+mod report;
+mod rows;
+mod schema_calls;
+mod schemas;
+mod suite;
+mod tables;
+mod verified;
+
+use crate::files::named_files;
+use crate::suite::Suite;
+use std::process::ExitCode;
+use std::{fs, io};
+
+fn main(rt: HostRuntime) -> io::Result<ExitCode> {
+    let mut suite = Suite::new(rt.alloc());
+    for file in &named_files(&rt)? {
+        let text = fs::read_to_string(&rt, file.as_str()).ok();
+        suite.run_file(file.as_str(), text.as_ref().map(|text| text.as_str()))?;
+        print!(rt; "{}", suite.report.text.as_str())?;
+        suite.report.text.clear();
+    }
+    suite.report.add_counts()?;
+    print!(rt; "{}", suite.report.text.as_str())?;
+    if suite.report.all_hold() {
+        Ok(ExitCode::SUCCESS)
+    } else {
+        Ok(ExitCode::FAILURE)
+    }
+}

@@ -1,0 +1,54 @@
+//! Documents of schemas, and what the calls of a schema answer. The suite calls it for a case.
+
+use crate::difference::Difference;
+use crate::fault::Fault;
+use crate::inserts::{Scope, expanded_text};
+use crate::parts::Entry;
+use crate::schema_calls::{add_answer, answer_of};
+use bb_schema::{Schema, SchemaFault};
+use std::alloc::Global;
+
+/// Appends a line with the call that it begins with, and its answer.
+fn add_call(alloc: Global, text: &mut String, schema: &Schema, line: &str) -> Result<(), Fault> {
+    let (asked, _) = line.split_once(" =").ok_or(Fault::Call)?;
+    let (call, rest) = asked.split_once(' ').unwrap_or((asked, ""));
+    let answer = answer_of(schema, call, rest)?;
+    text.push_str(asked)?;
+    text.push_str(" =")?;
+    add_answer(alloc, text, schema, &answer)?;
+    text.push_str("\n")?;
+    Ok(())
+}
+
+/// What the calls of the lines answer, where the document is a schema.
+fn given(alloc: Global, document: &str, wanted: &str) -> Result<String, Fault> {
+    let mut text = String::new(alloc);
+    match Schema::read(alloc, document) {
+        Ok(_) if wanted.starts_with("refused ") => text.push_str("accepted\n")?,
+        Ok(schema) => {
+            for line in wanted.lines() {
+                add_call(alloc, &mut text, &schema, line)?;
+            }
+        }
+        Err(SchemaFault::Memory) => return Err(Fault::Memory),
+        Err(fault) => {
+            let number = fault.number();
+            text = format!(in alloc; "refused {number}\n")?;
+        }
+    }
+    Ok(text)
+}
+
+/// Compares a case of a schema.
+pub(crate) fn compare_schema(
+    alloc: Global,
+    scope: Scope<'_>,
+    entry: &Entry<'_>,
+) -> Result<Option<Difference>, Fault> {
+    entry.first.header.check(&[])?;
+    let document = expanded_text(scope, entry.first.text(alloc)?.as_str())?;
+    let gives = entry.second("gives")?;
+    let wanted = expanded_text(scope, gives.text(alloc)?.as_str())?;
+    let lines = given(alloc, document.as_str(), wanted.as_str())?;
+    Ok(Difference::of(alloc, wanted.as_bytes(), lines.as_bytes())?)
+}

@@ -1,0 +1,172 @@
+//! Tables: cases of one kind, one a row. The suite compares row by row.
+
+use crate::board::{board_of, schema_of};
+use crate::codes::{bytes_of, code_of, respelled};
+use crate::difference::Difference;
+use crate::executions::{add_execution, entry_of};
+use crate::fault::Fault;
+use crate::header::number;
+use crate::inputs::Serving;
+use crate::inserts::{Scope, expanded, expanded_text};
+use crate::names::{Names, Scene};
+use crate::parts::Entry;
+use crate::rows::Row;
+use crate::verified::{add_verdict, part_of};
+use bb_asm::{AsmFault, assemble};
+use bb_code::{Code, CodeFault};
+use bb_schema::Schema;
+use bb_verify::{Part, verify};
+use std::alloc::Global;
+use std::fmt::Write;
+
+/// What the rows of a table have in common.
+#[derive(Drop)]
+enum Common<'a> {
+    /// Inputs of one form, each refused.
+    Inputs { serving: Serving, form: String },
+    /// Bytes, and the fault of decoding them.
+    Bytes,
+    /// Texts that are no codes.
+    Assembly,
+    /// Codes, and the fault of verifying them.
+    Verify { schema: Schema, part: Part },
+    /// Executions of codes.
+    Runs(&'a Scene),
+}
+
+/// A table whose rows are compared.
+#[derive(Drop)]
+pub(crate) struct Table<'a> {
+    alloc: Global,
+    names: &'a Names,
+    common: Common<'a>,
+    /// The text that each code begins with.
+    head: String,
+}
+
+impl<'a> Table<'a> {
+    /// The table of an entry.
+    pub fn of(alloc: Global, names: &'a Names, entry: &Entry<'_>) -> Result<Table<'a>, Fault> {
+        let header = &entry.first.header;
+        let common = match header.kind {
+            "inputs" => Common::Inputs {
+                serving: Serving::of(header)?,
+                form: entry.first.text(alloc)?,
+            },
+            "bytes" => Common::Bytes,
+            "assembly" => Common::Assembly,
+            "verify" => Common::Verify {
+                schema: schema_of(alloc, names.copied(header.option("schema"))?.as_str())?,
+                part: part_of(header.option("part"))?,
+            },
+            _ => Common::Runs(names.board(header.option("board").ok_or(Fault::Options)?)?),
+        };
+        match &common {
+            Common::Inputs { .. } => {}
+            Common::Bytes | Common::Assembly => header.check(&[])?,
+            Common::Verify { .. } => header.check(&["schema", "part", "head"])?,
+            Common::Runs(_) => header.check(&["board", "head"])?,
+        }
+        let head = match header.option("head") {
+            None => String::new(alloc),
+            name => names.copied(name)?,
+        };
+        Ok(Table {
+            alloc,
+            names,
+            common,
+            head,
+        })
+    }
+
+    /// The first difference of a row.
+    pub fn compare(&self, row: &Row) -> Result<Option<Difference>, Fault> {
+        let (front, back) = row.sides()?;
+        if let Common::Inputs { serving, form } = &self.common {
+            return self.compare_input(*serving, form.as_str(), front, back);
+        }
+        let scope = Scope::new(self.alloc, self.names);
+        let text = expanded_text(scope, back)?;
+        let mut given = String::new(self.alloc);
+        self.add_given(&mut given, front, text.as_str())?;
+        let wanted = match &self.common {
+            Common::Runs(_) => expanded_text(scope, row.below.as_str())?,
+            _ => format!(in self.alloc; "{front}\n{}", row.below.as_str())?,
+        };
+        Ok(Difference::of(self.alloc, wanted.as_bytes(), given.as_bytes())?)
+    }
+
+    fn compare_input(
+        &self,
+        serving: Serving,
+        form: &str,
+        line: &str,
+        row: &str,
+    ) -> Result<Option<Difference>, Fault> {
+        let row = expanded(Scope::new(self.alloc, self.names), row)?;
+        let names = &*self.names;
+        let scope = Scope::new(self.alloc, names).at_row(row.as_slice());
+        let input = expanded(scope, form)?;
+        let output = format!(in self.alloc; "{line}\n")?;
+        Ok(serving.compare(self.alloc, &input, 2, output.as_bytes())?)
+    }
+
+    /// Appends what is given of a text.
+    fn add_given(&self, given: &mut String, front: &str, text: &str) -> Result<(), Fault> {
+        match &self.common {
+            Common::Inputs { .. } => Ok(()),
+            Common::Bytes => add_decoding(self.alloc, given, text),
+            Common::Assembly => add_assembly(self.alloc, given, text),
+            Common::Verify { schema, part } => {
+                let code = self.headed_code(text)?;
+                Ok(add_verdict(given, &verify(self.alloc, schema, *part, code))?)
+            }
+            Common::Runs(scene) => self.add_run(given, scene, front, text),
+        }
+    }
+
+    /// The code of a text behind the head.
+    fn headed_code(&self, text: &str) -> Result<Code, Fault> {
+        let whole = format!(in self.alloc; "{}{text}", self.head.as_str())?;
+        code_of(self.alloc, whole.as_str())
+    }
+
+    fn add_run(
+        &self,
+        given: &mut String,
+        scene: &Scene,
+        front: &str,
+        text: &str,
+    ) -> Result<(), Fault> {
+        let (units, limit) = front.split_once(' ').ok_or(Fault::Row)?;
+        let entry = entry_of(units)?;
+        let limit = number(limit)?;
+        let code = self.headed_code(text)?;
+        let mut board = board_of(self.alloc, scene)?;
+        Ok(add_execution(self.alloc, given, &code, &mut board, entry, limit)?)
+    }
+}
+
+/// Appends what decoding the bytes of some hex comes to.
+fn add_decoding(alloc: Global, given: &mut String, digits: &str) -> Result<(), Fault> {
+    let bytes = bytes_of(alloc, digits)?;
+    match Code::decode(alloc, &bytes) {
+        Ok(code) => {
+            drop(respelled(alloc, code, &bytes)?);
+            given.push_str("ok\n")?;
+        }
+        Err(CodeFault::Memory) => return Err(Fault::Memory),
+        Err(fault) => writeln!(given, "{fault:?}")?,
+    }
+    Ok(())
+}
+
+/// Appends the line of the first fault of a text.
+fn add_assembly(alloc: Global, given: &mut String, text: &str) -> Result<(), Fault> {
+    match assemble(alloc, text) {
+        Ok(_) => given.push_str("ok\n")?,
+        Err(AsmFault::Memory) => return Err(Fault::Memory),
+        Err(fault) => writeln!(given, "{}", fault.line())?,
+    }
+    Ok(())
+}
