@@ -1,9 +1,7 @@
-//! Tests of inputs: how they are read, cut and refused, and of the statuses.
+//! Tests of the program with readers that give pieces, fail, are interrupted or never end, and with writers that fail.
 
 use crate::input::{In, Intake};
 use crate::read::read_input;
-use crate::section_fault::SectionFault;
-use crate::sections::Sections;
 use crate::serving::{program, serve};
 use bb_shell::Pipe;
 use std::io;
@@ -67,76 +65,6 @@ impl Read for Interrupted<'_> {
 }
 
 #[test]
-fn taken_sections(rt: HostRuntime) {
-    for (input, schema, units, bundle) in [
-        ("%schema\n", "", "{}", ""),
-        ("%schema\r\n", "", "{}", ""),
-        ("%schema", "", "{}", ""),
-        (
-            "%schema\na\r\nb\n%units\nc\n%bundle\nd",
-            "a\r\nb\n",
-            "c\n",
-            "d",
-        ),
-        ("%schema\r\n\n%bundle\r\n\r\n", "\n", "{}", "\r\n"),
-        ("%schema\n%units\n%bundle", "", "", ""),
-        // Lines that are a word with anything beside it are text.
-        ("%schema\n%units \n", "%units \n", "{}", ""),
-        ("%schema\n %units\n%Units\n", " %units\n%Units\n", "{}", ""),
-        ("%schema\n%unitsx\n%%units", "%unitsx\n%%units", "{}", ""),
-        ("%schema\n%bundle\n%units\r", "", "{}", "%units\r"),
-        ("%schema\n%units\r\r\n", "%units\r\r\n", "{}", ""),
-    ] {
-        let wanted = Sections {
-            schema,
-            units,
-            bundle,
-        };
-        assert!(rt;
-            Sections::of_bytes(input.as_bytes()) == Ok(wanted),
-            "{input}"
-        );
-    }
-}
-
-#[test]
-fn refused_sections(rt: HostRuntime) {
-    for input in [
-        "",
-        "\n",
-        "{}",
-        "%units\n",
-        "%schema\r",
-        "%schema \n",
-        " %schema\n",
-        "\n%schema\n",
-        "word\n%schema\n",
-        "%units\n{}\n%schema\n",
-        "%schema\n%schema\n",
-        "%schema\n%units\n%units\n",
-        "%schema\n%bundle\n%bundle",
-        "%schema\n%bundle\n%units\n",
-        "%schema\n%units\n%bundle\n%schema\n",
-        "%schema\n%sources\n",
-        "%sources\n%schema\n",
-        "%schema\n%units\n%sources\r\n%bundle\n",
-    ] {
-        assert!(rt;
-            Sections::of_bytes(input.as_bytes()) == Err(SectionFault::Sections),
-            "{input}"
-        );
-    }
-    for input in [
-        b"\xff".as_slice(),
-        b"%schema\n\xff",
-        b"%schema\n\xc3",
-        b"%schema\n%sources\n\xed\xa0\x80",
-    ] {
-        assert!(rt; Sections::of_bytes(input) == Err(SectionFault::Utf8));
-    }
-}
-
-#[test]
 fn whole_readings(rt: HostRuntime) -> Result<(), Fail> {
     let bytes = b"%schema\n{}\n%units\n\xff";
     for piece in [1, 2, 7, 8_192] {
@@ -149,29 +77,6 @@ fn whole_readings(rt: HostRuntime) -> Result<(), Fail> {
         assert!(rt; input.as_slice() == bytes.as_slice() && !reader.failed());
     }
     Ok(())
-}
-
-#[test]
-fn longest_reading(rt: HostRuntime) -> Result<(), Fail> {
-    let mut reader = Intake::new(Endless {
-        byte: b' ',
-        given: 0,
-    }
-    .take(16_777_216));
-    let input = read_input(rt.alloc(), &mut reader)?;
-    assert_eq!(rt; input.len(), 16_777_216);
-    Ok(())
-}
-
-#[test]
-fn lines_of_refusals(rt: HostRuntime) {
-    for (fault, line) in [
-        (SectionFault::Limit, "refused input limit"),
-        (SectionFault::Utf8, "refused input utf8"),
-        (SectionFault::Sections, "refused input sections"),
-    ] {
-        assert_eq!(rt; fault.line(), line);
-    }
 }
 
 /// The input of a run of one source, which says a word.
@@ -222,25 +127,6 @@ fn serves<R: Read + Drop>(rt: &HostRuntime, reader: R, limit: u32, status: u8, t
 }
 
 #[test]
-fn refused_inputs(rt: HostRuntime) {
-    for (input, line) in [
-        (b"{}\n".as_slice(), "refused input sections\n"),
-        (b"word\n%schema\n{}\n", "refused input sections\n"),
-        (b"%schema\n{}\n%schema\n{}\n", "refused input sections\n"),
-        (b"%schema\n{}\n\xff", "refused input utf8\n"),
-        // An empty text is no document.
-        (b"%schema\n%units\n{}\n", "refused schema 1\n"),
-        (b"%schema\r\n{}\r\n%units\r\n", "refused units 1\n"),
-        (
-            b"%schema\n{\"classes\":[{\"name\":\"note\"}]}\n%bundle\nsource hail note 100\nwhen create note\ndo 424\n",
-            "refused bundle 3 2\n",
-        ),
-    ] {
-        assert!(rt; serves(&rt, input, 100, 2, line), "{line}");
-    }
-}
-
-#[test]
 fn too_long_inputs(rt: HostRuntime) {
     // Whether the bytes are a text is not looked at.
     for byte in [b' ', 0xff] {
@@ -251,30 +137,6 @@ fn too_long_inputs(rt: HostRuntime) {
         assert!(rt; writer.into_inner().as_slice() == b"refused input limit\n".as_slice());
         assert_eq!(rt; reader.into_inner().given, 16_777_217);
     }
-}
-
-#[test]
-fn served_runs(rt: HostRuntime) {
-    assert!(rt; serves(&rt, FIRST_RUN.as_bytes(), 100, 0, FIRST_TRACE));
-    assert!(rt;
-        serves(
-            &rt,
-            FIRST_RUN.as_bytes(),
-            0,
-            3,
-            "create 1 note\ntrigger 1 hail unit 1 rating 100\nfinish limit\n"
-        )
-    );
-    // A CR before the LF of a header, and no section that may be absent.
-    assert!(rt;
-        serves(
-            &rt,
-            b"%schema\r\n{}\r\n".as_slice(),
-            100,
-            0,
-            "quiescence\nfinish quiescence\n"
-        )
-    );
 }
 
 #[test]

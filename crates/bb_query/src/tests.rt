@@ -1,4 +1,4 @@
-//! Tests of what queries find.
+//! Tests of what queries find with memory, also against a scan of all units.
 
 ghost use Rattle.std.specs.Prelude.{◌≡◌, IfOk, map};
 ghost use Rattle.bb_pattern.specs.Values.{kind_of_operand};
@@ -116,7 +116,7 @@ fn kinds_of(alloc: Global, operands: &[DimValue]) -> Result<Items<OperandKind>, 
     }
 }
 
-/// What a query for a class in a space answers, shown, or the number of its fault.
+/// What a query for a class in a space answers.
 fn found(
     alloc: Global,
     schema: &Schema,
@@ -201,102 +201,60 @@ fn found_in_scene(
     )
 }
 
-/// What things there are within `[low, high]` on the board, which unit 1, a thing at `[1, 3]`, entered, before or after
-/// it moved to `[5, 5]`.
-fn moved(alloc: Global, after: bool, low: i64, high: i64) -> Result<Vec<UnitId>, Fail> {
-    let schema = Schema::read(alloc, SCHEMA)?;
-    let mut units = units_of(alloc, &schema, &[THING])?;
-    set(&mut units, 1, POS, Value::Interval(1, 3))?;
-    if after {
-        set(&mut units, 1, POS, Value::Interval(5, 5))?;
-    }
-    let mut spaces = no_members(alloc, &schema, &units)?;
-    enter(alloc, &schema, &units, &mut spaces, BOARD, 1)?;
-    let operands = [DimValue::Interval(low, high)];
-    found(
-        alloc,
-        &schema,
-        &units,
-        &spaces,
-        THING,
-        BOARD,
-        within(0, 0),
-        &operands,
-    )
-}
-
-/// The values of a unit of the scene on the dimensions of a space.
-fn values_in_scene(alloc: Global, space: SpaceId, unit: UnitId) -> Result<Items<DimValue>, Fail> {
+/// What a scan of all units of the scene finds: those that the space admits, whose class descends from the query's, and
+/// of whose present values the pattern holds.
+fn scanned(
+    alloc: Global,
+    class: ClassId,
+    space: SpaceId,
+    pattern: &Pattern,
+    operands: &[DimValue],
+) -> Result<Vec<UnitId>, Fail> {
     let schema = Schema::read(alloc, SCHEMA)?;
     let units = scene(alloc, &schema)?;
-    if space as usize >= schema.space_count() || !units.live(unit) {
-        return Err(Fail::from(PatternFault::Space));
+    let mut found = Vec::new(alloc);
+    for unit in 1..5 {
+        if space as usize >= schema.space_count() || !units.live(unit) {
+            continue;
+        }
+        let of = units.class_of(unit);
+        if !schema.allowed(space, of) || !schema.descends(of, class) {
+            continue;
+        }
+        let values = values_of(alloc, &schema, &units, unit, space)?;
+        if pattern.holds(operands, values.as_slice()) {
+            found.push(unit)?;
+        }
     }
-    Ok(values_of(alloc, &schema, &units, unit, space)?)
+    Ok(found)
+}
+
+/// Whether a query finds in the scene what a scan finds.
+fn agrees(
+    alloc: Global,
+    class: ClassId,
+    space: SpaceId,
+    pattern: Pattern,
+    operands: &[DimValue],
+) -> Result<bool, Fail> {
+    let scanned = scanned(alloc, class, space, &pattern, operands)?;
+    let found = found_in_scene(alloc, class, space, pattern, operands)?;
+    Ok(found.as_slice() == scanned.as_slice())
 }
 
 #[test]
-fn moved_unit(rt: HostRuntime) -> Result<(), Fail> {
-    assert_eq!(rt; moved(rt.alloc(), false, 1, 3)?.as_slice(), [1].as_slice());
-    assert_eq!(rt; moved(rt.alloc(), true, 5, 9)?.as_slice(), [1].as_slice());
-    assert!(rt; moved(rt.alloc(), true, 1, 3)?.is_empty());
-    Ok(())
-}
-
-#[test]
-fn members_in_rising_order(rt: HostRuntime) -> Result<(), Fail> {
+fn as_a_scan(rt: HostRuntime) -> Result<(), Fail> {
     let on_board = found_in_scene(rt.alloc(), THING, BOARD, all(), &[])?;
     assert_eq!(rt; on_board.as_slice(), [1, 2, 4].as_slice());
-    let on_desk = found_in_scene(rt.alloc(), THING, DESK, all(), &[])?;
-    assert_eq!(rt; on_desk.as_slice(), [2].as_slice());
-    Ok(())
-}
-
-#[test]
-fn several_classes(rt: HostRuntime) -> Result<(), Fail> {
-    let things = found_in_scene(rt.alloc(), THING, SHELF, all(), &[])?;
-    assert_eq!(rt; things.as_slice(), [1, 2, 4].as_slice());
-    let boxes = found_in_scene(rt.alloc(), BOX, SHELF, all(), &[])?;
-    assert_eq!(rt; boxes.as_slice(), [3].as_slice());
-    let words = found_in_scene(rt.alloc(), WORD, SHELF, is(0, 0), &[GREEN])?;
-    assert_eq!(rt; words.as_slice(), [2].as_slice());
-    let red = [DimValue::Label(0, 0)];
-    let none = found_in_scene(rt.alloc(), WORD, SHELF, is(0, 0), &red)?;
-    assert!(rt; none.is_empty());
-    Ok(())
-}
-
-#[test]
-fn inherited_slot(rt: HostRuntime) -> Result<(), Fail> {
-    let values = values_in_scene(rt.alloc(), BOARD, 2)?;
-    assert_eq!(rt;
-        values.as_slice(),
-        [DimValue::Interval(5, 5), GREEN].as_slice()
-    );
-    let words = found_in_scene(
-        rt.alloc(),
-        WORD,
-        BOARD,
-        within(0, 0),
-        &values.as_slice()[..1],
-    )?;
-    assert_eq!(rt; words.as_slice(), [2].as_slice());
-    Ok(())
-}
-
-#[test]
-fn dimensions_in_their_order(rt: HostRuntime) -> Result<(), Fail> {
-    let thing = values_in_scene(rt.alloc(), SHELF, 1)?;
-    let red = DimValue::Label(0, 0);
-    assert_eq!(rt;
-        thing.as_slice(),
-        [red, DimValue::Interval(1, 3)].as_slice()
-    );
-    let boxed = values_in_scene(rt.alloc(), SHELF, 3)?;
-    assert_eq!(rt;
-        boxed.as_slice(),
-        [GREEN, DimValue::Interval(2, 2)].as_slice()
-    );
-    assert_eq!(rt; values_in_scene(rt.alloc(), DESK, 2)?.len(), 0);
+    let near = [DimValue::Interval(0, 3)];
+    for class in [THING, WORD, BOX] {
+        assert!(rt; agrees(rt.alloc(), class, BOARD, all(), &[])?);
+        assert!(rt; agrees(rt.alloc(), class, DESK, all(), &[])?);
+        assert!(rt; agrees(rt.alloc(), class, SHELF, all(), &[])?);
+        assert!(rt; agrees(rt.alloc(), class, BOARD, within(0, 0), &near)?);
+        assert!(rt; agrees(rt.alloc(), class, BOARD, is(1, 0), &[GREEN])?);
+        assert!(rt; agrees(rt.alloc(), class, SHELF, within(1, 0), &near)?);
+        assert!(rt; agrees(rt.alloc(), class, SHELF, is(0, 0), &[GREEN])?);
+    }
     Ok(())
 }

@@ -1,4 +1,4 @@
-//! Tests of spaces: their members, and what was told of these.
+//! Tests of spaces: their calls with memory, and the candidates, which no query shows.
 
 use super::*;
 use bb_basis::Items;
@@ -46,14 +46,6 @@ fn enter(
     Ok(spaces.enter(BOARD, unit, red_at(alloc, low, high)?)?)
 }
 
-/// Lets a unit enter `desk`.
-fn enter_desk(spaces: &mut Spaces, alloc: Global, unit: UnitId) -> Result<bool, Fail> {
-    if spaces.count() < 2 {
-        return Ok(false);
-    }
-    Ok(spaces.enter(DESK, unit, Items::new(alloc))?)
-}
-
 /// Tells `board` that a unit is red at `[low, high]`.
 fn move_to(
     spaces: &mut Spaces,
@@ -66,10 +58,6 @@ fn move_to(
         spaces.moved(BOARD, unit, red_at(alloc, low, high)?)?;
     }
     Ok(())
-}
-
-fn leave(spaces: &mut Spaces, space: SpaceId, unit: UnitId) -> bool {
-    (space as usize) < spaces.count() && spaces.leave(space, unit)
 }
 
 /// The members of a space with their values.
@@ -104,19 +92,7 @@ fn within(alloc: Global, spaces: &Spaces, low: i64, high: i64) -> Result<String,
 }
 
 #[test]
-fn moved_unit(rt: HostRuntime) -> Result<(), Fail> {
-    let mut spaces = no_members(rt.alloc())?;
-    assert!(rt; enter(&mut spaces, rt.alloc(), 1, 1, 3)?);
-    let before = within(rt.alloc(), &spaces, 1, 3)?;
-    assert_eq!(rt; before.as_str(), "1 ");
-    move_to(&mut spaces, rt.alloc(), 1, 5, 5)?;
-    let after = within(rt.alloc(), &spaces, 5, 9)?;
-    assert_eq!(rt; after.as_str(), "1 ");
-    Ok(())
-}
-
-#[test]
-fn members_rise(rt: HostRuntime) -> Result<(), Fail> {
+fn members_and_what_they_are_told(rt: HostRuntime) -> Result<(), Fail> {
     let mut spaces = no_members(rt.alloc())?;
     assert!(rt; enter(&mut spaces, rt.alloc(), 3, 0, 1)?);
     assert!(rt; enter(&mut spaces, rt.alloc(), 1, 0, 9)?);
@@ -127,32 +103,9 @@ fn members_rise(rt: HostRuntime) -> Result<(), Fail> {
     assert_eq!(rt; narrow.as_str(), "2 3 ");
     let wide = within(rt.alloc(), &spaces, 0, 9)?;
     assert_eq!(rt; wide.as_str(), "1 2 3 ");
-    Ok(())
-}
-
-#[test]
-fn two_spaces(rt: HostRuntime) -> Result<(), Fail> {
-    let mut spaces = no_members(rt.alloc())?;
-    enter(&mut spaces, rt.alloc(), 1, 1, 3)?;
-    enter_desk(&mut spaces, rt.alloc(), 1)?;
-    enter_desk(&mut spaces, rt.alloc(), 2)?;
-    assert!(rt; leave(&mut spaces, BOARD, 1));
-    assert!(rt; !leave(&mut spaces, BOARD, 1));
-    let left = shown(rt.alloc(), &spaces, BOARD)?;
-    assert_eq!(rt; left.as_str(), "");
-    assert!(rt; enter(&mut spaces, rt.alloc(), 1, 4, 4)?);
-    let again = shown(rt.alloc(), &spaces, BOARD)?;
-    assert_eq!(rt; again.as_str(), "1 [Interval(4, 4), Label(0, 0)];");
-    spaces.forget(1);
-    let board = shown(rt.alloc(), &spaces, BOARD)?;
-    assert_eq!(rt; board.as_str(), "");
-    let desk = shown(rt.alloc(), &spaces, DESK)?;
-    assert_eq!(rt; desk.as_str(), "2 [];");
-    Ok(())
-}
-
-#[test]
-fn moved_in_each_space(rt: HostRuntime) -> Result<(), Fail> {
+    move_to(&mut spaces, rt.alloc(), 1, 5, 5)?;
+    let moved = within(rt.alloc(), &spaces, 5, 9)?;
+    assert_eq!(rt; moved.as_str(), "1 ");
     let mut spaces = no_members(rt.alloc())?;
     enter(&mut spaces, rt.alloc(), 1, 1, 3)?;
     let mut moves = Vec::new(rt.alloc());
