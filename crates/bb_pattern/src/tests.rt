@@ -1,4 +1,4 @@
-//! Tests of patterns and queries: what they hold of, and which fit a schema.
+//! Tests of patterns and queries where no code shows what they answer: which fault they have, and what is not there.
 
 use super::*;
 use bb_basis::{Items, Text};
@@ -49,13 +49,6 @@ fn nots(alloc: Global, count: usize) -> Result<Pattern, Fail> {
     Ok(pattern)
 }
 
-/// Whether a unit's `[low, high]` is in a relation to an operand's `[first, last]`.
-fn at(relation: Relation, low: i64, high: i64, first: i64, last: i64) -> bool {
-    let operands = [DimValue::Interval(first, last)];
-    let values = [DimValue::Interval(low, high)];
-    ordered(relation, 0, 0).holds(&operands, &values)
-}
-
 /// The number of the fault of a pattern for things on the board, or 0.
 fn fault(alloc: Global, pattern: Pattern) -> Result<u8, Fail> {
     let schema = Schema::read(alloc, SCHEMA)?;
@@ -85,59 +78,7 @@ fn query_fault(alloc: Global, class: ClassId, space: SpaceId, kinds: usize) -> R
 }
 
 #[test]
-fn pattern_ends(rt: HostRuntime) -> Result<(), Fail> {
-    let _ = &rt;
-    assert!(rt; at(Relation::Overlaps, 1, 3, 3, 3));
-    assert!(rt; at(Relation::Within, 1, 3, 1, 3));
-    assert!(rt; at(Relation::Covers, 1, 3, 2, 3));
-    assert!(rt; at(Relation::Less, 1, 3, 4, 4));
-    assert!(rt; !at(Relation::Less, 1, 3, 3, 9));
-    assert!(rt; at(Relation::More, 1, 3, 0, 0));
-    assert!(rt; at(Relation::Within, i64::MIN, i64::MAX, i64::MIN, i64::MAX));
-    assert!(rt; !at(Relation::More, i64::MIN, i64::MAX, i64::MIN, i64::MIN));
-    Ok(())
-}
-
-#[test]
-fn not_of_not(rt: HostRuntime) -> Result<(), Fail> {
-    let operands = [DimValue::Interval(4, 4)];
-    let values = [DimValue::Interval(1, 3)];
-    let less = not(rt.alloc(), ordered(Relation::Less, 0, 0))?;
-    assert!(rt; !less.holds(&operands, &values));
-    assert!(rt; not(rt.alloc(), less)?.holds(&operands, &values));
-    Ok(())
-}
-
-#[test]
-fn empty_and_or(rt: HostRuntime) -> Result<(), Fail> {
-    let each = Pattern::new(Node::And(Vec::new(rt.alloc())));
-    let some = Pattern::new(Node::Or(Vec::new(rt.alloc())));
-    assert!(rt; each.holds(&[], &[]));
-    assert!(rt; !some.holds(&[], &[]));
-    assert_eq!(rt; fault(rt.alloc(), each)?, 0);
-    assert_eq!(rt; fault(rt.alloc(), some)?, 0);
-    Ok(())
-}
-
-#[test]
-fn and_or(rt: HostRuntime) -> Result<(), Fail> {
-    let operands = [DimValue::Interval(0, 9), DimValue::Label(0, 1)];
-    let red = [DimValue::Interval(1, 3), DimValue::Label(0, 0)];
-    let green = [DimValue::Interval(1, 3), DimValue::Label(0, 1)];
-    let both = vec![in rt.alloc(); ordered(Relation::Within, 0, 0), is(1, 1)]?;
-    let each = Pattern::new(Node::And(both));
-    assert!(rt; each.holds(&operands, &green));
-    assert!(rt; !each.holds(&operands, &red));
-    let both = vec![in rt.alloc(); ordered(Relation::More, 0, 0), is(1, 1)]?;
-    let some = Pattern::new(Node::Or(both));
-    assert!(rt; some.holds(&operands, &green));
-    assert!(rt; !some.holds(&operands, &red));
-    Ok(())
-}
-
-#[test]
-fn missing_or_of_another_sort(rt: HostRuntime) -> Result<(), Fail> {
-    let _ = &rt;
+fn values_and_what_is_missing(rt: HostRuntime) -> Result<(), Fail> {
     let operands = [DimValue::Interval(0, 9), DimValue::Label(0, 1)];
     let values = [DimValue::Interval(1, 3), DimValue::Label(0, 1)];
     assert!(rt; !ordered(Relation::Within, 2, 0).holds(&operands, &values));
@@ -146,6 +87,23 @@ fn missing_or_of_another_sort(rt: HostRuntime) -> Result<(), Fail> {
     assert!(rt; !is(0, 0).holds(&operands, &values));
     assert!(rt; is(1, 1).holds(&operands, &values));
     assert!(rt; !is(1, 0).holds(&operands, &values));
+    assert_eq!(rt;
+        DimValue::of(&Value::Int(-7)),
+        Some(DimValue::Interval(-7, -7))
+    );
+    assert_eq!(rt;
+        DimValue::of(&Value::Interval(1, 3)),
+        Some(DimValue::Interval(1, 3))
+    );
+    assert_eq!(rt;
+        DimValue::of(&Value::Label(0, 1)),
+        Some(DimValue::Label(0, 1))
+    );
+    assert_eq!(rt; DimValue::of(&Value::Bool(true)), None);
+    let text = Value::Text(Text::from_str(rt.alloc(), "red")?);
+    assert_eq!(rt; DimValue::of(&text), None);
+    assert_eq!(rt; DimValue::Label(1, 0).kind(), OperandKind::Label(1));
+    assert_eq!(rt; DimValue::Interval(0, 0).kind(), OperandKind::Interval);
     Ok(())
 }
 
@@ -185,37 +143,10 @@ fn faults(rt: HostRuntime) -> Result<(), Fail> {
     assert_eq!(rt; fault(rt.alloc(), Pattern::new(Node::And(parts)))?, 2);
     let parts = vec![in rt.alloc(); not(rt.alloc(), is(0, 0))?, is(1, 0)]?;
     assert_eq!(rt; fault(rt.alloc(), Pattern::new(Node::And(parts)))?, 1);
-    Ok(())
-}
-
-#[test]
-fn faults_of_queries(rt: HostRuntime) -> Result<(), Fail> {
+    // The class and the space come first, and then the number of operands.
     assert_eq!(rt; query_fault(rt.alloc(), THING, 2, 17)?, 3);
     assert_eq!(rt; query_fault(rt.alloc(), 2, BOARD, 17)?, 3);
     assert_eq!(rt; query_fault(rt.alloc(), THING, BOARD, 17)?, 4);
     assert_eq!(rt; query_fault(rt.alloc(), THING, BOARD, 16)?, 1);
-    Ok(())
-}
-
-#[test]
-fn values_of_slots(rt: HostRuntime) -> Result<(), Fail> {
-    let _ = &rt;
-    assert_eq!(rt;
-        DimValue::of(&Value::Int(-7)),
-        Some(DimValue::Interval(-7, -7))
-    );
-    assert_eq!(rt;
-        DimValue::of(&Value::Interval(1, 3)),
-        Some(DimValue::Interval(1, 3))
-    );
-    assert_eq!(rt;
-        DimValue::of(&Value::Label(0, 1)),
-        Some(DimValue::Label(0, 1))
-    );
-    assert_eq!(rt; DimValue::of(&Value::Bool(true)), None);
-    let text = Value::Text(Text::from_str(rt.alloc(), "red")?);
-    assert_eq!(rt; DimValue::of(&text), None);
-    assert_eq!(rt; DimValue::Label(1, 0).kind(), OperandKind::Label(1));
-    assert_eq!(rt; DimValue::Interval(0, 0).kind(), OperandKind::Interval);
     Ok(())
 }

@@ -1,4 +1,4 @@
-//! Tests of sources: what triggers them, and which are refused.
+//! Tests of sources: how they are made with memory, and events that no clause of a bundle names.
 
 use super::*;
 use bb_board::{Change, ChangeKind, Event};
@@ -113,22 +113,6 @@ fn kinds_of_change(rt: HostRuntime) -> Result<(), Fail> {
             assert_eq!(rt; clause.matches(&schema, changed(2, change)), row == column);
             assert!(rt; !clause.matches(&schema, changed(3, change)));
         }
-    }
-    Ok(())
-}
-
-#[test]
-fn refused_classes(rt: HostRuntime) -> Result<(), Fail> {
-    let schema = Schema::read(rt.alloc(), SCHEMA)?;
-    let table = [
-        ("memos", ["memo"]),
-        ("note", ["memos"]),
-        ("note", ["word"]),
-        ("memo", ["note"]),
-    ];
-    for (class, triggers) in table {
-        let fault = source_of(rt.alloc(), &schema, class, &triggers)?.err();
-        assert_eq!(rt; fault, Some(RuleFault::Class), "{class}");
     }
     Ok(())
 }
