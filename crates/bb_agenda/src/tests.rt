@@ -1,4 +1,4 @@
-//! Tests of the agenda: which activation is chosen, and what becomes of it.
+//! Tests of the agenda: what is added with memory, and what becomes of it once it was executed.
 
 use super::*;
 use std::alloc::{AllocError, Global};
@@ -13,29 +13,6 @@ fn agenda_of(alloc: Global, bases: &[i64]) -> Result<Agenda, AllocError> {
         }
     }
     Ok(agenda)
-}
-
-fn chosen(alloc: Global, floor: i64, bases: &[i64]) -> Result<Option<u64>, AllocError> {
-    let agenda = agenda_of(alloc, bases)?;
-    Ok(agenda.choose(floor).map(|activation| activation.number))
-}
-
-#[test]
-fn best_of_what_is_pending(rt: HostRuntime) -> Result<(), Fail> {
-    assert_eq!(rt; chosen(rt.alloc(), 0, &[])?, None);
-    assert_eq!(rt; chosen(rt.alloc(), 0, &[100])?, Some(1));
-    assert_eq!(rt; chosen(rt.alloc(), 0, &[1, 3, 2])?, Some(2));
-    // Of equals the first.
-    assert_eq!(rt; chosen(rt.alloc(), 0, &[5, 7, 7, 5, 7])?, Some(2));
-    // The floor itself is enough.
-    assert_eq!(rt; chosen(rt.alloc(), 100, &[99, 100])?, Some(2));
-    assert_eq!(rt; chosen(rt.alloc(), 101, &[99, 100])?, None);
-    assert_eq!(rt; chosen(rt.alloc(), -5, &[-10, -3, -4, -3])?, Some(2));
-    assert_eq!(rt;
-        chosen(rt.alloc(), i64::MIN, &[i64::MIN, i64::MIN])?,
-        Some(1)
-    );
-    Ok(())
 }
 
 #[test]
