@@ -1,31 +1,10 @@
-//! Tests of texts, names, lists and tables.
+//! Tests of texts, lists and tables, of which each call is made with memory.
 
 use super::*;
 use std::test::Fail;
 
 #[test]
-fn names_and_others(rt: HostRuntime) -> Result<(), Fail> {
-    let _ = &rt;
-    for name in ["a", "z9_", "a234567890123456789012345678901"] {
-        assert!(rt; is_name(name), "{name}");
-    }
-    for other in [
-        "",
-        "_",
-        "9a",
-        "A",
-        "aB",
-        "a-b",
-        "é",
-        "a2345678901234567890123456789012",
-    ] {
-        assert!(rt; !is_name(other), "{other}");
-    }
-    Ok(())
-}
-
-#[test]
-fn texts(rt: HostRuntime) -> Result<(), Fail> {
+fn texts_and_lists(rt: HostRuntime) -> Result<(), Fail> {
     let text = Text::from_str(rt.alloc(), "hail")?;
     assert_eq!(rt; text.as_str(), "hail");
     assert_eq!(rt; text.len(), 4);
@@ -33,11 +12,6 @@ fn texts(rt: HostRuntime) -> Result<(), Fail> {
     let copy = Text::new(text.clone()?.into_string());
     assert!(rt; copy == text);
     assert_eq!(rt; copy.into_string().as_str(), "hail");
-    Ok(())
-}
-
-#[test]
-fn lists(rt: HostRuntime) -> Result<(), Fail> {
     let mut items: Items<u16> = Items::new(rt.alloc());
     items.push(3)?;
     items.push(3)?;
