@@ -1,8 +1,7 @@
-//! Tests of a blackboard: units, links, notes and first units. Those of spaces stand in space_tests.rt.
+//! Tests of a blackboard: units, links, notes and first units with memory. Those of spaces stand in space_tests.rt.
 
 use crate::{Board, Change, Event, Note, Reason, Said, SharedSchema, UnitsFault};
 use bb_schema::{Schema, SlotId, UnitId, Value};
-use bb_units::CreateFault;
 use std::alloc::Global;
 use std::fmt::Write;
 use std::test::Fail;
@@ -24,8 +23,6 @@ const SCORE: SlotId = 4;
 const MATE: SlotId = 5;
 
 const KNOWS: SlotId = 10;
-
-const WHOLE: SlotId = 12;
 
 /// A blackboard before anything was created.
 fn empty(alloc: Global) -> Result<Board, Fail> {
@@ -56,12 +53,7 @@ fn four(alloc: Global, links: &str) -> Result<Board, Fail> {
 }
 
 /// Links two units where they may be linked, or says why they may not.
-pub(crate) fn link(
-    board: &mut Board,
-    unit: UnitId,
-    slot: SlotId,
-    partner: UnitId,
-) -> Result<u8, Fail> {
+fn link(board: &mut Board, unit: UnitId, slot: SlotId, partner: UnitId) -> Result<u8, Fail> {
     match board.may_link(unit, slot, partner) {
         Ok(()) => {
             board.link(unit, slot, partner)?;
@@ -78,7 +70,7 @@ fn unlink(board: &mut Board, unit: UnitId, slot: SlotId, partner: UnitId) -> Res
     Ok(())
 }
 
-pub(crate) fn delete(board: &mut Board, unit: UnitId) -> Result<(), Fail> {
+fn delete(board: &mut Board, unit: UnitId) -> Result<(), Fail> {
     if board.live(unit) {
         board.delete(unit)?;
     }
@@ -184,7 +176,7 @@ fn shared_schemas(rt: HostRuntime) -> Result<(), Fail> {
 }
 
 #[test]
-fn link_displaces_both(rt: HostRuntime) -> Result<(), Fail> {
+fn links_of_units(rt: HostRuntime) -> Result<(), Fail> {
     let mut board = four(rt.alloc(), r#"["1","mate","2"],["3","mate","4"]"#)?;
     assert_eq!(rt; link(&mut board, 1, MATE, 4)?, 0);
     let shown = noted(rt.alloc(), &mut board)?;
@@ -192,142 +184,38 @@ fn link_displaces_both(rt: HostRuntime) -> Result<(), Fail> {
         shown.as_str(),
         "unlink 1.mate 2, unlink 2.mate_of 1, unlink 3.mate 4, unlink 4.mate_of 3, link 1.mate 4, link 4.mate_of 1, "
     );
-    // By a slot at the other side the unit's own pair goes first, too.
-    assert_eq!(rt; link(&mut board, 2, MATE, 3)?, 0);
-    drop(board.take_notes());
-    assert_eq!(rt; link(&mut board, 4, MATE + 1, 2)?, 0);
+    assert_eq!(rt; board.one(1, MATE), Some(4));
+    unlink(&mut board, 4, MATE + 1, 1)?;
+    assert_eq!(rt; link(&mut board, 1, KNOWS, 1)?, 0);
+    delete(&mut board, 1)?;
     let shown = noted(rt.alloc(), &mut board)?;
     assert_eq!(rt;
         shown.as_str(),
-        "unlink 4.mate_of 1, unlink 1.mate 4, unlink 3.mate_of 2, unlink 2.mate 3, link 4.mate_of 2, link 2.mate 4, "
+        "unlink 4.mate_of 1, unlink 1.mate 4, link 1.knows 1, link 1.known_by 1, \
+         unlink 1.knows 1, unlink 1.known_by 1, delete 1, "
     );
+    assert!(rt; !board.live(1));
+    assert_eq!(rt; board.links(1, KNOWS).len(), 0);
     Ok(())
 }
 
 #[test]
-fn links_that_change_nothing(rt: HostRuntime) -> Result<(), Fail> {
-    let mut board = four(rt.alloc(), r#"["1","mate","4"]"#)?;
-    assert_eq!(rt; link(&mut board, 1, MATE, 4)?, 0);
-    unlink(&mut board, 2, MATE, 3)?;
-    assert_eq!(rt; board.take_notes().len(), 0);
-    assert_eq!(rt; board.one(1, MATE), Some(4));
-    unlink(&mut board, 4, MATE + 1, 1)?;
-    let shown = noted(rt.alloc(), &mut board)?;
-    assert_eq!(rt; shown.as_str(), "unlink 4.mate_of 1, unlink 1.mate 4, ");
-    Ok(())
-}
-
-#[test]
-fn why_links_may_not_be_made(rt: HostRuntime) -> Result<(), Fail> {
-    let mut board = four(rt.alloc(), "")?;
-    for (unit, slot, partner, number) in [
-        (5, MATE, 1, 1),
-        (1, MATE, 0, 1),
-        (1, SCORE, 2, 2),
-        (1, 99, 2, 2),
-        (4, WHOLE, 1, 2),
-        (1, 7, 4, 4),
-        (1, 7, 2, 0),
-    ] {
-        assert_eq!(rt; link(&mut board, unit, slot, partner)?, number);
-    }
-    Ok(())
-}
-
-#[test]
-fn links_to_itself(rt: HostRuntime) -> Result<(), Fail> {
-    // Both sides singular, one, and none: the old link to itself goes where a side of it is singular.
-    for (slot, expected) in [
-        (
-            MATE,
-            "link 1.mate 1, link 1.mate_of 1, unlink 1.mate 1, unlink 1.mate_of 1, link 1.mate 2, link 2.mate_of 1, ",
-        ),
-        (
-            8,
-            "link 1.follows 1, link 1.led_by 1, unlink 1.follows 1, unlink 1.led_by 1, link 1.follows 2, link 2.led_by 1, ",
-        ),
-        (
-            9,
-            "link 1.led_by 1, link 1.follows 1, link 1.led_by 2, link 2.follows 1, ",
-        ),
-        (
-            KNOWS,
-            "link 1.knows 1, link 1.known_by 1, link 1.knows 2, link 2.known_by 1, ",
-        ),
-    ] {
-        let mut board = four(rt.alloc(), "")?;
-        assert_eq!(rt; link(&mut board, 1, slot, 1)?, 0);
-        assert_eq!(rt; link(&mut board, 1, slot, 2)?, 0);
-        let shown = noted(rt.alloc(), &mut board)?;
-        assert_eq!(rt; shown.as_str(), expected);
-    }
-    Ok(())
-}
-
-#[test]
-fn delete_order(rt: HostRuntime) -> Result<(), Fail> {
-    for (links, expected) in [
-        (
-            r#"["1","mate","4"],["1","parts","2"],["1","parts","3"]"#,
-            "unlink 1.mate 4, unlink 4.mate_of 1, unlink 1.parts 2, unlink 2.whole 1, unlink 1.parts 3, unlink 3.whole 1, \
-             delete 1, ",
-        ),
-        (
-            r#"["3","knows","1"],["1","knows","1"],["1","knows","2"],["1","mate","1"],["4","parts","1"]"#,
-            "unlink 1.mate 1, unlink 1.mate_of 1, unlink 1.knows 1, unlink 1.known_by 1, unlink 1.knows 2, \
-             unlink 2.known_by 1, unlink 1.known_by 3, unlink 3.knows 1, unlink 1.whole 4, unlink 4.parts 1, delete 1, ",
-        ),
-    ] {
-        let mut board = four(rt.alloc(), links)?;
-        delete(&mut board, 1)?;
-        let shown = noted(rt.alloc(), &mut board)?;
-        assert_eq!(rt; shown.as_str(), expected);
-        assert!(rt; !board.live(1));
-        assert_eq!(rt; board.one(2, WHOLE), None);
-        assert_eq!(rt; board.links(3, KNOWS).len(), 0);
-    }
-    Ok(())
-}
-
-#[test]
-fn faulty_units(rt: HostRuntime) -> Result<(), Fail> {
+fn refused_units_leave_nothing(rt: HostRuntime) -> Result<(), Fail> {
     let mut board = empty(rt.alloc())?;
     for (text, number) in [
         ("{", 1),
         (r#"{"units":[{"name":"a"}]}"#, 2),
-        (r#"{"units":[],"links":[["a","mate"]]}"#, 2),
         (r#"{"units":[{"name":"a","class":"x"}]}"#, 3),
         (
             r#"{"units":[{"name":"a","class":"thing"},{"name":"a","class":"x"}]}"#,
             4,
-        ),
-        // The form of the whole document comes before any name, and each unit before any link.
-        (
-            r#"{"units":[{"name":"a","class":"thing"},{"name":"a","class":"thing"}],"links":[1]}"#,
-            2,
-        ),
-        (
-            r#"{"units":[{"name":"a","class":"thing"},{"name":"b","class":"x"}],"links":[["a","parts","a"]]}"#,
-            3,
         ),
         (
             r#"{"units":[{"name":"a","class":"thing","slots":{"score":"x"}}]}"#,
             5,
         ),
         (
-            r#"{"units":[{"name":"a","class":"thing"}],"links":[["a","mate","b"]]}"#,
-            3,
-        ),
-        (
-            r#"{"units":[{"name":"a","class":"thing"}],"links":[["b","mate","a"]]}"#,
-            3,
-        ),
-        (
-            r#"{"units":[{"name":"a","class":"thing"}],"links":[["a","whole","a"]]}"#,
-            3,
-        ),
-        (
-            r#"{"units":[{"name":"a","class":"thing"}],"links":[["a","score","a"]]}"#,
+            r#"{"units":[{"name":"a","class":"thing"}],"links":[["a","mate","a"],["a","mate","b"]]}"#,
             3,
         ),
         (
@@ -347,32 +235,18 @@ fn faulty_units(rt: HostRuntime) -> Result<(), Fail> {
 }
 
 #[test]
-fn board_full(rt: HostRuntime) -> Result<(), Fail> {
-    let alloc = rt.alloc();
-    let mut text = String::from_str(alloc, r#"{"units":[{"name":"0","class":"thing"}"#)?;
-    for name in 1..65_536 {
-        write!(text, ",{{\"name\":\"{name}\",\"class\":\"thing\"}}")?;
+fn why_links_may_not_be_made(rt: HostRuntime) -> Result<(), Fail> {
+    let mut board = four(rt.alloc(), "")?;
+    for (unit, slot, partner, number) in [
+        (5, MATE, 1, 1),
+        (1, MATE, 0, 1),
+        (1, SCORE, 2, 2),
+        (1, 99, 2, 2),
+        (4, 12, 1, 2),
+        (1, 7, 4, 4),
+        (1, 7, 2, 0),
+    ] {
+        assert_eq!(rt; link(&mut board, unit, slot, partner)?, number);
     }
-    let mut more = text.clone()?;
-    text.push_str("]}")?;
-    more.push_str(r#",{"name":"one more","class":"thing"}]}"#)?;
-    let mut board = empty(alloc)?;
-    match load(&mut board, &more) {
-        Ok(()) => assert!(rt; false, "65,537 units are loaded"),
-        Err(fault) => assert_eq!(rt; fault, UnitsFault::Full),
-    }
-    load(&mut board, &text)?;
-    if board.schema().class_count() > 1 {
-        assert_eq!(rt; board.create(1), Err(CreateFault::Full));
-    }
-    assert_eq!(rt; board.take_notes().len(), 65_536);
-    // A unit that knows all others takes their links along.
-    for partner in 2..65_537 {
-        link(&mut board, 1, KNOWS, partner)?;
-    }
-    drop(board.take_notes());
-    delete(&mut board, 1)?;
-    assert_eq!(rt; board.take_notes().len(), 131_071);
-    assert_eq!(rt; board.one(65_536, KNOWS + 1), None);
     Ok(())
 }
