@@ -1,8 +1,7 @@
 //! The blackboard shell as a program: it serves its standard input on its standard output.
 #![tactic(auto)]
 
-use bb_main::{Intake, program};
-use bb_shell::Pipe;
+use bb_main::{Intake, Pipe, program};
 use std::io;
 use std::process::ExitCode;
 

@@ -1,3 +1,5 @@
 pub mod AgendaLemmas
 pub mod ChosenLemmas
 pub mod KeptLemmas
+pub mod Laws
+pub mod Limits

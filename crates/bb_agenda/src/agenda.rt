@@ -1,4 +1,4 @@
-//! The agenda. A run (bb_shell) adds to it what events trigger, and takes off it what a cycle executes.
+//! The agenda. A run (bb_run) adds to it what events trigger, and takes off it what a cycle executes.
 
 ghost use Rattle.std.specs.Prelude.{◌≡◌, IfOk, OnOk, OnErr, false};
 ghost use Rattle.bb_agenda.specs.Agenda.{no_activations, pending_of, is_full, with_activation, new_activation};

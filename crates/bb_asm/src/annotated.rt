@@ -1,8 +1,7 @@
 //! A code's text with a comment at each op: its place, its byte, and what the numbers name. The program bbasm prints it.
 
 use crate::text::{json_of, write_op, write_tables};
-use bb_code::{Code, Op, Query};
-use bb_schema::Schema;
+use bb_code::{Code, Op, Query, Schema};
 use std::alloc::{AllocError, Global};
 use std::fmt::Write;
 

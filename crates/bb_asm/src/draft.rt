@@ -9,10 +9,10 @@ use crate::pattern::read_pattern;
 use crate::statement::{Statement, statements_of};
 use bb_basis::{Items, Text};
 use bb_code::{
-    Code, CodeParts, FRAME_LIMIT, Frame, FrameEntry, Kind, LOCAL_LIMIT, LOOP_LIMIT, Loop, OP_LIMIT,
-    QUERY_LIMIT, Query, STACK_LIMIT, TEXT_BYTES_LIMIT, TEXT_LIMIT,
+    Code, CodeParts, FRAME_LIMIT, Frame, FrameEntry, Kind, LOCAL_LIMIT, LOOP_LIMIT, Loop,
+    NODE_LIMIT, OP_LIMIT, OPERAND_LIMIT, QUERY_LIMIT, Query, STACK_LIMIT, TEXT_BYTES_LIMIT,
+    TEXT_LIMIT,
 };
-use bb_pattern::{NODE_LIMIT, OPERAND_LIMIT};
 use serde_json::Value;
 use std::alloc::Global;
 
@@ -82,7 +82,7 @@ impl Draft {
         if self.parts.frames.len() > 0 {
             return Err(Halt::Slip(Slip::Late));
         }
-        let count = operands.byte()?;
+        let count = operands.number()?;
         operands.end()?;
         if count == 0 || count > LOCAL_LIMIT {
             return Err(Halt::Slip(Slip::Limit));

@@ -1,5 +1,5 @@
 //! Codes as text, for people, cases and examples: one statement a line, the ops by their names. The program bbasm and
-//! the cases (bb_cases) call it.
+//! the cases (bb_case) call it.
 #![tactic(auto)]
 
 mod annotated;
@@ -16,6 +16,7 @@ mod text;
 mod words;
 
 pub use annotated::listing;
+pub use bb_code::{Code, CodeFault, Kind};
 pub use draft::assemble;
 pub use fault::{AsmFault, Slip};
 pub use text::{disassemble, write_kind, write_op};

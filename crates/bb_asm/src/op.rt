@@ -2,12 +2,12 @@
 
 use crate::fault::Slip;
 use crate::operands::Operands;
-use crate::table::plain_op;
+use crate::table::{PLAIN, entry_of};
 use bb_code::{Division, LinkChange, Op, SAID_LIMIT};
 
 /// The op of a name and its operands.
 pub(crate) fn op_of(name: &str, operands: &mut Operands<'_>) -> Result<Op, Slip> {
-    let op = match plain_op(name) {
+    let op = match entry_of(&PLAIN, name) {
         Some(op) => op,
         None => match value_op(name, operands)? {
             Some(op) => op,
@@ -24,15 +24,15 @@ pub(crate) fn op_of(name: &str, operands: &mut Operands<'_>) -> Result<Op, Slip>
 /// An op on values and locals, if one has the name.
 fn value_op(name: &str, operands: &mut Operands<'_>) -> Result<Option<Op>, Slip> {
     let op = match name {
-        "PushInt" => Op::PushInt(operands.int()?),
+        "PushInt" => Op::PushInt(operands.number()?),
         "PushText" => Op::PushText(operands.number()?),
         "PushBool" => Op::PushBool(operands.truth()?),
         "PushLabel" => {
             let set = operands.number()?;
-            Op::PushLabel(set, operands.byte()?)
+            Op::PushLabel(set, operands.number()?)
         }
-        "Load" => Op::Load(operands.byte()?),
-        "Store" => Op::Store(operands.byte()?),
+        "Load" => Op::Load(operands.number()?),
+        "Store" => Op::Store(operands.number()?),
         "DivBy" => Op::Divide(Division::Quotient, operands.divisor()?),
         "ModBy" => Op::Divide(Division::Remainder, operands.divisor()?),
         "Say" => Op::Say(said_count(operands)?),
@@ -42,7 +42,7 @@ fn value_op(name: &str, operands: &mut Operands<'_>) -> Result<Option<Op>, Slip>
 }
 
 fn said_count(operands: &mut Operands<'_>) -> Result<u8, Slip> {
-    let count = operands.byte()?;
+    let count = operands.number::<u8>()?;
     if count > SAID_LIMIT {
         return Err(Slip::Number);
     }
@@ -81,7 +81,7 @@ fn jumping_op(name: &str, operands: &mut Operands<'_>) -> Result<Option<Op>, Sli
         "Jump" => Op::Jump(operands.place()?),
         "Unless" => Op::Unless(operands.place()?),
         "Next" => {
-            let local = operands.byte()?;
+            let local = operands.number()?;
             Op::Next(local, operands.place()?)
         }
         "Back" => Op::Back(operands.place()?),

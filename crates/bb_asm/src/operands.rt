@@ -3,6 +3,7 @@
 use crate::fault::Slip;
 use crate::labels::Labels;
 use bb_code::Place;
+use std::str::FromStr;
 
 /// The operands of a statement, of which so many were taken.
 #[derive(Drop)]
@@ -46,24 +47,17 @@ impl<'a> Operands<'a> {
         found
     }
 
-    /// A number of one byte.
-    pub fn byte(&mut self) -> Result<u8, Slip> {
-        self.word()?.parse::<u8>().ok().ok_or(Slip::Number)
-    }
-
-    /// A number of two bytes.
-    pub fn number(&mut self) -> Result<u16, Slip> {
-        self.word()?.parse::<u16>().ok().ok_or(Slip::Number)
-    }
-
-    /// A whole number.
-    pub fn int(&mut self) -> Result<i64, Slip> {
-        self.word()?.parse::<i64>().ok().ok_or(Slip::Number)
+    /// A number in the range of its type.
+    pub fn number<T: FromStr>(&mut self) -> Result<T, Slip>
+    where
+        T::Err: Drop,
+    {
+        self.word()?.parse::<T>().ok().ok_or(Slip::Number)
     }
 
     /// A divisor, 1 or more.
     pub fn divisor(&mut self) -> Result<i64, Slip> {
-        let number = self.int()?;
+        let number = self.number::<i64>()?;
         if number < 1 {
             return Err(Slip::Number);
         }

@@ -3,7 +3,7 @@
 
 use crate::fault::{Halt, Slip};
 use crate::operands::Operands;
-use crate::table::relation_of;
+use crate::table::{RELATIONS, entry_of};
 use bb_code::{Node, Pattern};
 use std::alloc::Global;
 
@@ -79,15 +79,15 @@ fn read_parts(
 
 /// Reads the dimension and the operand of a test.
 fn read_test(name: &str, operands: &mut Operands<'_>) -> Result<Node, Slip> {
-    match relation_of(name) {
+    match entry_of(&RELATIONS, name) {
         Some(relation) => Ok(Node::Ordered {
             relation,
-            dim: operands.byte()?,
-            operand: operands.byte()?,
+            dim: operands.number()?,
+            operand: operands.number()?,
         }),
         None if name == "is" => Ok(Node::Is {
-            dim: operands.byte()?,
-            operand: operands.byte()?,
+            dim: operands.number()?,
+            operand: operands.number()?,
         }),
         None => Err(Slip::Pattern),
     }

@@ -3,7 +3,7 @@
 use bb_code::{Bound, Calculation, Comparison, Logic, Op, Relation};
 
 /// The ops without operands.
-const PLAIN: [(&str, Op); 24] = [
+pub(crate) const PLAIN: [(&str, Op); 24] = [
     ("Pop", Op::Pop),
     ("Add", Op::Calculate(Calculation::Add)),
     ("Sub", Op::Calculate(Calculation::Sub)),
@@ -31,7 +31,7 @@ const PLAIN: [(&str, Op); 24] = [
 ];
 
 /// The relations of patterns to their operands.
-const RELATIONS: [(&str, Relation); 5] = [
+pub(crate) const RELATIONS: [(&str, Relation); 5] = [
     ("within", Relation::Within),
     ("covers", Relation::Covers),
     ("overlaps", Relation::Overlaps),
@@ -39,11 +39,11 @@ const RELATIONS: [(&str, Relation); 5] = [
     ("more", Relation::More),
 ];
 
-/// The op without operands that has a name.
-pub(crate) fn plain_op(name: &str) -> Option<Op> {
-    for (known, op) in &PLAIN {
+/// What has a name in one of these tables.
+pub(crate) fn entry_of<T: Copy>(table: &[(&str, T)], name: &str) -> Option<T> {
+    for (known, entry) in table {
         if *known == name {
-            return Some(*op);
+            return Some(*entry);
         }
     }
     None
@@ -54,16 +54,6 @@ pub(crate) fn plain_name(op: Op) -> Option<&'static str> {
     for (name, known) in &PLAIN {
         if *known == op {
             return Some(*name);
-        }
-    }
-    None
-}
-
-/// The relation that has a name.
-pub(crate) fn relation_of(name: &str) -> Option<Relation> {
-    for (known, relation) in &RELATIONS {
-        if *known == name {
-            return Some(*relation);
         }
     }
     None

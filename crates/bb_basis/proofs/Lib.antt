@@ -10,3 +10,4 @@ pub mod SliceLemmas
 pub mod TryMapLemmas
 pub mod TryFoldLemmas
 pub mod SliceFoldLemmas
+pub mod Limits

@@ -1,15 +1,4 @@
 pub mod CreateLemmas
 pub mod NameLemmas
 pub mod ValueLemmas
-pub mod NoteLemmas
-pub mod KeepLemmas
-pub mod AllLemmas
-pub mod SideLemmas
-pub mod LinkLemmas
-pub mod DeleteLemmas
-pub mod FewLemmas
-pub mod ClassLemmas
-pub mod MemberLemmas
-pub mod KnowLemmas
-pub mod SettingLemmas
-pub mod SpaceLemmas
+pub mod Laws

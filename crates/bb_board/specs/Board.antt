@@ -5,9 +5,9 @@ use Rattle.bb_schema.specs.Schema.{Schema}
 use Rattle.bb_units.specs.declared.fault.CreateFault.{CreateFault}
 use Rattle.bb_units.specs.declared.fault.CreateFault.TheVariants as creates
 use Rattle.bb_board.specs.declared.units_fault.UnitsFault.{UnitsFault}
-use Rattle.bb_board.specs.declared.world.World.{World}
+use Rattle.bb_world.specs.declared.world.World.{World}
 use Rattle.bb_board.specs.UnitsFaults.{is_memory}
-use Rattle.bb_board.specs.World.{empty_world}
+use Rattle.bb_world.specs.World.{empty_world}
 
 pub record Board : Type 0 where
   pub schema : Schema

@@ -1,19 +1,30 @@
--- what events and changes are of
-pub mod Event
+-- events, and what they and their changes are of
+pub use Rattle.bb_world.specs.declared.event.Event
+pub use Rattle.bb_world.specs.declared.event.Change
+pub use Rattle.bb_world.specs.declared.event.ChangeKind
+pub use Rattle.bb_world.specs.Events
+-- what a board notes
+pub use Rattle.bb_world.specs.declared.note.Note
+pub use Rattle.bb_world.specs.declared.note.Said
+-- why a change may not be made
+pub use Rattle.bb_world.specs.declared.reason.Reason
 -- the state of a blackboard, and what each change makes of it
-pub mod World
+pub use Rattle.bb_world.specs.declared.world.World as State
+pub use Rattle.bb_world.specs.World
 -- what spaces are told of a unit
-pub mod Told
+pub use Rattle.bb_world.specs.Told
 -- which spaces units enter and leave
-pub mod Spaces
+pub use Rattle.bb_world.specs.Spaces
 -- what links change, and what a deleted unit takes along
-pub mod Links
+pub use Rattle.bb_world.specs.Links
+-- what a change may be made of
+pub use Rattle.bb_world.specs.May
+-- what holds of a blackboard at any time
+pub use Rattle.bb_world.specs.Fits
+-- what a change of units leaves of those that were
+pub use Rattle.bb_world.specs.proving.Outlives
 -- a blackboard: its schema, its state, and whether it still takes changes
 pub mod Board
--- what a change may be made of
-pub mod May
--- what holds of a blackboard at any time
-pub mod Fits
 -- the numbers of the faults of a document of first units
 pub mod UnitsFaults
 -- the blackboard that such a document means, or its first fault

@@ -19,12 +19,12 @@ use Rattle.bb_schema.specs.Schema.{Schema, class_named, slot_named, space_named,
 use Rattle.bb_units.specs.Units.{is_full}
 use Rattle.bb_board.specs.declared.units_fault.UnitsFault.{UnitsFault}
 use Rattle.bb_board.specs.declared.units_fault.UnitsFault.TheVariants.{Json, Shape, Twice, Unknown, Kind, Full, Memory}
-use Rattle.bb_board.specs.declared.world.World.{World}
-use Rattle.bb_board.specs.World.{empty_world, class_at, after_create, after_set}
+use Rattle.bb_world.specs.declared.world.World.{World}
+use Rattle.bb_world.specs.World.{empty_world, class_at, after_create, after_set}
 use Rattle.bb_board.specs.UnitsFaults.{of_reason}
-use Rattle.bb_board.specs.Links.{after_link}
-use Rattle.bb_board.specs.May.{may_set, may_link}
-use Rattle.bb_board.specs.Spaces.{may_enter, after_enter}
+use Rattle.bb_world.specs.Links.{after_link}
+use Rattle.bb_world.specs.May.{may_set, may_link}
+use Rattle.bb_world.specs.Spaces.{may_enter, after_enter}
 use Rattle.bb_board.specs.Board.{Board, with_world}
 
 -- a fault of the document as one of its units

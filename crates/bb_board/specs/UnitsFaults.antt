@@ -2,8 +2,8 @@
 use Rattle.std.specs.Prelude.{ℕ, Bool, true, false}
 use Rattle.bb_units.specs.declared.fault.CreateFault.{CreateFault}
 use Rattle.bb_units.specs.declared.fault.CreateFault.TheVariants.{Full as NoMoreUnits, Memory as NoMemory}
-use Rattle.bb_board.specs.declared.reason.Reason.{Reason}
-use Rattle.bb_board.specs.declared.reason.Reason.TheVariants as reasons
+use Rattle.bb_world.specs.declared.reason.Reason.{Reason}
+use Rattle.bb_world.specs.declared.reason.Reason.TheVariants as reasons
 use Rattle.bb_board.specs.declared.units_fault.UnitsFault.{UnitsFault}
 use Rattle.bb_board.specs.declared.units_fault.UnitsFault.TheVariants.{Json, Shape, Unknown, Twice, Kind, LinkClass}
 use Rattle.bb_board.specs.declared.units_fault.UnitsFault.TheVariants.{Space, Full, Memory}

@@ -3,7 +3,5 @@
 pub mod Codes
 -- how far the loader's walk has come, seen as the definitions see it
 pub mod Reading
--- what a change of units leaves of those that were
-pub mod Outlives
 -- units under their names, as the code keeps them
 pub mod Naming

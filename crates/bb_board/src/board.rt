@@ -1,4 +1,4 @@
-//! The blackboard. The machine changes it (bb_machine), and a run takes its notes (bb_shell).
+//! The blackboard. The machine changes it (bb_step), and a run takes its notes (bb_run).
 
 ghost use Rattle.std.specs.Prelude.{◌≡◌, ◌<◌, ◌≤◌, ◌↔◌, ℕ, Ok, Some, true, length, map, slice_get, IfOk, IfErr, IsErr, IsOk, IsTrue, IsSome, OnOk, OnErr};
 ghost use Rattle.std.specs.List.{list_all};
@@ -9,27 +9,22 @@ ghost use Rattle.bb_units.specs.Layout.{layout_of, can_hold};
 ghost use Rattle.bb_units.specs.Units.{is_live, class_of, value_of, has_slot, next_number};
 ghost use Rattle.bb_units.specs.declared.units.TheConstants.{UNIT_LIMIT};
 ghost use Rattle.bb_links.specs.Links.{ends};
-ghost use Rattle.bb_query.specs.Answer.{answer};
+ghost use Rattle.bb_world.specs.Answer.{answer};
 ghost use Rattle.bb_board.specs.declared.units_fault.UnitsFault.TheVariants.{Memory as OutOfMemory};
-ghost use Rattle.bb_board.specs.World.{class_at, after_create, after_set, after_say, after_take};
-ghost use Rattle.bb_board.specs.Links.{after_link, after_unlink, after_delete};
+ghost use Rattle.bb_world.specs.World.{class_at, after_create, after_set, after_say, after_take};
+ghost use Rattle.bb_world.specs.Links.{after_link, after_unlink, after_delete};
 ghost use Rattle.bb_board.specs.Board.{new_board, with_world, when_refused, after_create_fault, after_units_fault, is_fresh};
-ghost use Rattle.bb_board.specs.May.{has_link, may_set, may_link, was};
-ghost use Rattle.bb_board.specs.Spaces.{may_enter, after_enter, after_leave};
-ghost use Rattle.bb_board.specs.Fits.{Fits, is_said_of};
+ghost use Rattle.bb_world.specs.May.{has_link, may_set, may_link, was};
+ghost use Rattle.bb_world.specs.Spaces.{may_enter, after_enter, after_leave};
+ghost use Rattle.bb_world.specs.Fits.{Fits, is_said_of};
 ghost use Rattle.bb_board.specs.Load.{loaded};
 
 use crate::loader::read_units;
-use crate::may::{has_link, leads_to};
-use crate::note::{Note, Said};
-use crate::reason::Reason;
-use crate::shared_schema::SharedSchema;
 use crate::units_fault::UnitsFault;
-use crate::world::World;
 use bb_basis::{Items, Memory};
-use bb_query::{DimValue, Query, find};
-use bb_schema::{ClassId, Schema, SlotId, SpaceId, UnitId, Value};
+use bb_schema::{ClassId, Schema, SharedSchema, SlotId, SpaceId, UnitId, Value};
 use bb_units::CreateFault;
+use bb_world::{DimValue, Note, Query, Reason, Said, World, find, has_link, leads_to};
 use std::alloc::{AllocError, Global};
 use std::marker::Model;
 
@@ -51,7 +46,7 @@ impl Model for Board {
 
     ghost coded = { board_code };
 
-    ghost use Rattle.bb_board.specs.Fits.{Fits};
+    ghost use Rattle.bb_world.specs.Fits.{Fits};
 
     ghost view = { λ b. record { schema = b.schema; world = b.world; refused = b.refused } };
 

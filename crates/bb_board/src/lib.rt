@@ -2,15 +2,7 @@
 #![tactic(auto)]
 
 mod board;
-mod event;
-mod links;
 mod loader;
-mod may;
-mod members;
-mod moves;
-mod note;
-mod reason;
-mod shared_schema;
 #[cfg(test)]
 mod space_tests;
 #[cfg(test)]
@@ -18,11 +10,8 @@ mod tests;
 mod unit_names;
 mod units_fault;
 mod values;
-mod world;
 
+pub use bb_schema::SharedSchema;
+pub use bb_world::{Change, ChangeKind, Event, Note, Reason, Said};
 pub use board::Board;
-pub use event::{Change, ChangeKind, Event};
-pub use note::{Note, Said};
-pub use reason::Reason;
-pub use shared_schema::SharedSchema;
 pub use units_fault::UnitsFault;

@@ -5,18 +5,17 @@ ghost use Rattle.bb_basis.specs.Results.{Gives, map_err, try_fold};
 ghost use Rattle.bb_document.specs.UnitsDocument.{units_declaration, first_link_declaration, member_declaration, units_document_of};
 ghost use Rattle.bb_board.specs.declared.units_fault.UnitsFault.TheVariants.{Memory as OutOfMemory};
 ghost use Rattle.bb_board.specs.Board.{new_board};
-ghost use Rattle.bb_board.specs.Fits.{Fits};
+ghost use Rattle.bb_world.specs.Fits.{Fits};
 ghost use Rattle.bb_board.specs.Load.{fault_of, link_after, load, member_after, with_unit};
 
 use crate::board::Board;
-use crate::shared_schema::SharedSchema;
 use crate::unit_names::UnitNames;
 use crate::units_fault::UnitsFault;
 use crate::values::set_values;
-use crate::world::World;
 use bb_basis::Memory;
 use bb_document::{DocumentFault, FirstLinkEntry, MemberEntry, UnitEntry, UnitsDocument};
-use bb_schema::{ClassId, Schema, UnitId};
+use bb_schema::{ClassId, Schema, SharedSchema, UnitId};
+use bb_world::World;
 use std::alloc::Global;
 
 /// Creates a unit of a class that is there, where there is room, and returns its number.

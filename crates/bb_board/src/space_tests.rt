@@ -7,8 +7,8 @@ use crate::Board;
 use crate::tests::{load, noted};
 use bb_basis::Items;
 use bb_pattern::{Node, OperandKind, Pattern, PatternFault, Relation};
-use bb_query::{DimValue, Query};
 use bb_schema::{ClassId, Schema, SlotId, SpaceId, UnitId, Value};
+use bb_world::{DimValue, Query};
 use std::alloc::Global;
 use std::test::Fail;
 

@@ -4,8 +4,8 @@ ghost use Rattle.std.specs.Prelude.{◌≡◌};
 ghost use Rattle.bb_board.specs.declared.units_fault.UnitsFault.TheVariants.{Memory as OutOfMemory};
 ghost use Rattle.bb_board.specs.UnitsFaults.{fault_number, is_memory, of_create_fault, of_reason};
 
-use crate::reason::Reason;
 use bb_units::CreateFault;
+use bb_world::Reason;
 use std::alloc::{AllocError, AllocFailed};
 use thiserror::Error;
 

@@ -1,8 +1,7 @@
 //! The blackboards of cases, each made anew for a case. Executions use them.
 
-use crate::fault::Fault;
-use crate::names::Scene;
 use bb_board::Board;
+use bb_case::{Fault, Scene};
 use bb_schema::{Schema, UnitId};
 use std::alloc::Global;
 

@@ -1,12 +1,10 @@
 //! A code is executed on a blackboard, and what comes of it is written in lines. Cases of codes and tables of runs call
 //! it.
 
-use crate::fault::Fault;
-use crate::header::number;
-use crate::notes::add_note;
 use bb_board::Board;
-use bb_code::Code;
-use bb_machine::{Answer, Entry, Outcome, Stop, trial};
+use bb_case::{Code, Fault, number};
+use bb_step::{Answer, Entry, Outcome, Stop, execute};
+use bb_trace::add_board_note;
 use std::alloc::{AllocError, Global};
 use std::fmt::Write;
 
@@ -29,11 +27,11 @@ pub(crate) fn add_execution(
     entry: Entry,
     limit: u64,
 ) -> Result<(), AllocError> {
-    let ended = trial(alloc, code, board, entry, u128::from(limit));
+    let ended = execute(alloc, code, board, entry, u128::from(limit));
     add_end(text, ended)?;
     let notes = board.take_notes();
     for note in &notes {
-        add_note(alloc, text, board.schema(), note)?;
+        add_board_note(alloc, text, board.schema(), note)?;
     }
     Ok(())
 }

@@ -3,13 +3,8 @@
 
 ghost use Rattle.std.specs.Prelude.{◌≡◌, Some, false};
 
-use crate::difference::Difference;
-use crate::fault::Fault;
-use crate::header::{Header, number};
-use crate::inserts::{Scope, expanded};
-use crate::parts::Entry;
-use bb_main::{Intake, serve};
-use bb_shell::Out;
+use bb_case::{Difference, Entry, Fault, Header, Scope, expanded, number};
+use bb_main::{Intake, Out, serve};
 use std::alloc::{AllocError, Global};
 
 /// Takes `room` bytes, at most `step` in one call, and then fails.

@@ -3,28 +3,16 @@
 #![tactic(auto)]
 
 mod board;
-mod codes;
-mod difference;
 mod executions;
-mod fault;
-mod files;
-mod header;
 mod inputs;
-mod inserts;
-mod names;
-mod notes;
-mod parts;
-mod pieces;
-mod report;
-mod rows;
 mod schema_calls;
 mod schemas;
 mod suite;
 mod tables;
 mod verified;
 
-use crate::files::named_files;
 use crate::suite::Suite;
+use bb_case::named_files;
 use std::process::ExitCode;
 use std::{fs, io};
 

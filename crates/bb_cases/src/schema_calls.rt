@@ -1,9 +1,8 @@
 //! The calls of schemas, as lines ask for them. Cases of schemas (schemas.rt) write their answers.
 
-use crate::fault::Fault;
-use crate::header::number;
-use crate::notes::add_value;
+use bb_case::{Fault, number};
 use bb_schema::{CoupleId, Dim, Kind, Link, Schema, Side, SlotId, Value};
+use bb_trace::add_value;
 use std::alloc::{AllocError, Global};
 use std::fmt::Write;
 

@@ -1,17 +1,13 @@
 //! All cases: each entry of a file is run after the other, and reported. `main` runs file after file.
 
-use crate::difference::Difference;
-use crate::fault::Fault;
-use crate::files::is_shared;
 use crate::inputs::compare_input;
-use crate::inserts::{Scope, expanded, expanded_text};
-use crate::names::{Meaning, Names, Scene};
-use crate::parts::{Entries, Entry};
-use crate::report::{Report, Spot};
-use crate::rows::rows_of;
 use crate::schemas::compare_schema;
 use crate::tables::Table;
 use crate::verified::compare_code;
+use bb_case::{
+    Difference, Entries, Entry, Fault, Meaning, Names, Report, Scene, Scope, Spot, expanded,
+    expanded_text, is_shared, rows_of,
+};
 use std::alloc::{AllocError, Global};
 
 /// The names so far, and what came of the cases.

@@ -1,19 +1,13 @@
 //! Tables: cases of one kind, one a row. The suite compares row by row.
 
 use crate::board::{board_of, schema_of};
-use crate::codes::{bytes_of, code_of, respelled};
-use crate::difference::Difference;
 use crate::executions::{add_execution, entry_of};
-use crate::fault::Fault;
-use crate::header::number;
 use crate::inputs::Serving;
-use crate::inserts::{Scope, expanded, expanded_text};
-use crate::names::{Names, Scene};
-use crate::parts::Entry;
-use crate::rows::Row;
 use crate::verified::{add_verdict, part_of};
-use bb_asm::{AsmFault, assemble};
-use bb_code::{Code, CodeFault};
+use bb_case::{
+    AsmFault, Code, CodeFault, Difference, Entry, Fault, Names, Row, Scene, Scope, assemble,
+    bytes_of, code_of, expanded, expanded_text, number, respelled,
+};
 use bb_schema::Schema;
 use bb_verify::{Part, verify};
 use std::alloc::Global;

@@ -1,16 +1,11 @@
 //! Codes are verified, and what is said of them is written in lines, before they are executed where a case asks for it.
 
 use crate::board::{board_of, schema_of};
-use crate::codes::code_of;
-use crate::difference::Difference;
 use crate::executions::{add_execution, entry_of};
-use crate::fault::Fault;
-use crate::header::{Header, number};
-use crate::inserts::{Scope, expanded_text};
-use crate::names::{Names, Scene};
-use crate::parts::Entry;
-use bb_asm::write_kind;
-use bb_code::Kind;
+use bb_case::{
+    Difference, Entry, Fault, Header, Kind, Names, Scene, Scope, code_of, expanded_text, number,
+    write_kind,
+};
 use bb_verify::{Checked, FOUND_LIMIT, Flaw, Frame, Part, VerifyFault, verify};
 use std::alloc::{AllocError, Global};
 use std::fmt::Write;

@@ -10,3 +10,5 @@ pub mod FocusLemmas
 pub mod OwnerLemmas
 pub mod SlotNameLemmas
 pub mod WalkLemmas
+pub mod Laws
+pub mod Limits

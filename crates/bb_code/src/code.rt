@@ -1,58 +1,11 @@
 //! A code in memory. Whoever makes or executes codes (bb_compile, bb_verify) calls it.
 
 ghost use Rattle.std.specs.Prelude.{◌≡◌, ◌↔◌, IsSome, IfSome};
-ghost use Rattle.bb_code.specs.Code.{IsCode};
+ghost use Rattle.bb_op.specs.Code.{IsCode};
 
-use crate::frame::{FrameEntry, Loop};
-use crate::limits::are_parts;
-use crate::op::Op;
-use bb_basis::{Items, Text};
-use bb_pattern::Query;
+use bb_basis::Text;
+use bb_op::{CodeParts, FrameEntry, Loop, Op, Query, are_parts};
 use std::marker::Model;
-
-/// The greatest number of locals of a code.
-pub const LOCAL_LIMIT: u8 = 32;
-
-/// The greatest number of texts of a code.
-pub const TEXT_LIMIT: u16 = 1024;
-
-/// The greatest number of bytes of a text.
-pub const TEXT_BYTES_LIMIT: u16 = 65535;
-
-/// The greatest number of queries of a code.
-pub const QUERY_LIMIT: u16 = 256;
-
-/// The greatest number of declared frames of a code.
-pub const FRAME_LIMIT: u16 = 4096;
-
-/// The greatest number of loops of a code.
-pub const LOOP_LIMIT: u16 = 1024;
-
-/// The greatest number of ops of a code.
-pub const OP_LIMIT: u16 = 4096;
-
-/// The greatest number of values that one op says.
-pub const SAID_LIMIT: u8 = 16;
-
-/// The greatest number of entries of the stack of an activation.
-pub const STACK_LIMIT: usize = 64;
-
-/// The parts of a code.
-#[derive(Debug, Drop)]
-pub struct CodeParts {
-    /// The number of locals, from 1 to `LOCAL_LIMIT`.
-    pub locals: u8,
-    /// At most `TEXT_LIMIT` of at most `TEXT_BYTES_LIMIT` bytes each.
-    pub texts: Items<Text>,
-    /// At most `QUERY_LIMIT`.
-    pub queries: Items<Query>,
-    /// At most `FRAME_LIMIT`, each with a kind for each local.
-    pub frames: Items<FrameEntry>,
-    /// At most `LOOP_LIMIT`.
-    pub loops: Items<Loop>,
-    /// From 1 to `OP_LIMIT`.
-    pub ops: Items<Op>,
-}
 
 /// A code that bytes can spell. Contracts see its parts.
 #[derive(Debug, Drop)]
@@ -61,8 +14,8 @@ pub struct Code {
 }
 
 impl Model for Code {
-    ghost use Rattle.bb_code.specs.Code as code;
-    ghost use Rattle.bb_code.specs.proving.Codes.{parts_code};
+    ghost use Rattle.bb_op.specs.Code as code;
+    ghost use Rattle.bb_op.specs.proving.Codes.{parts_code};
 
     ghost Value = { code.Code };
 

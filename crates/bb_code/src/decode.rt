@@ -4,8 +4,8 @@
 
 ghost use Rattle.std.specs.Prelude.{◌≡◌, Ok, IfOk};
 ghost use Rattle.bb_basis.specs.Results.{Gives};
-ghost use Rattle.bb_code.specs.Code as code;
-ghost use Rattle.bb_code.specs.Fields.{map_ok};
+ghost use Rattle.bb_op.specs.Code as code;
+ghost use Rattle.bb_op.specs.Answers.{map_ok};
 ghost use Rattle.bb_code.specs.Spelling.{spelling};
 ghost use Rattle.bb_code.specs.Reading.{expected_at, head_at, code_of};
 
@@ -14,8 +14,9 @@ mod frames;
 mod ops;
 mod patterns;
 
-use crate::code::{Code, CodeParts, LOCAL_LIMIT, LOOP_LIMIT, OP_LIMIT, QUERY_LIMIT, TEXT_LIMIT};
+use crate::code::Code;
 use crate::fault::CodeFault;
+use bb_op::{CodeParts, LOCAL_LIMIT, LOOP_LIMIT, OP_LIMIT, QUERY_LIMIT, TEXT_LIMIT};
 use fields::{read_list, read_short_count};
 use frames::read_frames;
 use std::alloc::Global;

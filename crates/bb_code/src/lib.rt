@@ -1,30 +1,24 @@
 //! The code that sources execute, and the bytes that spell it. bb_compile decodes it, bb_verify checks it and the
-//! machine executes it.
+//! machine executes it. Crates above take what it is made of from here, the schema too.
 #![tactic(auto)]
 
 mod code;
 mod decode;
 mod encode;
 mod fault;
-mod frame;
-mod laws;
-mod limits;
-mod op;
+mod once;
 mod table;
 
-pub use bb_pattern::{
-    ClassId, DimValue, LabelId, LabelSetId, Node, OperandKind, Pattern, PatternFault, Query,
-    Relation, SpaceId,
+pub use bb_op::{
+    Bound, Calculation, ClassId, CodeParts, Comparison, DimValue, Division, FRAME_LIMIT, Flaw,
+    Frame, FrameEntry, Kind, LOCAL_LIMIT, LOOP_LIMIT, LabelId, LabelSetId, LinkChange, LocalId,
+    Logic, Loop, NODE_LIMIT, Node, OP_LIMIT, OPERAND_LIMIT, Op, OperandKind, Pattern, PatternFault,
+    Place, QUERY_LIMIT, Query, Relation, SAID_LIMIT, STACK_LIMIT, Schema, SlotId, SpaceId,
+    TEXT_BYTES_LIMIT, TEXT_LIMIT, VerifyFault,
 };
-pub use bb_schema::SlotId;
-pub use code::{
-    Code, CodeParts, FRAME_LIMIT, LOCAL_LIMIT, LOOP_LIMIT, OP_LIMIT, QUERY_LIMIT, SAID_LIMIT,
-    STACK_LIMIT, TEXT_BYTES_LIMIT, TEXT_LIMIT,
-};
+pub use code::Code;
 pub use fault::CodeFault;
-pub use frame::{Frame, FrameEntry, Kind, Loop};
-pub use laws::one_spelling;
-pub use op::{Bound, Calculation, Comparison, Division, LinkChange, LocalId, Logic, Op, Place};
+pub use once::one_spelling;
 
 #[cfg(test)]
 mod tests;

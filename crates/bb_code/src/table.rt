@@ -6,9 +6,9 @@ ghost use Rattle.std.specs.Option.{option_and_then};
 ghost use Rattle.bb_code.specs.Spelling.{opcode};
 ghost use Rattle.bb_code.specs.Ops.{op_form, with_number, with_local, with_pair};
 
-use crate::frame::Kind;
-use crate::op::{Bound, Calculation, Comparison, Division, LinkChange, LocalId, Logic, Op, Place};
-use bb_pattern::Relation;
+use bb_op::{
+    Bound, Calculation, Comparison, Division, Kind, LinkChange, LocalId, Logic, Op, Place, Relation,
+};
 
 /// The ops with one number of two bytes.
 #[derive(Clone, Copy, Debug)]

@@ -7,8 +7,9 @@ use Rattle.std.proofs.lemmas.Bool.{eqb-true, eqb-false, eq-eqb, or_parts, or_rig
 use Rattle.std.proofs.lemmas.List.Elements.{filter_agree, filter-append}
 use Rattle.bb_schema.specs.declared.couple.Side.{Side}
 use Rattle.bb_schema.specs.declared.couple.Side.TheVariants.{A, B}
+use Rattle.bb_schema.specs.Couples.{pair_of}
 use Rattle.bb_links.specs.declared.couple.Singular.{Singular}
-use Rattle.bb_links.specs.Pairs.{near, far, pair_of, same_pair, has_pair, without_pair, without_old, without_unit, is_singular, old_pair, with_link}
+use Rattle.bb_links.specs.Pairs.{near, far, same_pair, has_pair, without_pair, without_old, without_unit, is_singular, old_pair, with_link}
 use Rattle.bb_links.specs.Links.{partners}
 use Rattle.bb_links.specs.proving.Kept.{without_each, without_at}
 use Rattle.bb_links.proofs.PairLemmas.{same_from, pair_is}

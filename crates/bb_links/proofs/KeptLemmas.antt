@@ -4,8 +4,9 @@ use Rattle.std.specs.List.{list_any}
 use Rattle.std.proofs.lemmas.Bool.{eqb-true, eqb-false, eq-eqb, or_parts}
 use Rattle.bb_schema.specs.declared.couple.Side.{Side}
 use Rattle.bb_schema.specs.declared.couple.Side.TheVariants.{A, B}
+use Rattle.bb_schema.specs.Couples.{pair_of}
 use Rattle.bb_links.specs.declared.lists.Lists.{Lists}
-use Rattle.bb_links.specs.Pairs.{near, far, pair_of, has_pair, without_pair}
+use Rattle.bb_links.specs.Pairs.{near, far, has_pair, without_pair}
 use Rattle.bb_links.specs.Links.{partners}
 use Rattle.bb_links.specs.proving.Lists.{listed, one_more, one_less, none_left}
 use Rattle.bb_links.specs.proving.Kept.{opposite, Follows, without_at}

@@ -8,3 +8,4 @@ pub mod StandingLemmas
 pub mod LayoutLemmas
 mod Rows
 pub mod TakenLemmas
+pub mod Laws

@@ -7,7 +7,8 @@ use Rattle.std.proofs.lemmas.Bool.{eqb-true, eqb-false, eq-eqb, or_parts}
 use Rattle.std.proofs.lemmas.List.Elements.{filter_agree}
 use Rattle.bb_schema.specs.declared.couple.Side.{Side}
 use Rattle.bb_schema.specs.declared.couple.Side.TheVariants.{A, B}
-use Rattle.bb_links.specs.Pairs.{near, far, pair_of, same_pair, has_pair, without_pair}
+use Rattle.bb_schema.specs.Couples.{pair_of}
+use Rattle.bb_links.specs.Pairs.{near, far, same_pair, has_pair, without_pair}
 use Rattle.bb_links.specs.Links.{partners}
 
 -- ---- one pair among pairs

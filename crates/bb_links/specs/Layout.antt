@@ -4,17 +4,13 @@ use Rattle.std.specs.List.{range_with_len}
 use Rattle.std.specs.Option.{option_map_or}
 use Rattle.bb_schema.specs.declared.couple.Side.{Side}
 use Rattle.bb_schema.specs.declared.slot.Slot.{Slot}
-use Rattle.bb_schema.specs.Schema.{Schema, link_of}
+use Rattle.bb_schema.specs.Schema.{Schema, link_of, inverse_of}
 use Rattle.bb_schema.specs.Couples.{couples, couple_of}
 use Rattle.bb_links.specs.declared.couple.Singular.{Singular}
 
 -- whether a slot is a link slot that holds one unit at most
 abbrev pub is_single : List Slot → ℕ → Bool
 is_single slots n = option_map_or (λ l. not l.many) (link_of slots n) false
-
--- the inverse of a link slot
-abbrev pub inverse_of : List Slot → ℕ → ℕ
-inverse_of slots n = option_map_or (λ l. l.inverse) (link_of slots n) n
 
 -- which sides are singular of the couple whose first slot is n
 abbrev pub singular_of : List Slot → ℕ → Singular

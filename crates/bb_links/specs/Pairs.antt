@@ -17,11 +17,6 @@ abbrev pub far : Side → ℕ × ℕ → ℕ
 far A p = p.1
 far B p = p.0
 
--- the pair of a unit at a side and its partner
-abbrev pub pair_of : Side → ℕ → ℕ → ℕ × ℕ
-pair_of A n m = (n, m)
-pair_of B n m = (m, n)
-
 -- whether two pairs are the same
 abbrev pub same_pair : ℕ × ℕ → ℕ × ℕ → Bool
 same_pair p q = q.0 == p.0 && q.1 == p.1

@@ -1,7 +1,7 @@
 //! One couple of link slots. `couples.rt` keeps one for each couple of the schema.
 
 ghost use Rattle.std.specs.Prelude.{◌≡◌, ◌++◌, ◌∷◌, ℕ, List, [], map, IfOk, OnOk, OnErr, false};
-ghost use Rattle.bb_links.specs.Pairs.{pair_of, has_pair, without_pair, without_old, old_pair, is_singular, taken_among};
+ghost use Rattle.bb_links.specs.Pairs.{has_pair, without_pair, without_old, old_pair, is_singular, taken_among};
 ghost use Rattle.bb_links.specs.Links.{partners};
 ghost use Rattle.bb_links.specs.Couples.{with_pairs, no_pairs, linked, unlinked, forgotten};
 ghost use Rattle.bb_links.specs.proving.Lists.{listed, one_more};
@@ -42,16 +42,6 @@ impl Model for Couple {
     ghost invariant = { λ c. AreKept c.pairs c.at_a c.at_b };
 }
 
-/// The pair of a unit at a side and its partner.
-fn pair_of(side: Side, unit: UnitId, partner: UnitId) -> (UnitId, UnitId)
-    ensures { result ≡ pair_of side unit partner }
-{
-    match side {
-        Side::A => (unit, partner),
-        Side::B => (partner, unit),
-    }
-}
-
 /// Appends a pair, and its unit at side A to the partners of the other. An error changes nothing.
 fn append(pairs: &mut Pairs, at_b: &mut Lists, a: UnitId, b: UnitId) -> Result<(), AllocError>
     requires { has_pair (a, b) pairs.old ≡ false }
@@ -77,7 +67,7 @@ fn cut_each(pairs: &mut Pairs, far: &mut Lists, side: Side, unit: UnitId, partne
     ensures far { Follows (opposite side) far.new pairs.new }
 {
     for partner in partners {
-        pairs.remove(pair_of(side, unit, *partner));
+        pairs.remove(side.pair(unit, *partner));
         far.remove(*partner, unit);
     }
 }
@@ -135,7 +125,7 @@ impl Couple {
             return None;
         }
         let partner = self.partners(side, unit).first()?;
-        Some(pair_of(side, unit, *partner))
+        Some(side.pair(unit, *partner))
     }
 
     /// Adds a pair that is not there, as the last. An error changes nothing.

@@ -2,46 +2,22 @@
 
 ghost use Rattle.std.specs.Prelude.{◌≡◌, ◌<◌, IfOk, IfSome, length, map, slice_get, false, All};
 ghost use Rattle.std.specs.Option.{option_map_or};
-ghost use Rattle.bb_schema.specs.Schema.{link_of};
 ghost use Rattle.bb_schema.specs.Couples.{comes_first, couples, couple_of};
 ghost use Rattle.bb_links.specs.Couples.{no_pairs};
-ghost use Rattle.bb_links.specs.Layout.{is_single, inverse_of, singular_of, singulars, slot_ends};
+ghost use Rattle.bb_links.specs.Layout.{is_single, singular_of, singulars, slot_ends};
 
 use crate::couple::{Couple, Singular};
 use bb_basis::Memory;
-use bb_schema::{CoupleId, Kind, Link, Schema, Side, SlotId};
+use bb_schema::{CoupleId, Schema, Side, SlotId};
 use std::alloc::Global;
-
-/// The link of the slot of a number, if it is a link slot.
-fn link_of(schema: &Schema, slot: SlotId) -> Option<Link>
-    ensures { result ≡ link_of schema.now.slots slot }
-{
-    if !schema.is_link(slot) {
-        return None;
-    }
-    match schema.kind(slot) {
-        Kind::Link(link) => Some(link),
-        _ => None,
-    }
-}
 
 /// Whether a slot is a link slot that holds one unit at most.
 fn is_single(schema: &Schema, slot: SlotId) -> bool
     ensures { result ≡ is_single schema.now.slots slot }
 {
-    match link_of(schema, slot) {
+    match schema.link(slot) {
         None => false,
         Some(link) => !link.many,
-    }
-}
-
-/// The inverse of a link slot.
-fn inverse_of(schema: &Schema, slot: SlotId) -> SlotId
-    ensures { result ≡ inverse_of schema.now.slots slot }
-{
-    match link_of(schema, slot) {
-        None => slot,
-        Some(link) => link.inverse,
     }
 }
 
@@ -49,7 +25,7 @@ fn inverse_of(schema: &Schema, slot: SlotId) -> SlotId
 fn comes_first(schema: &Schema, slot: SlotId) -> bool
     ensures { result ≡ option_map_or (comes_first slot) (slice_get schema.now.slots slot) false }
 {
-    match link_of(schema, slot) {
+    match schema.link(slot) {
         None => false,
         Some(link) => slot < link.inverse,
     }
@@ -96,7 +72,7 @@ pub(crate) fn couples_of(alloc: Global, schema: &Schema) -> Result<Vec<Couple>, 
         }
         let singular = Singular {
             a: is_single(schema, slot as SlotId),
-            b: is_single(schema, inverse_of(schema, slot as SlotId)),
+            b: is_single(schema, schema.inverse(slot as SlotId)),
         };
         couples.push(Couple::new(alloc, singular))?;
     }

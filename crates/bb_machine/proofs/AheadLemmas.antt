@@ -7,15 +7,15 @@ use Rattle.bb_basis.specs.Results.{◌>>=◌}
 use Rattle.bb_basis.proofs.ResultLemmas.{bind_ok}
 use Rattle.bb_schema.specs.Schema.{Schema, name_of_label}
 use Rattle.bb_code.specs.Code.{Code}
-use Rattle.bb_code.specs.declared.frame.Loop.{Loop}
-use Rattle.bb_code.specs.declared.op.Op.{Op}
-use Rattle.bb_code.specs.declared.op.Op.TheVariants as ops
-use Rattle.bb_verify.specs.declared.flaw.Flaw.{Flaw}
-use Rattle.bb_verify.specs.declared.flaw.Flaw.TheVariants as flaws
-use Rattle.bb_verify.specs.declared.loops.TheConstants.{NESTING_LIMIT}
+use Rattle.bb_code.specs.Loop.{Loop}
+use Rattle.bb_code.specs.Op.{Op}
+use Rattle.bb_code.specs.Op.TheVariants as ops
+use Rattle.bb_verify.specs.Flaw.{Flaw}
+use Rattle.bb_verify.specs.Flaw.TheVariants as flaws
+use Rattle.bb_verify.specs.LoopLimits.{NESTING_LIMIT}
 use Rattle.bb_verify.specs.Each.{each}
-use Rattle.bb_verify.specs.Jumps.{target_of, before, ahead, goes_right}
-use Rattle.bb_verify.specs.Loops.{in_order, rising, head_due, depth, is_head, is_end, op_due, place_due}
+use Rattle.bb_verify.specs.Jumps.{target_of, before, ahead, check_target}
+use Rattle.bb_verify.specs.Loops.{check_order, rising, head_due, depth, is_head, is_end, op_due, place_due}
 use Rattle.bb_verify.specs.Tables.{entry, known_label}
 
 -- ---- tables
@@ -50,14 +50,14 @@ not_above long count n same lt = grind (arith, nat_tests)
 pub op_due_of : (code : Code) (place : ℕ) (op : Op) → place_due code place (Some op) ≡ Ok tt → op_due code place op ≡ Ok tt
 unfolding place_due
 op_due_of code place op h =
-    let one = bind_ok (rising place code.loops) (λ _. each (head_due code place) code.loops >>= λ _. in_order (nat_le (depth code place) NESTING_LIMIT) >>= λ _. op_due code place op) tt h in
-    let two = bind_ok (each (head_due code place) code.loops) (λ _. in_order (nat_le (depth code place) NESTING_LIMIT) >>= λ _. op_due code place op) tt one.2 in
-    let three = bind_ok (in_order (nat_le (depth code place) NESTING_LIMIT)) (λ _. op_due code place op) tt two.2 in
+    let one = bind_ok (rising place code.loops) (λ _. each (head_due code place) code.loops >>= λ _. check_order (nat_le (depth code place) NESTING_LIMIT) >>= λ _. op_due code place op) tt h in
+    let two = bind_ok (each (head_due code place) code.loops) (λ _. check_order (nat_le (depth code place) NESTING_LIMIT) >>= λ _. op_due code place op) tt one.2 in
+    let three = bind_ok (check_order (nat_le (depth code place) NESTING_LIMIT)) (λ _. op_due code place op) tt two.2 in
     three.2
 
-pub no_loop : (code : Code) (test : Loop → Bool) → code.loops ≡ [] → in_order (list_any test code.loops) ≡ Ok tt → ⊥
+pub no_loop : (code : Code) (test : Loop → Bool) → code.loops ≡ [] → check_order (list_any test code.loops) ≡ Ok tt → ⊥
 no_loop code test none h =
-    let e : in_order (list_any test []) ≡ Ok tt = ap (λ (ls : List Loop). in_order (list_any test ls)) (sym none) ∙ h in
+    let e : check_order (list_any test []) ≡ Ok tt = ap (λ (ls : List Loop). check_order (list_any test ls)) (sym none) ∙ h in
     absurd cc
 
 pub no_next : (code : Code) (at l place : ℕ) → code.loops ≡ [] → place_due code at (Some (ops.Next l place)) ≡ Ok tt → ⊥
@@ -79,8 +79,8 @@ ahead_of count at place t h to =
     omega (arith, same, lt)
 
 -- without loops an op goes ahead alone
-pub target_ahead : (code : Code) (at : ℕ) (op : Op) (t : ℕ) → code.loops ≡ [] → goes_right (length code.ops) at op ≡ Ok tt → place_due code at (Some op) ≡ Ok tt → target_of op ≡ Some t → at < t
-unfolding goes_right
+pub target_ahead : (code : Code) (at : ℕ) (op : Op) (t : ℕ) → code.loops ≡ [] → check_target (length code.ops) at op ≡ Ok tt → place_due code at (Some op) ≡ Ok tt → target_of op ≡ Some t → at < t
+unfolding check_target
 target_ahead code at (ops.PushInt n) t none goes due to = absurd cc
 target_ahead code at (ops.PushText text) t none goes due to = absurd cc
 target_ahead code at (ops.PushBool truth) t none goes due to = absurd cc

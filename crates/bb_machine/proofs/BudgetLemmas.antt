@@ -4,7 +4,7 @@ use Rattle.std.specs.List.{range_with_len, sum_by}
 use Rattle.std.proofs.lemmas.List.Sums.{sum_by-cons}
 use Rattle.std.proofs.Math.Nat.{pow-zero}
 use Rattle.bb_code.specs.Code.{Code}
-use Rattle.bb_code.specs.declared.frame.Loop.{Loop}
+use Rattle.bb_code.specs.Loop.{Loop}
 use Rattle.bb_verify.specs.Budget.{budget, turns}
 use Rattle.bb_verify.specs.Loops.{holds, depth}
 

@@ -4,14 +4,14 @@ use Rattle.bb_basis.specs.Results.{◌>>=◌}
 use Rattle.bb_basis.proofs.ResultLemmas.{same_ok}
 use Rattle.bb_board.specs.Board.{Board}
 use Rattle.bb_board.specs.Fits.{Fits}
-use Rattle.bb_code.specs.declared.op.Op.{Op}
-use Rattle.bb_verify.specs.declared.flaw.Flaw.{Flaw}
-use Rattle.bb_verify.specs.declared.frame.Frame.{Frame}
+use Rattle.bb_code.specs.Op.{Op}
+use Rattle.bb_verify.specs.Flaw.{Flaw}
+use Rattle.bb_verify.specs.FrameType.{Frame}
 use Rattle.bb_verify.specs.Effect as effects
 use Rattle.bb_verify.specs.Jumps.{target_of}
-use Rattle.bb_machine.specs.declared.halt.Halt.{Halt}
-use Rattle.bb_machine.specs.Machine.{Machine, go_to}
-use Rattle.bb_machine.specs.Step.{keeps}
+use Rattle.bb_step.specs.Halt.{Halt}
+use Rattle.bb_step.specs.Machine.{Machine, go_to}
+use Rattle.bb_step.specs.Step.{keeps}
 use Rattle.bb_machine.specs.Kinds.{Suits}
 use Rattle.bb_machine.specs.Safe.{Leads, IsSafe}
 use Rattle.bb_machine.specs.proving.Moves.{Makes}

@@ -9,18 +9,18 @@ use Rattle.bb_schema.specs.Schema.{Schema}
 use Rattle.bb_schema.specs.Fits as schemas
 use Rattle.bb_board.specs.Board.{Board}
 use Rattle.bb_board.specs.Fits.{Fits}
-use Rattle.bb_board.specs.declared.world.World.{World}
+use Rattle.bb_board.specs.State.{World}
 use Rattle.bb_code.specs.Code.{Code}
-use Rattle.bb_code.specs.declared.frame.Kind.{Kind}
-use Rattle.bb_code.specs.declared.frame.Kind.TheVariants.{Any}
+use Rattle.bb_code.specs.Kind.{Kind}
+use Rattle.bb_code.specs.Kind.TheVariants.{Any}
 use Rattle.bb_verify.specs.Part as parts
 use Rattle.bb_verify.specs.Places.{entry_frame}
-use Rattle.bb_verify.specs.declared.frame.Frame.{Frame}
-use Rattle.bb_verify.specs.declared.part.Part.{Part}
-use Rattle.bb_machine.specs.declared.outcome.Entry.{Entry}
-use Rattle.bb_machine.specs.declared.value.Value.{Value}
-use Rattle.bb_machine.specs.declared.value.Value.TheVariants as values
-use Rattle.bb_machine.specs.Activation.{units_of, entry_state}
+use Rattle.bb_verify.specs.FrameType.{Frame}
+use Rattle.bb_verify.specs.PartType.{Part}
+use Rattle.bb_step.specs.Entry.{Entry}
+use Rattle.bb_step.specs.Values.{Value}
+use Rattle.bb_step.specs.Values.TheVariants as values
+use Rattle.bb_step.specs.Machine.{units_of, entry_state}
 use Rattle.bb_verify.specs.Facts.{Facts}
 use Rattle.bb_machine.specs.Kinds.{HasKind, LocalHas, Suits}
 use Rattle.bb_machine.specs.NeverWrong.{EntryFits, Stands}

@@ -8,15 +8,16 @@ use Rattle.bb_classes.specs.declared.kind.Link.{Link}
 use Rattle.bb_pattern.specs.declared.query.Query.{Query}
 use Rattle.bb_schema.specs.Schema.{Schema}
 use Rattle.bb_code.specs.Code.{Code}
-use Rattle.bb_code.specs.declared.frame.Kind.{Kind}
-use Rattle.bb_code.specs.declared.frame.Kind.TheVariants.{Int, Text, Bool as Truth, Label, Interval, Ref, Seq}
-use Rattle.bb_code.specs.declared.op.Op.{Op}
-use Rattle.bb_code.specs.declared.op.Op.TheVariants as ops
-use Rattle.bb_verify.specs.declared.flaw.Flaw.{Flaw}
-use Rattle.bb_verify.specs.declared.flaw.Flaw.TheVariants as flaws
-use Rattle.bb_verify.specs.declared.frame.Frame.{Frame}
-use Rattle.bb_verify.specs.declared.part.Part.{Part}
+use Rattle.bb_code.specs.Kind.{Kind}
+use Rattle.bb_code.specs.Kind.TheVariants.{Int, Text, Bool as Truth, Label, Interval, Ref, Seq}
+use Rattle.bb_code.specs.Op.{Op}
+use Rattle.bb_code.specs.Op.TheVariants as ops
+use Rattle.bb_verify.specs.Flaw.{Flaw}
+use Rattle.bb_verify.specs.Flaw.TheVariants as flaws
+use Rattle.bb_verify.specs.FrameType.{Frame}
+use Rattle.bb_verify.specs.PartType.{Part}
 use Rattle.bb_verify.specs.Due as dues
+use Rattle.bb_verify.specs.Kinds.{struck}
 use Rattle.bb_verify.specs.Each.{each}
 use Rattle.bb_verify.specs.Effect as effects
 use Rattle.bb_verify.specs.Effect.{effect}
@@ -196,7 +197,7 @@ module _ (f g : Frame) where
   delete_same s part h =
       let unit = bind_ok (effects.pop_live f) (λ (u : ℕ × Frame). writes part >>= λ _. Ok (effects.after_delete s u.0 u.1)) g h in
       let may = bind_ok (writes part) (λ (u : Unit {0}). Ok (effects.after_delete s unit.0.0 unit.0.1)) g unit.2 in
-      ap (λ (x : Frame). length x.locals) (sym (same_ok (effects.after_delete s unit.0.0 unit.0.1) g may.2)) ∙ (length-map unit.0.1.locals (dues.struck s unit.0.0) ∙ pop_live_same f unit.0 unit.1)
+      ap (λ (x : Frame). length x.locals) (sym (same_ok (effects.after_delete s unit.0.0 unit.0.1) g may.2)) ∙ (length-map unit.0.1.locals (struck s unit.0.0) ∙ pop_live_same f unit.0 unit.1)
 
   say_same : (part : Part) (count : ℕ) → effects.say part count f ≡ Ok g → length g.locals ≡ length f.locals
   unfolding effects.say

@@ -23,7 +23,7 @@ use Rattle.bb_units.specs.Layout as layouts
 use Rattle.bb_units.specs.Units.{Units, class_of, value_of, has_slot}
 use Rattle.bb_units.specs.Values.{value_at}
 use Rattle.bb_units.specs.Fits as units
-use Rattle.bb_units.proofs.HasLemmas.{has_its_slots}
+use Rattle.bb_units.proofs.Laws.{has_its_slots}
 
 -- a class has a slot, which holds what is of this kind
 pub record HasSlot (s : Schema) (class slot : ℕ) (kind : SlotKind) : Type 0 where

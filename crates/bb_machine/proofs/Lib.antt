@@ -1,36 +1,20 @@
-pub mod StackLemmas
-pub mod SaidLemmas
-pub mod ExecutionLemmas
+-- what all kinds of ops need
 pub mod KindLemmas
 pub mod MoveLemmas
-pub mod PlainLemmas
-pub mod LocalLemmas
 pub mod LiveLemmas
 pub mod WeakerLemmas
 pub mod UnitLemmas
 pub mod EdgeLemmas
-pub mod PlainSteps
-pub mod JumpSteps
-pub mod ReadSteps
-pub mod OutliveLemmas
-pub mod RelatedLemmas
-pub mod ChangeSteps
-pub mod StruckLemmas
-pub mod EnterSteps
 pub mod HeldLemmas
 pub mod ManyLemmas
-pub mod SlotLemmas
-pub mod PartnerLemmas
-pub mod FindLemmas
-pub mod SlotSteps
-pub mod CreatedLemmas
-pub mod SetLemmas
-pub mod RelinkLemmas
-pub mod SayLemmas
-pub mod WriteSteps
+-- each kind of op is safe
+pub mod plain
+pub mod reading
+pub mod changing
+pub mod jumping
+-- the steps of an accepted code, and its execution
 pub mod FrameLocals
 pub mod AheadLemmas
-pub mod NextSteps
 pub mod SafeSteps
 pub mod StandLemmas
 pub mod BudgetLemmas

@@ -8,7 +8,7 @@ use Rattle.bb_schema.specs.Schema.{Schema, descends}
 use Rattle.bb_units.specs.declared.unit.Unit.{Unit as OneUnit}
 use Rattle.bb_units.specs.Units.{is_live, class_of}
 use Rattle.bb_units.specs.Fits as units
-use Rattle.bb_board.specs.declared.world.World.{World}
+use Rattle.bb_board.specs.State.{World}
 use Rattle.bb_board.specs.World.{class_at}
 use Rattle.bb_board.specs.May.{was}
 use Rattle.bb_machine.specs.Kinds.{IsOf, WasOf}

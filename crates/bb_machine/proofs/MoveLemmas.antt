@@ -5,20 +5,20 @@ use Rattle.std.specs.List.{AllZip}
 use Rattle.bb_basis.specs.Results.{◌>>=◌, ok_or}
 use Rattle.bb_basis.proofs.ResultLemmas.{bind_ok, guard_ok, ok_or_ok, same_ok}
 use Rattle.bb_schema.specs.Schema.{Schema}
-use Rattle.bb_board.specs.declared.world.World.{World}
-use Rattle.bb_code.specs.declared.code.TheConstants.{STACK_LIMIT}
-use Rattle.bb_code.specs.declared.frame.Kind.{Kind}
-use Rattle.bb_verify.specs.declared.flaw.Flaw.{Flaw}
-use Rattle.bb_verify.specs.declared.flaw.Flaw.TheVariants as flaws
-use Rattle.bb_verify.specs.declared.frame.Frame.{Frame}
+use Rattle.bb_board.specs.State.{World}
+use Rattle.bb_code.specs.Limits.{STACK_LIMIT}
+use Rattle.bb_code.specs.Kind.{Kind}
+use Rattle.bb_verify.specs.Flaw.{Flaw}
+use Rattle.bb_verify.specs.Flaw.TheVariants as flaws
+use Rattle.bb_verify.specs.FrameType.{Frame}
 use Rattle.bb_verify.specs.Stack as stacks
 use Rattle.bb_verify.specs.Frame as frames
 use Rattle.bb_verify.specs.Effect as effects
 use Rattle.bb_verify.specs.Due.{due}
 use Rattle.bb_verify.specs.Kinds.{is_same_plain}
-use Rattle.bb_machine.specs.declared.halt.Halt.{Halt}
-use Rattle.bb_machine.specs.declared.value.Value.{Value}
-use Rattle.bb_machine.specs.Machine.{Machine, with_stack, room, push}
+use Rattle.bb_step.specs.Halt.{Halt}
+use Rattle.bb_step.specs.Values.{Value}
+use Rattle.bb_step.specs.Machine.{Machine, with_stack, room, push}
 use Rattle.bb_machine.specs.Kinds.{HasKind, LocalHas, Suits}
 use Rattle.bb_machine.specs.proving.Moves.{Pops, Makes}
 use Rattle.bb_machine.proofs.KindLemmas.{same_plain}

@@ -3,31 +3,31 @@ use Rattle.std.proofs.Common.{◌≡◌, ℕ, ◌≤◌, true, length, Option, O
 use Rattle.std.specs.Prelude.{nat_le, All}
 use Rattle.std.proofs.lemmas.Bool.Decides.{nat_tests}
 use Rattle.bb_classes.specs.declared.value.TheConstants.{TEXT_LIMIT}
-use Rattle.bb_classes.proofs.FitLemmas.{All-at}
+use Rattle.bb_classes.proofs.Laws.{All-at}
 use Rattle.bb_schema.specs.Fits as schemas
 use Rattle.bb_board.specs.Board.{Board}
 use Rattle.bb_board.specs.Fits.{Fits}
 use Rattle.bb_code.specs.Code.{Code, IsCode, IsText}
-use Rattle.bb_code.specs.declared.code.TheConstants.{TEXT_BYTES_LIMIT}
-use Rattle.bb_code.specs.declared.op.Op.{Op}
-use Rattle.bb_code.specs.declared.op.Op.TheVariants as ops
-use Rattle.bb_verify.specs.declared.frame.Frame.{Frame}
-use Rattle.bb_verify.specs.declared.part.Part.{Part}
+use Rattle.bb_code.specs.Limits.{TEXT_BYTES_LIMIT}
+use Rattle.bb_code.specs.Op.{Op}
+use Rattle.bb_code.specs.Op.TheVariants as ops
+use Rattle.bb_verify.specs.FrameType.{Frame}
+use Rattle.bb_verify.specs.PartType.{Part}
 use Rattle.bb_verify.specs.Tables.{in_tables}
-use Rattle.bb_machine.specs.Machine.{Machine}
-use Rattle.bb_machine.specs.Step.{step}
+use Rattle.bb_step.specs.Machine.{Machine}
+use Rattle.bb_step.specs.Step.{step}
 use Rattle.bb_verify.specs.Facts.{is_known}
 use Rattle.bb_machine.specs.Kinds.{Suits}
 use Rattle.bb_machine.specs.Safe.{edges_of, IsSafe}
 use Rattle.bb_machine.proofs.AheadLemmas.{held, entry_below, label_there, not_above}
-use Rattle.bb_machine.proofs.PlainSteps.{push_int_safe, push_bool_safe, push_text_safe, push_label_safe, load_safe, store_safe, pop_safe, calculate_safe, divide_safe, compare_safe, eq_text_safe, not_safe, combine_safe, make_interval_safe, bound_safe}
-use Rattle.bb_machine.proofs.JumpSteps.{jump_safe, back_safe, done_safe, decline_safe, unless_safe, rate_safe, answer_safe, alive_safe}
-use Rattle.bb_machine.proofs.NextSteps.{next_safe}
-use Rattle.bb_machine.proofs.ReadSteps.{eq_unit_safe, eq_label_safe, size_safe, as_safe}
-use Rattle.bb_machine.proofs.ChangeSteps.{leave_safe}
-use Rattle.bb_machine.proofs.EnterSteps.{enter_safe}
-use Rattle.bb_machine.proofs.SlotSteps.{get_safe, one_safe, links_safe, find_safe}
-use Rattle.bb_machine.proofs.WriteSteps.{delete_safe, new_safe, relink_safe, set_safe, say_safe}
+use Rattle.bb_machine.proofs.plain.PlainSteps.{push_int_safe, push_bool_safe, push_text_safe, push_label_safe, load_safe, store_safe, pop_safe, calculate_safe, divide_safe, compare_safe, eq_text_safe, not_safe, combine_safe, make_interval_safe, bound_safe}
+use Rattle.bb_machine.proofs.jumping.JumpSteps.{jump_safe, back_safe, done_safe, decline_safe, unless_safe, rate_safe, answer_safe, alive_safe}
+use Rattle.bb_machine.proofs.jumping.NextSteps.{next_safe}
+use Rattle.bb_machine.proofs.reading.ReadSteps.{eq_unit_safe, eq_label_safe, size_safe, as_safe}
+use Rattle.bb_machine.proofs.changing.ChangeSteps.{leave_safe}
+use Rattle.bb_machine.proofs.changing.EnterSteps.{enter_safe}
+use Rattle.bb_machine.proofs.reading.SlotSteps.{get_safe, one_safe, links_safe, find_safe}
+use Rattle.bb_machine.proofs.changing.WriteSteps.{delete_safe, new_safe, relink_safe, set_safe, say_safe}
 
 short : (n : ℕ) → n ≤ TEXT_BYTES_LIMIT → nat_le n TEXT_LIMIT ≡ true
 short n le = grind (arith, nat_tests)

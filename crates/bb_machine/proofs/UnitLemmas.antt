@@ -6,19 +6,19 @@ use Rattle.bb_basis.proofs.ResultLemmas.{bind_ok, same_ok}
 use Rattle.bb_schema.specs.Schema.{Schema}
 use Rattle.bb_units.specs.Units.{is_live}
 use Rattle.bb_units.specs.Fits as units
-use Rattle.bb_board.specs.declared.world.World.{World}
+use Rattle.bb_board.specs.State.{World}
 use Rattle.bb_board.specs.Board.{Board}
-use Rattle.bb_code.specs.declared.frame.Kind.{Kind}
-use Rattle.bb_code.specs.declared.frame.Kind.TheVariants.{Any, Int, Text, Bool as Truth, Label, Interval, Ref, Old, Seq}
-use Rattle.bb_verify.specs.declared.frame.Frame.{Frame}
+use Rattle.bb_code.specs.Kind.{Kind}
+use Rattle.bb_code.specs.Kind.TheVariants.{Any, Int, Text, Bool as Truth, Label, Interval, Ref, Old, Seq}
+use Rattle.bb_verify.specs.FrameType.{Frame}
 use Rattle.bb_verify.specs.Due as dues
 use Rattle.bb_verify.specs.Frame as frames
 use Rattle.bb_verify.specs.Effect as effects
-use Rattle.bb_machine.specs.declared.value.Value.{Value}
-use Rattle.bb_machine.specs.declared.value.Value.TheVariants as values
-use Rattle.bb_machine.specs.Machine.{Machine, with_stack, pop, pop_two, push}
-use Rattle.bb_machine.specs.Reading.{live, pop_unit, pop_live}
-use Rattle.bb_machine.specs.Arithmetic.{eq_unit}
+use Rattle.bb_step.specs.Values.{Value}
+use Rattle.bb_step.specs.Values.TheVariants as values
+use Rattle.bb_step.specs.Machine.{Machine, with_stack, pop, pop_two, push}
+use Rattle.bb_step.specs.Reading.{live, pop_unit, pop_live}
+use Rattle.bb_step.specs.Arithmetic.{eq_unit}
 use Rattle.bb_machine.specs.Kinds.{IsOf, WasOf, HasKind, Suits}
 use Rattle.bb_machine.specs.proving.Moves.{PopsLive}
 use Rattle.bb_machine.proofs.MoveLemmas.{pops}

@@ -7,13 +7,13 @@ use Rattle.std.proofs.lemmas.List.Elements.{All-weaker}
 use Rattle.bb_schema.specs.Schema.{Schema}
 use Rattle.bb_schema.specs.Fits as schemas
 use Rattle.bb_units.specs.Fits as units
-use Rattle.bb_board.specs.declared.world.World.{World}
-use Rattle.bb_code.specs.declared.frame.Kind.{Kind}
-use Rattle.bb_code.specs.declared.frame.Kind.TheVariants.{Any, Int, Text, Bool as Truth, Label, Interval, Ref, Old, Seq}
-use Rattle.bb_verify.specs.declared.frame.Frame.{Frame}
+use Rattle.bb_board.specs.State.{World}
+use Rattle.bb_code.specs.Kind.{Kind}
+use Rattle.bb_code.specs.Kind.TheVariants.{Any, Int, Text, Bool as Truth, Label, Interval, Ref, Old, Seq}
+use Rattle.bb_verify.specs.FrameType.{Frame}
 use Rattle.bb_verify.specs.Kinds.{is_same_plain, weakens, weakens_local, frame_weakens}
-use Rattle.bb_machine.specs.declared.value.Value.{Value}
-use Rattle.bb_machine.specs.Machine.{Machine}
+use Rattle.bb_step.specs.Values.{Value}
+use Rattle.bb_step.specs.Machine.{Machine}
 use Rattle.bb_machine.specs.Kinds.{WasOf, HasKind, LocalHas, Suits}
 use Rattle.bb_machine.proofs.KindLemmas.{same_plain, is_of_weaker, was_weaker}
 use Rattle.bb_machine.proofs.LiveLemmas.{was_of}

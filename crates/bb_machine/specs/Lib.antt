@@ -1,27 +1,3 @@
--- the numbers of the reasons for being stuck
-pub mod Reasons
--- the bytes of a text, wherever it lies
-pub mod Words
--- a sequence of units
-pub mod Sequence
--- the values that a code works with, and their sorts
-pub mod Value
--- the state of an execution, and its stack
-pub mod Machine
--- what numbers, truth values, texts, labels and intervals are made into
-pub mod Arithmetic
--- the ops that only read the blackboard
-pub mod Reading
--- the ops that change the blackboard
-pub mod Changing
--- the ops that go to a place
-pub mod Jumping
--- what an op that does not go on leaves of the blackboard
-pub mod Kept
--- one step of the defensive machine
-pub mod Step
--- an execution: steps from the first place
-pub mod Activation
 -- the values of a kind, and the states that suit a frame
 pub mod Kinds
 -- steps that lead to a state that suits
@@ -30,3 +6,14 @@ pub mod Safe
 pub mod NeverWrong
 -- for proofs alone
 pub mod proving
+-- of bb_step: the steps of an execution
+pub use Rattle.bb_step.specs.Reading
+pub use Rattle.bb_step.specs.Changing
+pub use Rattle.bb_step.specs.Step
+pub use Rattle.bb_step.specs.Activation
+-- of bb_state: its state, and how it comes out
+pub use Rattle.bb_step.specs.Reasons
+pub use Rattle.bb_step.specs.Machine
+pub use Rattle.bb_step.specs.Entry
+pub use Rattle.bb_step.specs.Outcome
+pub use Rattle.bb_step.specs.Stop

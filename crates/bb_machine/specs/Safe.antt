@@ -2,12 +2,12 @@
 use Rattle.std.specs.Prelude.{◌≡◌, ◌⊎◌, ℕ, Option, Some, None, Result, Ok, Err}
 use Rattle.bb_board.specs.Fits.{Fits}
 use Rattle.bb_schema.specs.Schema.{Schema}
-use Rattle.bb_code.specs.declared.op.Op.{Op}
-use Rattle.bb_verify.specs.declared.frame.Frame.{Frame}
+use Rattle.bb_code.specs.Op.{Op}
+use Rattle.bb_verify.specs.FrameType.{Frame}
 use Rattle.bb_verify.specs.Jumps.{target_of}
-use Rattle.bb_machine.specs.declared.halt.Halt.{Halt}
-use Rattle.bb_machine.specs.declared.halt.Halt.TheVariants.{Answered, Full, Stuck, Memory}
-use Rattle.bb_machine.specs.Changing.{State}
+use Rattle.bb_step.specs.Halt.{Halt}
+use Rattle.bb_step.specs.Halt.TheVariants.{Answered, Full, Stuck, Memory}
+use Rattle.bb_step.specs.Changing.{State}
 pub use Rattle.bb_verify.specs.Facts.{edges_of}
 use Rattle.bb_machine.specs.Kinds.{Suits}
 

@@ -5,3 +5,4 @@ pub mod ReadLemmas
 pub mod InputLemmas
 pub mod OrderLemmas
 pub mod ServeLemmas
+pub mod Limits

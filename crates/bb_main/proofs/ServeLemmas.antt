@@ -7,8 +7,8 @@ use Rattle.std.proofs.lemmas.List.{take-map, take-append-le, take_all}
 use Rattle.std.proofs.Math.Seq.{take-append-add, take-length}
 use Rattle.std.specs.Io.KnownBytes.{Appends, Consumes}
 use Rattle.std.proofs.KnownBytes.{Appends-nil, Appends-trans}
-use Rattle.bb_shell.specs.declared.finish.Finish.{Finish}
-use Rattle.bb_shell.specs.declared.finish.Finish.TheVariants as finishes
+use Rattle.bb_shell.specs.Finishes.{Finish}
+use Rattle.bb_shell.specs.Finishes.TheVariants as finishes
 use Rattle.bb_shell.specs.declared.input_fault.InputFault.{InputFault}
 use Rattle.bb_shell.specs.Finish.{WritesFront, end_of}
 use Rattle.bb_shell.specs.Meaning.{Meaning}

@@ -4,9 +4,9 @@ use Rattle.std.specs.Prelude.{if◌then◌else◌}
 use Rattle.std.specs.List.{flat_map}
 use Rattle.std.specs.Option.{option_map_or}
 use Rattle.std.specs.Io.KnownBytes.{Appends}
-use Rattle.bb_shell.specs.declared.finish.End.{End}
-use Rattle.bb_shell.specs.declared.finish.End.TheVariants as ends
-use Rattle.bb_shell.specs.declared.finish.Finish.{Finish}
+use Rattle.bb_shell.specs.End.{End}
+use Rattle.bb_shell.specs.End.TheVariants as ends
+use Rattle.bb_shell.specs.Finishes.{Finish}
 use Rattle.bb_shell.specs.declared.input_fault.InputFault.{InputFault}
 use Rattle.bb_shell.specs.Finish.{end_of, is_write}
 use Rattle.bb_shell.specs.Meaning.{Meaning, meaning}

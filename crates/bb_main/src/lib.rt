@@ -9,6 +9,7 @@ mod serving;
 #[cfg(test)]
 mod tests;
 
+pub use bb_shell::{Out, Pipe};
 pub use input::{In, Intake};
 pub use read::INPUT_LIMIT;
 pub use serving::{program, serve};

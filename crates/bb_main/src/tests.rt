@@ -1,4 +1,5 @@
-//! Tests of the program with readers that give pieces, fail, are interrupted or never end, and with writers that fail.
+//! Tests of the program with readers that give pieces, fail, are interrupted or never end, and with writers that fail;
+//! also with such as fail once and would go on.
 
 use crate::input::{In, Intake};
 use crate::read::read_input;
@@ -165,6 +166,37 @@ fn failing_readers(rt: HostRuntime) {
     }
 }
 
+/// Its first read fails, and each after it gives bytes.
+#[derive(Drop)]
+struct FailsAtFirst<'a> {
+    inner: Pieces<'a>,
+    failed: bool,
+}
+
+impl Read for FailsAtFirst<'_> {
+    fn read(&mut self, buf: &mut [u8]) -> io::Result<usize> {
+        if !self.failed {
+            self.failed = true;
+            return Err(Error::from(ErrorKind::Other));
+        }
+        self.inner.read(buf)
+    }
+}
+
+#[test]
+fn no_read_after_a_failure(rt: HostRuntime) {
+    let inner = Pieces {
+        bytes: FIRST_RUN.as_bytes(),
+        piece: 50,
+        end: None,
+    };
+    let reader = FailsAtFirst {
+        inner,
+        failed: false,
+    };
+    assert!(rt; serves(&rt, reader, 100, 2, "refused input read\n"));
+}
+
 #[test]
 fn interrupted_readers(rt: HostRuntime) {
     for (times, status, text) in [
@@ -194,5 +226,48 @@ fn failing_writers(rt: HostRuntime) {
         let mut writer = Pipe::new(Full { room });
         let status = serve(rt.alloc(), 100, 0, &mut reader, &mut writer);
         assert_eq!(rt; status, 6);
+    }
+}
+
+/// Takes some bytes, fails once, and counts what it is given after that.
+#[derive(Drop)]
+struct FailsOnce {
+    room: usize,
+    failed: bool,
+    later: usize,
+}
+
+impl Write for FailsOnce {
+    fn write(&mut self, buf: &[u8]) -> io::Result<usize> {
+        if self.failed {
+            self.later = self.later.saturating_add(buf.len());
+            return Ok(buf.len());
+        }
+        if self.room == 0 {
+            self.failed = true;
+            return Err(Error::from(ErrorKind::Other));
+        }
+        let taken = buf.len().min(self.room);
+        self.room -= taken;
+        Ok(taken)
+    }
+
+    fn flush(&mut self) -> io::Result<()> {
+        Ok(())
+    }
+}
+
+#[test]
+fn no_write_after_a_failure(rt: HostRuntime) {
+    for (input, room) in [(FIRST_RUN, 0), (FIRST_RUN, 20), ("{}", 0), ("{}", 22)] {
+        let mut reader = Intake::new(input.as_bytes());
+        let mut writer = Pipe::new(FailsOnce {
+            room,
+            failed: false,
+            later: 0,
+        });
+        let status = serve(rt.alloc(), 100, 0, &mut reader, &mut writer);
+        assert_eq!(rt; status, 6);
+        assert_eq!(rt; writer.into_inner().later, 0);
     }
 }

@@ -8,8 +8,7 @@ use Rattle.std.proofs.lemmas.Bool.{and_parts, eqb-true}
 use Rattle.std.proofs.lemmas.List.Folds.{find-append}
 use Rattle.std.proofs.lemmas.Option.{slice_get-map}
 use Rattle.std.proofs.lemmas.Bool.Decides.{Decides-eqb}
-use Rattle.bb_classes.proofs.FitLemmas.{All-at}
-use Rattle.bb_classes.proofs.ClimbLemmas.{climbs_sound}
+use Rattle.bb_classes.proofs.Laws.{All-at, climbs_sound}
 use Rattle.bb_classes.specs.declared.kind.Kind.{Kind}
 use Rattle.bb_classes.specs.declared.kind.Kind.TheVariants as kinds
 use Rattle.bb_classes.specs.declared.value.Value.{Value}
@@ -27,7 +26,7 @@ use Rattle.bb_schema.specs.Schema.{Schema, has_name, slots_of, slot_named, kind_
 use Rattle.bb_schema.specs.Spaces.{allowed}
 use Rattle.bb_schema.specs.SpaceReading.{suits, has_slot_for}
 use Rattle.bb_schema.specs.Fits as schema_laws
-use Rattle.bb_units.proofs.HasLemmas.{has_its_slots}
+use Rattle.bb_units.proofs.Laws.{has_its_slots}
 use Rattle.bb_units.specs.Layout as layouts
 use Rattle.bb_units.specs.declared.unit.Unit.{Unit}
 use Rattle.bb_units.specs.Units.{Units, is_live, value_of, has_slot}

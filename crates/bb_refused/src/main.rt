@@ -1,8 +1,7 @@
 //! The program of `bb` again: its stored input is refused, so that the gate sees a status other than 0.
 #![tactic(auto)]
 
-use bb_main::{Intake, program};
-use bb_shell::Pipe;
+use bb_main::{Intake, Pipe, program};
 use std::io;
 use std::process::ExitCode;
 

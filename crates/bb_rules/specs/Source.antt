@@ -1,7 +1,7 @@
 -- The source that a header and a code make under a schema: its names are looked up, up to the first that does not fit.
 use Rattle.std.specs.Prelude.{ℕ, List, Result, Ok, Err, if◌then◌else◌}
 use Rattle.bb_basis.specs.Results.{◌>>=◌, ok_or, try_map}
-use Rattle.bb_board.specs.declared.event.ChangeKind.TheVariants.{Create}
+use Rattle.bb_board.specs.ChangeKind.TheVariants.{Create}
 use Rattle.bb_compile.specs.declared.source_code.ClauseText.{ClauseText}
 use Rattle.bb_compile.specs.declared.source_code.ClauseText.TheVariants as texts
 use Rattle.bb_compile.specs.declared.source_code.SourceHeader.{SourceHeader}

@@ -1,5 +1,5 @@
 //! Sources with their names looked up, and which events trigger them. bb_shell makes them of a bundle's sources, and
-//! asks at each event which are triggered.
+//! bb_run asks at each event which are triggered.
 #![tactic(auto)]
 
 mod clause;

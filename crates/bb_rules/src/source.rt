@@ -1,4 +1,4 @@
-//! A source. bb_shell makes it of what a bundle spells, and executes its act.
+//! A source. bb_shell makes it of what a bundle spells, and bb_run executes its act.
 
 ghost use Rattle.std.specs.Prelude.{◌≡◌};
 ghost use Rattle.std.specs.List.{list_any};

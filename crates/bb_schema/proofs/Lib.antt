@@ -4,3 +4,5 @@ pub mod SameLemmas
 pub mod SlotLemmas
 pub mod LinkLemmas
 pub mod SchemaFitLemmas
+pub mod Laws
+pub mod Limits

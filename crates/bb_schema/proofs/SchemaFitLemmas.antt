@@ -12,7 +12,7 @@ use Rattle.bb_basis.proofs.ListLemmas.{map-last, list_all_same}
 use Rattle.bb_classes.specs.declared.draft.TheConstants.{SLOT_LIMIT}
 use Rattle.bb_schema.specs.declared.read.spaces.TheConstants.{DIM_LIMIT, SPACE_LIMIT}
 use Rattle.bb_classes.specs.Naming.{AreNames}
-use Rattle.bb_classes.proofs.NamingLemmas.{not_false, distinct_nil, no_names, one_more_name}
+use Rattle.bb_classes.proofs.Laws.{not_false, distinct_nil, no_names, one_more_name}
 use Rattle.bb_basis.specs.Results.{ok_or, try_map, try_fold}
 use Rattle.bb_document.specs.Document.{SpaceDeclaration, DimDeclaration}
 use Rattle.bb_classes.specs.declared.fault.SchemaFault.TheVariants as faults

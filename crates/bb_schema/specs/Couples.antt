@@ -35,3 +35,8 @@ couple_of s n = option_map (couple_end s.slots n) (link_of s.slots n)
 unfoldable pub counts : ℕ → ℕ → List Slot → List ℕ
 counts k n [] = []
 counts k n (t ∷ ts) = k ∷ counts (if comes_first n t then suc k else k) (suc n) ts
+
+-- the pair of a unit at a side and its partner
+abbrev pub pair_of : Side → ℕ → ℕ → ℕ × ℕ
+pair_of A n m = (n, m)
+pair_of B n m = (m, n)

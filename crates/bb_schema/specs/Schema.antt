@@ -88,6 +88,10 @@ default_of s n = option_and_then (λ t. default_in t.content) (slice_get s.slots
 abbrev pub link_of : List Slot → ℕ → Option Link
 link_of slots n = option_and_then (λ t. link_in t.content) (slice_get slots n)
 
+-- the inverse of a link slot
+abbrev pub inverse_of : List Slot → ℕ → ℕ
+inverse_of slots n = option_map_or (λ l. l.inverse) (link_of slots n) n
+
 -- the dimensions of a space
 abbrev pub dims_of : Schema → ℕ → List Dim
 dims_of s w = option_map_or (λ p. p.dims) (slice_get s.spaces w) []

@@ -1,10 +1,11 @@
 //! Couples of link slots that are each other's inverse. A schema counts them once, when it is made.
 
 ghost use Rattle.std.specs.Prelude.{◌≡◌, ◌≤◌, ◌<◌, length, IfOk};
-ghost use Rattle.bb_schema.specs.Couples.{comes_first, firsts, counts, couple_end};
+ghost use Rattle.bb_schema.specs.Couples.{comes_first, firsts, counts, couple_end, pair_of};
 ghost use Rattle.bb_classes.specs.declared.draft.TheConstants.{SLOT_LIMIT};
 
 use crate::slot::{Content, Slot};
+use crate::unit::UnitId;
 use bb_classes::{Link, SlotId};
 use std::alloc::{AllocError, Global};
 
@@ -18,6 +19,18 @@ pub enum Side {
     A,
     /// The slot of the higher number.
     B,
+}
+
+impl Side {
+    /// The pair of a unit at this side and its partner at the other.
+    pub fn pair(self, unit: UnitId, partner: UnitId) -> (UnitId, UnitId)
+        ensures { result ≡ pair_of self unit partner }
+    {
+        match self {
+            Side::A => (unit, partner),
+            Side::B => (partner, unit),
+        }
+    }
 }
 
 /// Whether a slot is a link slot and comes before its inverse.

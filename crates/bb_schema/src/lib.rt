@@ -5,6 +5,7 @@
 mod couple;
 mod read;
 mod schema;
+mod shared_schema;
 mod slot;
 mod space;
 mod unit;
@@ -14,5 +15,6 @@ pub use bb_classes::{
 };
 pub use couple::{CoupleId, Side};
 pub use schema::Schema;
+pub use shared_schema::SharedSchema;
 pub use space::{Dim, SpaceId};
 pub use unit::UnitId;

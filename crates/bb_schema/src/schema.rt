@@ -1,7 +1,7 @@
 //! The schema and what can be asked of it. Every crate above looks names, slots and classes up here.
 
 ghost use Rattle.std.specs.Prelude.{◌≡◌, ◌<◌, ◌≤◌, ◌↔◌, Some, IsSome, is_some, IsTrue, length, min, slice_get, option_map, ◌⊎◌};
-ghost use Rattle.bb_schema.specs.Schema.{class_named, space_named, label_set_named, label_named, slot_named, name_of_class, name_of_slot, name_of_space, name_of_label, slots_of, owner_of, kind_of_slot, default_of, link_of, dims_of, descends};
+ghost use Rattle.bb_schema.specs.Schema.{class_named, space_named, label_set_named, label_named, slot_named, name_of_class, name_of_slot, name_of_space, name_of_label, slots_of, owner_of, kind_of_slot, default_of, link_of, inverse_of, dims_of, descends};
 ghost use Rattle.bb_classes.specs.Inheritance.{parent_of, Descends};
 ghost use Rattle.bb_schema.specs.Couples.{couples, couple_of};
 ghost use Rattle.bb_schema.specs.Fits.{Fits, AreSpaces};
@@ -13,7 +13,7 @@ use crate::slot::{Content, Slot, find_slot, link_at};
 use crate::space::{Dim, Space, SpaceId};
 use bb_basis::Table;
 use bb_classes::{
-    Class, ClassId, Kind, LabelId, LabelSet, LabelSetId, SlotId, Value, descends_from_any,
+    Class, ClassId, Kind, LabelId, LabelSet, LabelSetId, Link, SlotId, Value, descends_from_any,
     descends_in, parent,
 };
 use std::marker::Model;
@@ -228,7 +228,24 @@ impl Schema {
     pub fn is_link(&self, slot: SlotId) -> bool
         ensures { result ≡ is_some (link_of self.now.slots slot) }
     {
-        link_at(&self.slots, slot).is_some()
+        self.link(slot).is_some()
+    }
+
+    /// The link of the slot of a number, if it is there and a link slot.
+    pub fn link(&self, slot: SlotId) -> Option<Link>
+        ensures { result ≡ link_of self.now.slots slot }
+    {
+        link_at(&self.slots, slot)
+    }
+
+    /// The inverse of a link slot. Another slot has none, and answers itself.
+    pub fn inverse(&self, slot: SlotId) -> SlotId
+        ensures { result ≡ inverse_of self.now.slots slot }
+    {
+        match self.link(slot) {
+            None => slot,
+            Some(link) => link.inverse,
+        }
     }
 
     /// The class that declares a slot.

@@ -7,10 +7,10 @@ use Rattle.bb_shell.specs.declared.input_fault.InputFault.{InputFault}
 use Rattle.bb_shell.specs.declared.input_fault.InputFault.TheVariants as inputs
 use Rattle.bb_compile.specs.Bundle.{sources_of}
 use Rattle.bb_compile.specs.declared.source_code.SourceCode.{SourceCode}
-use Rattle.bb_board.specs.Board.{Board, new_board}
-use Rattle.bb_board.specs.Load.{loaded}
+use Rattle.bb_run.specs.Board.{Board, new_board}
+use Rattle.bb_run.specs.Load.{loaded}
 use Rattle.bb_shell.specs.Meaning.{Meaning, meaning}
-use Rattle.bb_rules.specs.declared.source.Source.{Source}
+use Rattle.bb_run.specs.Source.{Source}
 use Rattle.bb_shell.specs.Sources.{sources_for}
 
 abbrev of_sources : Schema → Board → ℤ → List Source → Result Meaning InputFault

@@ -1,20 +1,18 @@
--- a stretch of a run: what it tells, the state that it leaves, and the end
-pub mod Stretch
--- what an event brings about
-pub mod Processing
--- the run
-pub mod Run
--- the text of a trace
-pub mod TraceText
--- what every run is like
-pub mod Order
--- how a run's answer tells its end, and what was written where it was cut short
-pub mod Finish
 -- the number of a refusal, and its line
 pub mod Refusals
 -- the sources that run together
 pub mod Sources
 -- what an input means
 pub mod Meaning
--- for proofs alone
-pub mod proving
+-- of bb_run: a stretch of a run, and what an event brings about
+pub use Rattle.bb_run.specs.Stretch
+pub use Rattle.bb_run.specs.Processing
+-- of bb_run: the run, and what every run is like
+pub use Rattle.bb_run.specs.Run
+pub use Rattle.bb_run.specs.Order
+-- of bb_run: how a run ends, how its answer tells that, and what was written where it was cut short
+pub use Rattle.bb_run.specs.End
+pub use Rattle.bb_run.specs.Finish
+pub use Rattle.bb_run.specs.declared.finish.Finish as Finishes
+-- of bb_trace: the text of a trace
+pub use Rattle.bb_run.specs.TraceText

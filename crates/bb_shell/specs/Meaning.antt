@@ -2,12 +2,12 @@
 use Rattle.std.specs.Prelude.{ℕ, ℤ, List, Result, Ok}
 use Rattle.bb_basis.specs.Results.{◌>>=◌, map_err}
 use Rattle.bb_schema.specs.Reading.{schema_of}
-use Rattle.bb_board.specs.Board.{Board, new_board}
-use Rattle.bb_board.specs.Load.{loaded}
+use Rattle.bb_run.specs.Board.{Board, new_board}
+use Rattle.bb_run.specs.Load.{loaded}
 use Rattle.bb_compile.specs.Bundle.{sources_of}
 use Rattle.bb_shell.specs.declared.input_fault.InputFault.{InputFault}
 use Rattle.bb_shell.specs.declared.input_fault.InputFault.TheVariants as inputs
-use Rattle.bb_shell.specs.declared.shell.Shell.{Shell}
+use Rattle.bb_run.specs.Shell.{Shell}
 use Rattle.bb_shell.specs.Sources.{sources_for}
 
 pub record Meaning : Type 0 where

@@ -9,8 +9,8 @@ use Rattle.bb_shell.specs.declared.input_fault.InputFault.{InputFault}
 use Rattle.bb_shell.specs.declared.input_fault.InputFault.TheVariants as inputs
 use Rattle.bb_shell.specs.declared.input_fault.Part.{Part}
 use Rattle.bb_shell.specs.declared.input_fault.Part.TheVariants as parts
-use Rattle.bb_board.specs.UnitsFaults.{fault_number as units_number}
-use Rattle.bb_rules.specs.Faults.{fault_number as rule_number}
+use Rattle.bb_run.specs.UnitsFaults.{fault_number as units_number}
+use Rattle.bb_run.specs.RuleFaults.{fault_number as rule_number}
 use Rattle.bb_verify.specs.Flaws.{fault_number as flaw_number}
 
 -- the number of each refusal; 3 and 4 are kept free

@@ -6,16 +6,16 @@ use Rattle.std.specs.Str.{bytes_eq}
 use Rattle.bb_basis.specs.Results.{◌>>=◌, map_err, try_map, try_fold}
 use Rattle.bb_schema.specs.Schema.{Schema, class_named}
 use Rattle.bb_verify.specs.Accepted.{checked}
-use Rattle.bb_verify.specs.declared.part.Part.TheVariants as parts
+use Rattle.bb_verify.specs.PartType.TheVariants as parts
 use Rattle.bb_compile.specs.declared.source_code.SourceCode.{SourceCode}
-use Rattle.bb_rules.specs.declared.fault.RuleFault.TheVariants as rules
-use Rattle.bb_rules.specs.declared.source.Source.{Source}
-use Rattle.bb_rules.specs.Source.{source_of}
+use Rattle.bb_run.specs.RuleFault.TheVariants as rules
+use Rattle.bb_run.specs.Source.{Source}
+use Rattle.bb_run.specs.MadeSource.{source_of}
 use Rattle.bb_shell.specs.declared.input_fault.InputFault.{InputFault}
 use Rattle.bb_shell.specs.declared.input_fault.InputFault.TheVariants.{Verify, Rule}
 use Rattle.bb_shell.specs.declared.input_fault.Part.TheVariants.{Do}
 use Rattle.bb_shell.specs.declared.sources.AcceptedSource.{AcceptedSource}
-use Rattle.bb_shell.specs.declared.sources.TheConstants.{SOURCE_LIMIT}
+use Rattle.bb_run.specs.Limits.{SOURCE_LIMIT}
 
 -- a code that is accepted for the class of its source
 abbrev pub accepted_for : Schema → SourceCode → Option ℕ → Result AcceptedSource InputFault

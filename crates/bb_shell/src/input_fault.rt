@@ -5,9 +5,8 @@ ghost use Rattle.bb_shell.specs.declared.input_fault.InputFault.TheVariants.{Mem
 ghost use Rattle.bb_shell.specs.Refusals.{bundle_text, fault_number, part_word, refusal_text};
 
 use bb_basis::Text;
-use bb_board::UnitsFault;
 use bb_compile::BundleFault;
-use bb_rules::RuleFault;
+use bb_run::{RuleFault, UnitsFault};
 use bb_schema::SchemaFault;
 use bb_verify::VerifyFault;
 use std::alloc::{AllocError, AllocFailed, Global};

@@ -7,13 +7,10 @@ ghost use Rattle.bb_shell.specs.Sources.{accepted_source, names_of, resolved_sou
 use crate::input_fault::{InputFault, Part};
 use bb_basis::{Items, Names, Text};
 use bb_compile::{SourceCode, SourceHeader};
-use bb_rules::{RuleFault, Source};
+use bb_run::{RuleFault, SOURCE_LIMIT, Source};
 use bb_schema::Schema;
 use bb_verify::{Checked, Flaw, VerifyFault, verify};
 use std::alloc::Global;
-
-/// The greatest number of sources.
-pub const SOURCE_LIMIT: usize = 256;
 
 /// A source whose code is accepted for its class.
 #[derive(Drop)]

@@ -4,24 +4,20 @@ ghost use Rattle.std.specs.Prelude.{◌≡◌, ◌≤◌, ◌⊎◌, true, false
 ghost use Rattle.std.specs.Io.KnownBytes.{Appends};
 ghost use Rattle.bb_basis.specs.Results.{Gives, map_err};
 ghost use Rattle.bb_schema.specs.Reading.{schema_of};
-ghost use Rattle.bb_board.specs.Board.{is_fresh, new_board};
-ghost use Rattle.bb_board.specs.Load.{loaded};
+ghost use Rattle.bb_run.specs.Board.{is_fresh, new_board};
+ghost use Rattle.bb_run.specs.Load.{loaded};
 ghost use Rattle.bb_compile.specs.Bundle.{sources_of};
-ghost use Rattle.bb_shell.specs.declared.sources.TheConstants.{SOURCE_LIMIT};
-ghost use Rattle.bb_shell.specs.Finish.{WritesFront, end_of, is_write};
+ghost use Rattle.bb_run.specs.Limits.{SOURCE_LIMIT};
+ghost use Rattle.bb_run.specs.Finish.{WritesFront, end_of, is_write};
 ghost use Rattle.bb_shell.specs.Meaning.{Meaning, meaning};
-ghost use Rattle.bb_shell.specs.Run.{run};
-ghost use Rattle.bb_shell.specs.TraceText.{trace_text};
+ghost use Rattle.bb_run.specs.Run.{run};
+ghost use Rattle.bb_run.specs.TraceText.{trace_text};
 
-use crate::finish::Finish;
 use crate::input_fault::InputFault;
-use crate::output::Out;
-use crate::run::run;
-use crate::shell::Shell;
 use crate::sources::sources_for;
 use bb_basis::Items;
-use bb_board::{Board, SharedSchema, UnitsFault};
 use bb_compile::{BundleFault, SourceCode, unbundle};
+use bb_run::{Board, Finish, Out, SharedSchema, Shell, UnitsFault, run};
 use bb_schema::{Schema, SchemaFault};
 use std::alloc::Global;
 

@@ -13,7 +13,7 @@ use Rattle.bb_classes.specs.Values.{value_fits}
 use Rattle.bb_schema.specs.Schema.{Schema, default_in}
 use Rattle.bb_classes.specs.Fits.{IsHeld}
 use Rattle.bb_schema.specs.Fits.{IsSlot, Fits}
-use Rattle.bb_classes.proofs.FitLemmas.{All-at}
+use Rattle.bb_classes.proofs.Laws.{All-at}
 use Rattle.bb_units.specs.Values.{value_at, with_value}
 use Rattle.bb_units.specs.Layout.{Layout, layout_of, default_at, can_hold, defaults_of}
 use Rattle.bb_units.specs.Units.{new_unit, with_slot}

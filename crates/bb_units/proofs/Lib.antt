@@ -5,3 +5,5 @@ pub mod KindLemmas
 pub mod FitsLemmas
 pub mod KeptLemmas
 pub mod HasLemmas
+pub mod Laws
+pub mod Limits

@@ -3,11 +3,10 @@ use Rattle.std.proofs.Common.{◌≡◌, ℕ, ◌+◌, ◌*◌, ◌^◌, ◌<◌
 use Rattle.std.specs.List.{range_with_len, sum_by}
 use Rattle.std.proofs.Math.Nat.{pow-le-pow_left, pow-le-pow_right}
 use Rattle.std.proofs.lemmas.List.FromFn.{get_or-map-range_with_len, sum_by-map-range_with_len_more, length-map-range_with_len}
-use Rattle.bb_code.specs.Code.{Code}
-use Rattle.bb_verify.specs.Tables.{places}
-use Rattle.bb_verify.specs.Loops.{depth, loops}
+use Rattle.bb_effect.specs.Code.{Code, places}
+use Rattle.bb_loops.specs.Loops.{depth, loops}
 use Rattle.bb_verify.specs.Budget.{turns}
-use Rattle.bb_verify.proofs.LoopLemmas.{few_around}
+use Rattle.bb_loops.proofs.Laws.{few_around}
 
 le_trans : (a b c : ℕ) → a ≤ b → b ≤ c → a ≤ c
 le_trans a b c one two = omega (arith, one, two)

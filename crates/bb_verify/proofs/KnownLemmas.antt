@@ -4,28 +4,29 @@ use Rattle.std.specs.Prelude.{All, ◌==◌, slice_get}
 use Rattle.std.proofs.lemmas.List.Elements.{All-cons, All-head, All-tail, All-drop, All-map, All-weaker}
 use Rattle.bb_basis.specs.Results.{◌>>=◌, ok_or}
 use Rattle.bb_basis.proofs.ResultLemmas.{bind_ok, same_ok, ok_or_ok}
-use Rattle.bb_classes.specs.declared.kind.Kind.{Kind as SlotKind}
-use Rattle.bb_classes.specs.declared.kind.Kind.TheVariants as slots
-use Rattle.bb_classes.specs.declared.kind.Link.{Link as SlotLink}
-use Rattle.bb_schema.specs.Schema.{Schema}
-use Rattle.bb_pattern.specs.declared.query.Query.{Query}
-use Rattle.bb_code.specs.Code.{Code}
-use Rattle.bb_code.specs.declared.frame.Kind.{Kind}
-use Rattle.bb_code.specs.declared.frame.Kind.TheVariants.{Any, Int, Text, Bool as Truth, Label, Interval, Ref, Old, Seq}
-use Rattle.bb_code.specs.declared.op.Op.{Op}
-use Rattle.bb_code.specs.declared.op.Op.TheVariants as ops
-use Rattle.bb_verify.specs.Edges.{Edges}
-use Rattle.bb_verify.specs.declared.flaw.Flaw.{Flaw}
-use Rattle.bb_verify.specs.declared.flaw.Flaw.TheVariants as flaws
-use Rattle.bb_verify.specs.declared.frame.Frame.{Frame}
-use Rattle.bb_verify.specs.declared.part.Part.{Part}
-use Rattle.bb_verify.specs.Each.{each}
-use Rattle.bb_verify.specs.Stack.{newest}
-use Rattle.bb_verify.specs.Frame as frames
-use Rattle.bb_verify.specs.Due as dues
-use Rattle.bb_verify.specs.Effect as effects
-use Rattle.bb_verify.specs.Effect.{effect}
-use Rattle.bb_verify.specs.Part.{writes, ends_done, ends_rated, ends_answered}
+use Rattle.bb_effect.specs.SlotKind.{Kind as SlotKind}
+use Rattle.bb_effect.specs.SlotKind.TheVariants as slots
+use Rattle.bb_effect.specs.SlotLink.{Link as SlotLink}
+use Rattle.bb_effect.specs.Schema.{Schema}
+use Rattle.bb_effect.specs.Query.{Query}
+use Rattle.bb_effect.specs.Code.{Code}
+use Rattle.bb_effect.specs.Kind.{Kind}
+use Rattle.bb_effect.specs.Kind.TheVariants.{Any, Int, Text, Bool as Truth, Label, Interval, Ref, Old, Seq}
+use Rattle.bb_effect.specs.Op.{Op}
+use Rattle.bb_effect.specs.Op.TheVariants as ops
+use Rattle.bb_effect.specs.Edges.{Edges}
+use Rattle.bb_effect.specs.Flaw.{Flaw}
+use Rattle.bb_effect.specs.Flaw.TheVariants as flaws
+use Rattle.bb_effect.specs.FrameType.{Frame}
+use Rattle.bb_effect.specs.PartType.{Part}
+use Rattle.bb_effect.specs.Each.{each}
+use Rattle.bb_effect.specs.Stack.{newest}
+use Rattle.bb_effect.specs.Frame as frames
+use Rattle.bb_effect.specs.Due as dues
+use Rattle.bb_effect.specs.Kinds as kinds
+use Rattle.bb_effect.specs.Effect as effects
+use Rattle.bb_effect.specs.Effect.{effect}
+use Rattle.bb_effect.specs.Part.{writes, ends_done, ends_rated, ends_answered}
 use Rattle.bb_verify.specs.Facts.{is_known}
 
 -- ---- what is known, and what stays so
@@ -249,9 +250,9 @@ either_known : (b : Bool) (c : ℕ) → IsKnown (cond b (Old c) (Ref c))
 either_known true c = refl
 either_known false c = refl
 
-struck_known : (s : Schema) (deleted : ℕ) (k : Kind) → IsKnown k → IsKnown (dues.struck s deleted k)
-unfolding dues.struck
-struck_known s deleted (Ref c) is = either_known (dues.related s c deleted) c
+struck_known : (s : Schema) (deleted : ℕ) (k : Kind) → IsKnown k → IsKnown (kinds.struck s deleted k)
+unfolding kinds.struck
+struck_known s deleted (Ref c) is = either_known (kinds.related s c deleted) c
 struck_known s deleted Any is = is
 struck_known s deleted Int is = is
 struck_known s deleted Text is = is
@@ -267,8 +268,8 @@ delete_known s part f g known h =
     let one = bind_ok (effects.pop_live f) (λ (unit : ℕ × Frame). writes part >>= λ _. Ok (effects.after_delete s unit.0 unit.1)) g h in
     let two = bind_ok (writes part) (λ (u : Unit {0}). Ok (effects.after_delete s one.0.0 one.0.1)) g one.2 in
     let left : All IsKnown one.0.1.stack = popped_live f one.0 known one.1 in
-    let struck : All (λ k. IsKnown (dues.struck s one.0.0 k)) one.0.1.stack = All-weaker IsKnown (λ k. IsKnown (dues.struck s one.0.0 k)) (λ k. struck_known s one.0.0 k) one.0.1.stack left in
-    subst AreKnown (same_ok (effects.after_delete s one.0.0 one.0.1) g two.2) (All-map IsKnown (dues.struck s one.0.0) one.0.1.stack struck)
+    let struck : All (λ k. IsKnown (kinds.struck s one.0.0 k)) one.0.1.stack = All-weaker IsKnown (λ k. IsKnown (kinds.struck s one.0.0 k)) (λ k. struck_known s one.0.0 k) one.0.1.stack left in
+    subst AreKnown (same_ok (effects.after_delete s one.0.0 one.0.1) g two.2) (All-map IsKnown (kinds.struck s one.0.0) one.0.1.stack struck)
 
 say_known : (part : Part) (count : ℕ) (f g : Frame) → AreKnown f → effects.say part count f ≡ Ok g → AreKnown g
 unfolding effects.say

@@ -4,16 +4,16 @@ use Rattle.std.specs.Prelude.{slice_get}
 use Rattle.std.proofs.lemmas.Option.{slice_get_within}
 use Rattle.bb_basis.specs.Results.{map_err}
 use Rattle.bb_basis.proofs.ResultLemmas.{bind_ok}
-use Rattle.bb_schema.specs.Schema.{Schema}
-use Rattle.bb_code.specs.Code.{Code}
-use Rattle.bb_code.specs.declared.op.Op.{Op}
-use Rattle.bb_verify.specs.declared.part.Part.{Part}
-use Rattle.bb_verify.specs.Each.{each}
-use Rattle.bb_verify.specs.Flaws.{fault_at}
-use Rattle.bb_verify.specs.Tables.{places, in_tables, table_at, frames_in_order, tables}
-use Rattle.bb_verify.specs.Jumps.{goes_right, jump_at, jumps}
-use Rattle.bb_verify.specs.Loops.{place_due, loop_at, lowest_outside, none_outside, loops}
-use Rattle.bb_verify.proofs.EachLemmas.{range_at, no_fault}
+use Rattle.bb_effect.specs.Schema.{Schema}
+use Rattle.bb_effect.specs.Code.{Code, places}
+use Rattle.bb_effect.specs.Op.{Op}
+use Rattle.bb_effect.specs.PartType.{Part}
+use Rattle.bb_effect.specs.Each.{each}
+use Rattle.bb_effect.specs.Flaws.{fault_at}
+use Rattle.bb_verify.specs.Tables.{in_tables, table_at, frames_in_order, tables}
+use Rattle.bb_loops.specs.Jumps.{check_target, jump_at, jumps}
+use Rattle.bb_loops.specs.Loops.{place_due, loop_at, lowest_outside, none_outside, loops}
+use Rattle.bb_effect.proofs.Laws.{range_at, no_fault}
 
 module _ (s : Schema) (part : Part) (code : Code) (place : ℕ) (op : Op) (is : slice_get code.ops place ≡ Some op) where
   inside : place < length code.ops
@@ -27,12 +27,12 @@ module _ (s : Schema) (part : Part) (code : Code) (place : ℕ) (op : Op) (is : 
       let here : map_err (fault_at place) (in_tables s code op) ≡ Ok tt = rw (is, table_at) at passed in
       no_fault (fault_at place) (in_tables s code op) tt here
 
-  pub jump_passed : jumps code ≡ Ok tt → goes_right (length code.ops) place op ≡ Ok tt
+  pub jump_passed : jumps code ≡ Ok tt → check_target (length code.ops) place op ≡ Ok tt
   unfolding jumps jump_at
   jump_passed h =
       let passed : jump_at code place ≡ Ok tt = range_at (jump_at code) (length code.ops) place inside h in
-      let here : map_err (fault_at place) (goes_right (length code.ops) place op) ≡ Ok tt = rw (is, jump_at) at passed in
-      no_fault (fault_at place) (goes_right (length code.ops) place op) tt here
+      let here : map_err (fault_at place) (check_target (length code.ops) place op) ≡ Ok tt = rw (is, jump_at) at passed in
+      no_fault (fault_at place) (check_target (length code.ops) place op) tt here
 
   pub loop_passed : loops code ≡ Ok tt → place_due code place (Some op) ≡ Ok tt
   unfolding loops loop_at

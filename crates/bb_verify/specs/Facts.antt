@@ -1,20 +1,20 @@
 -- What holds at each place of a code that is accepted (of this project).
 use Rattle.std.specs.Prelude.{◌≡◌, ◌⊎◌, ◌≤◌, ℕ, ◌+◌, Bool, true, false, List, length, All, slice_get, Option, Some, Result, Ok}
 use Rattle.bb_basis.specs.Results.{◌>>=◌}
-use Rattle.bb_schema.specs.Schema.{Schema}
-use Rattle.bb_code.specs.Code.{Code}
-use Rattle.bb_code.specs.declared.frame.Kind.{Kind}
-use Rattle.bb_code.specs.declared.frame.Kind.TheVariants.{Any}
-use Rattle.bb_code.specs.declared.op.Op.{Op}
-use Rattle.bb_verify.specs.declared.flaw.Flaw.{Flaw}
-use Rattle.bb_verify.specs.declared.frame.Frame.{Frame}
-use Rattle.bb_verify.specs.declared.part.Part.{Part}
-use Rattle.bb_verify.specs.Part.{units_of}
-use Rattle.bb_verify.specs.Kinds.{frame_weakens}
-use Rattle.bb_verify.specs.Effect.{effect}
+use Rattle.bb_effect.specs.Schema.{Schema}
+use Rattle.bb_effect.specs.Code.{Code}
+use Rattle.bb_effect.specs.Kind.{Kind}
+use Rattle.bb_effect.specs.Kind.TheVariants.{Any}
+use Rattle.bb_effect.specs.Op.{Op}
+use Rattle.bb_effect.specs.Flaw.{Flaw}
+use Rattle.bb_effect.specs.FrameType.{Frame}
+use Rattle.bb_effect.specs.PartType.{Part}
+use Rattle.bb_effect.specs.Part.{units_of}
+use Rattle.bb_effect.specs.Kinds.{frame_weakens}
+use Rattle.bb_effect.specs.Effect.{effect}
 use Rattle.bb_verify.specs.Tables.{in_tables}
-use Rattle.bb_verify.specs.Jumps.{target_of, goes_right}
-use Rattle.bb_verify.specs.Loops.{place_due}
+use Rattle.bb_loops.specs.Jumps.{target_of, check_target}
+use Rattle.bb_loops.specs.Loops.{place_due}
 use Rattle.bb_verify.specs.Places.{entry_frame}
 
 -- the frames that an op leaves for the next place, and for the place that it goes to
@@ -47,7 +47,7 @@ pub record Facts (s : Schema) (part : Part) (code : Code) (frames : List Frame) 
   pub entry : StandsAt s frames 0 (entry_frame part code.locals)
   -- the operands of each op name entries of their tables, and it goes where it may, for the jumps and for the loops
   pub tables : (place : ℕ) (op : Op) → slice_get code.ops place ≡ Some op → in_tables s code op ≡ Ok tt
-  pub jumps : (place : ℕ) (op : Op) → slice_get code.ops place ≡ Some op → goes_right (length code.ops) place op ≡ Ok tt
+  pub jumps : (place : ℕ) (op : Op) → slice_get code.ops place ≡ Some op → check_target (length code.ops) place op ≡ Ok tt
   pub loops : (place : ℕ) (op : Op) → slice_get code.ops place ≡ Some op → place_due code place (Some op) ≡ Ok tt
   -- each op has an effect on the frame of its place, and what it leaves may stand where it leads
   pub leaves : (place : ℕ) (op : Op) (f : Frame) → slice_get code.ops place ≡ Some op → slice_get frames place ≡ Some f

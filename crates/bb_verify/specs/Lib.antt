@@ -1,29 +1,7 @@
--- one test after another
-pub mod Each
--- what is wrong with a code
-pub mod Flaws
--- what the parts of a source may do
-pub mod Part
--- the entries of a stack
-pub mod Stack
--- the locals and the stack of a frame
-pub mod Frame
--- which kinds may stand where others are declared
-pub mod Kinds
--- which kinds ops have to meet
-pub mod Due
--- the frames that an op leaves
-pub mod Edges
--- what an op does to a frame
-pub mod Effect
 -- tables, and the operands that index them
 pub mod Tables
--- where ops may go
-pub mod Jumps
 -- the frames of all places
 pub mod Places
--- the loops
-pub mod Loops
 -- how many steps a code can make
 pub mod Budget
 -- which codes are accepted
@@ -32,3 +10,23 @@ pub mod Accepted
 pub mod Facts
 -- for models alone
 pub mod proving
+-- where ops may go
+pub use Rattle.bb_loops.specs.Jumps
+pub use Rattle.bb_loops.specs.Loops
+pub use Rattle.bb_loops.specs.declared.loops.TheConstants as LoopLimits
+-- what each op does to a frame
+pub use Rattle.bb_effect.specs.Due
+pub use Rattle.bb_effect.specs.Edges
+pub use Rattle.bb_effect.specs.Effect
+-- what is known at a place
+pub use Rattle.bb_effect.specs.Part
+pub use Rattle.bb_effect.specs.Stack
+pub use Rattle.bb_effect.specs.Frame
+pub use Rattle.bb_effect.specs.Kinds
+pub use Rattle.bb_effect.specs.FrameType
+pub use Rattle.bb_effect.specs.PartType
+-- one test after another, and what is wrong with a code
+pub use Rattle.bb_effect.specs.Each
+pub use Rattle.bb_effect.specs.Flaws
+pub use Rattle.bb_effect.specs.Flaw
+pub use Rattle.bb_effect.specs.VerifyFault

@@ -1,31 +1,26 @@
 -- The frames of all places of a code (of this project).
-use Rattle.std.specs.Prelude.{ℕ, ◌+◌, ◌-◌, nat_le, List, [], ◌∷◌, ◌++◌, length, reverse, replicate, set, slice_get}
+use Rattle.std.specs.Prelude.{ℕ, ◌+◌, ◌-◌, nat_le, List, [], ◌∷◌, ◌++◌, length, replicate, set, slice_get}
 use Rattle.std.specs.Prelude.{Option, Some, None, option_and_then, Result, Ok, Err, if◌then◌else◌}
 use Rattle.bb_basis.specs.Results.{◌>>=◌, ok_or, map_err, try_fold}
-use Rattle.bb_schema.specs.Schema.{Schema}
-use Rattle.bb_code.specs.Code.{Code}
-use Rattle.bb_code.specs.declared.frame.Frame.{Frame as DeclaredFrame}
-use Rattle.bb_code.specs.declared.frame.FrameEntry.{FrameEntry}
-use Rattle.bb_code.specs.declared.frame.Kind.TheVariants.{Any}
-use Rattle.bb_code.specs.declared.op.Op.{Op}
-use Rattle.bb_verify.specs.declared.flaw.Flaw.{Flaw}
-use Rattle.bb_verify.specs.declared.flaw.Flaw.TheVariants as flaws
-use Rattle.bb_verify.specs.declared.flaw.VerifyFault.{VerifyFault}
-use Rattle.bb_verify.specs.declared.frame.Frame.{Frame}
-use Rattle.bb_verify.specs.declared.part.Part.{Part}
+use Rattle.bb_effect.specs.Schema.{Schema}
+use Rattle.bb_effect.specs.Code.{Code, places}
+use Rattle.bb_effect.specs.FrameEntry.{FrameEntry}
+use Rattle.bb_effect.specs.Kind.TheVariants.{Any}
+use Rattle.bb_effect.specs.Op.{Op}
+use Rattle.bb_effect.specs.Flaw.{Flaw}
+use Rattle.bb_effect.specs.Flaw.TheVariants as flaws
+use Rattle.bb_effect.specs.VerifyFault.{VerifyFault}
+use Rattle.bb_effect.specs.FrameType.{Frame}
+use Rattle.bb_effect.specs.PartType.{Part}
 use Rattle.bb_verify.specs.declared.walk.Walk.{Walk}
-use Rattle.bb_verify.specs.Flaws.{fault_at}
-use Rattle.bb_verify.specs.Part.{units_of}
-use Rattle.bb_verify.specs.Kinds.{frame_weakens}
-use Rattle.bb_verify.specs.Effect.{effect}
-use Rattle.bb_verify.specs.Tables.{places}
-use Rattle.bb_verify.specs.Jumps.{target_of}
+use Rattle.bb_effect.specs.Flaws.{fault_at}
+use Rattle.bb_effect.specs.Part.{units_of}
+use Rattle.bb_effect.specs.Frame.{frame_of}
+use Rattle.bb_effect.specs.Kinds.{frame_weakens}
+use Rattle.bb_effect.specs.Effect.{effect}
+use Rattle.bb_loops.specs.Jumps.{target_of}
 
 -- ---- declared frames
-
--- a declared frame, the newest entry of its stack first
-abbrev pub frame_of : DeclaredFrame → Frame
-frame_of f = record { locals = f.locals; stack = reverse f.stack }
 
 -- the list of all places, with declared frames put at theirs
 unfoldable pub with_frames : List (Option Frame) → List FrameEntry → List (Option Frame)

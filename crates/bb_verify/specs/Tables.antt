@@ -1,26 +1,21 @@
 -- The tables of a code, and the operands that index them (of this project).
 use Rattle.std.specs.Prelude.{ℕ, ◌+◌, nat_le, nat_lt, ◌||◌, List, [], ◌∷◌, length, slice_get, Some, None, Result}
 use Rattle.std.specs.Prelude.{Ok, Err, if◌then◌else◌}
-use Rattle.std.specs.List.{range_with_len}
 use Rattle.bb_basis.specs.Results.{◌>>=◌, map_err}
-use Rattle.bb_schema.specs.Schema.{Schema, name_of_label}
-use Rattle.bb_code.specs.Code.{Code}
-use Rattle.bb_code.specs.declared.frame.FrameEntry.{FrameEntry}
-use Rattle.bb_code.specs.declared.frame.Kind.{Kind}
-use Rattle.bb_code.specs.declared.frame.Kind.TheVariants.{Any, Label, Ref, Old, Seq}
-use Rattle.bb_code.specs.declared.op.Op.{Op}
-use Rattle.bb_code.specs.declared.op.Op.TheVariants as ops
-use Rattle.bb_verify.specs.declared.flaw.Flaw.{Flaw}
-use Rattle.bb_verify.specs.declared.flaw.Flaw.TheVariants.{Table}
-use Rattle.bb_verify.specs.declared.flaw.VerifyFault.{VerifyFault}
-use Rattle.bb_verify.specs.declared.part.Part.{Part}
-use Rattle.bb_verify.specs.Each.{each}
-use Rattle.bb_verify.specs.Flaws.{fault_at}
-use Rattle.bb_verify.specs.Part.{units_of}
-
--- all places of a code
-abbrev pub places : Code → List ℕ
-places code = range_with_len 0 (length code.ops)
+use Rattle.bb_effect.specs.Schema.{Schema, name_of_label}
+use Rattle.bb_effect.specs.Code.{Code, places}
+use Rattle.bb_effect.specs.FrameEntry.{FrameEntry}
+use Rattle.bb_effect.specs.Kind.{Kind}
+use Rattle.bb_effect.specs.Kind.TheVariants.{Any, Label, Ref, Old, Seq}
+use Rattle.bb_effect.specs.Op.{Op}
+use Rattle.bb_effect.specs.Op.TheVariants as ops
+use Rattle.bb_effect.specs.Flaw.{Flaw}
+use Rattle.bb_effect.specs.Flaw.TheVariants.{Table}
+use Rattle.bb_effect.specs.VerifyFault.{VerifyFault}
+use Rattle.bb_effect.specs.PartType.{Part}
+use Rattle.bb_effect.specs.Each.{each}
+use Rattle.bb_effect.specs.Flaws.{fault_at}
+use Rattle.bb_effect.specs.Part.{units_of}
 
 -- a table of so many has an entry of this number
 abbrev pub entry : (count number : ℕ) → Result (Unit {0}) Flaw

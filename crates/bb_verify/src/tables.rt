@@ -1,13 +1,13 @@
 //! The tables of a code, and the operands that index them. It is the verifier's first phase.
 
 ghost use Rattle.std.specs.Prelude.{◌≡◌};
-ghost use Rattle.bb_verify.specs.Each.{each};
-ghost use Rattle.bb_verify.specs.Tables.{entry, known_kind, known_entry, known_frame, places_rise, enough_locals, frames_in_order, known_label, in_tables, table_at, tables, places};
+ghost use Rattle.bb_effect.specs.Each.{each};
+ghost use Rattle.bb_verify.specs.Tables.{entry, known_kind, known_entry, known_frame, places_rise, enough_locals, frames_in_order, known_label, in_tables, table_at, tables};
+ghost use Rattle.bb_effect.specs.Code.{places};
 
-use crate::flaw::{Flaw, VerifyFault};
-use crate::part::Part;
-use bb_code::{Code, FrameEntry, Kind, LabelId, LabelSetId, Op, Place};
-use bb_schema::Schema;
+use bb_effect::{
+    Code, Flaw, FrameEntry, Kind, LabelId, LabelSetId, Op, Part, Place, Schema, VerifyFault,
+};
 
 // A table of so many has an entry of this number.
 fn entry(count: usize, number: usize) -> Result<(), Flaw>

@@ -1,7 +1,6 @@
 //! How far the pass over the places is. It changes from place to place.
 
-use crate::frame::Frame;
-use crate::packed_frames::PackedFrames;
+use bb_effect::{Frame, PackedFrames};
 
 /// The frames of the places so far, and what the last of their ops leaves for the next place.
 #[derive(Drop)]

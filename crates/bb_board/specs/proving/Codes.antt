@@ -3,8 +3,8 @@ use Rattle.std.specs.Prelude.{Bool, refl}
 use Rattle.std.specs.Coded.{Coded, code_by, coded×, coded_bool}
 use Rattle.bb_schema.specs.Schema.{Schema}
 use Rattle.bb_schema.specs.contracts.schema.Schema as schemas
-use Rattle.bb_board.specs.declared.world.World.{World}
-use Rattle.bb_board.specs.contracts.world.World as worlds
+use Rattle.bb_world.specs.declared.world.World.{World}
+use Rattle.bb_world.specs.contracts.world.World as worlds
 use Rattle.bb_board.specs.Board.{Board}
 
 abbrev pub board_code : Coded Board

@@ -1,13 +1,13 @@
 -- What is popped and pushed where a state suits a frame.
 use Rattle.std.specs.Prelude.{◌≡◌, ℕ, List, ◌∷◌, Result, Ok}
 use Rattle.bb_schema.specs.Schema.{Schema}
-use Rattle.bb_board.specs.declared.world.World.{World}
-use Rattle.bb_code.specs.declared.frame.Kind.{Kind}
-use Rattle.bb_verify.specs.declared.frame.Frame.{Frame}
-use Rattle.bb_machine.specs.declared.halt.Halt.{Halt}
-use Rattle.bb_machine.specs.declared.value.Value.{Value}
-use Rattle.bb_machine.specs.declared.value.Value.TheVariants.{Unit as One}
-use Rattle.bb_machine.specs.Machine.{Machine, with_stack}
+use Rattle.bb_board.specs.State.{World}
+use Rattle.bb_code.specs.Kind.{Kind}
+use Rattle.bb_verify.specs.FrameType.{Frame}
+use Rattle.bb_step.specs.Halt.{Halt}
+use Rattle.bb_step.specs.Values.{Value}
+use Rattle.bb_step.specs.Values.TheVariants.{Unit as One}
+use Rattle.bb_step.specs.Machine.{Machine, with_stack}
 use Rattle.bb_machine.specs.Kinds.{IsOf, HasKind, Suits}
 
 -- the stack of a state has a newest entry of the kind, and what is left suits the frame that is left

@@ -1,6 +1,6 @@
 use Rattle.std.proofs.Common.{sym, ap, ◌∙◌, arith}
-use Rattle.bb_pattern.specs.View.{tree_of}
-use Rattle.bb_pattern.proofs.Parts.{parts_below_and, parts_below_or}
+use Rattle.bb_code.specs.View.{tree_of}
+use Rattle.bb_code.proofs.Laws.{parts_below_and, parts_below_or}
 use Rattle.bb_asm.proofs.text.+writing.Goals as goal
 
 pub write_pattern-write_parts-requires : goal.write_pattern-write_parts-requires

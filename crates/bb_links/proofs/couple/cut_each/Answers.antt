@@ -11,7 +11,7 @@ loop-partner-init c = (cut_none c.args.side c.args.unit c.args.pairs.now, c.requ
 
 pub loop-partner-preserved : goal.loop-partner-preserved
 loop-partner-preserved c =
-    let gone = c.remove.ensures ∙ ap (λ p. without_pair p c.loop-partner.pairs) c.pair_of.ensures in (
+    let gone = c.remove.ensures ∙ ap (λ p. without_pair p c.loop-partner.pairs) c.pair.ensures in (
       cut_more c.args.side c.args.unit c.args.partners.now c.loop-partner.partner-index 0 _ c.args.pairs.now c.loop-partner.pairs c.remove.new.self c.loop-partner-test.true refl c.loop-partner.invariant.0 gone,
       follows_opposite c.args.side c.loop-partner.far c.remove-in-loop-partner.new.self c.args.unit _ c.loop-partner.pairs c.remove.new.self c.loop-partner.invariant.1 gone c.remove-in-loop-partner.ensures,
     )

@@ -17,7 +17,7 @@ loop-slot-preserved c =
     let lt : c.loop-slot.slot < length slots = omega (arith, c.loop-slot-test.true, c.slot_count-slot-end.ensures) in
     let singular : Singular = record { a = c.is_single.result; b = c.is_single-in-loop-slot.result } in
     let one = c.new.ensures ∙ (ap (λ a. no_pairs (record { a = a; b = c.is_single-in-loop-slot.result })) c.is_single.ensures
-    ∙ ap (λ b. no_pairs (record { a = is_single slots c.loop-slot.slot; b = b })) (c.is_single-in-loop-slot.ensures ∙ ap (is_single slots) c.inverse_of.ensures)) in
+    ∙ ap (λ b. no_pairs (record { a = is_single slots c.loop-slot.slot; b = b })) (c.is_single-in-loop-slot.ensures ∙ ap (is_single slots) c.inverse.ensures)) in
     one_first slots c.loop-slot.slot c.loop-slot.couples.items c.push.new.self.items c.new.result _ (sym c.comes_first.ensures ∙ c.if-not-comes_first.false) lt c.loop-slot.invariant one c.in_ok-push.ensures.items
 
 pub returns : goal.returns

@@ -1,7 +1,7 @@
 use Rattle.std.proofs.Common.{◌≡◌, ◌≤◌, [], length}
 use Rattle.std.specs.Vec.Iter.{into_iter_items}
 use Rattle.bb_basis.specs.Results.{try_fold}
-use Rattle.bb_shell.specs.declared.sources.TheConstants.{SOURCE_LIMIT}
+use Rattle.bb_run.specs.Limits.{SOURCE_LIMIT}
 use Rattle.bb_shell.specs.Sources.{names_of, source_after}
 use Rattle.bb_shell.proofs.sources.fit_all.Given as goal
 

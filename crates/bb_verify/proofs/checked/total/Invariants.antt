@@ -1,7 +1,7 @@
 use Rattle.std.proofs.Common.{◌≡◌, ◌*◌, ◌≤◌}
 use Rattle.std.specs.List.{range_with_len, sum_by}
 use Rattle.bb_verify.specs.Budget.{turns}
-use Rattle.bb_verify.specs.Loops.{depth}
+use Rattle.bb_loops.specs.Loops.{depth}
 use Rattle.bb_verify.proofs.checked.total.Given as goal
 
 abbrev pub invariant-loop-place : goal.invariant-loop-place

@@ -1,6 +1,6 @@
 use Rattle.std.proofs.Common.{ap, ◌∙◌, set}
-use Rattle.bb_code.specs.declared.frame.Kind.TheVariants.{Old}
-use Rattle.bb_verify.proofs.StackLemmas.{second_set}
+use Rattle.bb_effect.specs.Kind.TheVariants.{Old}
+use Rattle.bb_verify.proofs.EntryLemmas.{second_set}
 use Rattle.bb_verify.proofs.places.two_units.Goals as goal
 
 pub returns : goal.returns

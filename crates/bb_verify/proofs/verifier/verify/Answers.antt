@@ -1,5 +1,5 @@
 use Rattle.std.proofs.Common.{sym, subst}
-use Rattle.bb_code.specs.Code.{IsCode}
+use Rattle.bb_effect.specs.Code.{IsCode}
 use Rattle.bb_verify.specs.Accepted.{Checked}
 use Rattle.bb_verify.specs.Facts.{Facts}
 use Rattle.bb_verify.proofs.FactLemmas.{facts_by}

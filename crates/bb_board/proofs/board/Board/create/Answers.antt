@@ -1,4 +1,4 @@
-use Rattle.bb_board.proofs.KeepLemmas.{create_keeps}
+use Rattle.bb_world.proofs.Laws.{create_keeps}
 use Rattle.bb_board.proofs.board.Board.create.Goals as goal
 
 pub invariant_of-self : goal.invariant_of-self

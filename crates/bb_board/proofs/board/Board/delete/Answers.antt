@@ -2,9 +2,8 @@ use Rattle.std.proofs.Common.{◌≡◌, true, ap, ◌∙◌, rules}
 use Rattle.bb_schema.specs.Schema.{Schema}
 use Rattle.bb_schema.specs.Fits as schemas
 use Rattle.bb_units.specs.Units.{is_live}
-use Rattle.bb_board.specs.Links.{after_delete}
-use Rattle.bb_board.proofs.KeepLemmas.{class_there}
-use Rattle.bb_board.proofs.DeleteLemmas.{delete_keeps}
+use Rattle.bb_world.specs.Links.{after_delete}
+use Rattle.bb_world.proofs.Laws.{class_there, delete_keeps}
 use Rattle.bb_board.proofs.board.Board.delete.Goals as goal
 
 pub delete-requires-clause-class : goal.delete-requires-clause-class

@@ -1,8 +1,8 @@
 use Rattle.std.proofs.Common.{◌≡◌, ◌≤◌, ℕ, List, length, subst, sym}
 use Rattle.std.proofs.lemmas.Result.{IfOk-weaker}
 use Rattle.bb_units.specs.declared.units.TheConstants.{UNIT_LIMIT}
-use Rattle.bb_query.specs.Answer.{answers, answer}
-use Rattle.bb_board.proofs.FewLemmas.{few_pass}
+use Rattle.bb_world.specs.Answer.{answers, answer}
+use Rattle.bb_world.proofs.Laws.{few_pass}
 use Rattle.bb_board.proofs.board.Board.find.Goals as goal
 
 pub returns-clause-few : goal.returns-clause-few

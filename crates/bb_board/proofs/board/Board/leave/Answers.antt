@@ -1,6 +1,6 @@
 use Rattle.std.proofs.Common.{◌≡◌, true, rules}
 use Rattle.bb_units.specs.Units.{is_live}
-use Rattle.bb_board.proofs.SpaceLemmas.{leave_keeps}
+use Rattle.bb_world.proofs.Laws.{leave_keeps}
 use Rattle.bb_board.proofs.board.Board.leave.Goals as goal
 
 pub invariant_of-self : goal.invariant_of-self

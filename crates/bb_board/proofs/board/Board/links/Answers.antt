@@ -1,5 +1,5 @@
 use Rattle.bb_schema.specs.Fits as schemas
-use Rattle.bb_board.proofs.FewLemmas.{few_ends}
+use Rattle.bb_world.proofs.Laws.{few_ends}
 use Rattle.bb_board.proofs.board.Board.links.Goals as goal
 
 pub returns-clause-few : goal.returns-clause-few

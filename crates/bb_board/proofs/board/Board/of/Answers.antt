@@ -1,6 +1,6 @@
 use Rattle.std.proofs.Common.{ap, ◌∙◌}
-use Rattle.bb_board.specs.World.{empty_world}
-use Rattle.bb_board.proofs.KeepLemmas.{empty_fits}
+use Rattle.bb_world.specs.World.{empty_world}
+use Rattle.bb_world.proofs.Laws.{empty_fits}
 use Rattle.bb_board.proofs.board.Board.of.Goals as goal
 
 pub invariant_of-result : goal.invariant_of-result

@@ -1,7 +1,7 @@
 use Rattle.std.proofs.Common.{rules, ap, ◌∙◌}
 use Rattle.bb_schema.specs.Schema.{Schema}
-use Rattle.bb_board.specs.World.{after_set}
-use Rattle.bb_board.proofs.KeepLemmas.{set_keeps}
+use Rattle.bb_world.specs.World.{after_set}
+use Rattle.bb_world.proofs.Laws.{set_keeps}
 use Rattle.bb_board.proofs.board.Board.set.Goals as goal
 
 pub invariant_of-self : goal.invariant_of-self

@@ -1,8 +1,9 @@
 use Rattle.std.proofs.Common.{◌≡◌, ◌∙◌, ap, sym, true, Option, Some, None, List, ℕ}
 use Rattle.std.specs.Prelude.{option_map, slice_get}
 use Rattle.bb_schema.specs.declared.couple.Side.{Side}
+use Rattle.bb_schema.specs.Couples.{pair_of}
 use Rattle.bb_links.specs.declared.couple.Singular.{Singular}
-use Rattle.bb_links.specs.Pairs.{pair_of, is_singular, old_pair}
+use Rattle.bb_links.specs.Pairs.{is_singular, old_pair}
 use Rattle.bb_links.specs.Links.{partners}
 use Rattle.bb_links.proofs.PairLemmas.{find-first}
 use Rattle.bb_links.proofs.couple.Couple.old_pair.Goals as goal
@@ -20,4 +21,4 @@ pub returns : goal.returns
 returns c =
     let now = c.args.self.now in
     let there = ap (λ (l : List ℕ). slice_get l 0) (sym c.partners.ensures) ∙ sym c.in_ok-partner.ensures.value in
-    ap (λ (p : ℕ × ℕ). Some p) c.pair_of.ensures ∙ sym (by_first now.singular c.args.side c.args.unit now.pairs (Some c.in_ok-partner.partner.now) (sym c.is_singular.ensures ∙ c.if-not-is_singular.false) there)
+    ap (λ (p : ℕ × ℕ). Some p) c.pair.ensures ∙ sym (by_first now.singular c.args.side c.args.unit now.pairs (Some c.in_ok-partner.partner.now) (sym c.is_singular.ensures ∙ c.if-not-is_singular.false) there)

@@ -1,0 +1,94 @@
+//! Headers: a kind, a name, and options, each a word and its value. The parts of a file (parts.rt) begin with one.
+
+use crate::fault::Fault;
+use std::alloc::Global;
+use std::str::FromStr;
+
+/// The words of a header.
+#[derive(Drop)]
+pub struct Header<'a> {
+    /// The kind of the entry, or the word that a second text begins with.
+    pub kind: &'a str,
+    /// The word behind the kind, or nothing.
+    pub name: &'a str,
+    /// The words behind that.
+    options: Vec<&'a str>,
+    /// Whether the case has to be reported.
+    pub wrong: bool,
+}
+
+impl<'a> Header<'a> {
+    /// The header that a line is.
+    pub fn of(alloc: Global, line: &'a str) -> Result<Header<'a>, Fault> {
+        let mut words = line.split(' ').filter(|word| !word.is_empty());
+        let kind = words.next().unwrap_or("");
+        let name = words.next().unwrap_or("");
+        let mut options = words.collect::<Vec<&'a str>>(alloc)?;
+        let wrong = options.last().copied() == Some("wrong");
+        if wrong {
+            let _ = options.pop();
+        }
+        Ok(Header {
+            kind,
+            name,
+            options,
+            wrong,
+        })
+    }
+
+    /// There is a name, and the options are all among these.
+    pub fn check(&self, allowed: &[&str]) -> Result<(), Fault> {
+        if !is_name(self.name) {
+            return Err(Fault::Name);
+        }
+        if self.options.len() % 2 != 0 {
+            return Err(Fault::Options);
+        }
+        for (index, word) in self.options.iter().enumerate() {
+            if index % 2 == 0 && !allowed.iter().any(|option| *option == *word) {
+                return Err(Fault::Options);
+            }
+        }
+        Ok(())
+    }
+
+    /// The value of an option.
+    pub fn option(&self, option: &str) -> Option<&'a str> {
+        let mut words = self.options.iter().copied();
+        for _ in 0..self.options.len() {
+            let word = words.next()?;
+            let value = words.next()?;
+            if word == option {
+                return Some(value);
+            }
+        }
+        None
+    }
+
+    /// The number that an option has, or what stands for it.
+    pub fn number<T: FromStr + Drop>(&self, option: &str, absent: T) -> Result<T, Fault>
+    where
+        T::Err: Drop,
+    {
+        match self.option(option) {
+            Some(word) => number(word),
+            None => Ok(absent),
+        }
+    }
+}
+
+/// The number that a word is.
+pub fn number<T: FromStr>(word: &str) -> Result<T, Fault>
+where
+    T::Err: Drop,
+{
+    word.parse::<T>().ok().ok_or(Fault::Number)
+}
+
+/// Whether a word has letters, digits and `_` alone, one at least.
+pub(crate) fn is_name(word: &str) -> bool {
+    !word.is_empty()
+        && word
+            .bytes()
+            .all(|byte| byte.is_ascii_alphanumeric() || byte == b'_')
+}

@@ -1,0 +1,9 @@
+//! Where the ops of a code may go: its jumps and its loops. The verifier calls it, before it looks at what ops do.
+#![tactic(auto)]
+
+mod jumps;
+mod loop_tables;
+mod loops;
+
+pub use jumps::{check_jumps, target_of};
+pub use loops::{NESTING_LIMIT, check_loops};

@@ -1,0 +1,89 @@
+-- Ops that change the blackboard are safe.
+use Rattle.std.proofs.Common.{◌≡◌, inl, ℕ, ◌<◌, Bool, false, true, not, cond, length, List, ◌∷◌, Option, Some, None, Result, Ok, Err, refl, sym, subst, arith}
+use Rattle.std.specs.Prelude.{nat_lt}
+use Rattle.std.proofs.lemmas.Bool.Decides.{nat_tests}
+use Rattle.bb_basis.specs.Results.{◌>>=◌}
+use Rattle.bb_basis.proofs.ResultLemmas.{bind_ok, same_ok}
+use Rattle.bb_units.specs.Units.{Units, is_live}
+use Rattle.bb_space.specs.Spaces.{is_member}
+use Rattle.bb_board.specs.Board.{Board, with_world}
+use Rattle.bb_board.specs.Fits.{Fits}
+use Rattle.bb_board.specs.Spaces.{after_leave}
+use Rattle.bb_board.specs.State.{World}
+use Rattle.bb_board.specs.Outlives.{Outlives}
+use Rattle.bb_board.proofs.Laws.{leave_keeps}
+use Rattle.bb_code.specs.Code.{Code}
+use Rattle.bb_code.specs.Op.{Op}
+use Rattle.bb_code.specs.Op.TheVariants as ops
+use Rattle.bb_verify.specs.Flaw.{Flaw}
+use Rattle.bb_verify.specs.Flaw.TheVariants as flaws
+use Rattle.bb_verify.specs.FrameType.{Frame}
+use Rattle.bb_verify.specs.PartType.{Part}
+use Rattle.bb_verify.specs.Due as dues
+use Rattle.bb_verify.specs.Part.{writes}
+use Rattle.bb_verify.specs.Effect as effects
+use Rattle.bb_verify.specs.Effect.{effect}
+use Rattle.bb_step.specs.Halt.{Halt}
+use Rattle.bb_step.specs.Values.{Value}
+use Rattle.bb_step.specs.Values.TheVariants as values
+use Rattle.bb_step.specs.Machine.{Machine, with_stack}
+use Rattle.bb_step.specs.Changing.{State, leave, right_space}
+use Rattle.bb_step.specs.Step.{step}
+use Rattle.bb_machine.specs.Kinds.{Suits}
+use Rattle.bb_machine.specs.Safe.{edges_of, IsSafe}
+use Rattle.bb_machine.proofs.LiveLemmas.{is_live_of}
+use Rattle.bb_machine.proofs.UnitLemmas.{pops_live, pop_live_on}
+use Rattle.bb_machine.proofs.changing.OutliveLemmas.{Persists, suits_persists}
+use Rattle.bb_machine.proofs.EdgeLemmas.{on_edges}
+
+-- a change that leaves the units as they were
+pub same_outlives : (u v : Units) → v ≡ u → Outlives u v
+same_outlives u v is = subst (λ (x : Units). Outlives u x) (sym is) (record { next = omega arith; classes = λ n c lt at. at })
+
+pub same_persists : (u v : Units) → v ≡ u → Persists u v
+same_persists u v is = subst (λ (x : Units). Persists u x) (sym is) (λ n c at. at)
+
+left_units : (w : World) (n space : ℕ) (b : Bool) → not (is_member w.spaces space n) ≡ b → (after_leave w n space).units ≡ w.units
+left_units w n space true is = rw is refl
+left_units w n space false is = rw is refl
+
+leave_on : (b : Board) (space : ℕ) (m : Machine) (n : ℕ) (rest : List Value) → m.stack ≡ values.Unit n ∷ rest → is_live b.world.units n ≡ true → nat_lt space (length b.schema.spaces) ≡ true
+    → leave b space m ≡ Ok (with_stack rest m, with_world b (after_leave b.world n space))
+unfolding leave right_space
+leave_on b space m n rest is alive there = rw (pop_live_on b m n rest is alive, there) refl
+
+known_by : (there : Bool) (u : Unit {0}) → (let r : Result (Unit {0}) Flaw = cond there (Ok tt) (Err flaws.Space) in r) ≡ Ok u → there ≡ true
+known_by true u h = refl
+known_by false u h = absurd cc
+
+within : (n long : ℕ) → nat_lt n long ≡ true → n < long
+within n long lt = grind (arith, nat_tests)
+
+module _ (part : Part) (code : Code) (b : Board) (fits : Fits b.schema b.world) (m : Machine) (f : Frame) (suits : Suits b.schema b.world m f) (e : Option Frame × Option Frame) where
+  -- an op that is safe at the state
+  abbrev Safe : Op → Type 0
+  Safe op = edges_of b.schema part code op f ≡ Ok e → IsSafe b.schema m.place op e (step code op (m, b))
+
+  -- a change that fits the schema, and after which what was known of values still holds, leads on
+  pub changes : (op : Op) (g : Frame) (left : Machine) (w : World) (r : Result State Halt) → (Some g, None) ≡ e → left.place ≡ m.place → r ≡ Ok (left, with_world b w) → Fits b.schema w
+      → Outlives b.world.units w.units → Persists b.world.units w.units → Suits b.schema b.world left g → IsSafe b.schema m.place op e r
+  changes op g left w r edges same is kept outlives persists left_suits =
+      subst (λ (x : Result State Halt). IsSafe b.schema m.place op e x) (sym is)
+      (subst (λ (x : Option Frame × Option Frame). IsSafe b.schema m.place op x (Ok (left, with_world b w))) edges
+      (record { schema = refl; fits = kept; edge = inl (same, suits_persists b.schema b.world w outlives persists left g left_suits) }))
+
+  pub leave_safe : (space : ℕ) → Safe (ops.Leave space)
+  unfolding step effect effects.leave dues.known_space
+  leave_safe space h =
+      let out = on_edges (effects.leave b.schema part space f) e h in
+      let unit = bind_ok (effects.pop_live f) (λ (u : ℕ × Frame). dues.known_space b.schema space >>= λ _. writes part >>= λ _. Ok u.1) out.0 out.1 in
+      let known = bind_ok (dues.known_space b.schema space) (λ (u : Unit {0}). writes part >>= λ _. Ok unit.0.1) out.0 unit.2 in
+      let may = bind_ok (writes part) (λ (u : Unit {0}). Ok unit.0.1) out.0 known.2 in
+      let p = pops_live b.schema b.world m f unit.0 unit.1 suits in
+      let there = known_by (nat_lt space (length b.schema.spaces)) known.0 known.1 in
+      let live = is_live_of b.schema b.world fits.units unit.0.0 p.n p.of in
+      let same = left_units b.world p.n space (not (is_member b.world.spaces space p.n)) refl in
+      changes (ops.Leave space) out.0 (with_stack p.rest m) (after_leave b.world p.n space) (leave b space m) out.2 refl (leave_on b space m p.n p.rest p.stack live there)
+      (leave_keeps b.schema b.world fits p.n space live (within space (length b.schema.spaces) there))
+      (same_outlives b.world.units (after_leave b.world p.n space).units same) (same_persists b.world.units (after_leave b.world p.n space).units same)
+      (subst (Suits b.schema b.world (with_stack p.rest m)) (same_ok unit.0.1 out.0 may.2) p.suits)

@@ -1,6 +1,0 @@
-use Rattle.std.proofs.Common.{◌≡◌, ◌-◌}
-use Rattle.bb_machine.specs.Activation.{activation, steps_from}
-use Rattle.bb_machine.proofs.execution.execute.Given as goal
-
-abbrev pub invariant-loop-steps : goal.invariant-loop-steps
-invariant-loop-steps l = activation l.limit l.code l.fn.entry l.fn.board ≡ steps_from (l.limit - l.steps) l.steps l.code (l.machine, l.board)

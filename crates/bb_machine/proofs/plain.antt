@@ -1,0 +1,4 @@
+-- Ops on plain values and on locals.
+pub mod LocalLemmas
+pub mod PlainLemmas
+pub mod PlainSteps

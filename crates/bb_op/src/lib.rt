@@ -1,0 +1,23 @@
+//! What a code is made of: its ops, its declared frames and loops, its parts and their limits, and what may be wrong with
+//! a code. bb_code spells it, and the verifier's crates stand on it by way of bb_code.
+#![tactic(auto)]
+
+mod flaw;
+mod frame;
+mod op;
+mod parts;
+mod within;
+
+pub use bb_pattern::{
+    ClassId, DimValue, LabelId, LabelSetId, NODE_LIMIT, Node, OPERAND_LIMIT, OperandKind, Pattern,
+    PatternFault, Query, Relation, SpaceId,
+};
+pub use bb_schema::{Schema, SlotId};
+pub use flaw::{Flaw, VerifyFault};
+pub use frame::{Frame, FrameEntry, Kind, Loop};
+pub use op::{Bound, Calculation, Comparison, Division, LinkChange, LocalId, Logic, Op, Place};
+pub use parts::{
+    CodeParts, FRAME_LIMIT, LOCAL_LIMIT, LOOP_LIMIT, OP_LIMIT, QUERY_LIMIT, SAID_LIMIT,
+    STACK_LIMIT, TEXT_BYTES_LIMIT, TEXT_LIMIT,
+};
+pub use within::are_parts;

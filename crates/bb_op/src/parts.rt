@@ -1,0 +1,50 @@
+//! The parts of a code, and their limits. A code is made of parts that are within them.
+
+use crate::frame::{FrameEntry, Loop};
+use crate::op::Op;
+use bb_basis::{Items, Text};
+use bb_pattern::Query;
+
+/// The greatest number of locals of a code.
+pub const LOCAL_LIMIT: u8 = 32;
+
+/// The greatest number of texts of a code.
+pub const TEXT_LIMIT: u16 = 1024;
+
+/// The greatest number of bytes of a text.
+pub const TEXT_BYTES_LIMIT: u16 = 65535;
+
+/// The greatest number of queries of a code.
+pub const QUERY_LIMIT: u16 = 256;
+
+/// The greatest number of declared frames of a code.
+pub const FRAME_LIMIT: u16 = 4096;
+
+/// The greatest number of loops of a code.
+pub const LOOP_LIMIT: u16 = 1024;
+
+/// The greatest number of ops of a code.
+pub const OP_LIMIT: u16 = 4096;
+
+/// The greatest number of values that one op says.
+pub const SAID_LIMIT: u8 = 16;
+
+/// The greatest number of entries of the stack of an activation.
+pub const STACK_LIMIT: usize = 64;
+
+/// The parts of a code.
+#[derive(Debug, Drop)]
+pub struct CodeParts {
+    /// The number of locals, from 1 to `LOCAL_LIMIT`.
+    pub locals: u8,
+    /// At most `TEXT_LIMIT` of at most `TEXT_BYTES_LIMIT` bytes each.
+    pub texts: Items<Text>,
+    /// At most `QUERY_LIMIT`.
+    pub queries: Items<Query>,
+    /// At most `FRAME_LIMIT`, each with a kind for each local.
+    pub frames: Items<FrameEntry>,
+    /// At most `LOOP_LIMIT`.
+    pub loops: Items<Loop>,
+    /// From 1 to `OP_LIMIT`.
+    pub ops: Items<Op>,
+}

@@ -1,0 +1,12 @@
+-- worked runs
+mod Rows
+-- segments, one after another
+pub mod TellLemmas
+-- the response of one source after another
+pub mod ResponseLemmas
+-- notes that may come one after another
+pub mod OrderLemmas
+-- what is pending by the notes
+pub mod PendingLemmas
+-- each stretch of a run goes on orderly
+pub mod OrderlyRuns

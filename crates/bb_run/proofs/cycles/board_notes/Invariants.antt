@@ -1,0 +1,10 @@
+use Rattle.std.proofs.Common.{◌≡◌, ◌++◌, map}
+use Rattle.std.specs.Vec.Iter.{into_iter_items}
+use Rattle.bb_trace.specs.declared.note.Note.TheVariants.{Board}
+use Rattle.bb_run.proofs.cycles.board_notes.Given as goal
+
+abbrev pub invariant-loop-note : goal.invariant-loop-note
+invariant-loop-note l = record {
+  moved : l.notes.items ++ map Board (into_iter_items l.note-iterator) ≡ map Board l.fn.noted.items;
+  same : l.last ≡ l.fn.last;
+}

@@ -1,0 +1,8 @@
+use Rattle.std.proofs.Common.{drop}
+use Rattle.bb_run.specs.Processing.{response, response_by}
+use Rattle.bb_run.proofs.ResponseLemmas.{HasNoted}
+use Rattle.bb_run.proofs.processing.respond.Given as goal
+
+abbrev pub invariant-loop-place : goal.invariant-loop-place
+invariant-loop-place l =
+    HasNoted l.fn.notes.items l.notes.items (response l.shell l.event l.fn.state) (response_by l.shell.schema l.event l.place (drop l.place l.sources) l.state)

@@ -1,0 +1,39 @@
+-- How a run's answer tells its end.
+use Rattle.std.specs.Prelude.{ℕ, Bool, true, false, List, take, Option, Some, None, ⊤}
+use Rattle.std.specs.Io.KnownBytes.{Appends}
+use Rattle.bb_trace.specs.declared.end.End.{End}
+use Rattle.bb_trace.specs.declared.end.End.TheVariants as ends
+use Rattle.bb_run.specs.declared.finish.Finish.{Finish}
+use Rattle.bb_run.specs.declared.finish.Finish.TheVariants as finishes
+use Rattle.bb_trace.specs.declared.shell.Shell.{Shell}
+use Rattle.bb_run.specs.Stretch.{Stretch}
+use Rattle.bb_trace.specs.TraceText.{trace_text}
+
+-- the end that the machine's run has, if the run was not cut short
+abbrev pub end_of : Finish → Option End
+end_of finishes.Quiescence = Some ends.Quiescence
+end_of finishes.Limit = Some ends.Limit
+end_of finishes.Full = Some ends.Full
+end_of (finishes.Stuck reason) = Some (ends.Stuck reason)
+end_of finishes.Memory = None
+end_of finishes.Write = None
+
+-- the output failed
+abbrev pub is_write : Finish → Bool
+is_write finishes.Quiescence = false
+is_write finishes.Limit = false
+is_write finishes.Full = false
+is_write finishes.Memory = false
+is_write finishes.Write = true
+is_write (finishes.Stuck reason) = false
+
+-- what was written of a run that was cut short: the first segments, or, where the output failed, the front of the text
+abbrev pub WritesFront : Shell → Stretch → Finish → (old new : Option (List ℕ)) → Type 0
+WritesFront shell run finishes.Quiescence old new = ⊤
+WritesFront shell run finishes.Limit old new = ⊤
+WritesFront shell run finishes.Full old new = ⊤
+WritesFront shell run finishes.Memory old new =
+    (count : ℕ) × Appends old new (trace_text shell (take count run.segments))
+WritesFront shell run finishes.Write old new =
+    (count : ℕ) × Appends old new (take count (trace_text shell run.segments))
+WritesFront shell run (finishes.Stuck reason) old new = ⊤

@@ -1,0 +1,27 @@
+-- a stretch of a run: what it tells, the state that it leaves, and the end
+pub mod Stretch
+-- what an event brings about
+pub mod Processing
+-- the run
+pub mod Run
+-- what every run is like
+pub mod Order
+-- how a run's answer tells its end, and what was written where it was cut short
+pub mod Finish
+-- for proofs alone
+pub mod proving
+-- of bb_trace: what a run goes by, what it tells, and the text of that
+pub use Rattle.bb_trace.specs.TraceText
+pub use Rattle.bb_trace.specs.declared.end.End
+pub use Rattle.bb_trace.specs.declared.note.Note
+pub use Rattle.bb_trace.specs.declared.shell.Shell
+pub use Rattle.bb_trace.specs.declared.shell.TheConstants as Limits
+-- of bb_board: the blackboard that a run begins with, and the document of its first units
+pub use Rattle.bb_trace.specs.Board
+pub use Rattle.bb_trace.specs.Load
+pub use Rattle.bb_trace.specs.UnitsFaults
+-- of bb_rules: sources, and how they are made
+pub use Rattle.bb_trace.specs.MadeSource
+pub use Rattle.bb_trace.specs.RuleFault
+pub use Rattle.bb_trace.specs.RuleFaults
+pub use Rattle.bb_trace.specs.Source

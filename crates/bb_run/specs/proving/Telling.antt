@@ -1,0 +1,130 @@
+-- What a part of the run's code did, against what the definitions say. No public contract cites it.
+use Rattle.std.specs.Prelude.{◌≡◌, ℕ, List, [], ◌∷◌, ◌++◌, Option, Some, None, Result, Ok, Err}
+use Rattle.std.specs.Io.KnownBytes.{Appends}
+use Rattle.bb_agenda.specs.declared.activation.Activation.{Activation}
+use Rattle.bb_trace.specs.declared.end.End.{End}
+use Rattle.bb_trace.specs.declared.end.End.TheVariants.{Quiescence}
+use Rattle.bb_trace.specs.declared.halt.Halt.{Halt}
+use Rattle.bb_trace.specs.declared.halt.Halt.TheVariants as halts
+use Rattle.bb_trace.specs.declared.note.Note.{Note}
+use Rattle.bb_run.specs.declared.cycles.Decision.{Decision}
+use Rattle.bb_run.specs.declared.cycles.Decision.TheVariants.{Act, Over}
+use Rattle.bb_trace.specs.declared.shell.Shell.{Shell}
+use Rattle.bb_run.specs.declared.state.State.{State}
+use Rattle.bb_run.specs.Stretch.{Stretch}
+use Rattle.bb_run.specs.Processing.{Response}
+use Rattle.bb_run.specs.Run.{choice, wait}
+use Rattle.bb_trace.specs.TraceText.{trace_text}
+
+-- ---- notes
+
+-- one note, if there is one
+abbrev pub option_list : Option Note → List Note
+option_list None = []
+option_list (Some note) = note ∷ []
+
+-- the notes were appended, and the state and the end are the response's
+pub record IsResponse (r : Response) (old new : List Note) (s : State) (e : Option End) : Type 0 where
+  pub notes : new ≡ old ++ r.notes
+  pub state : s ≡ r.state
+  pub end : e ≡ r.end
+
+-- ---- segments
+
+-- what the output took, if it tells it, and what waits on the page
+pub record Place : Type 0 where
+  pub taken : Option (List ℕ)
+  pub page : List ℕ
+
+abbrev pub at : Option (List ℕ) → List ℕ → Place
+at taken page = record { taken = taken; page = page }
+
+-- of the segments that were told the first were written, and the page has the text of the others
+pub record HasWritten (shell : Shell) (start : Option (List ℕ)) (place : Place) (told : List (List Note)) : Type 0 where
+  pub written : List (List Note)
+  pub waiting : List (List Note)
+  pub all : told ≡ written ++ waiting
+  pub appended : Appends start place.taken (trace_text shell written)
+  pub page_is : place.page ≡ trace_text shell waiting
+
+-- the first of these segments were written
+pub record WroteFirst (shell : Shell) (start taken : Option (List ℕ)) (segments : List (List Note)) : Type 0 where
+  pub first : List (List Note)
+  pub rest : List (List Note)
+  pub all : segments ≡ first ++ rest
+  pub appended : Appends start taken (trace_text shell first)
+
+-- the front of the text of these segments was written
+pub record WroteFront (shell : Shell) (start taken : Option (List ℕ)) (segments : List (List Note)) : Type 0 where
+  pub front : List ℕ
+  pub rest : List ℕ
+  pub all : trace_text shell segments ≡ front ++ rest
+  pub appended : Appends start taken front
+
+-- what was written of these segments where the run was cut short in them
+abbrev pub WroteUntil : Shell → (start taken : Option (List ℕ)) → List (List Note) → Halt → Type 0
+WroteUntil shell start taken segments halts.Memory = WroteFirst shell start taken segments
+WroteUntil shell start taken segments halts.Write = WroteFront shell start taken segments
+
+-- these segments were told, whatever was told before
+abbrev pub Told : Shell → Place → Place → List (List Note) → Type 0
+Told shell old new segments =
+    (start : Option (List ℕ)) (told : List (List Note)) → HasWritten shell start old told
+    → HasWritten shell start new (told ++ segments)
+
+-- the run was cut short in these segments, whatever was told before
+abbrev pub CutIn : Shell → Place → Place → List (List Note) → Halt → Type 0
+CutIn shell old new segments halt =
+    (start : Option (List ℕ)) (told : List (List Note)) → HasWritten shell start old told
+    → WroteUntil shell start new.taken (told ++ segments) halt
+
+-- these segments were told, or the run was cut short in them
+abbrev pub Tells : {X : Type 0} → Shell → Place → Place → List (List Note) → Result X Halt → Type 0
+Tells shell old new segments (Ok x) = Told shell old new segments
+Tells shell old new segments (Err halt) = CutIn shell old new segments halt
+
+-- the state and the end are those that a stretch leaves
+pub record Leaves (p : Stretch) (s : State) (e : Option End) : Type 0 where
+  pub state : s ≡ p.state
+  pub end : e ≡ p.end
+
+-- a stretch was told, with this state and this end after it, or the run was cut short in it
+abbrev pub MakesBy : {X : Type 0} → (X → Option End) → Shell → Place → Place → Stretch → State → Result X Halt → Type 0
+MakesBy end_of shell old new p s (Ok x) = Told shell old new p.segments × Leaves p s (end_of x)
+MakesBy end_of shell old new p s (Err halt) = CutIn shell old new p.segments halt
+
+-- the run may end in it
+abbrev pub Makes : Shell → Place → Place → Stretch → State → Result (Option End) Halt → Type 0
+Makes = MakesBy (λ e. e)
+
+-- the run ends in it
+abbrev pub Finishes : Shell → Place → Place → Stretch → State → Result End Halt → Type 0
+Finishes = MakesBy (λ e. Some e)
+
+-- what was written of a whole run that began here
+abbrev pub Writes : {X : Type 0} → Shell → (taken given : Option (List ℕ)) → List (List Note) → Result X Halt → Type 0
+Writes shell taken given segments (Ok x) = Appends taken given (trace_text shell segments)
+Writes shell taken given segments (Err halt) = WroteUntil shell taken given segments halt
+
+-- ---- decisions
+
+-- what a choice after quiescence comes to
+abbrev pub decision_by : Option End → Option Activation → Decision
+decision_by (Some end) choice = Over end
+decision_by None None = Over Quiescence
+decision_by None (Some a) = Act a
+
+-- what comes after the wait before a cycle
+abbrev pub decision_after : Shell → Stretch → Decision
+decision_after shell p = decision_by p.end (choice shell p.state)
+
+-- the wait before a cycle was told, with this state after it, and this decision comes
+pub record Waited (shell : Shell) (old new : Place) (s t : State) (decision : Decision) : Type 0 where
+  pub told : Told shell old new (wait shell s).segments
+  pub state : t ≡ (wait shell s).state
+  pub decision_is : decision ≡ decision_after shell (wait shell s)
+
+-- the same, or the run was cut short in the wait
+abbrev pub Waits : Shell → Place → Place → (s t : State) → Result Decision Halt → Type 0
+Waits shell old new s t (Ok decision) = Waited shell old new s t decision
+Waits shell old new s t (Err halt) = CutIn shell old new (wait shell s).segments halt

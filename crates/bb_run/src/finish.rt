@@ -1,0 +1,36 @@
+//! How a run ends, also where it is cut short. `run` returns it.
+
+use bb_trace::{End, Stuck};
+
+/// How a run ends.
+#[derive(Clone, Copy, Debug, PartialEq, Eq)]
+pub enum Finish {
+    /// Nothing can be chosen, and quiescence changed nothing.
+    Quiescence,
+    /// As many cycles as the limit were made, and something can be chosen still.
+    Limit,
+    /// The blackboard or the agenda is full.
+    Full,
+    /// Memory ran out.
+    Memory,
+    /// The output took no more.
+    Write,
+    /// An activation could not go on.
+    Stuck(Stuck),
+}
+
+impl From<End> for Finish {
+    ghost use Rattle.std.specs.Prelude.{◌≡◌, Some};
+    ghost use Rattle.bb_run.specs.Finish.{end_of};
+
+    ghost from_gives = { λ end finish. end_of finish ≡ Some end };
+
+    fn from(end: End) -> Finish {
+        match end {
+            End::Quiescence => Finish::Quiescence,
+            End::Limit => Finish::Limit,
+            End::Full => Finish::Full,
+            End::Stuck(reason) => Finish::Stuck(reason),
+        }
+    }
+}

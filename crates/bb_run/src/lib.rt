@@ -1,0 +1,17 @@
+//! The run of a blackboard: events trigger sources, activations are pending on the agenda, and a cycle executes the
+//! best one. What it tells is written by bb_trace.
+#![tactic(auto)]
+
+mod cycles;
+mod finish;
+mod laws;
+mod processing;
+mod state;
+
+pub use bb_trace::{
+    Board, End, Out, Pipe, RuleFault, SOURCE_LIMIT, SharedSchema, Shell, Source, Stuck, UnitsFault,
+    put_all,
+};
+pub use cycles::run;
+pub use finish::Finish;
+pub use laws::runs_are_orderly;

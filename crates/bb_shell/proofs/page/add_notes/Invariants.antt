@@ -1,6 +1,0 @@
-use Rattle.std.proofs.Common.{◌≡◌, ◌++◌, take, string_bytes}
-use Rattle.bb_shell.specs.TraceText.{segment_text}
-use Rattle.bb_shell.proofs.page.add_notes.Given as goal
-
-abbrev pub invariant-loop-note : goal.invariant-loop-note
-invariant-loop-note l = string_bytes l.text ≡ string_bytes l.fn.text ++ segment_text l.shell (take l.note-index l.notes)

@@ -1,0 +1,4 @@
+-- what crates above use
+pub mod Laws
+pub mod SaidLemmas
+pub mod ExecutionLemmas

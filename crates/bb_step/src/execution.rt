@@ -1,0 +1,84 @@
+//! The execution of a code. `trial` calls it, which says more of it (bb_machine).
+
+ghost use Rattle.std.specs.Prelude.{◌≡◌, ◌≤◌, ◌⊎◌, Err, IfOk, length, slice_get};
+ghost use Rattle.bb_basis.specs.Results.{Gives};
+ghost use Rattle.bb_state.specs.Limits.{UNIT_LIMIT};
+ghost use Rattle.bb_state.specs.declared.outcome.Stop.TheVariants.{Memory as OutOfMemory};
+ghost use Rattle.bb_step.specs.Activation.{activation, halted};
+ghost use Rattle.bb_state.specs.Machine.{units_of};
+
+use crate::step::step;
+use bb_code::{Code, Op};
+use bb_state::{Board, Entry, Halt, Machine, Outcome, Stop, Stuck};
+use std::alloc::Global;
+
+/// Executes a code from its first place for an entry, at most `limit` steps, on a blackboard, and returns how it came
+/// out. What it changes is noted there. Each op is tested as it is met, so any code can be executed, and what it
+/// declares of frames and loops is not read. `Memory` may come at any op, after changes of those before it.
+pub fn execute(
+    alloc: Global,
+    code: &Code,
+    board: &mut Board,
+    entry: Entry,
+    limit: u128,
+) -> Result<Outcome, Stop>
+    ensures outcome { Gives OutOfMemory (λ o. o) result (activation limit code.now entry board.old).0 }
+    ensures few { IfOk result (λ o. o.found ≤ UNIT_LIMIT) }
+    ensures board { (result ≡ Err OutOfMemory) ⊎ (board.new ≡ (activation limit code.now entry board.old).1) }
+{
+    if (code.locals() as usize) < unit_count(entry) {
+        return halted(Halt::Stuck(Stuck::Missing), 0, 0);
+    }
+    let mut machine = Machine::new(alloc, code, entry)?;
+    let ops = code.ops();
+    for steps in 0..limit {
+        let place = machine.place();
+        let found = machine.found();
+        let Some(op) = op_at(ops, place) else {
+            return halted(Halt::Stuck(Stuck::Outside), steps, found);
+        };
+        machine.go_to(place + 1);
+        if let Err(halt) = step(&mut machine, alloc, code, op, board) {
+            return halted(halt, steps + 1, found);
+        }
+    }
+    halted(Halt::Stuck(Stuck::Turns), limit, machine.found())
+}
+
+// How an execution came out where an op was the last of so many steps.
+fn halted(halt: Halt, steps: u128, found: u32) -> Result<Outcome, Stop>
+    ensures gives { result ≡ halted halt steps found }
+    ensures found { IfOk result (λ o. o.found ≡ found) }
+{
+    match halt {
+        Halt::Answered(answer) => Ok(Outcome {
+            answer,
+            steps,
+            found,
+        }),
+        Halt::Full => Err(Stop::Full { steps, found }),
+        Halt::Stuck(reason) => Err(Stop::Stuck {
+            reason,
+            steps,
+            found,
+        }),
+        Halt::Memory => Err(Stop::Memory),
+    }
+}
+
+// The number of units that an execution begins with.
+fn unit_count(entry: Entry) -> usize
+    ensures { result ≡ length (units_of entry) }
+{
+    match entry.ev {
+        None => 1,
+        Some(_) => 2,
+    }
+}
+
+// The op at a place, if there is one.
+fn op_at(ops: &[Op], place: usize) -> Option<Op>
+    ensures { result ≡ slice_get ops.now place }
+{
+    ops.get(place).copied()
+}

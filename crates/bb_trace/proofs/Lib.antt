@@ -1,0 +1,3 @@
+-- what an output took
+pub mod OutLemmas
+pub mod Limits

@@ -1,0 +1,23 @@
+-- the text of a trace
+pub mod TraceText
+-- what the writing of a page does
+pub mod Page
+-- of bb_board: the blackboard, what happens on it and what it notes, and the document of its first units
+pub use Rattle.bb_board.specs.Board
+pub use Rattle.bb_board.specs.World
+pub use Rattle.bb_board.specs.Events
+pub use Rattle.bb_board.specs.Load
+pub use Rattle.bb_board.specs.UnitsFaults
+pub use Rattle.bb_board.specs.Change
+pub use Rattle.bb_board.specs.ChangeKind
+pub use Rattle.bb_board.specs.Event
+pub use Rattle.bb_board.specs.Note as BoardNote
+pub use Rattle.bb_board.specs.Said
+-- of bb_rules: sources, how they are made, and which events trigger them
+pub use Rattle.bb_rules.specs.Match
+pub use Rattle.bb_rules.specs.Source as MadeSource
+pub use Rattle.bb_rules.specs.Faults as RuleFaults
+pub use Rattle.bb_rules.specs.declared.clause.Clause
+pub use Rattle.bb_rules.specs.declared.fault.RuleFault
+pub use Rattle.bb_rules.specs.declared.source.Act
+pub use Rattle.bb_rules.specs.declared.source.Source

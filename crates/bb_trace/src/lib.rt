@@ -1,0 +1,22 @@
+//! What a run tells: its notes, their lines, and the page on which the lines wait to be written. Crates above take the
+//! parts of blackboards and sources that a run is made of from here too.
+#![tactic(auto)]
+
+mod end;
+mod halt;
+mod line;
+mod note;
+mod output;
+mod page;
+mod shell;
+
+pub use bb_board::{Board, Event, Note as BoardNote, SharedSchema, UnitsFault};
+pub use bb_state::Stuck;
+pub use bb_rules::{Act, RuleFault, Source};
+pub use end::End;
+pub use halt::Halt;
+pub use line::{add_board_note, add_value};
+pub use note::Note;
+pub use output::{Out, Pipe, put_all};
+pub use page::{PAGE_LIMIT, Page};
+pub use shell::{SOURCE_LIMIT, Shell};

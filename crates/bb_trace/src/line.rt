@@ -1,0 +1,255 @@
+//! The lines of a trace. The page (page.rt) adds one for each note. Cases of executions (bb_cases) have the same.
+
+ghost use Rattle.std.specs.Prelude.{◌≡◌, ◌++◌, ◌∷◌, [], OnOk, string_bytes};
+ghost use Rattle.bb_board.specs.Note.TheVariants.{Said as says};
+ghost use Rattle.bb_trace.specs.declared.end.End.TheVariants as ends;
+ghost use Rattle.bb_trace.specs.TraceText.{board_note_text, change_text, choice_text, end_text, ended_text, event_text};
+ghost use Rattle.bb_trace.specs.TraceText.{line, numbered_text, said_text, slot_name, source_name, trigger_text, value_text};
+
+use crate::end::End;
+use crate::note::Note;
+use crate::shell::Shell;
+use bb_agenda::Activation;
+use bb_board::{Change, Event, Said};
+use bb_state::Stuck;
+use bb_rules::Source;
+use bb_schema::{ClassId, Schema, SlotId, UnitId, Value};
+use serde_json::Value as Json;
+use std::alloc::{AllocError, Global};
+use std::fmt::Write;
+
+/// Appends the line of a note.
+pub(crate) fn add_note(
+    alloc: Global,
+    text: &mut String,
+    shell: &Shell,
+    note: &Note,
+) -> Result<(), AllocError>
+    ensures { OnOk result (string_bytes text.new ≡ string_bytes text.old ++ line shell.now note.now) }
+{
+    match note {
+        Note::Board(note) => add_board_note(alloc, text, shell.schema.get(), note),
+        Note::Triggered(activation) => { add_trigger(text, shell.sources.as_slice(), *activation) }
+        Note::Chosen {
+            cycle,
+            activation,
+            rating,
+        } => add_choice(text, shell.sources.as_slice(), *cycle, *activation, *rating),
+        Note::Ended {
+            steps,
+            found,
+            budget,
+        } => add_end(text, *steps, *found, *budget),
+        Note::Finished(end) => add_finish(text, *end),
+    }
+}
+
+/// Appends the line of what a blackboard noted.
+pub fn add_board_note(
+    alloc: Global,
+    text: &mut String,
+    schema: &Schema,
+    note: &bb_board::Note,
+) -> Result<(), AllocError>
+    ensures { OnOk result (string_bytes text.new
+        ≡ string_bytes text.old ++ (board_note_text schema.now note.now ++ 10 ∷ [])) }
+{
+    match note {
+        bb_board::Note::Event(event) => add_event(text, schema, *event),
+        bb_board::Note::Said(values) => add_said(alloc, text, schema, values.as_slice()),
+    }
+}
+
+fn add_event(text: &mut String, schema: &Schema, event: Event) -> Result<(), AllocError>
+    ensures { OnOk result (string_bytes text.new
+        ≡ string_bytes text.old ++ (event_text schema.now event ++ 10 ∷ [])) }
+{
+    match event {
+        Event::Change {
+            unit,
+            class,
+            change,
+        } => add_change(text, schema, unit, class, change),
+        Event::Quiescence => writeln!(text, "quiescence"),
+    }
+}
+
+fn add_change(
+    text: &mut String,
+    schema: &Schema,
+    unit: UnitId,
+    class: ClassId,
+    change: Change,
+) -> Result<(), AllocError>
+    ensures { OnOk result (string_bytes text.new
+        ≡ string_bytes text.old ++ (change_text schema.now unit class change ++ 10 ∷ [])) }
+{
+    match change {
+        Change::Create => {
+            let name = schema.class_name(class).unwrap_or("");
+            writeln!(text, "create {unit} {name}")
+        }
+        Change::Delete => writeln!(text, "delete {unit}"),
+        Change::Update(slot) => {
+            let name = slot_name(schema, slot);
+            writeln!(text, "set {unit}.{name}")
+        }
+        Change::Link { slot, partner } => {
+            let name = slot_name(schema, slot);
+            writeln!(text, "link {unit}.{name} {partner}")
+        }
+        Change::Unlink { slot, partner } => {
+            let name = slot_name(schema, slot);
+            writeln!(text, "unlink {unit}.{name} {partner}")
+        }
+        Change::Enter(space) => {
+            let name = schema.space_name(space).unwrap_or("");
+            writeln!(text, "enter {unit} {name}")
+        }
+        Change::Leave(space) => {
+            let name = schema.space_name(space).unwrap_or("");
+            writeln!(text, "leave {unit} {name}")
+        }
+    }
+}
+
+fn slot_name(schema: &Schema, slot: SlotId) -> &str
+    ensures { result.now ≡ slot_name schema.now slot }
+{
+    schema.slot_name(slot).unwrap_or("")
+}
+
+fn add_said(
+    alloc: Global,
+    text: &mut String,
+    schema: &Schema,
+    values: &[Said],
+) -> Result<(), AllocError>
+    ensures { OnOk result (string_bytes text.new
+        ≡ string_bytes text.old ++ (board_note_text schema.now (says values.now) ++ 10 ∷ [])) }
+{
+    text.push_str("say")?;
+    for value in values {
+        text.push_str(" ")?;
+        add_said_value(alloc, text, schema, value)?;
+    }
+    text.push_str("\n")?;
+    Ok(())
+}
+
+fn add_said_value(
+    alloc: Global,
+    text: &mut String,
+    schema: &Schema,
+    said: &Said,
+) -> Result<(), AllocError>
+    ensures { OnOk result (string_bytes text.new ≡ string_bytes text.old ++ said_text schema.now said.now) }
+{
+    match said {
+        Said::Value(value) => add_value(alloc, text, schema, value),
+        Said::Unit(unit) => write!(text, "#{unit}"),
+    }
+}
+
+/// Appends a value, as `say` tells it.
+pub fn add_value(
+    alloc: Global,
+    text: &mut String,
+    schema: &Schema,
+    value: &Value,
+) -> Result<(), AllocError>
+    ensures { OnOk result (string_bytes text.new ≡ string_bytes text.old ++ value_text schema.now value.now) }
+{
+    match value {
+        Value::Int(number) => write!(text, "{number}"),
+        Value::Text(value) => {
+            let json = Json::String(String::from_str(alloc, value.as_str())?).to_string(alloc)?;
+            text.push_str(json.as_str())?;
+            Ok(())
+        }
+        Value::Bool(true) => write!(text, "true"),
+        Value::Bool(false) => write!(text, "false"),
+        Value::Label(set, label) => {
+            let name = schema.label_name(*set, *label).unwrap_or("");
+            write!(text, "{name}")
+        }
+        Value::Interval(low, high) => write!(text, "[{low},{high}]"),
+    }
+}
+
+fn source_name(sources: &[Source], place: u16) -> &str
+    ensures { result.now ≡ source_name sources.now place }
+{
+    match sources.get(place as usize) {
+        Some(source) => source.name.as_str(),
+        None => "",
+    }
+}
+
+fn add_trigger(
+    text: &mut String,
+    sources: &[Source],
+    activation: Activation,
+) -> Result<(), AllocError>
+    ensures { OnOk result (string_bytes text.new
+        ≡ string_bytes text.old ++ (trigger_text sources.now activation ++ 10 ∷ [])) }
+{
+    write!(text, "trigger ")?;
+    add_rated(text, sources, activation, activation.base)
+}
+
+// Appends the number of an activation, its source, unit and rating, and ends the line.
+fn add_rated(
+    text: &mut String,
+    sources: &[Source],
+    activation: Activation,
+    rating: i64,
+) -> Result<(), AllocError>
+    ensures { OnOk result (string_bytes text.new
+        ≡ string_bytes text.old ++ (numbered_text sources.now activation rating ++ 10 ∷ [])) }
+{
+    let name = source_name(sources, activation.source);
+    let number = activation.number;
+    let unit = activation.unit;
+    writeln!(text, "{number} {name} unit {unit} rating {rating}")
+}
+
+fn add_choice(
+    text: &mut String,
+    sources: &[Source],
+    cycle: u64,
+    activation: Activation,
+    rating: i64,
+) -> Result<(), AllocError>
+    ensures { OnOk result (string_bytes text.new
+        ≡ string_bytes text.old ++ (choice_text sources.now cycle activation rating ++ 10 ∷ [])) }
+{
+    write!(text, "cycle {cycle} act ")?;
+    add_rated(text, sources, activation, rating)
+}
+
+fn add_end(text: &mut String, steps: u128, found: u32, budget: u128) -> Result<(), AllocError>
+    ensures { OnOk result (string_bytes text.new
+        ≡ string_bytes text.old ++ (ended_text steps found budget ++ 10 ∷ [])) }
+{
+    writeln!(text, "end steps {steps} found {found} budget {budget}")
+}
+
+fn add_finish(text: &mut String, end: End) -> Result<(), AllocError>
+    ensures { OnOk result (string_bytes text.new ≡ string_bytes text.old ++ (end_text end ++ 10 ∷ [])) }
+{
+    match end {
+        End::Quiescence => writeln!(text, "finish quiescence"),
+        End::Limit => writeln!(text, "finish limit"),
+        End::Full => writeln!(text, "finish full"),
+        End::Stuck(reason) => add_stuck(text, reason),
+    }
+}
+
+fn add_stuck(text: &mut String, reason: Stuck) -> Result<(), AllocError>
+    ensures { OnOk result (string_bytes text.new
+        ≡ string_bytes text.old ++ (end_text (ends.Stuck reason) ++ 10 ∷ [])) }
+{
+    let number = reason.number();
+    writeln!(text, "finish stuck {number}")
+}

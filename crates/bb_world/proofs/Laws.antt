@@ -1,0 +1,9 @@
+-- The lemmas on worlds that crates above use: each change of a world that fits, under its conditions, leaves one.
+pub use Rattle.bb_world.proofs.ClassLemmas.{same_class_of}
+pub use Rattle.bb_world.proofs.KeepLemmas.{class_there, empty_fits, create_keeps, set_keeps}
+pub use Rattle.bb_world.proofs.LinkLemmas.{MayLink, may_link_facts, link_keeps, unlink_keeps}
+pub use Rattle.bb_world.proofs.SpaceLemmas.{MayEnter, may_enter_facts, enter_keeps, leave_keeps}
+pub use Rattle.bb_world.proofs.DeleteLemmas.{delete_keeps}
+pub use Rattle.bb_world.proofs.FewLemmas.{few_ends, few_pass}
+pub use Rattle.bb_world.proofs.NoteLemmas.{noted_more}
+pub use Rattle.bb_world.proofs.SideLemmas.{inverse_end}

@@ -1,0 +1,18 @@
+-- what a query answers
+pub use Rattle.bb_query.specs.Answer
+-- what events and changes are of
+pub mod Events
+-- the state of a blackboard, and what each change makes of it
+pub mod World
+-- what spaces are told of a unit
+pub mod Told
+-- which spaces units enter and leave
+pub mod Spaces
+-- what links change, and what a deleted unit takes along
+pub mod Links
+-- what a change may be made of
+pub mod May
+-- what holds of a blackboard at any time
+pub mod Fits
+-- what only the contracts of private functions and proofs speak of
+pub mod proving
