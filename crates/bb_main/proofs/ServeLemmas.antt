@@ -7,6 +7,9 @@ use Rattle.std.proofs.lemmas.List.{take-map, take-append-le, take_all}
 use Rattle.std.proofs.Math.Seq.{take-append-add, take-length}
 use Rattle.std.specs.Io.KnownBytes.{Appends, Consumes}
 use Rattle.std.proofs.KnownBytes.{Appends-nil, Appends-trans}
+use Rattle.std.specs.Option.{option_map_or}
+use Rattle.bb_shell.specs.End.{End}
+use Rattle.bb_shell.specs.End.TheVariants as ends
 use Rattle.bb_shell.specs.Finishes.{Finish}
 use Rattle.bb_shell.specs.Finishes.TheVariants as finishes
 use Rattle.bb_shell.specs.declared.input_fault.InputFault.{InputFault}
@@ -15,12 +18,12 @@ use Rattle.bb_shell.specs.Meaning.{Meaning}
 use Rattle.bb_shell.specs.Run.{run}
 use Rattle.bb_shell.specs.TraceText.{segment_text, trace_text}
 use Rattle.bb_main.specs.declared.read.TheConstants.{INPUT_LIMIT}
-use Rattle.bb_main.specs.declared.serving.TheConstants.{MEMORY}
+use Rattle.bb_main.specs.declared.serving.TheConstants.{MEMORY, REFUSED}
 use Rattle.bb_main.specs.declared.section_fault.SectionFault.{SectionFault}
 use Rattle.bb_main.specs.declared.section_fault.SectionFault.TheVariants.{Limit}
 use Rattle.bb_main.specs.Input.{input_of}
 use Rattle.bb_main.specs.Sections.{Texts}
-use Rattle.bb_main.specs.Serve.{Answer, CutShort, Delivers, Serves, answer, answer_to_meaning, answer_to_run, answer_to_sections, limit_refusal, refusal, status_of, text_of}
+use Rattle.bb_main.specs.Serve.{Answer, CutShort, Delivers, Serves, answer, answer_to_meaning, answer_to_run, answer_to_sections, end_status, limit_refusal, refusal, status_of, text_of}
 use Rattle.bb_main.proofs.InputLemmas.{is_long}
 
 pub answer-from : (bytes : List ℕ) (limit : ℕ) (floor : ℤ) (cut : Result Texts SectionFault) (P : Answer → Type 0) → cut ≡ input_of bytes → P (answer_to_sections limit floor cut) → P (answer bytes limit floor)
@@ -39,7 +42,7 @@ serves-long limit floor (Some xs) (Some ys) taken given status bytes p long deli
 
 -- where memory ran out before anything was written
 pub cut-nothing : (a : Answer) (taken : Option (List ℕ)) (status : ℕ) → status ≡ MEMORY → CutShort a taken taken status
-cut-nothing a taken status is = (is, (0, Appends-nil taken))
+cut-nothing a taken status is = (is, (0, (λ _. refl), Appends-nil taken))
 
 pub serves-nothing : (limit : ℕ) (floor : ℤ) (read taken : Option (List ℕ)) (status : ℕ) → status ≡ MEMORY → Serves limit floor read taken taken status
 serves-nothing limit floor None taken status is = ([], tt, inr (cut-nothing (answer [] limit floor) taken status is))
@@ -52,6 +55,14 @@ text_of-map f (x ∷ xs) = flat_map-cons (λ piece. piece) (f x) (map f xs) ∙ 
 
 pub text_of-one : (piece : List ℕ) → text_of (piece ∷ []) ≡ piece
 text_of-one piece = flat_map-cons (λ p. p) piece [] ∙ append-nil piece
+
+-- no run has the status of a refusal
+run-not-refused : (end : Option End) (k : ℕ) → option_map_or end_status end 0 ≡ REFUSED → k ≡ 0
+run-not-refused None k is = let no : 0 ≡ 2 = is in omega (arith, no)
+run-not-refused (Some ends.Quiescence) k is = let no : 0 ≡ 2 = is in omega (arith, no)
+run-not-refused (Some ends.Limit) k is = let no : 3 ≡ 2 = is in omega (arith, no)
+run-not-refused (Some ends.Full) k is = let no : 4 ≡ 2 = is in omega (arith, no)
+run-not-refused (Some (ends.Stuck reason)) k is = let no : 7 ≡ 2 = is in omega (arith, no)
 
 -- a run's answer, by how the run came out
 pub served_run : (limit : ℕ) (m : Meaning) (f : Finish) (status : ℕ) (old new : Option (List ℕ)) → status ≡ status_of f
@@ -77,7 +88,7 @@ served_run limit m f status old new = by f
     by finishes.Full is ends wrote front = inl (inl (rw ends is, all wrote))
     by (finishes.Stuck reason) is ends wrote front = inl (inl (rw ends is, all wrote))
     by finishes.Memory is ends wrote front =
-        inr (is, (front.0, subst (Appends old new) (sym (text_of-map (segment_text m.shell) (take front.0 (run m.shell m.board limit).segments)) ∙ ap text_of (sym (take-map (segment_text m.shell) front.0 (run m.shell m.board limit).segments))) front.1))
+        inr (is, (front.0, run-not-refused (run m.shell m.board limit).end front.0, subst (Appends old new) (sym (text_of-map (segment_text m.shell) (take front.0 (run m.shell m.board limit).segments)) ∙ ap text_of (sym (take-map (segment_text m.shell) front.0 (run m.shell m.board limit).segments))) front.1))
     by finishes.Write is ends wrote front = inl (inr (is, (front.0, subst (λ t. Appends old new (take front.0 t)) whole front.1)))
 
 same_meaning : (given : Result Meaning InputFault) (m n : Meaning) → given ≡ Ok m → given ≡ Ok n → n ≡ m

@@ -85,9 +85,11 @@ Delivers a taken given status =
     ((status ≡ a.status) × Appends taken given (text_of a.pieces))
     ⊎ ((status ≡ WRITE) × ((count : ℕ) × Appends taken given (take count (text_of a.pieces))))
 
--- memory ran out, and the output took the first pieces of the answer, or none
+-- memory ran out, and the output took the first pieces of the answer, or none; of a refusal it took none
 abbrev pub CutShort : Answer → (taken given : Option (List ℕ)) → (status : ℕ) → Type 0
-CutShort a taken given status = (status ≡ MEMORY) × ((count : ℕ) × Appends taken given (text_of (take count a.pieces)))
+CutShort a taken given status =
+    (status ≡ MEMORY)
+    × ((count : ℕ) × (a.status ≡ REFUSED → count ≡ 0) × Appends taken given (text_of (take count a.pieces)))
 
 -- the answer to some bytes is delivered, or cut short; they are all of the reader's where it tells them
 abbrev pub Serves : (limit : ℕ) → (floor : ℤ) → (read taken given : Option (List ℕ)) → (status : ℕ) → Type 0
