@@ -11,8 +11,8 @@ mod page;
 mod shell;
 
 pub use bb_board::{Board, Event, Note as BoardNote, SharedSchema, UnitsFault};
-pub use bb_state::Stuck;
 pub use bb_rules::{Act, RuleFault, Source};
+pub use bb_state::Stuck;
 pub use end::End;
 pub use halt::Halt;
 pub use line::{add_board_note, add_value};
