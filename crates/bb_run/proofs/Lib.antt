@@ -4,6 +4,8 @@ mod Rows
 pub mod TellLemmas
 -- the response of one source after another
 pub mod ResponseLemmas
+-- executions
+pub mod ExecutionLemmas
 -- notes that may come one after another
 pub mod OrderLemmas
 -- what is pending by the notes

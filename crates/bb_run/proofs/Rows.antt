@@ -55,18 +55,18 @@ one_note = with_world (new_board note_schema) (after_create (new_board note_sche
 waiting : Activation
 waiting = record { number = 1; source = 0; unit = 1; base = pos 100 }
 
-first_run : (run (shell (pos 0)) one_note 100).segments ≡
+first_run : (run (shell (pos 0)) one_note 100).told ≡
     (Board (noted.Event (happens 1 1 Create)) ∷ []) ∷ (Triggered waiting ∷ []) ∷ (Chosen 1 waiting (pos 100) ∷ [])
     ∷ (Board (noted.Said (saids.Value (Text (codes "hello")) ∷ [])) ∷ Ended 3 0 3 ∷ []) ∷ (Board (noted.Event Quiescence) ∷ []) ∷ (Finished ends.Quiescence ∷ []) ∷ []
 unfolding shell hail hello note_schema one_note waiting climbs try_map room push push_text pop_many say step steps_from response_by processing_all cycles
 first_run = refl
 
-limit_zero : (run (shell (pos 0)) one_note 0).segments ≡
+limit_zero : (run (shell (pos 0)) one_note 0).told ≡
     (Board (noted.Event (happens 1 1 Create)) ∷ []) ∷ (Triggered waiting ∷ []) ∷ (Finished ends.Limit ∷ []) ∷ []
 unfolding shell hail hello note_schema one_note waiting climbs try_map room push push_text pop_many say step steps_from response_by processing_all cycles
 limit_zero = refl
 
-floor_above : (run (shell (pos 101)) one_note 100).segments ≡
+floor_above : (run (shell (pos 101)) one_note 100).told ≡
     (Board (noted.Event (happens 1 1 Create)) ∷ []) ∷ (Triggered waiting ∷ []) ∷ (Board (noted.Event Quiescence) ∷ []) ∷ (Finished ends.Quiescence ∷ []) ∷ []
 unfolding shell hail hello note_schema one_note waiting climbs try_map room push push_text pop_many say step steps_from response_by processing_all cycles
 floor_above = refl

@@ -4,18 +4,11 @@ use Rattle.std.specs.Io.KnownBytes.{Appends}
 use Rattle.std.proofs.lemmas.List.{append-nil, drop_all, take-append-drop}
 use Rattle.std.proofs.Math.Seq.{take-append_seam}
 use Rattle.std.proofs.lemmas.Option.{slice_get-get_or}
-use Rattle.std.specs.Prelude.{ℤ, map, slice_get}
+use Rattle.std.specs.Prelude.{ℤ, slice_get}
 use Rattle.std.proofs.lemmas.List.Concat.{flat_map-append, flat_map-cons}
 use Rattle.bb_basis.proofs.IntoMapLemmas.{next_one}
 use Rattle.bb_trace.specs.Event.{Event}
-use Rattle.bb_trace.specs.Board.{Board as Blackboard}
 use Rattle.bb_agenda.specs.declared.activation.Activation.{Activation}
-use Rattle.bb_agenda.specs.Agenda.{Agenda}
-use Rattle.bb_agenda.specs.Rating.{rating}
-use Rattle.bb_code.specs.Code.{Code}
-use Rattle.bb_verify.specs.Budget.{budget}
-use Rattle.bb_verify.specs.declared.checked.TheConstants.{FOUND_LIMIT}
-use Rattle.bb_trace.specs.Act.TheVariants as acts
 use Rattle.bb_trace.specs.Source.{Source}
 use Rattle.bb_trace.specs.declared.end.End.{End}
 use Rattle.bb_trace.specs.declared.end.End.TheVariants.{Limit, Quiescence}
@@ -24,17 +17,18 @@ use Rattle.bb_run.specs.declared.finish.Finish.TheVariants as finishes
 use Rattle.bb_trace.specs.declared.halt.Halt.{Halt}
 use Rattle.bb_trace.specs.declared.halt.Halt.TheVariants as halts
 use Rattle.bb_trace.specs.declared.note.Note.{Note}
-use Rattle.bb_trace.specs.declared.note.Note.TheVariants.{Board, Chosen, Finished}
+use Rattle.bb_trace.specs.declared.note.Note.TheVariants.{Chosen, Finished}
 use Rattle.bb_run.specs.declared.cycles.Decision.{Decision}
 use Rattle.bb_run.specs.declared.cycles.Decision.TheVariants.{Act, Over}
 use Rattle.bb_trace.specs.declared.shell.Shell.{Shell}
 use Rattle.bb_run.specs.declared.state.State.{State}
+use Rattle.bb_run.specs.declared.teller.Teller.{Teller}
 use Rattle.bb_run.specs.Finish.{WritesFront, end_of, is_write}
-use Rattle.bb_run.specs.Stretch.{Stretch, after_segments, and_then, and_then_unless, idle, over, telling}
-use Rattle.bb_run.specs.Processing.{Response, events_in, processing, processing_all}
-use Rattle.bb_run.specs.Run.{acting, acting_at, after_choice, after_execution, choice, cycle, cycles, finish_segments, if_chosen, quiet, report, wait, wait_for, with_finish, with_notes_taken}
+use Rattle.bb_run.specs.Told.{Response, Stretch, after_told, and_then, and_then_unless, idle, over, segment, telling}
+use Rattle.bb_run.specs.Processing.{event_in, events_in, processing, processing_all, reported}
+use Rattle.bb_run.specs.Run.{acting, after_choice, choice, choosing, cycle, cycles, finish_segments, if_chosen, quiet, rating, wait, wait_for, with_finish}
 use Rattle.bb_trace.specs.TraceText.{segment_text, trace_text}
-use Rattle.bb_run.specs.proving.Telling.{CutIn, Finishes, HasWritten, IsResponse, Leaves, Makes, MakesBy, Place, Tells, Told, Waited, Writes, WroteFirst, WroteFront, WroteUntil, at, decision_after, decision_by}
+use Rattle.bb_run.specs.proving.Telling.{CutIn, Finishes, HasWritten, IsResponse, Leaves, Makes, MakesBy, Place, Same, Tells, IsTold, Waited, Writes, WroteFirst, WroteFront, WroteUntil, at_page, decision_after, decision_by, option_list}
 use Rattle.bb_trace.specs.Page.{Flushes, Spills, flushed, kept}
 use Rattle.bb_trace.proofs.OutLemmas.{appends_none, appends_then}
 
@@ -49,7 +43,7 @@ text_of_one shell notes = flat_map-cons (segment_text shell) notes [] ∙ append
 -- ---- a segment is added to the page, and the page is written
 
 segment_added : (shell : Shell) (start taken : Option (List ℕ)) (page new : List ℕ) (told : List (List Note)) (notes : List Note) → new ≡ page ++ segment_text shell notes
-    → HasWritten shell start (at taken page) told → HasWritten shell start (at taken new) (told ++ notes ∷ [])
+    → HasWritten shell start (at_page taken page) told → HasWritten shell start (at_page taken new) (told ++ notes ∷ [])
 segment_added shell start taken page new told notes grown h = record {
   written = h.written;
   waiting = h.waiting ++ notes ∷ [];
@@ -67,7 +61,7 @@ all_written shell start given place told h more =
     subst (Appends start given) (sym (all_text shell start place told h)) (appends_then start place.taken given (trace_text shell h.written) place.page h.appended more)
 
 page_written : (shell : Shell) (start given : Option (List ℕ)) (place : Place) (new : List ℕ) (told : List (List Note)) → HasWritten shell start place told → Appends place.taken given place.page → new ≡ []
-    → HasWritten shell start (at given new) told
+    → HasWritten shell start (at_page given new) told
 page_written shell start given place new told h more empty = record {
   written = told;
   waiting = [];
@@ -94,7 +88,7 @@ stays shell start place told more h = record {
   appended = h.appended;
 }
 
-pub cut_by_memory : (shell : Shell) (old : Place) (page : List ℕ) (segments : List (List Note)) → CutIn shell old (at old.taken page) segments halts.Memory
+pub cut_by_memory : (shell : Shell) (old : Place) (page : List ℕ) (segments : List (List Note)) → CutIn shell old (at_page old.taken page) segments halts.Memory
 cut_by_memory shell old page segments start told h = stays shell start old told segments h
 
 -- ---- what is told goes on
@@ -113,13 +107,13 @@ until_later shell start taken segments more halts.Write w = record {
   appended = w.appended;
 }
 
-pub told_nothing : (shell : Shell) (place : Place) → Told shell place place []
+pub told_nothing : (shell : Shell) (place : Place) → IsTold shell place place []
 told_nothing shell place start told h = subst (HasWritten shell start place) (sym (append-nil told)) h
 
-told_then : (shell : Shell) (a b c : Place) (xs ys : List (List Note)) → Told shell a b xs → Told shell b c ys → Told shell a c (xs ++ ys)
+told_then : (shell : Shell) (a b c : Place) (xs ys : List (List Note)) → IsTold shell a b xs → IsTold shell b c ys → IsTold shell a c (xs ++ ys)
 told_then shell a b c xs ys p q start told h = subst (HasWritten shell start c) (append_assoc told xs ys) (q start (told ++ xs) (p start told h))
 
-cut_then : (shell : Shell) (a b c : Place) (xs ys : List (List Note)) (halt : Halt) → Told shell a b xs → CutIn shell b c ys halt → CutIn shell a c (xs ++ ys) halt
+cut_then : (shell : Shell) (a b c : Place) (xs ys : List (List Note)) (halt : Halt) → IsTold shell a b xs → CutIn shell b c ys halt → CutIn shell a c (xs ++ ys) halt
 cut_then shell a b c xs ys halt p q start told h = subst (λ t. WroteUntil shell start c.taken t halt) (append_assoc told xs ys) (q start (told ++ xs) (p start told h))
 
 pub cut_before : (shell : Shell) (a b : Place) (xs ys : List (List Note)) (halt : Halt) → CutIn shell a b xs halt → CutIn shell a b (xs ++ ys) halt
@@ -128,46 +122,51 @@ cut_before shell a b xs ys halt p start told h = subst (λ t. WroteUntil shell s
 -- ---- a segment, told in whole
 
 pub segment_told : (shell : Shell) (taken given : Option (List ℕ)) (page mid new : List ℕ) (notes : List Note) (r : Result (Unit {0}) Halt) → mid ≡ page ++ segment_text shell notes → Spills taken given mid new r
-    → Tells shell (at taken page) (at given new) (notes ∷ []) r
+    → Tells shell (at_page taken page) (at_page given new) (notes ∷ []) r
 segment_told shell taken given page mid new notes (Ok x) grown (flushed f) =
-    λ start told h. page_written shell start given (at taken mid) new (told ++ notes ∷ []) (segment_added shell start taken page mid told notes grown h) f.0 f.1
+    λ start told h. page_written shell start given (at_page taken mid) new (told ++ notes ∷ []) (segment_added shell start taken page mid told notes grown h) f.0 f.1
 segment_told shell taken given page mid new notes (Err halts.Memory) grown (flushed f) = absurd f
 segment_told shell taken given page mid new notes (Err halts.Write) grown (flushed f) =
-    λ start told h. page_cut shell start given (at taken mid) (told ++ notes ∷ []) f.0 (segment_added shell start taken page mid told notes grown h) f.1
+    λ start told h. page_cut shell start given (at_page taken mid) (told ++ notes ∷ []) f.0 (segment_added shell start taken page mid told notes grown h) f.1
 segment_told shell taken given page mid new notes (Ok x) grown (kept same left ok) =
-    λ start told h. subst (λ t. HasWritten shell start (at t new) (told ++ notes ∷ [])) (sym same) (segment_added shell start taken page new told notes (left ∙ grown) h)
+    λ start told h. subst (λ t. HasWritten shell start (at_page t new) (told ++ notes ∷ [])) (sym same) (segment_added shell start taken page new told notes (left ∙ grown) h)
 segment_told shell taken given page mid new notes (Err halt) grown (kept same left ok) = absurd cc
+
+-- ---- one teller
+
+pub same_then : {O : Type 0} (a b c : Teller O) → Same a b → Same b c → Same a c
+same_then a b c p q = (q.0 ∙ p.0, q.1 ∙ p.1)
 
 -- ---- a stretch, part by part
 
 -- a stretch was told as far as what is left of it
 pub record HasTold (shell : Shell) (old new : Place) (whole rest : Stretch) : Type 0 where
   pub segments : List (List Note)
-  pub told : Told shell old new segments
-  pub same : whole ≡ after_segments segments rest
+  pub told : IsTold shell old new segments
+  pub same : whole ≡ after_told segments rest
 
 pub nothing_told : (shell : Shell) (place : Place) (p : Stretch) → HasTold shell place place p p
 nothing_told shell place p = record { segments = []; told = told_nothing shell place; same = refl }
 
 -- the run goes on after a stretch that does not end it, and ends in one that does
-goes_on : (p : Stretch) (next : State → Stretch) (s : State) → Leaves p s None → and_then p next ≡ after_segments p.segments (next s)
-goes_on p next s left = ap (λ e. and_then_unless e p next) (sym left.end) ∙ ap (λ t. after_segments p.segments (next t)) (sym left.state)
+goes_on : (p : Stretch) (next : State → Stretch) (s : State) → Leaves p s None → and_then p next ≡ after_told p.told (next s)
+goes_on p next s left = ap (λ e. and_then_unless e p next) (sym left.end) ∙ ap (λ t. after_told p.told (next t)) (sym left.state)
 
 stops : (p : Stretch) (next : State → Stretch) (s : State) (end : End) → Leaves p s (Some end) → and_then p next ≡ p
 stops p next s end left = ap (λ e. and_then_unless e p next) (sym left.end)
 
-grouped : (xs ys : List (List Note)) (p : Stretch) → after_segments xs (after_segments ys p) ≡ after_segments (xs ++ ys) p
-grouped xs ys p = let with_segments : List (List Note) → Stretch = λ t. record { segments = t; state = p.state; end = p.end } in ap with_segments (sym (append_assoc xs ys p.segments))
+grouped : (xs ys : List (List Note)) (p : Stretch) → after_told xs (after_told ys p) ≡ after_told (xs ++ ys) p
+grouped xs ys p = let with_segments : List (List Note) → Stretch = λ t. telling t p.state p.end in ap with_segments (sym (append_assoc xs ys p.told))
 
 -- all that is left of it was told
-pub last_told : (shell : Shell) (a b c : Place) (whole rest : Stretch) (s : State) (end : Option End) → HasTold shell a b whole rest → Told shell b c rest.segments → Leaves rest s end
-    → Told shell a c whole.segments × Leaves whole s end
+pub last_told : (shell : Shell) (a b c : Place) (whole rest : Stretch) (s : State) (end : Option End) → HasTold shell a b whole rest → IsTold shell b c rest.told → Leaves rest s end
+    → IsTold shell a c whole.told × Leaves whole s end
 last_told shell a b c whole rest s end h t left =
-    subst (λ w. Told shell a c w.segments × Leaves w s end) (sym h.same) (told_then shell a b c h.segments rest.segments h.told t, record { state = left.state; end = left.end })
+    subst (λ w. IsTold shell a c w.told × Leaves w s end) (sym h.same) (told_then shell a b c h.segments rest.told h.told t, record { state = left.state; end = left.end })
 
 -- it was cut short in what is left of it
-pub last_cut : (shell : Shell) (a b c : Place) (whole rest : Stretch) (halt : Halt) → HasTold shell a b whole rest → CutIn shell b c rest.segments halt → CutIn shell a c whole.segments halt
-last_cut shell a b c whole rest halt h t = subst (λ w. CutIn shell a c w.segments halt) (sym h.same) (cut_then shell a b c h.segments rest.segments halt h.told t)
+pub last_cut : (shell : Shell) (a b c : Place) (whole rest : Stretch) (halt : Halt) → HasTold shell a b whole rest → CutIn shell b c rest.told halt → CutIn shell a c whole.told halt
+last_cut shell a b c whole rest halt h t = subst (λ w. CutIn shell a c w.told halt) (sym h.same) (cut_then shell a b c h.segments rest.told halt h.told t)
 
 -- what is left of it is made, or it is cut short in that
 pub makes_last : {X : Type 0} (ends : X → Option End) (shell : Shell) (a b c : Place) (whole rest : Stretch) (s : State) (r : Result X Halt) → HasTold shell a b whole rest → MakesBy ends shell b c rest s r → MakesBy ends shell a c whole s r
@@ -176,31 +175,31 @@ makes_last ends shell a b c whole rest s (Err halt) h m = last_cut shell a b c w
 
 -- the segments of a stretch begin those of it and the next
 later : Option End → Stretch → (State → Stretch) → List (List Note)
-later None p next = (next p.state).segments
+later None p next = (next p.state).told
 later (Some end) p next = []
 
-segments-and_then : (e : Option End) (p : Stretch) (next : State → Stretch) → (and_then_unless e p next).segments ≡ p.segments ++ later e p next
+segments-and_then : (e : Option End) (p : Stretch) (next : State → Stretch) → (and_then_unless e p next).told ≡ p.told ++ later e p next
 unfolding later
 segments-and_then None p next = refl
-segments-and_then (Some end) p next = sym (append-nil p.segments)
+segments-and_then (Some end) p next = sym (append-nil p.told)
 
 -- it was cut short in a part of it
-pub part_cut : (shell : Shell) (a b c : Place) (whole p : Stretch) (next : State → Stretch) (halt : Halt) → HasTold shell a b whole (and_then p next) → CutIn shell b c p.segments halt → CutIn shell a c whole.segments halt
+pub part_cut : (shell : Shell) (a b c : Place) (whole p : Stretch) (next : State → Stretch) (halt : Halt) → HasTold shell a b whole (and_then p next) → CutIn shell b c p.told halt → CutIn shell a c whole.told halt
 part_cut shell a b c whole p next halt h t =
-    last_cut shell a b c whole (and_then p next) halt h (subst (λ x. CutIn shell b c x halt) (sym (segments-and_then p.end p next)) (cut_before shell b c p.segments (later p.end p next) halt t))
+    last_cut shell a b c whole (and_then p next) halt h (subst (λ x. CutIn shell b c x halt) (sym (segments-and_then p.end p next)) (cut_before shell b c p.told (later p.end p next) halt t))
 
 -- a part of it was told, and the run goes on
-pub part_told : (shell : Shell) (a b c : Place) (whole p : Stretch) (next : State → Stretch) (s : State) → HasTold shell a b whole (and_then p next) → Told shell b c p.segments → Leaves p s None → HasTold shell a c whole (next s)
+pub part_told : (shell : Shell) (a b c : Place) (whole p : Stretch) (next : State → Stretch) (s : State) → HasTold shell a b whole (and_then p next) → IsTold shell b c p.told → Leaves p s None → HasTold shell a c whole (next s)
 part_told shell a b c whole p next s h t left = record {
-  segments = h.segments ++ p.segments;
-  told = told_then shell a b c h.segments p.segments h.told t;
-  same = h.same ∙ ap (after_segments h.segments) (goes_on p next s left) ∙ grouped h.segments p.segments (next s);
+  segments = h.segments ++ p.told;
+  told = told_then shell a b c h.segments p.told h.told t;
+  same = h.same ∙ ap (after_told h.segments) (goes_on p next s left) ∙ grouped h.segments p.told (next s);
 }
 
 -- a part of it was told, and the run ends there
-pub part_ends : (shell : Shell) (a b c : Place) (whole p : Stretch) (next : State → Stretch) (s : State) (end : End) → HasTold shell a b whole (and_then p next) → Told shell b c p.segments → Leaves p s (Some end)
-    → Told shell a c whole.segments × Leaves whole s (Some end)
-part_ends shell a b c whole p next s end h t left = last_told shell a b c whole p s (Some end) (record { segments = h.segments; told = h.told; same = h.same ∙ ap (after_segments h.segments) (stops p next s end left) }) t left
+pub part_ends : (shell : Shell) (a b c : Place) (whole p : Stretch) (next : State → Stretch) (s : State) (end : End) → HasTold shell a b whole (and_then p next) → IsTold shell b c p.told → Leaves p s (Some end)
+    → IsTold shell a c whole.told × Leaves whole s (Some end)
+part_ends shell a b c whole p next s end h t left = last_told shell a b c whole p s (Some end) (record { segments = h.segments; told = h.told; same = h.same ∙ ap (after_told h.segments) (stops p next s end left) }) t left
 
 -- a part of it is made, and the run goes on
 pub part_made : (shell : Shell) (a b c : Place) (whole p : Stretch) (next : State → Stretch) (s : State) (o : Option End) → HasTold shell a b whole (and_then p next) → Makes shell b c p s (Ok o) → o ≡ None → HasTold shell a c whole (next s)
@@ -210,91 +209,105 @@ part_made shell a b c whole p next s o h m none = part_told shell a b c whole p 
 pub part_over : (shell : Shell) (a b c : Place) (whole p : Stretch) (next : State → Stretch) (s : State) (o : Option End) (end : End) → HasTold shell a b whole (and_then p next) → Makes shell b c p s (Ok o) → o ≡ Some end → Makes shell a c whole s (Ok (Some end))
 part_over shell a b c whole p next s o end h m some = part_ends shell a b c whole p next s end h m.0 (record { state = m.1.state; end = sym some ∙ m.1.end })
 
--- ---- the response to an event
+-- ---- a response
 
 module _ (shell : Shell) (a b : Place) (r : Response) (first old new told : List Note) (s : State) (e : Option End) where
-  response_segment : told ≡ new → old ≡ first → IsResponse r old new s e → told ≡ first ++ r.notes
-  response_segment is begun i = is ∙ i.notes ∙ ap (λ t. t ++ r.notes) begun
+  response_segment : told ≡ new → old ≡ first → IsResponse r old new s e → told ≡ first ++ r.told
+  response_segment is begun i = is ∙ i.notes ∙ ap (λ t. t ++ r.told) begun
 
-  pub response_told : told ≡ new → old ≡ first → IsResponse r old new s e → Told shell a b (told ∷ []) → Makes shell a b (telling (first ++ r.notes) r.state r.end) s (Ok e)
-  response_told is begun i t = (subst (λ n. Told shell a b (n ∷ [])) (response_segment is begun i) t, record { state = i.state; end = i.end })
+  pub response_told : told ≡ new → old ≡ first → IsResponse r old new s e → IsTold shell a b (told ∷ []) → Makes shell a b (segment (after_told first r)) s (Ok e)
+  response_told is begun i t = (subst (λ n. IsTold shell a b (n ∷ [])) (response_segment is begun i) t, record { state = i.state; end = i.end })
 
-  pub response_cut : (halt : Halt) → told ≡ new → old ≡ first → IsResponse r old new s e → CutIn shell a b (told ∷ []) halt → CutIn shell a b ((first ++ r.notes) ∷ []) halt
+  pub response_cut : (halt : Halt) → told ≡ new → old ≡ first → IsResponse r old new s e → CutIn shell a b (told ∷ []) halt → CutIn shell a b ((first ++ r.told) ∷ []) halt
   response_cut halt is begun i t = subst (λ n. CutIn shell a b (n ∷ []) halt) (response_segment is begun i) t
 
--- ---- events, one after another
+-- ---- the events of notes, one after another
 
 -- an element that was read, by itself
-pub item_is : (events : List Event) (i : ℕ) (d : Event) → i < length events → get_or events i d ≡ get_or events i (get_or events i d)
-item_is events i d lt =
-    let read : Some (get_or events i d) ≡ Some (get_or events i (get_or events i d)) = sym (slice_get-get_or events i d lt) ∙ slice_get-get_or events i (get_or events i d) lt in
+pub item_is : (notes : List Note) (i : ℕ) (d : Note) → i < length notes → get_or notes i d ≡ get_or notes i (get_or notes i d)
+item_is notes i d lt =
+    let read : Some (get_or notes i d) ≡ Some (get_or notes i (get_or notes i d)) = sym (slice_get-get_or notes i d lt) ∙ slice_get-get_or notes i (get_or notes i d) lt in
     cc
 
-module _ (shell : Shell) (a b c : Place) (whole : Stretch) (events : List Event) (i : ℕ) where
-  next_event : (event : Event) (s : State) → i < length events → event ≡ get_or events i event → processing_all shell (drop i events) s ≡ and_then (processing shell event s) (processing_all shell (drop (i + 1) events))
+module _ (shell : Shell) (a b c : Place) (whole : Stretch) (notes : List Note) (i : ℕ) (note : Note) where
+  next_note : i < length notes → note ≡ get_or notes i note → events_in (drop i notes) ≡ event_in note ++ events_in (drop (i + 1) notes)
+  next_note lt is = ap events_in (next_one notes i note lt is) ∙ flat_map-cons event_in note (drop (i + 1) notes)
+
+  at_note : (found : Option Event) (s : State) → i < length notes → note ≡ get_or notes i note → option_list found ≡ event_in note → HasTold shell a b whole (processing_all shell (events_in (drop i notes)) s)
+      → HasTold shell a b whole (processing_all shell (option_list found ++ events_in (drop (i + 1) notes)) s)
+  at_note found s lt is found_is h = subst (λ es. HasTold shell a b whole (processing_all shell es s)) (next_note lt is ∙ ap (λ es. es ++ events_in (drop (i + 1) notes)) (sym found_is)) h
+
+  pub note_passed : (s : State) → i < length notes → note ≡ get_or notes i note → option_list None ≡ event_in note → HasTold shell a b whole (processing_all shell (events_in (drop i notes)) s)
+      → HasTold shell a b whole (processing_all shell (events_in (drop (i + 1) notes)) s)
+  note_passed s lt is none h = at_note None s lt is none h
+
+  at_event : (event : Event) (s : State) → i < length notes → note ≡ get_or notes i note → option_list (Some event) ≡ event_in note → HasTold shell a b whole (processing_all shell (events_in (drop i notes)) s)
+      → HasTold shell a b whole (and_then (processing shell event s) (processing_all shell (events_in (drop (i + 1) notes))))
   unfolding processing_all
-  next_event event s lt is = ap (λ es. processing_all shell es s) (next_one events i event lt is)
+  at_event event s lt is some h = at_note (Some event) s lt is some h
 
-  at_event : (event : Event) (s : State) → i < length events → event ≡ get_or events i event → HasTold shell a b whole (processing_all shell (drop i events) s)
-      → HasTold shell a b whole (and_then (processing shell event s) (processing_all shell (drop (i + 1) events)))
-  at_event event s lt is h = subst (HasTold shell a b whole) (next_event event s lt is) h
+  pub event_made : (event : Event) (s t : State) (o : Option End) → i < length notes → note ≡ get_or notes i note → option_list (Some event) ≡ event_in note → HasTold shell a b whole (processing_all shell (events_in (drop i notes)) s)
+      → Makes shell b c (processing shell event s) t (Ok o) → o ≡ None → HasTold shell a c whole (processing_all shell (events_in (drop (i + 1) notes)) t)
+  event_made event s t o lt is some h m none = part_made shell a b c whole (processing shell event s) (processing_all shell (events_in (drop (i + 1) notes))) t o (at_event event s lt is some h) m none
 
-  pub event_made : (event : Event) (s t : State) (o : Option End) → i < length events → event ≡ get_or events i event → HasTold shell a b whole (processing_all shell (drop i events) s)
-      → Makes shell b c (processing shell event s) t (Ok o) → o ≡ None → HasTold shell a c whole (processing_all shell (drop (i + 1) events) t)
-  event_made event s t o lt is h m none = part_made shell a b c whole (processing shell event s) (processing_all shell (drop (i + 1) events)) t o (at_event event s lt is h) m none
-
-  pub event_ends : (event : Event) (s t : State) (o : Option End) (end : End) → i < length events → event ≡ get_or events i event → HasTold shell a b whole (processing_all shell (drop i events) s)
+  pub event_ends : (event : Event) (s t : State) (o : Option End) (end : End) → i < length notes → note ≡ get_or notes i note → option_list (Some event) ≡ event_in note → HasTold shell a b whole (processing_all shell (events_in (drop i notes)) s)
       → Makes shell b c (processing shell event s) t (Ok o) → o ≡ Some end → Makes shell a c whole t (Ok (Some end))
-  event_ends event s t o end lt is h m some = part_over shell a b c whole (processing shell event s) (processing_all shell (drop (i + 1) events)) t o end (at_event event s lt is h) m some
+  event_ends event s t o end lt is some h m ended = part_over shell a b c whole (processing shell event s) (processing_all shell (events_in (drop (i + 1) notes))) t o end (at_event event s lt is some h) m ended
 
-  pub event_cut : (event : Event) (s : State) (halt : Halt) → i < length events → event ≡ get_or events i event → HasTold shell a b whole (processing_all shell (drop i events) s)
-      → CutIn shell b c (processing shell event s).segments halt → CutIn shell a c whole.segments halt
-  event_cut event s halt lt is h m = part_cut shell a b c whole (processing shell event s) (processing_all shell (drop (i + 1) events)) halt (at_event event s lt is h) m
+  pub event_cut : (event : Event) (s : State) (halt : Halt) → i < length notes → note ≡ get_or notes i note → option_list (Some event) ≡ event_in note → HasTold shell a b whole (processing_all shell (events_in (drop i notes)) s)
+      → CutIn shell b c (processing shell event s).told halt → CutIn shell a c whole.told halt
+  event_cut event s halt lt is some h m = part_cut shell a b c whole (processing shell event s) (processing_all shell (events_in (drop (i + 1) notes))) halt (at_event event s lt is some h) m
 
-  pub events_end : (s : State) → length events ≤ i → HasTold shell a b whole (processing_all shell (drop i events) s) → Makes shell a b whole s (Ok None)
-  unfolding processing_all
-  events_end s le h =
-      last_told shell a b b whole (idle s) s None (subst (HasTold shell a b whole) (ap (λ es. processing_all shell es s) (drop_all i events le)) h) (told_nothing shell b) (record { state = refl; end = refl })
+pub events_end : (shell : Shell) (a b : Place) (whole : Stretch) (notes : List Note) (i : ℕ) (s : State) → length notes ≤ i → HasTold shell a b whole (processing_all shell (events_in (drop i notes)) s) → Makes shell a b whole s (Ok None)
+unfolding processing_all
+events_end shell a b whole notes i s le h =
+    last_told shell a b b whole (idle s) s None (subst (HasTold shell a b whole) (ap (λ ns. processing_all shell (events_in ns) s) (drop_all i notes le)) h) (told_nothing shell b) (record { state = refl; end = refl })
 
--- ---- what a blackboard noted
+-- ---- a response is reported
 
-module _ (shell : Shell) (a b : Place) (board : Blackboard) (agenda : Agenda) (more notes : List Note) (end : Option End) where
-  pub report_cut : (halt : Halt) → notes ≡ map Board board.world.notes ++ more → CutIn shell a b (notes ∷ []) halt → CutIn shell a b (report shell board agenda more end).segments halt
-  report_cut halt is t =
-      part_cut shell a a b (report shell board agenda more end) (telling (map Board board.world.notes ++ more) (with_notes_taken board agenda) end) (processing_all shell (events_in board.world.notes)) halt (nothing_told shell a (report shell board agenda more end))
-      (subst (λ n. CutIn shell a b (n ∷ []) halt) is t)
+module _ (shell : Shell) (a b : Place) (notes : List Note) (s : State) (end : Option End) where
+  abbrev whole : Stretch
+  whole = reported shell (telling notes s end)
 
-  report_told : (s : State) → notes ≡ map Board board.world.notes ++ more → s ≡ with_notes_taken board agenda → Told shell a b (notes ∷ []) → Makes shell a b (telling (map Board board.world.notes ++ more) (with_notes_taken board agenda) end) s (Ok end)
-  report_told s is left t = (subst (λ n. Told shell a b (n ∷ [])) is t, record { state = left; end = refl })
+  abbrev next : State → Stretch
+  next = processing_all shell (events_in notes)
 
-  pub report_over : (s : State) (e : End) → notes ≡ map Board board.world.notes ++ more → s ≡ with_notes_taken board agenda → end ≡ Some e → Told shell a b (notes ∷ []) → Makes shell a b (report shell board agenda more end) s (Ok (Some e))
-  report_over s e is left some t =
-      part_over shell a a b (report shell board agenda more end) (telling (map Board board.world.notes ++ more) (with_notes_taken board agenda) end) (processing_all shell (events_in board.world.notes)) s end e
-      (nothing_told shell a (report shell board agenda more end)) (report_told s is left t) some
+  pub report_cut : (halt : Halt) → CutIn shell a b (notes ∷ []) halt → CutIn shell a b whole.told halt
+  report_cut halt t = part_cut shell a a b whole (telling (notes ∷ []) s end) next halt (nothing_told shell a whole) t
 
-  pub report_made : (c : Place) (s t : State) (events : List Event) (r : Result (Option End) Halt) → notes ≡ map Board board.world.notes ++ more → s ≡ with_notes_taken board agenda → end ≡ None → Told shell a b (notes ∷ []) → events ≡ events_in board.world.notes
-      → Makes shell b c (processing_all shell events s) t r → Makes shell a c (report shell board agenda more end) t r
-  report_made c s t events r is left none told are m =
-      makes_last (λ e. e) shell a b c (report shell board agenda more end) (processing_all shell (events_in board.world.notes) s) t r
-      (part_made shell a a b (report shell board agenda more end) (telling (map Board board.world.notes ++ more) (with_notes_taken board agenda) end) (processing_all shell (events_in board.world.notes)) s end
-      (nothing_told shell a (report shell board agenda more end)) (report_told s is left told) none)
-      (subst (λ es. Makes shell b c (processing_all shell es s) t r) are m)
+  pub report_over : (e : End) → end ≡ Some e → IsTold shell a b (notes ∷ []) → Makes shell a b whole s (Ok (Some e))
+  report_over e some t = part_over shell a a b whole (telling (notes ∷ []) s end) next s end e (nothing_told shell a whole) (t, record { state = refl; end = refl }) some
 
--- ---- an execution
+  pub report_made : (c : Place) (t : State) (r : Result (Option End) Halt) → end ≡ None → IsTold shell a b (notes ∷ []) → Makes shell b c (next s) t r → Makes shell a c whole t r
+  report_made c t r none told m =
+      makes_last (λ e. e) shell a b c whole (next s) t r
+      (part_made shell a a b whole (telling (notes ∷ []) s end) next s end (nothing_told shell a whole) (told, record { state = refl; end = refl }) none)
+      m
+
+-- the same of the response that was noted
+pub reported_as : (shell : Shell) (a b : Place) (r : Response) (old new told : List Note) (s t : State) (end : Option End) (result : Result (Option End) Halt) → told ≡ new → old ≡ [] → IsResponse r old new s end
+    → Makes shell a b (reported shell (telling told s end)) t result → Makes shell a b (reported shell r) t result
+reported_as shell a b r old new told s t end result is none i m =
+    let notes : told ≡ r.told = is ∙ i.notes ∙ ap (λ ns. ns ++ r.told) none in
+    let same : telling told s end ≡ r = ap (λ ns. telling ns s end) notes ∙ ap (λ u. telling r.told u end) i.state ∙ ap (telling r.told r.state) i.end in
+    subst (λ q. Makes shell a b (reported shell q) t result) same m
 
 -- ---- a cycle
 
 module _ (shell : Shell) (a b : Place) (number : ℕ) (x : Activation) (s : State) (r : ℤ) where
-  pub choice_cut : (halt : Halt) → r ≡ rating x → CutIn shell a b ((Chosen number x r ∷ []) ∷ []) halt → CutIn shell a b (cycle shell number x s).segments halt
+  abbrev then_acts : State → Stretch
+  then_acts = acting shell (slice_get shell.sources x.source) x
+
+  pub choice_cut : (halt : Halt) → r ≡ rating shell s x → CutIn shell a b ((Chosen number x r ∷ []) ∷ []) halt → CutIn shell a b (cycle shell number x s).told halt
   choice_cut halt is t =
-      part_cut shell a a b (cycle shell number x s) (telling (Chosen number x (rating x) ∷ []) (after_choice s x) None) (acting_at shell (slice_get shell.sources x.source) x) halt (nothing_told shell a (cycle shell number x s))
+      part_cut shell a a b (cycle shell number x s) (segment (choosing shell number x s)) then_acts halt (nothing_told shell a (cycle shell number x s))
       (subst (λ z. CutIn shell a b ((Chosen number x z ∷ []) ∷ []) halt) is t)
 
-  pub choice_told : (t : State) (source : Option Source) → r ≡ rating x → t ≡ (after_choice s x) → slice_get shell.sources x.source ≡ source → Told shell a b ((Chosen number x r ∷ []) ∷ []) → HasTold shell a b (cycle shell number x s) (acting_at shell source x t)
+  pub choice_told : (t : State) (source : Option Source) → r ≡ rating shell s x → t ≡ after_choice s x → slice_get shell.sources x.source ≡ source → IsTold shell a b ((Chosen number x r ∷ []) ∷ []) → HasTold shell a b (cycle shell number x s) (acting shell source x t)
   choice_told t source is left at_place told =
-      subst (λ o. HasTold shell a b (cycle shell number x s) (acting_at shell o x t)) at_place
-      (part_told shell a a b (cycle shell number x s) (telling (Chosen number x (rating x) ∷ []) (after_choice s x) None) (acting_at shell (slice_get shell.sources x.source) x) t (nothing_told shell a (cycle shell number x s))
-      (subst (λ z. Told shell a b ((Chosen number x z ∷ []) ∷ [])) is told) (record { state = left; end = refl }))
+      subst (λ o. HasTold shell a b (cycle shell number x s) (acting shell o x t)) at_place
+      (part_told shell a a b (cycle shell number x s) (segment (choosing shell number x s)) then_acts t (nothing_told shell a (cycle shell number x s))
+      (subst (λ z. IsTold shell a b ((Chosen number x z ∷ []) ∷ [])) is told) (record { state = left; end = refl }))
 
 -- ---- decisions
 
@@ -309,14 +322,14 @@ over_by None None end is = inr (refl, refl, let same : end ≡ Quiescence = cc i
 over_by None (Some b) end is = absurd cc
 
 module _ (shell : Shell) (a b : Place) (s t : State) where
-  pub wait_cut : (halt : Halt) → choice shell s ≡ None → CutIn shell a b (quiet shell s).segments halt → CutIn shell a b (wait shell s).segments halt
-  wait_cut halt none t = subst (λ o. CutIn shell a b (wait_for shell s o).segments halt) (sym none) t
+  pub wait_cut : (halt : Halt) → choice shell s ≡ None → CutIn shell a b (quiet shell s).told halt → CutIn shell a b (wait shell s).told halt
+  wait_cut halt none t = subst (λ o. CutIn shell a b (wait_for shell s o).told halt) (sym none) t
 
-  waited_for : (decision : Decision) (o : Option Activation) → choice shell s ≡ o → Told shell a b (wait_for shell s o).segments → t ≡ (wait_for shell s o).state → decision ≡ decision_after shell (wait_for shell s o) → Waited shell a b s t decision
+  waited_for : (decision : Decision) (o : Option Activation) → choice shell s ≡ o → IsTold shell a b (wait_for shell s o).told → t ≡ (wait_for shell s o).state → decision ≡ decision_after shell (wait_for shell s o) → Waited shell a b s t decision
   waited_for decision o is told left decision_is =
-      let waits : (p : Stretch) → wait shell s ≡ p → Told shell a b p.segments → t ≡ p.state → decision ≡ decision_after shell p → Waited shell a b s t decision = λ p same told left decision_is.
+      let waits : (p : Stretch) → wait shell s ≡ p → IsTold shell a b p.told → t ≡ p.state → decision ≡ decision_after shell p → Waited shell a b s t decision = λ p same told left decision_is.
       record {
-        told = subst (λ q. Told shell a b q.segments) (sym same) told;
+        told = subst (λ q. IsTold shell a b q.told) (sym same) told;
         state = left ∙ ap (λ q. q.state) (sym same);
         decision_is = decision_is ∙ ap (decision_after shell) (sym same);
       } in
@@ -352,7 +365,7 @@ module _ (shell : Shell) (a b c : Place) (whole : Stretch) (s t : State) (next :
       ]
 
   -- the run is cut short
-  pub decision_cut : (halt : Halt) → HasTold shell a b whole (and_then (wait shell s) (λ u. if_chosen u (choice shell u) (next u))) → CutIn shell b c (wait shell s).segments halt → CutIn shell a c whole.segments halt
+  pub decision_cut : (halt : Halt) → HasTold shell a b whole (and_then (wait shell s) (λ u. if_chosen u (choice shell u) (next u))) → CutIn shell b c (wait shell s).told halt → CutIn shell a c whole.told halt
   decision_cut halt h w = part_cut shell a b c whole (wait shell s) (λ u. if_chosen u (choice shell u) (next u)) halt h w
 
 -- ---- cycles
@@ -388,36 +401,36 @@ over_limit shell a b whole t h = last_told shell a b b whole (over Limit t) t (S
 -- ---- the whole run
 
 -- nothing was told, and the page is empty
-pub nothing_written : (shell : Shell) (taken : Option (List ℕ)) (page : List ℕ) → page ≡ [] → HasWritten shell taken (at taken page) []
+pub nothing_written : (shell : Shell) (taken : Option (List ℕ)) (page : List ℕ) → page ≡ [] → HasWritten shell taken (at_page taken page) []
 nothing_written shell taken page empty = record { written = []; waiting = []; all = refl; appended = appends_none taken; page_is = empty }
 
 module _ (shell : Shell) (taken : Option (List ℕ)) (first : List ℕ) (here : Place) (p : Stretch) (end : End) where
   -- the last segment is the finish
-  finished : p.end ≡ Some end → (with_finish p).segments ≡ p.segments ++ (Finished end ∷ []) ∷ []
-  finished is = ap (λ e. p.segments ++ finish_segments e) is
+  finished : p.end ≡ Some end → (with_finish p).told ≡ p.told ++ (Finished end ∷ []) ∷ []
+  finished is = ap (λ e. p.told ++ finish_segments e) is
 
-  pub run_written : (given : Option (List ℕ)) (page new : List ℕ) (r : Result (Unit {0}) Halt) → first ≡ [] → p.end ≡ Some end → Told shell (at taken first) here p.segments → page ≡ here.page ++ segment_text shell (Finished end ∷ [])
-      → Flushes here.taken given page new r → Writes shell taken given (with_finish p).segments r
+  pub run_written : (given : Option (List ℕ)) (page new : List ℕ) (r : Result (Unit {0}) Halt) → first ≡ [] → p.end ≡ Some end → IsTold shell (at_page taken first) here p.told → page ≡ here.page ++ segment_text shell (Finished end ∷ [])
+      → Flushes here.taken given page new r → Writes shell taken given (with_finish p).told r
   run_written given page new (Ok x) empty is told grown f =
-      let so_far = segment_added shell taken here.taken here.page page p.segments (Finished end ∷ []) grown (told taken [] (nothing_written shell taken first empty)) in
-      subst (λ w. Appends taken given (trace_text shell w)) (sym (finished is)) (all_written shell taken given (at here.taken page) (p.segments ++ (Finished end ∷ []) ∷ []) so_far f.0)
+      let so_far = segment_added shell taken here.taken here.page page p.told (Finished end ∷ []) grown (told taken [] (nothing_written shell taken first empty)) in
+      subst (λ w. Appends taken given (trace_text shell w)) (sym (finished is)) (all_written shell taken given (at_page here.taken page) (p.told ++ (Finished end ∷ []) ∷ []) so_far f.0)
   run_written given page new (Err halts.Memory) empty is told grown f = absurd f
   run_written given page new (Err halts.Write) empty is told grown f =
-      let so_far = segment_added shell taken here.taken here.page page p.segments (Finished end ∷ []) grown (told taken [] (nothing_written shell taken first empty)) in
-      subst (λ w. WroteFront shell taken given w) (sym (finished is)) (page_cut shell taken given (at here.taken page) (p.segments ++ (Finished end ∷ []) ∷ []) f.0 so_far f.1)
+      let so_far = segment_added shell taken here.taken here.page page p.told (Finished end ∷ []) grown (told taken [] (nothing_written shell taken first empty)) in
+      subst (λ w. WroteFront shell taken given w) (sym (finished is)) (page_cut shell taken given (at_page here.taken page) (p.told ++ (Finished end ∷ []) ∷ []) f.0 so_far f.1)
 
-  pub run_cut_last : first ≡ [] → Told shell (at taken first) here p.segments → WroteFirst shell taken here.taken (with_finish p).segments
-  run_cut_last empty told = stays shell taken here p.segments (finish_segments p.end) (told taken [] (nothing_written shell taken first empty))
+  pub run_cut_last : first ≡ [] → IsTold shell (at_page taken first) here p.told → WroteFirst shell taken here.taken (with_finish p).told
+  run_cut_last empty told = stays shell taken here p.told (finish_segments p.end) (told taken [] (nothing_written shell taken first empty))
 
-pub run_cut : (shell : Shell) (taken : Option (List ℕ)) (first : List ℕ) (here : Place) (p : Stretch) (halt : Halt) → first ≡ [] → CutIn shell (at taken first) here p.segments halt → WroteUntil shell taken here.taken (with_finish p).segments halt
-run_cut shell taken first here p halt empty cut = until_later shell taken here.taken p.segments (finish_segments p.end) halt (cut taken [] (nothing_written shell taken first empty))
+pub run_cut : (shell : Shell) (taken : Option (List ℕ)) (first : List ℕ) (here : Place) (p : Stretch) (halt : Halt) → first ≡ [] → CutIn shell (at_page taken first) here p.told halt → WroteUntil shell taken here.taken (with_finish p).told halt
+run_cut shell taken first here p halt empty cut = until_later shell taken here.taken p.told (finish_segments p.end) halt (cut taken [] (nothing_written shell taken first empty))
 
 -- ---- what is said of a run that was cut short
 
-pub wrote_first : (shell : Shell) (p : Stretch) (old new : Option (List ℕ)) → WroteFirst shell old new p.segments → WritesFront shell p finishes.Memory old new
+pub wrote_first : (shell : Shell) (p : Stretch) (old new : Option (List ℕ)) → WroteFirst shell old new p.told → WritesFront shell p finishes.Memory old new
 wrote_first shell p old new w = (length w.first, subst (λ x. Appends old new (trace_text shell x)) (sym (ap (take (length w.first)) w.all ∙ take-append_seam w.first w.rest)) w.appended)
 
-pub wrote_front : (shell : Shell) (p : Stretch) (old new : Option (List ℕ)) → WroteFront shell old new p.segments → WritesFront shell p finishes.Write old new
+pub wrote_front : (shell : Shell) (p : Stretch) (old new : Option (List ℕ)) → WroteFront shell old new p.told → WritesFront shell p finishes.Write old new
 wrote_front shell p old new w = (length w.front, subst (Appends old new) (sym (ap (take (length w.front)) w.all ∙ take-append_seam w.front w.rest)) w.appended)
 
 pub wrote_whole : (shell : Shell) (p : Stretch) (finish : Finish) (end : End) (old new : Option (List ℕ)) → end_of finish ≡ Some end → WritesFront shell p finish old new

@@ -6,7 +6,7 @@ use Rattle.bb_trace.specs.declared.end.End.TheVariants as ends
 use Rattle.bb_run.specs.declared.finish.Finish.{Finish}
 use Rattle.bb_run.specs.declared.finish.Finish.TheVariants as finishes
 use Rattle.bb_trace.specs.declared.shell.Shell.{Shell}
-use Rattle.bb_run.specs.Stretch.{Stretch}
+use Rattle.bb_run.specs.Told.{Stretch}
 use Rattle.bb_trace.specs.TraceText.{trace_text}
 
 -- the end that the machine's run has, if the run was not cut short
@@ -33,7 +33,7 @@ WritesFront shell run finishes.Quiescence old new = ⊤
 WritesFront shell run finishes.Limit old new = ⊤
 WritesFront shell run finishes.Full old new = ⊤
 WritesFront shell run finishes.Memory old new =
-    (count : ℕ) × Appends old new (trace_text shell (take count run.segments))
+    (count : ℕ) × Appends old new (trace_text shell (take count run.told))
 WritesFront shell run finishes.Write old new =
-    (count : ℕ) × Appends old new (take count (trace_text shell run.segments))
+    (count : ℕ) × Appends old new (take count (trace_text shell run.told))
 WritesFront shell run (finishes.Stuck reason) old new = ⊤

@@ -1,5 +1,7 @@
--- a stretch of a run: what it tells, the state that it leaves, and the end
-pub mod Stretch
+-- the state of a run with one part of it changed
+pub mod State
+-- what a part of a run tells, the state that it leaves, and the end
+pub mod Told
 -- what an event brings about
 pub mod Processing
 -- the run

@@ -4,20 +4,19 @@ use Rattle.std.specs.List.{count_by, flat_map, list_any}
 use Rattle.bb_agenda.specs.declared.activation.Activation.{Activation}
 use Rattle.bb_agenda.specs.Agenda.{pending_of}
 use Rattle.bb_agenda.specs.Chosen.{IsChosen}
-use Rattle.bb_agenda.specs.Rating.{rating}
 use Rattle.bb_trace.specs.declared.end.End.{End}
 use Rattle.bb_trace.specs.declared.end.End.TheVariants as ends
 use Rattle.bb_trace.specs.declared.note.Note.{Note}
 use Rattle.bb_trace.specs.declared.note.Note.TheVariants.{Board, Triggered, Chosen, Ended, Finished}
 use Rattle.bb_trace.specs.declared.shell.Shell.{Shell}
-use Rattle.bb_run.specs.Stretch.{Stretch}
-use Rattle.bb_run.specs.Run.{choice}
+use Rattle.bb_run.specs.Told.{Stretch}
+use Rattle.bb_run.specs.Run.{choice, rating}
 
 -- ---- what notes tell
 
 -- all notes of a stretch, in order
 abbrev pub notes_of : Stretch → List Note
-notes_of p = flat_map (λ segment. segment) p.segments
+notes_of p = flat_map (λ segment. segment) p.told
 
 -- the note is one of these notes, and comes after those before it
 abbrev pub At : (notes before : List Note) → Note → Type 0
@@ -131,6 +130,6 @@ pub record IsChosenAfter (shell : Shell) (run : Stretch) (before : List Note) (a
   -- the activation is the choice in that state
   pub choice_is : choice shell run.state ≡ Some a
   -- the line prints the rating that it has there
-  pub rated : r ≡ rating a
+  pub rated : r ≡ rating shell run.state a
   -- nothing that is pending there is rated higher, and of equals it is the earliest
-  pub best : IsChosen rating shell.floor (pending_of run.state.agenda) a
+  pub best : IsChosen (rating shell run.state) shell.floor (pending_of run.state.agenda) a

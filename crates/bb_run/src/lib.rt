@@ -3,10 +3,12 @@
 #![tactic(auto)]
 
 mod cycles;
+mod execution;
 mod finish;
 mod laws;
 mod processing;
 mod state;
+mod teller;
 
 pub use bb_trace::{
     Board, End, Out, Pipe, RuleFault, SOURCE_LIMIT, SharedSchema, Shell, Source, Stuck, UnitsFault,

@@ -1,4 +1,4 @@
-//! The processing of an event. The run (cycles.rt) calls it for each event, and for quiescence.
+//! The processing of an event. The teller (teller.rt) calls it for each event, and for quiescence.
 
 ghost use Rattle.std.specs.Prelude.{◌≡◌, ◌≤◌, IfOk, length};
 ghost use Rattle.bb_trace.specs.Match.{is_triggered};

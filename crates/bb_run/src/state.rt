@@ -1,4 +1,4 @@
-//! The state of a run, which its parts (processing.rt, cycles.rt) move.
+//! The state of a run, which its parts (processing.rt, execution.rt, cycles.rt) move.
 
 use bb_agenda::Agenda;
 use bb_trace::Board;

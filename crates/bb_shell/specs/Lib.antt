@@ -4,8 +4,8 @@ pub mod Refusals
 pub mod Sources
 -- what an input means
 pub mod Meaning
--- of bb_run: a stretch of a run, and what an event brings about
-pub use Rattle.bb_run.specs.Stretch
+-- of bb_run: what a part of a run tells, and what an event brings about
+pub use Rattle.bb_run.specs.Told
 pub use Rattle.bb_run.specs.Processing
 -- of bb_run: the run, and what every run is like
 pub use Rattle.bb_run.specs.Run

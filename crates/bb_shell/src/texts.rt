@@ -40,7 +40,7 @@ pub fn run_texts<O: Out>(
         × IfSome (end_of f) (λ end. (run m.shell m.board limit).end ≡ Some end)) }
     ensures text { IfOk result (λ f. (m : Meaning) × (meaning schema.now units.now bundle.now floor ≡ Ok m)
         × IfSome (end_of f) (λ _. Appends (O.taken out.old) (O.taken out.new)
-        (trace_text m.shell (run m.shell m.board limit).segments))) }
+        (trace_text m.shell (run m.shell m.board limit).told))) }
 
     // At `Memory` the output took the text of the first segments of the run, at `Write` the front of its trace.
     ensures front { IfOk result (λ f. (m : Meaning) × (meaning schema.now units.now bundle.now floor ≡ Ok m)

@@ -1,7 +1,11 @@
 -- What a part of the run's code did, against what the definitions say. No public contract cites it.
-use Rattle.std.specs.Prelude.{◌≡◌, ℕ, List, [], ◌∷◌, ◌++◌, Option, Some, None, Result, Ok, Err}
+use Rattle.std.specs.Prelude.{⊤, ◌≡◌, ℕ, List, [], ◌∷◌, ◌++◌, Option, Some, None, Result, Ok, Err}
 use Rattle.std.specs.Io.KnownBytes.{Appends}
 use Rattle.bb_agenda.specs.declared.activation.Activation.{Activation}
+use Rattle.bb_machine.specs.Outcome.{Outcome}
+use Rattle.bb_machine.specs.Stop.{Stop}
+use Rattle.bb_machine.specs.Stop.TheVariants as stops
+use Rattle.bb_trace.specs.Board.{Board as Blackboard}
 use Rattle.bb_trace.specs.declared.end.End.{End}
 use Rattle.bb_trace.specs.declared.end.End.TheVariants.{Quiescence}
 use Rattle.bb_trace.specs.declared.halt.Halt.{Halt}
@@ -11,23 +15,30 @@ use Rattle.bb_run.specs.declared.cycles.Decision.{Decision}
 use Rattle.bb_run.specs.declared.cycles.Decision.TheVariants.{Act, Over}
 use Rattle.bb_trace.specs.declared.shell.Shell.{Shell}
 use Rattle.bb_run.specs.declared.state.State.{State}
-use Rattle.bb_run.specs.Stretch.{Stretch}
-use Rattle.bb_run.specs.Processing.{Response}
+use Rattle.bb_run.specs.declared.teller.Teller.{Teller}
+use Rattle.bb_run.specs.Told.{Response, Stretch}
 use Rattle.bb_run.specs.Run.{choice, wait}
 use Rattle.bb_trace.specs.TraceText.{trace_text}
 
 -- ---- notes
 
--- one note, if there is one
-abbrev pub option_list : Option Note → List Note
+-- one element, if there is one
+abbrev pub option_list : {X : Type 0} → Option X → List X
 option_list None = []
-option_list (Some note) = note ∷ []
+option_list (Some x) = x ∷ []
 
 -- the notes were appended, and the state and the end are the response's
 pub record IsResponse (r : Response) (old new : List Note) (s : State) (e : Option End) : Type 0 where
-  pub notes : new ≡ old ++ r.notes
+  pub notes : new ≡ old ++ r.told
   pub state : s ≡ r.state
   pub end : e ≡ r.end
+
+-- the code was executed so, or memory ran out
+abbrev pub Attempts : Result Outcome Stop × Blackboard → Result Outcome Stop → Blackboard → Type 0
+Attempts e (Ok o) board = (e.0 ≡ Ok o) × (board ≡ e.1)
+Attempts e (Err (stops.Full steps found)) board = (e.0 ≡ Err (stops.Full steps found)) × (board ≡ e.1)
+Attempts e (Err (stops.Stuck reason steps found)) board = (e.0 ≡ Err (stops.Stuck reason steps found)) × (board ≡ e.1)
+Attempts e (Err stops.Memory) board = ⊤
 
 -- ---- segments
 
@@ -36,8 +47,16 @@ pub record Place : Type 0 where
   pub taken : Option (List ℕ)
   pub page : List ℕ
 
-abbrev pub at : Option (List ℕ) → List ℕ → Place
-at taken page = record { taken = taken; page = page }
+abbrev pub at_page : Option (List ℕ) → List ℕ → Place
+at_page taken page = record { taken = taken; page = page }
+
+-- where a teller is, by what its output tells that it took
+abbrev pub at : {O : Type 0} → (O → Option (List ℕ)) → Teller O → Place
+at taken t = at_page (taken t.out.now) t.page.now
+
+-- the teller writes on the same page, to the same output
+abbrev pub Same : {O : Type 0} → Teller O → Teller O → Type 0
+Same old new = (new.page.ghost_name ≡ old.page.ghost_name) × (new.out.ghost_name ≡ old.out.ghost_name)
 
 -- of the segments that were told the first were written, and the page has the text of the others
 pub record HasWritten (shell : Shell) (start : Option (List ℕ)) (place : Place) (told : List (List Note)) : Type 0 where
@@ -67,8 +86,8 @@ WroteUntil shell start taken segments halts.Memory = WroteFirst shell start take
 WroteUntil shell start taken segments halts.Write = WroteFront shell start taken segments
 
 -- these segments were told, whatever was told before
-abbrev pub Told : Shell → Place → Place → List (List Note) → Type 0
-Told shell old new segments =
+abbrev pub IsTold : Shell → Place → Place → List (List Note) → Type 0
+IsTold shell old new segments =
     (start : Option (List ℕ)) (told : List (List Note)) → HasWritten shell start old told
     → HasWritten shell start new (told ++ segments)
 
@@ -80,7 +99,7 @@ CutIn shell old new segments halt =
 
 -- these segments were told, or the run was cut short in them
 abbrev pub Tells : {X : Type 0} → Shell → Place → Place → List (List Note) → Result X Halt → Type 0
-Tells shell old new segments (Ok x) = Told shell old new segments
+Tells shell old new segments (Ok x) = IsTold shell old new segments
 Tells shell old new segments (Err halt) = CutIn shell old new segments halt
 
 -- the state and the end are those that a stretch leaves
@@ -90,8 +109,8 @@ pub record Leaves (p : Stretch) (s : State) (e : Option End) : Type 0 where
 
 -- a stretch was told, with this state and this end after it, or the run was cut short in it
 abbrev pub MakesBy : {X : Type 0} → (X → Option End) → Shell → Place → Place → Stretch → State → Result X Halt → Type 0
-MakesBy end_of shell old new p s (Ok x) = Told shell old new p.segments × Leaves p s (end_of x)
-MakesBy end_of shell old new p s (Err halt) = CutIn shell old new p.segments halt
+MakesBy end_of shell old new p s (Ok x) = IsTold shell old new p.told × Leaves p s (end_of x)
+MakesBy end_of shell old new p s (Err halt) = CutIn shell old new p.told halt
 
 -- the run may end in it
 abbrev pub Makes : Shell → Place → Place → Stretch → State → Result (Option End) Halt → Type 0
@@ -120,11 +139,11 @@ decision_after shell p = decision_by p.end (choice shell p.state)
 
 -- the wait before a cycle was told, with this state after it, and this decision comes
 pub record Waited (shell : Shell) (old new : Place) (s t : State) (decision : Decision) : Type 0 where
-  pub told : Told shell old new (wait shell s).segments
+  pub told : IsTold shell old new (wait shell s).told
   pub state : t ≡ (wait shell s).state
   pub decision_is : decision ≡ decision_after shell (wait shell s)
 
 -- the same, or the run was cut short in the wait
 abbrev pub Waits : Shell → Place → Place → (s t : State) → Result Decision Halt → Type 0
 Waits shell old new s t (Ok decision) = Waited shell old new s t decision
-Waits shell old new s t (Err halt) = CutIn shell old new (wait shell s).segments halt
+Waits shell old new s t (Err halt) = CutIn shell old new (wait shell s).told halt

@@ -1,0 +1,17 @@
+use Rattle.std.proofs.Common.{[], None, subst}
+use Rattle.bb_agenda.specs.Agenda.{Agenda}
+use Rattle.bb_run.specs.State.{with_agenda}
+use Rattle.bb_run.specs.Processing.{reported}
+use Rattle.bb_run.specs.Run.{noted}
+use Rattle.bb_run.specs.proving.Telling.{Makes, at}
+use Rattle.bb_run.proofs.TellLemmas.{reported_as}
+use Rattle.bb_run.proofs.teller.Teller.begin.Goals as goal
+
+pub returns-clause-made : goal.returns-clause-made
+returns-clause-made g c =
+    let a = at g.O.Out.taken c.args.self.now in
+    let b = at g.O.Out.taken c.report.new.self in
+    let s = c.args.state.now in
+    subst (λ (agenda : Agenda). Makes c.args.shell.now a b (reported c.args.shell.now (noted (with_agenda s agenda) [] None)) c.report.new.state c.report.result) c.requires.new
+    (reported_as c.args.shell.now a b (noted s [] None) c.new-notes.result.items c.take_noted.new.notes.items c.deref.result.now c.take_noted.new.state c.report.new.state None c.report.result
+    c.deref.ensures.value c.new-notes.ensures.items (c.in_ok-take_noted.ensures None) c.report.ensures.made)

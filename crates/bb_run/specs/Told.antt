@@ -1,0 +1,48 @@
+-- What a part of a run tells, the state that it leaves, and how the run ends if it ends there.
+use Rattle.std.specs.Prelude.{List, [], ◌∷◌, ◌++◌, Option, Some, None}
+use Rattle.bb_trace.specs.declared.end.End.{End}
+use Rattle.bb_trace.specs.declared.note.Note.{Note}
+use Rattle.bb_run.specs.declared.state.State.{State}
+
+pub record Told (X : Type 0) : Type 0 where
+  -- what it tells, in order
+  pub told : List X
+  pub state : State
+  pub end : Option End
+
+-- what answers to an event, or to a choice, tells notes
+abbrev pub Response : Type 0
+Response = Told Note
+
+-- a stretch of a run tells segments: each is a list of notes, and is written whole
+abbrev pub Stretch : Type 0
+Stretch = Told (List Note)
+
+-- this is told
+abbrev pub telling : {X : Type 0} → List X → State → Option End → Told X
+telling told s end = record { told = told; state = s; end = end }
+
+-- nothing is told, and the run goes on
+abbrev pub idle : {X : Type 0} → State → Told X
+idle s = telling [] s None
+
+-- the run ends, and nothing more is told
+abbrev pub over : {X : Type 0} → End → State → Told X
+over end s = telling [] s (Some end)
+
+-- the same after what was told before
+abbrev pub after_told : {X : Type 0} → List X → Told X → Told X
+after_told told p = telling (told ++ p.told) p.state p.end
+
+-- what comes after a part that ended so: the next one, unless the run is over
+abbrev pub and_then_unless : {X : Type 0} → Option End → Told X → (State → Told X) → Told X
+and_then_unless (Some end) p next = p
+and_then_unless None p next = after_told p.told (next p.state)
+
+-- a part and then the next, unless the run ends in the first
+abbrev pub and_then : {X : Type 0} → Told X → (State → Told X) → Told X
+and_then p next = and_then_unless p.end p next
+
+-- a response is told as one segment
+abbrev pub segment : Response → Stretch
+segment r = telling (r.told ∷ []) r.state r.end
