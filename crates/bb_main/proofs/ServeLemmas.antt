@@ -66,29 +66,29 @@ run-not-refused (Some (ends.Stuck reason)) k is = let no : 7 ≡ 2 = is in omega
 
 -- a run's answer, by how the run came out
 pub served_run : (limit : ℕ) (m : Meaning) (f : Finish) (status : ℕ) (old new : Option (List ℕ)) → status ≡ status_of f
-    → IfSome (end_of f) (λ end. (run m.shell m.board limit).end ≡ Some end)
-    → IfSome (end_of f) (λ _. Appends old new (trace_text m.shell (run m.shell m.board limit).told))
-    → WritesFront m.shell (run m.shell m.board limit) f old new
+    → IfSome (end_of f) (λ end. (run m.plan m.board limit).end ≡ Some end)
+    → IfSome (end_of f) (λ _. Appends old new (trace_text m.plan (run m.plan m.board limit).told))
+    → WritesFront m.plan (run m.plan m.board limit) f old new
     → Delivers (answer_to_run limit m) old new status ⊎ CutShort (answer_to_run limit m) old new status
 served_run limit m f status old new = by f
   where
-    whole : trace_text m.shell (run m.shell m.board limit).told ≡ text_of (answer_to_run limit m).pieces
-    whole = sym (text_of-map (segment_text m.shell) (run m.shell m.board limit).told)
+    whole : trace_text m.plan (run m.plan m.board limit).told ≡ text_of (answer_to_run limit m).pieces
+    whole = sym (text_of-map (segment_text m.plan) (run m.plan m.board limit).told)
 
-    all : Appends old new (trace_text m.shell (run m.shell m.board limit).told) → Appends old new (text_of (answer_to_run limit m).pieces)
+    all : Appends old new (trace_text m.plan (run m.plan m.board limit).told) → Appends old new (text_of (answer_to_run limit m).pieces)
     all p = subst (Appends old new) whole p
 
     by : (f : Finish) → status ≡ status_of f
-        → IfSome (end_of f) (λ end. (run m.shell m.board limit).end ≡ Some end)
-        → IfSome (end_of f) (λ _. Appends old new (trace_text m.shell (run m.shell m.board limit).told))
-        → WritesFront m.shell (run m.shell m.board limit) f old new
+        → IfSome (end_of f) (λ end. (run m.plan m.board limit).end ≡ Some end)
+        → IfSome (end_of f) (λ _. Appends old new (trace_text m.plan (run m.plan m.board limit).told))
+        → WritesFront m.plan (run m.plan m.board limit) f old new
         → Delivers (answer_to_run limit m) old new status ⊎ CutShort (answer_to_run limit m) old new status
     by finishes.Quiescence is ends wrote front = inl (inl (rw ends is, all wrote))
     by finishes.Limit is ends wrote front = inl (inl (rw ends is, all wrote))
     by finishes.Full is ends wrote front = inl (inl (rw ends is, all wrote))
     by (finishes.Stuck reason) is ends wrote front = inl (inl (rw ends is, all wrote))
     by finishes.Memory is ends wrote front =
-        inr (is, (front.0, run-not-refused (run m.shell m.board limit).end front.0, subst (Appends old new) (sym (text_of-map (segment_text m.shell) (take front.0 (run m.shell m.board limit).told)) ∙ ap text_of (sym (take-map (segment_text m.shell) front.0 (run m.shell m.board limit).told))) front.1))
+        inr (is, (front.0, run-not-refused (run m.plan m.board limit).end front.0, subst (Appends old new) (sym (text_of-map (segment_text m.plan) (take front.0 (run m.plan m.board limit).told)) ∙ ap text_of (sym (take-map (segment_text m.plan) front.0 (run m.plan m.board limit).told))) front.1))
     by finishes.Write is ends wrote front = inl (inr (is, (front.0, subst (λ t. Appends old new (take front.0 t)) whole front.1)))
 
 same_meaning : (given : Result Meaning InputFault) (m n : Meaning) → given ≡ Ok m → given ≡ Ok n → n ≡ m
@@ -96,14 +96,14 @@ same_meaning given m n p q = let e : ◌≡◌ {A = Result Meaning InputFault} (
 
 -- the answer to what sections mean, by what a run of them is known to have told
 pub served_meaning : (limit : ℕ) (given : Result Meaning InputFault) (f : Finish) (status : ℕ) (old new : Option (List ℕ)) → status ≡ status_of f
-    → (m : Meaning) × (given ≡ Ok m) × IfSome (end_of f) (λ end. (run m.shell m.board limit).end ≡ Some end)
-    → (m : Meaning) × (given ≡ Ok m) × IfSome (end_of f) (λ _. Appends old new (trace_text m.shell (run m.shell m.board limit).told))
-    → (m : Meaning) × (given ≡ Ok m) × WritesFront m.shell (run m.shell m.board limit) f old new
+    → (m : Meaning) × (given ≡ Ok m) × IfSome (end_of f) (λ end. (run m.plan m.board limit).end ≡ Some end)
+    → (m : Meaning) × (given ≡ Ok m) × IfSome (end_of f) (λ _. Appends old new (trace_text m.plan (run m.plan m.board limit).told))
+    → (m : Meaning) × (given ≡ Ok m) × WritesFront m.plan (run m.plan m.board limit) f old new
     → Delivers (answer_to_meaning limit given) old new status ⊎ CutShort (answer_to_meaning limit given) old new status
 served_meaning limit given f status old new is ends wrote front =
     let m = ends.0 in
-    let text = subst (λ (n : Meaning). IfSome (end_of f) (λ _. Appends old new (trace_text n.shell (run n.shell n.board limit).told))) (same_meaning given m wrote.0 ends.1 wrote.1) wrote.2 in
-    let first = subst (λ (n : Meaning). WritesFront n.shell (run n.shell n.board limit) f old new) (same_meaning given m front.0 ends.1 front.1) front.2 in
+    let text = subst (λ (n : Meaning). IfSome (end_of f) (λ _. Appends old new (trace_text n.plan (run n.plan n.board limit).told))) (same_meaning given m wrote.0 ends.1 wrote.1) wrote.2 in
+    let first = subst (λ (n : Meaning). WritesFront n.plan (run n.plan n.board limit) f old new) (same_meaning given m front.0 ends.1 front.1) front.2 in
     subst (λ (r : Result Meaning InputFault). Delivers (answer_to_meaning limit r) old new status ⊎ CutShort (answer_to_meaning limit r) old new status) (sym ends.1) (served_run limit m f status old new is ends.2 text first)
 
 -- the line of a refusal, written in two parts

@@ -50,8 +50,8 @@ status_of finish = option_map_or end_status (end_of finish) (if is_write finish 
 -- a run is answered by its trace and the status of its end, which every run has
 abbrev pub answer_to_run : (limit : ℕ) → Meaning → Answer
 answer_to_run limit m =
-    let r = run m.shell m.board limit in
-    record { pieces = map (segment_text m.shell) r.segments; status = option_map_or end_status r.end 0 }
+    let r = run m.plan m.board limit in
+    record { pieces = map (segment_text m.plan) r.told; status = option_map_or end_status r.end 0 }
 
 -- a refused input is answered by its line, ended by a line feed
 abbrev pub refusal : List ℕ → Answer

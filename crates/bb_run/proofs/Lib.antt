@@ -1,7 +1,11 @@
 -- worked runs
 mod Rows
 -- segments, one after another
+pub mod SegmentLemmas
+-- parts of a run, one after another
 pub mod TellLemmas
+-- the whole run
+pub mod WholeLemmas
 -- the response of one source after another
 pub mod ResponseLemmas
 -- executions
@@ -10,5 +14,7 @@ pub mod ExecutionLemmas
 pub mod OrderLemmas
 -- what is pending by the notes
 pub mod PendingLemmas
--- each stretch of a run goes on orderly
+-- each part of a run goes on orderly
+pub mod OrderlyParts
+-- each run does
 pub mod OrderlyRuns

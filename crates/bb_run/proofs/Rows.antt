@@ -27,7 +27,7 @@ use Rattle.bb_trace.specs.Act.TheVariants.{Code}
 use Rattle.bb_trace.specs.Source.{Source}
 use Rattle.bb_trace.specs.declared.end.End.TheVariants as ends
 use Rattle.bb_trace.specs.declared.note.Note.TheVariants.{Board, Triggered, Chosen, Ended, Finished}
-use Rattle.bb_trace.specs.declared.shell.Shell.{Shell}
+use Rattle.bb_trace.specs.Plan.{Plan}
 use Rattle.bb_run.specs.Processing.{response_by, processing_all}
 use Rattle.bb_run.specs.Run.{run, cycles}
 
@@ -46,8 +46,8 @@ hello = record { locals = 1; texts = codes "hello" ∷ []; queries = []; frames 
 hail : Source
 hail = record { name = codes "hail"; class = 1; triggers = clause.Change kinds.Create 1 ∷ []; rate = pos 100; act = Code (record { code = hello; part = Do 1; frames = [] }) }
 
-shell : ℤ → Shell
-shell floor = record { schema = note_schema; sources = hail ∷ []; floor = floor }
+plan : ℤ → Plan
+plan floor = record { schema = note_schema; sources = hail ∷ []; floor = floor }
 
 one_note : Blackboard
 one_note = with_world (new_board note_schema) (after_create (new_board note_schema).world 1)
@@ -55,18 +55,18 @@ one_note = with_world (new_board note_schema) (after_create (new_board note_sche
 waiting : Activation
 waiting = record { number = 1; source = 0; unit = 1; base = pos 100 }
 
-first_run : (run (shell (pos 0)) one_note 100).told ≡
+first_run : (run (plan (pos 0)) one_note 100).told ≡
     (Board (noted.Event (happens 1 1 Create)) ∷ []) ∷ (Triggered waiting ∷ []) ∷ (Chosen 1 waiting (pos 100) ∷ [])
     ∷ (Board (noted.Said (saids.Value (Text (codes "hello")) ∷ [])) ∷ Ended 3 0 3 ∷ []) ∷ (Board (noted.Event Quiescence) ∷ []) ∷ (Finished ends.Quiescence ∷ []) ∷ []
-unfolding shell hail hello note_schema one_note waiting climbs try_map room push push_text pop_many say step steps_from response_by processing_all cycles
+unfolding plan hail hello note_schema one_note waiting climbs try_map room push push_text pop_many say step steps_from response_by processing_all cycles
 first_run = refl
 
-limit_zero : (run (shell (pos 0)) one_note 0).told ≡
+limit_zero : (run (plan (pos 0)) one_note 0).told ≡
     (Board (noted.Event (happens 1 1 Create)) ∷ []) ∷ (Triggered waiting ∷ []) ∷ (Finished ends.Limit ∷ []) ∷ []
-unfolding shell hail hello note_schema one_note waiting climbs try_map room push push_text pop_many say step steps_from response_by processing_all cycles
+unfolding plan hail hello note_schema one_note waiting climbs try_map room push push_text pop_many say step steps_from response_by processing_all cycles
 limit_zero = refl
 
-floor_above : (run (shell (pos 101)) one_note 100).told ≡
+floor_above : (run (plan (pos 101)) one_note 100).told ≡
     (Board (noted.Event (happens 1 1 Create)) ∷ []) ∷ (Triggered waiting ∷ []) ∷ (Board (noted.Event Quiescence) ∷ []) ∷ (Finished ends.Quiescence ∷ []) ∷ []
-unfolding shell hail hello note_schema one_note waiting climbs try_map room push push_text pop_many say step steps_from response_by processing_all cycles
+unfolding plan hail hello note_schema one_note waiting climbs try_map room push push_text pop_many say step steps_from response_by processing_all cycles
 floor_above = refl

@@ -5,7 +5,7 @@ use Rattle.bb_trace.specs.declared.end.End.{End}
 use Rattle.bb_trace.specs.declared.end.End.TheVariants as ends
 use Rattle.bb_run.specs.declared.finish.Finish.{Finish}
 use Rattle.bb_run.specs.declared.finish.Finish.TheVariants as finishes
-use Rattle.bb_trace.specs.declared.shell.Shell.{Shell}
+use Rattle.bb_trace.specs.Plan.{Plan}
 use Rattle.bb_run.specs.Told.{Stretch}
 use Rattle.bb_trace.specs.TraceText.{trace_text}
 
@@ -28,12 +28,12 @@ is_write finishes.Write = true
 is_write (finishes.Stuck reason) = false
 
 -- what was written of a run that was cut short: the first segments, or, where the output failed, the front of the text
-abbrev pub WritesFront : Shell → Stretch → Finish → (old new : Option (List ℕ)) → Type 0
-WritesFront shell run finishes.Quiescence old new = ⊤
-WritesFront shell run finishes.Limit old new = ⊤
-WritesFront shell run finishes.Full old new = ⊤
-WritesFront shell run finishes.Memory old new =
-    (count : ℕ) × Appends old new (trace_text shell (take count run.told))
-WritesFront shell run finishes.Write old new =
-    (count : ℕ) × Appends old new (take count (trace_text shell run.told))
-WritesFront shell run (finishes.Stuck reason) old new = ⊤
+abbrev pub WritesFront : Plan → Stretch → Finish → (old new : Option (List ℕ)) → Type 0
+WritesFront plan run finishes.Quiescence old new = ⊤
+WritesFront plan run finishes.Limit old new = ⊤
+WritesFront plan run finishes.Full old new = ⊤
+WritesFront plan run finishes.Memory old new =
+    (count : ℕ) × Appends old new (trace_text plan (take count run.told))
+WritesFront plan run finishes.Write old new =
+    (count : ℕ) × Appends old new (take count (trace_text plan run.told))
+WritesFront plan run (finishes.Stuck reason) old new = ⊤

@@ -8,7 +8,7 @@ use Rattle.bb_trace.specs.declared.end.End.{End}
 use Rattle.bb_trace.specs.declared.end.End.TheVariants as ends
 use Rattle.bb_trace.specs.declared.note.Note.{Note}
 use Rattle.bb_trace.specs.declared.note.Note.TheVariants.{Board, Triggered, Chosen, Ended, Finished}
-use Rattle.bb_trace.specs.declared.shell.Shell.{Shell}
+use Rattle.bb_trace.specs.Plan.{Plan}
 use Rattle.bb_run.specs.Told.{Stretch}
 use Rattle.bb_run.specs.Run.{choice, rating}
 
@@ -109,27 +109,27 @@ pub record IsFinished (run : Stretch) : Type 0 where
       → after ≡ []
 
 -- the run makes so many cycles at most, and its end tells why not more
-pub record KeepsLimit (shell : Shell) (limit : ℕ) (run : Stretch) : Type 0 where
+pub record KeepsLimit (plan : Plan) (limit : ℕ) (run : Stretch) : Type 0 where
   -- no more cycles than the limit
   pub within : length (chosen_in (notes_of run)) ≤ limit
   -- a run that ends by its limit made as many
   pub met : run.end ≡ Some ends.Limit → length (chosen_in (notes_of run)) ≡ limit
   -- and something can be chosen in its last state
-  pub left : run.end ≡ Some ends.Limit → (a : Activation) × (choice shell run.state ≡ Some a)
+  pub left : run.end ≡ Some ends.Limit → (a : Activation) × (choice plan run.state ≡ Some a)
   -- nothing can be chosen in the last state of a run that ends in quiescence
-  pub exhausted : run.end ≡ Some ends.Quiescence → choice shell run.state ≡ None
+  pub exhausted : run.end ≡ Some ends.Quiescence → choice plan run.state ≡ None
 
 -- ---- how every choice is made
 
 -- after these notes an activation is chosen in the last state of a run, and its line prints this rating
-pub record IsChosenAfter (shell : Shell) (run : Stretch) (before : List Note) (a : Activation) (r : ℤ) : Type 0 where
+pub record IsChosenAfter (plan : Plan) (run : Stretch) (before : List Note) (a : Activation) (r : ℤ) : Type 0 where
   -- that run tells these notes, and then ends by its limit
   pub told : notes_of run ≡ before ++ Finished ends.Limit ∷ []
   -- what is pending in its last state is what is pending by the notes
   pub agenda : pending_of run.state.agenda ≡ pending_after before
   -- the activation is the choice in that state
-  pub choice_is : choice shell run.state ≡ Some a
+  pub choice_is : choice plan run.state ≡ Some a
   -- the line prints the rating that it has there
-  pub rated : r ≡ rating shell run.state a
+  pub rated : r ≡ rating plan run.state a
   -- nothing that is pending there is rated higher, and of equals it is the earliest
-  pub best : IsChosen (rating shell run.state) shell.floor (pending_of run.state.agenda) a
+  pub best : IsChosen (rating plan run.state) plan.floor (pending_of run.state.agenda) a

@@ -11,7 +11,7 @@ use Rattle.bb_trace.specs.Match.{is_triggered}
 use Rattle.bb_trace.specs.declared.end.End.TheVariants.{Full}
 use Rattle.bb_trace.specs.declared.note.Note.{Note}
 use Rattle.bb_trace.specs.declared.note.Note.TheVariants.{Board, Triggered, Chosen, Ended, Finished}
-use Rattle.bb_trace.specs.declared.shell.Shell.{Shell}
+use Rattle.bb_trace.specs.Plan.{Plan}
 use Rattle.bb_run.specs.declared.state.State.{State}
 use Rattle.bb_run.specs.State.{with_agenda}
 use Rattle.bb_run.specs.Told.{Response, Stretch, telling, idle, over, and_then, segment}
@@ -35,17 +35,17 @@ response_by schema event place (source ∷ sources) s =
     and_then (source_response schema event place source s) (response_by schema event (place + 1) sources)
 
 -- the response of all sources
-abbrev pub response : Shell → Event → State → Response
-response shell event s = response_by shell.schema event 0 shell.sources s
+abbrev pub response : Plan → Event → State → Response
+response plan event s = response_by plan.schema event 0 plan.sources s
 
 -- the processing of an event is told as one segment
-abbrev pub processing : Shell → Event → State → Stretch
-processing shell event s = segment (response shell event s)
+abbrev pub processing : Plan → Event → State → Stretch
+processing plan event s = segment (response plan event s)
 
 -- events in order, a segment each
-unfoldable pub processing_all : Shell → List Event → State → Stretch
-processing_all shell [] s = idle s
-processing_all shell (event ∷ events) s = and_then (processing shell event s) (processing_all shell events)
+unfoldable pub processing_all : Plan → List Event → State → Stretch
+processing_all plan [] s = idle s
+processing_all plan (event ∷ events) s = and_then (processing plan event s) (processing_all plan events)
 
 -- the event that a note tells, if it tells one
 abbrev pub event_in : Note → List Event
@@ -61,5 +61,5 @@ abbrev pub events_in : List Note → List Event
 events_in notes = flat_map event_in notes
 
 -- a response is told, and then its events are processed
-abbrev pub reported : Shell → Response → Stretch
-reported shell r = and_then (segment r) (processing_all shell (events_in r.told))
+abbrev pub reported : Plan → Response → Stretch
+reported plan r = and_then (segment r) (processing_all plan (events_in r.told))

@@ -23,32 +23,32 @@ use Rattle.bb_trace.specs.declared.end.End.{End}
 use Rattle.bb_trace.specs.declared.end.End.TheVariants as finishes
 use Rattle.bb_trace.specs.declared.note.Note.{Note}
 use Rattle.bb_trace.specs.declared.note.Note.TheVariants.{Board, Chosen, Ended, Finished}
-use Rattle.bb_trace.specs.declared.shell.Shell.{Shell}
+use Rattle.bb_trace.specs.Plan.{Plan}
 use Rattle.bb_run.specs.declared.state.State.{State}
 use Rattle.bb_run.specs.State.{with_board, with_agenda}
 use Rattle.bb_run.specs.Told.{Response, Stretch, telling, idle, over, after_told, and_then, segment}
 use Rattle.bb_run.specs.Processing.{response, reported}
 
 -- the rating of an activation in a state: its base
-abbrev pub rating : Shell → State → Activation → ℤ
-rating shell s a = base.rating a
+abbrev pub rating : Plan → State → Activation → ℤ
+rating plan s a = base.rating a
 
 -- the activation that is chosen, if one can be
-abbrev pub choice : Shell → State → Option Activation
-choice shell s = chosen (rating shell s) shell.floor (pending_of s.agenda)
+abbrev pub choice : Plan → State → Option Activation
+choice plan s = chosen (rating plan s) plan.floor (pending_of s.agenda)
 
 -- quiescence is told, and the sources respond to it
-abbrev pub quiet : Shell → State → Stretch
-quiet shell s = segment (after_told (Board (happened quiescence) ∷ []) (response shell quiescence s))
+abbrev pub quiet : Plan → State → Stretch
+quiet plan s = segment (after_told (Board (happened quiescence) ∷ []) (response plan quiescence s))
 
 -- before a cycle quiescence comes where nothing can be chosen
-abbrev pub wait_for : Shell → State → Option Activation → Stretch
-wait_for shell s None = quiet shell s
-wait_for shell s (Some a) = idle s
+abbrev pub wait_for : Plan → State → Option Activation → Stretch
+wait_for plan s None = quiet plan s
+wait_for plan s (Some a) = idle s
 
 -- the wait before a cycle, by the choice there is
-abbrev pub wait : Shell → State → Stretch
-wait shell s = wait_for shell s (choice shell s)
+abbrev pub wait : Plan → State → Stretch
+wait plan s = wait_for plan s (choice plan s)
 
 -- the blackboard's notes are taken
 abbrev pub with_notes_taken : State → State
@@ -82,22 +82,22 @@ abbrev pub execution : Act → Activation → State → Response
 execution (acts.Code body) a s = let e = attempt body.code a s.board in answered body.code (with_board s e.1) e.0
 
 -- the source at the activation's place acts; each pending activation has one
-abbrev pub acting : Shell → Option Source → Activation → State → Stretch
-acting shell None a s = idle s
-acting shell (Some source) a s = reported shell (execution source.act a s)
+abbrev pub acting : Plan → Option Source → Activation → State → Stretch
+acting plan None a s = idle s
+acting plan (Some source) a s = reported plan (execution source.act a s)
 
 -- the chosen activation is no longer pending
 abbrev pub after_choice : State → Activation → State
 after_choice s a = with_agenda s (with_executed s.agenda a.number)
 
 -- the choice of a cycle is told
-abbrev pub choosing : Shell → (number : ℕ) → Activation → State → Response
-choosing shell number a s = telling (Chosen number a (rating shell s a) ∷ []) (after_choice s a) None
+abbrev pub choosing : Plan → (number : ℕ) → Activation → State → Response
+choosing plan number a s = telling (Chosen number a (rating plan s a) ∷ []) (after_choice s a) None
 
 -- a cycle: the choice is told, and its source acts
-abbrev pub cycle : Shell → (number : ℕ) → Activation → State → Stretch
-cycle shell number a s =
-    and_then (segment (choosing shell number a s)) (acting shell (slice_get shell.sources a.source) a)
+abbrev pub cycle : Plan → (number : ℕ) → Activation → State → Stretch
+cycle plan number a s =
+    and_then (segment (choosing plan number a s)) (acting plan (slice_get plan.sources a.source) a)
 
 -- what comes of a choice: the run is over where nothing can be chosen
 abbrev pub if_chosen : State → Option Activation → (Activation → Stretch) → Stretch
@@ -105,15 +105,15 @@ if_chosen s None next = over finishes.Quiescence s
 if_chosen s (Some a) next = next a
 
 -- what is left of a run after so many cycles, where so many more can be made
-unfoldable pub cycles : Shell → (made left : ℕ) → State → Stretch
-cycles shell made zero s = and_then (wait shell s) (λ t. if_chosen t (choice shell t) (λ a. over finishes.Limit t))
-cycles shell made (suc left) s =
-    and_then (wait shell s) (λ t. if_chosen t (choice shell t)
-    (λ a. and_then (cycle shell (made + 1) a t) (cycles shell (made + 1) left)))
+unfoldable pub cycles : Plan → (made left : ℕ) → State → Stretch
+cycles plan made zero s = and_then (wait plan s) (λ t. if_chosen t (choice plan t) (λ a. over finishes.Limit t))
+cycles plan made (suc left) s =
+    and_then (wait plan s) (λ t. if_chosen t (choice plan t)
+    (λ a. and_then (cycle plan (made + 1) a t) (cycles plan (made + 1) left)))
 
 -- what the first units' creation noted is told, and its events are processed
-abbrev pub start : Shell → Blackboard → Stretch
-start shell board = reported shell (noted (record { board = board; agenda = no_activations }) [] None)
+abbrev pub start : Plan → Blackboard → Stretch
+start plan board = reported plan (noted (record { board = board; agenda = no_activations }) [] None)
 
 -- the segment that tells the end, if there is one
 abbrev pub finish_segments : Option End → List (List Note)
@@ -125,9 +125,9 @@ abbrev pub with_finish : Stretch → Stretch
 with_finish p = telling (p.told ++ finish_segments p.end) p.state p.end
 
 -- the start, and then at most so many cycles
-abbrev pub unfinished : Shell → Blackboard → (limit : ℕ) → Stretch
-unfinished shell board limit = and_then (start shell board) (cycles shell 0 limit)
+abbrev pub unfinished : Plan → Blackboard → (limit : ℕ) → Stretch
+unfinished plan board limit = and_then (start plan board) (cycles plan 0 limit)
 
 -- the whole run from a blackboard's first state, with at most so many cycles
-abbrev pub run : Shell → Blackboard → (limit : ℕ) → Stretch
-run shell board limit = with_finish (unfinished shell board limit)
+abbrev pub run : Plan → Blackboard → (limit : ℕ) → Stretch
+run plan board limit = with_finish (unfinished plan board limit)

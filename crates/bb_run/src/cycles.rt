@@ -5,7 +5,6 @@ ghost use Rattle.std.specs.Io.KnownBytes.{Appends};
 ghost use Rattle.bb_agenda.specs.Agenda.{no_activations};
 ghost use Rattle.bb_trace.specs.Page.{stopped_by_write};
 ghost use Rattle.bb_trace.specs.TraceText.{trace_text};
-ghost use Rattle.bb_trace.specs.declared.shell.TheConstants.{SOURCE_LIMIT};
 ghost use Rattle.bb_run.specs.Finish.{WritesFront, end_of, is_write};
 ghost use Rattle.bb_run.specs.Run.{acting, choice, cycle, cycles, run, start, unfinished};
 ghost use Rattle.bb_run.specs.proving.Telling.{Finishes, Makes, Same, Waits, Writes, at};
@@ -15,7 +14,7 @@ use crate::finish::Finish;
 use crate::state::State;
 use crate::teller::Teller;
 use bb_agenda::{Activation, Agenda};
-use bb_trace::{Board, End, Halt, Note, Out, Page, Shell, Source};
+use bb_trace::{Board, End, Halt, Note, Out, Page, Plan, Source};
 use std::alloc::Global;
 
 /// What comes before a cycle: an activation is chosen, or the run is over.
@@ -25,10 +24,10 @@ pub(crate) enum Decision {
     Over(End),
 }
 
-fn choose(shell: &Shell, state: &State) -> Option<Activation>
-    ensures { result ≡ choice shell.now state.now }
+fn choose(plan: &Plan, state: &State) -> Option<Activation>
+    ensures { result ≡ choice plan.now state.now }
 {
-    state.agenda.choose(shell.floor)
+    state.agenda.choose(plan.floor())
 }
 
 fn source_at(sources: &[Source], place: u16) -> Option<&Source>
@@ -40,20 +39,19 @@ fn source_at(sources: &[Source], place: u16) -> Option<&Source>
 impl<O: Out> Teller<'_, O> {
     // Chooses an activation, after quiescence where none can be chosen at once. The run is over where none can be
     // chosen after it either.
-    fn decide(&mut self, shell: &Shell, state: &mut State) -> Result<Decision, Halt>
+    fn decide(&mut self, plan: &Plan, state: &mut State) -> Result<Decision, Halt>
         requires open { O.has_failed self.old.out.now ≡ false }
-        requires few { length shell.now.sources ≤ SOURCE_LIMIT }
         ensures same { Same self.old self.new }
-        ensures waited { Waits shell.now (at O.taken self.old) (at O.taken self.new) state.old state.new result }
+        ensures waited { Waits plan.now (at O.taken self.old) (at O.taken self.new) state.old state.new result }
         ensures failed { O.has_failed self.new.out.now ≡ stopped_by_write result }
     {
-        if let Some(activation) = choose(shell, state) {
+        if let Some(activation) = choose(plan, state) {
             return Ok(Decision::Act(activation));
         }
-        if let Some(end) = self.quiesce(shell, state)? {
+        if let Some(end) = self.quiesce(plan, state)? {
             return Ok(Decision::Over(end));
         }
-        match choose(shell, state) {
+        match choose(plan, state) {
             Some(activation) => Ok(Decision::Act(activation)),
             None => Ok(Decision::Over(End::Quiescence)),
         }
@@ -62,36 +60,34 @@ impl<O: Out> Teller<'_, O> {
     // Has a source act for an activation.
     fn act(
         &mut self,
-        shell: &Shell,
+        plan: &Plan,
         source: &Source,
         activation: Activation,
         state: &mut State,
     ) -> Result<Option<End>, Halt>
         requires open { O.has_failed self.old.out.now ≡ false }
-        requires few { length shell.now.sources ≤ SOURCE_LIMIT }
         ensures same { Same self.old self.new }
-        ensures made { Makes shell.now (at O.taken self.old) (at O.taken self.new)
-            (acting shell.now (Some source.now) activation state.old) state.new result }
+        ensures made { Makes plan.now (at O.taken self.old) (at O.taken self.new)
+            (acting plan.now (Some source.now) activation state.old) state.new result }
         ensures failed { O.has_failed self.new.out.now ≡ stopped_by_write result }
     {
         let mut notes = Vec::new(self.alloc());
         let end = execute(&source.act, activation, state, &mut notes)?;
-        self.report(shell, &notes, end, state)
+        self.report(plan, &notes, end, state)
     }
 
     // Makes a cycle: tells of the choice, takes it off the agenda, and has its source act.
     fn make_cycle(
         &mut self,
-        shell: &Shell,
+        plan: &Plan,
         number: u64,
         activation: Activation,
         state: &mut State,
     ) -> Result<Option<End>, Halt>
         requires open { O.has_failed self.old.out.now ≡ false }
-        requires few { length shell.now.sources ≤ SOURCE_LIMIT }
         ensures same { Same self.old self.new }
-        ensures made { Makes shell.now (at O.taken self.old) (at O.taken self.new)
-            (cycle shell.now number activation state.old) state.new result }
+        ensures made { Makes plan.now (at O.taken self.old) (at O.taken self.new)
+            (cycle plan.now number activation state.old) state.new result }
         ensures failed { O.has_failed self.new.out.now ≡ stopped_by_write result }
     {
         let chosen = Note::Chosen {
@@ -99,83 +95,79 @@ impl<O: Out> Teller<'_, O> {
             activation,
             rating: activation.rating(),
         };
-        self.tell(shell, &[chosen])?;
+        self.tell(plan, &[chosen])?;
         state.agenda.executed(activation.number);
-        match source_at(shell.sources.as_slice(), activation.source) {
-            Some(source) => self.act(shell, source, activation, state),
+        match source_at(plan.sources(), activation.source) {
+            Some(source) => self.act(plan, source, activation, state),
             None => Ok(None),
         }
     }
 
     // Makes cycles up to the limit, and returns the end of the run.
-    fn make_cycles(&mut self, shell: &Shell, limit: u64, state: &mut State) -> Result<End, Halt>
+    fn make_cycles(&mut self, plan: &Plan, limit: u64, state: &mut State) -> Result<End, Halt>
         requires open { O.has_failed self.old.out.now ≡ false }
-        requires few { length shell.now.sources ≤ SOURCE_LIMIT }
         ensures same { Same self.old self.new }
-        ensures made { Finishes shell.now (at O.taken self.old) (at O.taken self.new)
-            (cycles shell.now 0 limit state.old) state.new result }
+        ensures made { Finishes plan.now (at O.taken self.old) (at O.taken self.new)
+            (cycles plan.now 0 limit state.old) state.new result }
         ensures failed { O.has_failed self.new.out.now ≡ stopped_by_write result }
     {
         for made in 0..limit {
-            let activation = match self.decide(shell, state)? {
+            let activation = match self.decide(plan, state)? {
                 Decision::Act(activation) => activation,
                 Decision::Over(end) => return Ok(end),
             };
-            if let Some(end) = self.make_cycle(shell, made + 1, activation, state)? {
+            if let Some(end) = self.make_cycle(plan, made + 1, activation, state)? {
                 return Ok(end);
             }
         }
-        match self.decide(shell, state)? {
+        match self.decide(plan, state)? {
             Decision::Act(_) => Ok(End::Limit),
             Decision::Over(end) => Ok(end),
         }
     }
 
     // Tells what the first units' creation noted, and processes its events.
-    fn begin(&mut self, shell: &Shell, state: &mut State) -> Result<Option<End>, Halt>
+    fn begin(&mut self, plan: &Plan, state: &mut State) -> Result<Option<End>, Halt>
         requires open { O.has_failed self.old.out.now ≡ false }
-        requires few { length shell.now.sources ≤ SOURCE_LIMIT }
         requires new { state.old.agenda ≡ no_activations }
         ensures same { Same self.old self.new }
-        ensures made { Makes shell.now (at O.taken self.old) (at O.taken self.new)
-            (start shell.now state.old.board) state.new result }
+        ensures made { Makes plan.now (at O.taken self.old) (at O.taken self.new)
+            (start plan.now state.old.board) state.new result }
         ensures failed { O.has_failed self.new.out.now ≡ stopped_by_write result }
     {
         let mut notes = Vec::new(self.alloc());
         take_noted(state, None, &mut notes)?;
-        self.report(shell, &notes, None, state)
+        self.report(plan, &notes, None, state)
     }
 
     // Makes the whole run but for its last segment.
-    fn run_unfinished(&mut self, shell: &Shell, limit: u64, state: &mut State) -> Result<End, Halt>
+    fn run_unfinished(&mut self, plan: &Plan, limit: u64, state: &mut State) -> Result<End, Halt>
         requires open { O.has_failed self.old.out.now ≡ false }
-        requires few { length shell.now.sources ≤ SOURCE_LIMIT }
         requires new { state.old.agenda ≡ no_activations }
         ensures same { Same self.old self.new }
-        ensures made { Finishes shell.now (at O.taken self.old) (at O.taken self.new)
-            (unfinished shell.now state.old.board limit) state.new result }
+        ensures made { Finishes plan.now (at O.taken self.old) (at O.taken self.new)
+            (unfinished plan.now state.old.board limit) state.new result }
         ensures failed { O.has_failed self.new.out.now ≡ stopped_by_write result }
     {
-        if let Some(end) = self.begin(shell, state)? {
+        if let Some(end) = self.begin(plan, state)? {
             return Ok(end);
         }
-        self.make_cycles(shell, limit, state)
+        self.make_cycles(plan, limit, state)
     }
 
     // Makes the whole run, and writes all of its text.
-    fn make_run(&mut self, shell: &Shell, limit: u64, state: &mut State) -> Result<End, Halt>
+    fn make_run(&mut self, plan: &Plan, limit: u64, state: &mut State) -> Result<End, Halt>
         requires open { O.has_failed self.old.out.now ≡ false }
-        requires few { length shell.now.sources ≤ SOURCE_LIMIT }
         requires new { state.old.agenda ≡ no_activations }
         requires empty { self.old.page.now ≡ [] }
         ensures same { Same self.old self.new }
-        ensures end { IfOk result (λ end. (run shell.now state.old.board limit).end ≡ Some end) }
-        ensures written { Writes shell.now (O.taken self.old.out.now) (O.taken self.new.out.now)
-            (run shell.now state.old.board limit).told result }
+        ensures end { IfOk result (λ end. (run plan.now state.old.board limit).end ≡ Some end) }
+        ensures written { Writes plan.now (O.taken self.old.out.now) (O.taken self.new.out.now)
+            (run plan.now state.old.board limit).told result }
         ensures failed { O.has_failed self.new.out.now ≡ stopped_by_write result }
     {
-        let end = self.run_unfinished(shell, limit, state)?;
-        self.page.add_segment(shell, &[Note::Finished(end)])?;
+        let end = self.run_unfinished(plan, limit, state)?;
+        self.page.add_segment(plan, &[Note::Finished(end)])?;
         self.page.flush(self.out)?;
         Ok(end)
     }
@@ -184,15 +176,14 @@ impl<O: Out> Teller<'_, O> {
 // Makes the whole run, and writes all of its text.
 fn write_run<O: Out>(
     alloc: Global,
-    shell: &Shell,
+    plan: &Plan,
     board: Board,
     limit: u64,
     out: &mut O,
 ) -> Result<End, Halt>
     requires open { O.has_failed out.old ≡ false }
-    requires few { length shell.now.sources ≤ SOURCE_LIMIT }
-    ensures end { IfOk result (λ end. (run shell.now board limit).end ≡ Some end) }
-    ensures written { Writes shell.now (O.taken out.old) (O.taken out.new) (run shell.now board limit).told result }
+    ensures end { IfOk result (λ end. (run plan.now board limit).end ≡ Some end) }
+    ensures written { Writes plan.now (O.taken out.old) (O.taken out.new) (run plan.now board limit).told result }
     ensures failed { O.has_failed out.new ≡ stopped_by_write result }
 {
     let mut page = Page::new(alloc);
@@ -204,21 +195,20 @@ fn write_run<O: Out>(
         page: &mut page,
         out,
     };
-    teller.make_run(shell, limit, &mut state)
+    teller.make_run(plan, limit, &mut state)
 }
 
 /// Runs a blackboard from its first state, at most `limit` cycles, and writes the trace. `Memory`: memory ran out.
 /// `Write`: the output failed.
-pub fn run<O: Out>(alloc: Global, shell: &Shell, board: Board, limit: u32, out: &mut O) -> Finish
+pub fn run<O: Out>(alloc: Global, plan: &Plan, board: Board, limit: u32, out: &mut O) -> Finish
     requires open { O.has_failed out.old ≡ false }
-    requires few { length shell.now.sources ≤ SOURCE_LIMIT }
-    ensures finish { IfSome (end_of result) (λ end. (run shell.now board limit).end ≡ Some end) }
+    ensures finish { IfSome (end_of result) (λ end. (run plan.now board limit).end ≡ Some end) }
     ensures text { IfSome (end_of result) (λ _. Appends (O.taken out.old) (O.taken out.new)
-        (trace_text shell.now (run shell.now board limit).told)) }
-    ensures front { WritesFront shell.now (run shell.now board limit) result (O.taken out.old) (O.taken out.new) }
+        (trace_text plan.now (run plan.now board limit).told)) }
+    ensures front { WritesFront plan.now (run plan.now board limit) result (O.taken out.old) (O.taken out.new) }
     ensures failed { O.has_failed out.new ≡ is_write result }
 {
-    match write_run(alloc, shell, board, u64::from(limit), out) {
+    match write_run(alloc, plan, board, u64::from(limit), out) {
         Ok(end) => Finish::from(end),
         Err(Halt::Memory) => Finish::Memory,
         Err(Halt::Write) => Finish::Write,

@@ -5,12 +5,12 @@ ghost use Rattle.bb_agenda.specs.declared.activation.Activation.{Activation};
 ghost use Rattle.bb_trace.specs.Board.{Board};
 ghost use Rattle.bb_trace.specs.declared.note.Note.{Note};
 ghost use Rattle.bb_trace.specs.declared.note.Note.TheVariants.{Chosen};
-ghost use Rattle.bb_trace.specs.declared.shell.Shell.{Shell};
+ghost use Rattle.bb_trace.specs.Plan.{Plan};
 ghost use Rattle.bb_run.specs.Run.{run};
 ghost use Rattle.bb_run.specs.Order.{notes_of, At, IsCounted, ActsOnPending, ExecutesInTurn, IsFinished, KeepsLimit};
 ghost use Rattle.bb_run.specs.Order.{IsChosenAfter};
 
-/// What every run is like, whatever the shell, the first state of the blackboard and the limit.
+/// What every run is like, whatever the plan, the first state of the blackboard and the limit.
 ///
 /// - `counted`: activations and cycles have the numbers from 1 on, in order.
 /// - `pending`: a cycle acts on an activation that is pending then, and prints a rating of at least the floor.
@@ -21,15 +21,15 @@ ghost use Rattle.bb_run.specs.Order.{IsChosenAfter};
 /// - `choices`: up to the choice of a cycle a run is the run whose limit is one less, and in the last state of that
 ///   run the activation is chosen: nothing that is pending there is rated higher, and of equals it is the earliest.
 pub fn runs_are_orderly()
-    ensures counted { (shell : Shell) (board : Board) (limit : ℕ) → IsCounted (notes_of (run shell board limit)) }
-    ensures pending { (shell : Shell) (board : Board) (limit : ℕ) →
-        ActsOnPending shell.floor (notes_of (run shell board limit)) }
-    ensures executions { (shell : Shell) (board : Board) (limit : ℕ) →
-        ExecutesInTurn (notes_of (run shell board limit)) }
-    ensures finish { (shell : Shell) (board : Board) (limit : ℕ) → IsFinished (run shell board limit) }
-    ensures limit { (shell : Shell) (board : Board) (limit : ℕ) → KeepsLimit shell limit (run shell board limit) }
-    ensures choices { (shell : Shell) (board : Board) (limit : ℕ)
+    ensures counted { (plan : Plan) (board : Board) (limit : ℕ) → IsCounted (notes_of (run plan board limit)) }
+    ensures pending { (plan : Plan) (board : Board) (limit : ℕ) →
+        ActsOnPending plan.floor (notes_of (run plan board limit)) }
+    ensures executions { (plan : Plan) (board : Board) (limit : ℕ) →
+        ExecutesInTurn (notes_of (run plan board limit)) }
+    ensures finish { (plan : Plan) (board : Board) (limit : ℕ) → IsFinished (run plan board limit) }
+    ensures limit { (plan : Plan) (board : Board) (limit : ℕ) → KeepsLimit plan limit (run plan board limit) }
+    ensures choices { (plan : Plan) (board : Board) (limit : ℕ)
         (before : List Note) (cycle : ℕ) (a : Activation) (r : ℤ) →
-        At (notes_of (run shell board limit)) before (Chosen cycle a r) →
-        IsChosenAfter shell (run shell board (cycle - 1)) before a r }
+        At (notes_of (run plan board limit)) before (Chosen cycle a r) →
+        IsChosenAfter plan (run plan board (cycle - 1)) before a r }
 {}

@@ -11,7 +11,7 @@ mod state;
 mod teller;
 
 pub use bb_trace::{
-    Board, End, Out, Pipe, RuleFault, SOURCE_LIMIT, SharedSchema, Shell, Source, Stuck, UnitsFault,
+    Board, End, Out, Pipe, Plan, RuleFault, SOURCE_LIMIT, SharedSchema, Source, Stuck, UnitsFault,
     put_all,
 };
 pub use cycles::run;

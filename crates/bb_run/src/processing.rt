@@ -2,28 +2,26 @@
 
 ghost use Rattle.std.specs.Prelude.{◌≡◌, ◌≤◌, IfOk, length};
 ghost use Rattle.bb_trace.specs.Match.{is_triggered};
-ghost use Rattle.bb_trace.specs.declared.shell.TheConstants.{SOURCE_LIMIT};
 ghost use Rattle.bb_run.specs.Processing.{response};
 ghost use Rattle.bb_run.specs.proving.Telling.{IsResponse};
 
 use crate::state::State;
-use bb_trace::{End, Event, Note, Shell, Source};
+use bb_trace::{End, Event, Note, Plan, Source};
 use std::alloc::AllocError;
 
 /// Processes an event: each source that it triggers gets an activation, in order, and the notes tell of it. Returns the
 /// end of the run where the agenda is full.
 pub(crate) fn respond(
-    shell: &Shell,
+    plan: &Plan,
     event: Event,
     state: &mut State,
     notes: &mut Vec<Note>,
 ) -> Result<Option<End>, AllocError>
-    requires few { length shell.now.sources ≤ SOURCE_LIMIT }
-    ensures { IfOk result (IsResponse (response shell.now event state.old) notes.old.items notes.new.items state.new) }
+    ensures { IfOk result (IsResponse (response plan.now event state.old) notes.old.items notes.new.items state.new) }
 {
-    let sources = shell.sources.as_slice();
+    let sources = plan.sources();
     for (place, source) in sources.iter().enumerate() {
-        if !is_triggered(shell, source, event) {
+        if !is_triggered(plan, source, event) {
             continue;
         }
         if state.agenda.is_full() {
@@ -35,8 +33,8 @@ pub(crate) fn respond(
     Ok(None)
 }
 
-fn is_triggered(shell: &Shell, source: &Source, event: Event) -> bool
-    ensures { result ≡ is_triggered shell.now.schema source.now event }
+fn is_triggered(plan: &Plan, source: &Source, event: Event) -> bool
+    ensures { result ≡ is_triggered plan.now.schema source.now event }
 {
-    source.is_triggered(shell.schema.get(), event)
+    source.is_triggered(plan.schema(), event)
 }

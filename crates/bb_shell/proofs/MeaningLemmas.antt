@@ -14,7 +14,7 @@ use Rattle.bb_run.specs.Source.{Source}
 use Rattle.bb_shell.specs.Sources.{sources_for}
 
 abbrev of_sources : Schema → Board → ℤ → List Source → Result Meaning InputFault
-of_sources s made floor sources = Ok (record { shell = record { schema = s; sources = sources; floor = floor }; board = made })
+of_sources s made floor sources = Ok (record { plan = record { schema = s; sources = sources; floor = floor }; board = made })
 
 abbrev of_codes : Schema → Board → ℤ → List SourceCode → Result Meaning InputFault
 of_codes s made floor codes = sources_for s codes >>= of_sources s made floor
@@ -60,7 +60,7 @@ sources_fail schema units bundle floor s made codes e held same ok loaded' read 
     (subst (λ (t : Schema). (e ≡ inputs.Memory) ⊎ (sources_for t codes ≡ Err e)) same failed)
 
 pub means : (schema units bundle : List ℕ) (floor : ℤ) (s : Schema) (made : Board) (codes : List SourceCode) (sources : List Source) (held : Schema) → held ≡ s → map_err inputs.Schema (schema_of schema) ≡ Ok s → map_err inputs.Units (loaded (new_board s) units) ≡ Ok made → map_err inputs.Bundle (sources_of bundle) ≡ Ok codes → sources_for held codes ≡ Ok sources
-    → meaning schema units bundle floor ≡ Ok (record { shell = record { schema = s; sources = sources; floor = floor }; board = made })
+    → meaning schema units bundle floor ≡ Ok (record { plan = record { schema = s; sources = sources; floor = floor }; board = made })
 means schema units bundle floor s made codes sources held same ok loaded' read fit =
     stepped (sources_for s codes) (of_sources s made floor) (meaning schema units bundle floor) sources (after_bundle schema units bundle floor s made codes ok loaded' read)
     (subst (λ (t : Schema). sources_for t codes ≡ Ok sources) same fit)

@@ -1,4 +1,4 @@
--- What an input means: the shell and the blackboard that its run begins with, or the first refusal.
+-- What an input means: the plan and the blackboard that its run begins with, or the first refusal.
 use Rattle.std.specs.Prelude.{ℕ, ℤ, List, Result, Ok}
 use Rattle.bb_basis.specs.Results.{◌>>=◌, map_err}
 use Rattle.bb_schema.specs.Reading.{schema_of}
@@ -7,11 +7,11 @@ use Rattle.bb_run.specs.Load.{loaded}
 use Rattle.bb_compile.specs.Bundle.{sources_of}
 use Rattle.bb_shell.specs.declared.input_fault.InputFault.{InputFault}
 use Rattle.bb_shell.specs.declared.input_fault.InputFault.TheVariants as inputs
-use Rattle.bb_run.specs.Shell.{Shell}
+use Rattle.bb_run.specs.Plan.{Plan}
 use Rattle.bb_shell.specs.Sources.{sources_for}
 
 pub record Meaning : Type 0 where
-  pub shell : Shell
+  pub plan : Plan
   -- the first units and their links, with what was noted of them
   pub board : Board
 
@@ -22,4 +22,4 @@ meaning schema units bundle floor = do
   board ← map_err inputs.Units (loaded (new_board s) units)
   codes ← map_err inputs.Bundle (sources_of bundle)
   sources ← sources_for s codes
-  Ok (record { shell = record { schema = s; sources = sources; floor = floor }; board = board })
+  Ok (record { plan = record { schema = s; sources = sources; floor = floor }; board = board })

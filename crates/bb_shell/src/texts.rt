@@ -1,13 +1,12 @@
 //! A run from the texts of its schema, first units and sources. Programs (bb_main) call it.
 
-ghost use Rattle.std.specs.Prelude.{◌≡◌, ◌≤◌, ◌⊎◌, true, false, IfOk, IfErr, IfSome, OnErr, Ok, Err, Some, length};
+ghost use Rattle.std.specs.Prelude.{◌≡◌, ◌⊎◌, true, false, IfOk, IfErr, IfSome, OnErr, Ok, Err, Some};
 ghost use Rattle.std.specs.Io.KnownBytes.{Appends};
 ghost use Rattle.bb_basis.specs.Results.{Gives, map_err};
 ghost use Rattle.bb_schema.specs.Reading.{schema_of};
 ghost use Rattle.bb_run.specs.Board.{is_fresh, new_board};
 ghost use Rattle.bb_run.specs.Load.{loaded};
 ghost use Rattle.bb_compile.specs.Bundle.{sources_of};
-ghost use Rattle.bb_run.specs.Limits.{SOURCE_LIMIT};
 ghost use Rattle.bb_run.specs.Finish.{WritesFront, end_of, is_write};
 ghost use Rattle.bb_shell.specs.Meaning.{Meaning, meaning};
 ghost use Rattle.bb_run.specs.Run.{run};
@@ -15,9 +14,8 @@ ghost use Rattle.bb_run.specs.TraceText.{trace_text};
 
 use crate::input_fault::InputFault;
 use crate::sources::sources_for;
-use bb_basis::Items;
 use bb_compile::{BundleFault, SourceCode, unbundle};
-use bb_run::{Board, Finish, Out, SharedSchema, Shell, UnitsFault, run};
+use bb_run::{Board, Finish, Out, Plan, SharedSchema, UnitsFault, run};
 use bb_schema::{Schema, SchemaFault};
 use std::alloc::Global;
 
@@ -37,14 +35,14 @@ pub fn run_texts<O: Out>(
 
     // At `Ok` the input has a meaning, the finish is that of its run, and the output took the text of its trace.
     ensures finish { IfOk result (λ f. (m : Meaning) × (meaning schema.now units.now bundle.now floor ≡ Ok m)
-        × IfSome (end_of f) (λ end. (run m.shell m.board limit).end ≡ Some end)) }
+        × IfSome (end_of f) (λ end. (run m.plan m.board limit).end ≡ Some end)) }
     ensures text { IfOk result (λ f. (m : Meaning) × (meaning schema.now units.now bundle.now floor ≡ Ok m)
         × IfSome (end_of f) (λ _. Appends (O.taken out.old) (O.taken out.new)
-        (trace_text m.shell (run m.shell m.board limit).told))) }
+        (trace_text m.plan (run m.plan m.board limit).told))) }
 
     // At `Memory` the output took the text of the first segments of the run, at `Write` the front of its trace.
     ensures front { IfOk result (λ f. (m : Meaning) × (meaning schema.now units.now bundle.now floor ≡ Ok m)
-        × WritesFront m.shell (run m.shell m.board limit) f (O.taken out.old) (O.taken out.new)) }
+        × WritesFront m.plan (run m.plan m.board limit) f (O.taken out.old) (O.taken out.new)) }
 
     // `Write` tells that the output has failed, and no other finish does.
     ensures failed { IfOk result (λ f. O.has_failed out.new ≡ is_write f) }
@@ -54,8 +52,8 @@ pub fn run_texts<O: Out>(
         ⊎ (meaning schema.now units.now bundle.now floor ≡ Err e)) }
     ensures quiet { OnErr result (out.new ≡ out.old) }
 {
-    let (shell, board) = read_input(alloc, schema, units, bundle, floor)?;
-    Ok(run(alloc, &shell, board, limit, out))
+    let (plan, board) = read_input(alloc, schema, units, bundle, floor)?;
+    Ok(run(alloc, &plan, board, limit, out))
 }
 
 fn read_input(
@@ -64,24 +62,15 @@ fn read_input(
     units: &str,
     bundle: &str,
     floor: i64,
-) -> Result<(Shell, Board), InputFault>
-    ensures means { Gives InputFault.Memory (λ i. record { shell = i.0; board = i.1 }) result
+) -> Result<(Plan, Board), InputFault>
+    ensures { Gives InputFault.Memory (λ i. record { plan = i.0; board = i.1 }) result
         (meaning schema.now units.now bundle.now floor) }
-    ensures few { IfOk result (λ i. length i.0.sources ≤ SOURCE_LIMIT) }
 {
     let schema = read_schema(alloc, schema)?;
     let (shared, board) = first_board(alloc, schema, units)?;
     let codes = read_bundle(alloc, bundle)?;
     let sources = sources_for(alloc, shared.get(), codes)?;
-    let sources = Items::from(sources);
-    Ok((
-        Shell {
-            schema: shared,
-            sources,
-            floor,
-        },
-        board,
-    ))
+    Ok((Plan::new(shared, sources, floor), board))
 }
 
 fn read_schema(alloc: Global, text: &str) -> Result<Schema, InputFault>

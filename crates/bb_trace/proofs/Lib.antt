@@ -1,3 +1,5 @@
+-- for crates above
+pub mod Laws
 -- what an output took
 pub mod OutLemmas
 pub mod Limits

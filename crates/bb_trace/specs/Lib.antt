@@ -1,7 +1,11 @@
+-- what a run goes by
+pub mod Plan
 -- the text of a trace
 pub mod TraceText
 -- what the writing of a page does
 pub mod Page
+-- for proofs alone
+pub mod proving
 -- of bb_board: the blackboard, what happens on it and what it notes, and the document of its first units
 pub use Rattle.bb_board.specs.Board
 pub use Rattle.bb_board.specs.World

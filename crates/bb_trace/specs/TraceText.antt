@@ -22,7 +22,7 @@ use Rattle.bb_trace.specs.declared.end.End.{End}
 use Rattle.bb_trace.specs.declared.end.End.TheVariants as ends
 use Rattle.bb_trace.specs.declared.note.Note.{Note}
 use Rattle.bb_trace.specs.declared.note.Note.TheVariants.{Board, Triggered, Chosen, Ended, Finished}
-use Rattle.bb_trace.specs.declared.shell.Shell.{Shell}
+use Rattle.bb_trace.specs.Plan.{Plan}
 
 -- the name of a class, empty where there is none
 abbrev pub class_name : Schema → ℕ → List ℕ
@@ -110,21 +110,21 @@ end_text ends.Full = codes "finish full"
 end_text (ends.Stuck reason) = codes "finish stuck " ++ decimal (reason_number reason)
 
 -- what a note says
-abbrev pub note_text : Shell → Note → List ℕ
-note_text shell (Board note) = board_note_text shell.schema note
-note_text shell (Triggered a) = trigger_text shell.sources a
-note_text shell (Chosen cycle a r) = choice_text shell.sources cycle a r
-note_text shell (Ended steps found budget) = ended_text steps found budget
-note_text shell (Finished end) = end_text end
+abbrev pub note_text : Plan → Note → List ℕ
+note_text plan (Board note) = board_note_text plan.schema note
+note_text plan (Triggered a) = trigger_text plan.sources a
+note_text plan (Chosen cycle a r) = choice_text plan.sources cycle a r
+note_text plan (Ended steps found budget) = ended_text steps found budget
+note_text plan (Finished end) = end_text end
 
 -- a note's line, with its line feed
-abbrev pub line : Shell → Note → List ℕ
-line shell note = note_text shell note ++ 10 ∷ []
+abbrev pub line : Plan → Note → List ℕ
+line plan note = note_text plan note ++ 10 ∷ []
 
 -- the lines of a segment
-abbrev pub segment_text : Shell → List Note → List ℕ
-segment_text shell notes = flat_map (line shell) notes
+abbrev pub segment_text : Plan → List Note → List ℕ
+segment_text plan notes = flat_map (line plan) notes
 
 -- the lines of all segments
-abbrev pub trace_text : Shell → List (List Note) → List ℕ
-trace_text shell segments = flat_map (segment_text shell) segments
+abbrev pub trace_text : Plan → List (List Note) → List ℕ
+trace_text plan segments = flat_map (segment_text plan) segments

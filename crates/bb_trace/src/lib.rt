@@ -8,7 +8,7 @@ mod line;
 mod note;
 mod output;
 mod page;
-mod shell;
+mod plan;
 
 pub use bb_board::{Board, Event, Note as BoardNote, SharedSchema, UnitsFault};
 pub use bb_rules::{Act, RuleFault, Source};
@@ -19,4 +19,4 @@ pub use line::{add_board_note, add_value};
 pub use note::Note;
 pub use output::{Out, Pipe, put_all};
 pub use page::{PAGE_LIMIT, Page};
-pub use shell::{SOURCE_LIMIT, Shell};
+pub use plan::{Plan, SOURCE_LIMIT};

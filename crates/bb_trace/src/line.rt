@@ -8,7 +8,7 @@ ghost use Rattle.bb_trace.specs.TraceText.{line, numbered_text, said_text, slot_
 
 use crate::end::End;
 use crate::note::Note;
-use crate::shell::Shell;
+use crate::plan::Plan;
 use bb_agenda::Activation;
 use bb_board::{Change, Event, Said};
 use bb_rules::Source;
@@ -22,19 +22,19 @@ use std::fmt::Write;
 pub(crate) fn add_note(
     alloc: Global,
     text: &mut String,
-    shell: &Shell,
+    plan: &Plan,
     note: &Note,
 ) -> Result<(), AllocError>
-    ensures { OnOk result (string_bytes text.new ≡ string_bytes text.old ++ line shell.now note.now) }
+    ensures { OnOk result (string_bytes text.new ≡ string_bytes text.old ++ line plan.now note.now) }
 {
     match note {
-        Note::Board(note) => add_board_note(alloc, text, shell.schema.get(), note),
-        Note::Triggered(activation) => { add_trigger(text, shell.sources.as_slice(), *activation) }
+        Note::Board(note) => add_board_note(alloc, text, plan.schema(), note),
+        Note::Triggered(activation) => { add_trigger(text, plan.sources(), *activation) }
         Note::Chosen {
             cycle,
             activation,
             rating,
-        } => add_choice(text, shell.sources.as_slice(), *cycle, *activation, *rating),
+        } => add_choice(text, plan.sources(), *cycle, *activation, *rating),
         Note::Ended {
             steps,
             found,

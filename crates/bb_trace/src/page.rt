@@ -8,7 +8,7 @@ use crate::halt::Halt;
 use crate::line::add_note;
 use crate::note::Note;
 use crate::output::{Out, put_all};
-use crate::shell::Shell;
+use crate::plan::Plan;
 use std::alloc::{AllocError, Global};
 use std::marker::Model;
 
@@ -47,10 +47,10 @@ impl Page {
     }
 
     /// Appends the text of a segment.
-    pub fn add_segment(&mut self, shell: &Shell, notes: &[Note]) -> Result<(), AllocError>
-        ensures { OnOk result (self.new ≡ self.old ++ segment_text shell.now notes.now) }
+    pub fn add_segment(&mut self, plan: &Plan, notes: &[Note]) -> Result<(), AllocError>
+        ensures { OnOk result (self.new ≡ self.old ++ segment_text plan.now notes.now) }
     {
-        add_notes(self.alloc, &mut self.text, shell, notes)
+        add_notes(self.alloc, &mut self.text, plan, notes)
     }
 
     /// Writes the page if it has the length of a page, so that it is short afterwards.
@@ -83,13 +83,13 @@ impl Page {
 fn add_notes(
     alloc: Global,
     text: &mut String,
-    shell: &Shell,
+    plan: &Plan,
     notes: &[Note],
 ) -> Result<(), AllocError>
-    ensures { OnOk result (string_bytes text.new ≡ string_bytes text.old ++ segment_text shell.now notes.now) }
+    ensures { OnOk result (string_bytes text.new ≡ string_bytes text.old ++ segment_text plan.now notes.now) }
 {
     for note in notes {
-        add_note(alloc, text, shell, note)?;
+        add_note(alloc, text, plan, note)?;
     }
     Ok(())
 }

@@ -13,7 +13,7 @@ use Rattle.bb_trace.specs.declared.halt.Halt.TheVariants as halts
 use Rattle.bb_trace.specs.declared.note.Note.{Note}
 use Rattle.bb_run.specs.declared.cycles.Decision.{Decision}
 use Rattle.bb_run.specs.declared.cycles.Decision.TheVariants.{Act, Over}
-use Rattle.bb_trace.specs.declared.shell.Shell.{Shell}
+use Rattle.bb_trace.specs.Plan.{Plan}
 use Rattle.bb_run.specs.declared.state.State.{State}
 use Rattle.bb_run.specs.declared.teller.Teller.{Teller}
 use Rattle.bb_run.specs.Told.{Response, Stretch}
@@ -59,48 +59,48 @@ abbrev pub Same : {O : Type 0} → Teller O → Teller O → Type 0
 Same old new = (new.page.ghost_name ≡ old.page.ghost_name) × (new.out.ghost_name ≡ old.out.ghost_name)
 
 -- of the segments that were told the first were written, and the page has the text of the others
-pub record HasWritten (shell : Shell) (start : Option (List ℕ)) (place : Place) (told : List (List Note)) : Type 0 where
+pub record HasWritten (plan : Plan) (start : Option (List ℕ)) (place : Place) (told : List (List Note)) : Type 0 where
   pub written : List (List Note)
   pub waiting : List (List Note)
   pub all : told ≡ written ++ waiting
-  pub appended : Appends start place.taken (trace_text shell written)
-  pub page_is : place.page ≡ trace_text shell waiting
+  pub appended : Appends start place.taken (trace_text plan written)
+  pub page_is : place.page ≡ trace_text plan waiting
 
 -- the first of these segments were written
-pub record WroteFirst (shell : Shell) (start taken : Option (List ℕ)) (segments : List (List Note)) : Type 0 where
+pub record WroteFirst (plan : Plan) (start taken : Option (List ℕ)) (segments : List (List Note)) : Type 0 where
   pub first : List (List Note)
   pub rest : List (List Note)
   pub all : segments ≡ first ++ rest
-  pub appended : Appends start taken (trace_text shell first)
+  pub appended : Appends start taken (trace_text plan first)
 
 -- the front of the text of these segments was written
-pub record WroteFront (shell : Shell) (start taken : Option (List ℕ)) (segments : List (List Note)) : Type 0 where
+pub record WroteFront (plan : Plan) (start taken : Option (List ℕ)) (segments : List (List Note)) : Type 0 where
   pub front : List ℕ
   pub rest : List ℕ
-  pub all : trace_text shell segments ≡ front ++ rest
+  pub all : trace_text plan segments ≡ front ++ rest
   pub appended : Appends start taken front
 
 -- what was written of these segments where the run was cut short in them
-abbrev pub WroteUntil : Shell → (start taken : Option (List ℕ)) → List (List Note) → Halt → Type 0
-WroteUntil shell start taken segments halts.Memory = WroteFirst shell start taken segments
-WroteUntil shell start taken segments halts.Write = WroteFront shell start taken segments
+abbrev pub WroteUntil : Plan → (start taken : Option (List ℕ)) → List (List Note) → Halt → Type 0
+WroteUntil plan start taken segments halts.Memory = WroteFirst plan start taken segments
+WroteUntil plan start taken segments halts.Write = WroteFront plan start taken segments
 
 -- these segments were told, whatever was told before
-abbrev pub IsTold : Shell → Place → Place → List (List Note) → Type 0
-IsTold shell old new segments =
-    (start : Option (List ℕ)) (told : List (List Note)) → HasWritten shell start old told
-    → HasWritten shell start new (told ++ segments)
+abbrev pub IsTold : Plan → Place → Place → List (List Note) → Type 0
+IsTold plan old new segments =
+    (start : Option (List ℕ)) (told : List (List Note)) → HasWritten plan start old told
+    → HasWritten plan start new (told ++ segments)
 
 -- the run was cut short in these segments, whatever was told before
-abbrev pub CutIn : Shell → Place → Place → List (List Note) → Halt → Type 0
-CutIn shell old new segments halt =
-    (start : Option (List ℕ)) (told : List (List Note)) → HasWritten shell start old told
-    → WroteUntil shell start new.taken (told ++ segments) halt
+abbrev pub CutIn : Plan → Place → Place → List (List Note) → Halt → Type 0
+CutIn plan old new segments halt =
+    (start : Option (List ℕ)) (told : List (List Note)) → HasWritten plan start old told
+    → WroteUntil plan start new.taken (told ++ segments) halt
 
 -- these segments were told, or the run was cut short in them
-abbrev pub Tells : {X : Type 0} → Shell → Place → Place → List (List Note) → Result X Halt → Type 0
-Tells shell old new segments (Ok x) = IsTold shell old new segments
-Tells shell old new segments (Err halt) = CutIn shell old new segments halt
+abbrev pub Tells : {X : Type 0} → Plan → Place → Place → List (List Note) → Result X Halt → Type 0
+Tells plan old new segments (Ok x) = IsTold plan old new segments
+Tells plan old new segments (Err halt) = CutIn plan old new segments halt
 
 -- the state and the end are those that a stretch leaves
 pub record Leaves (p : Stretch) (s : State) (e : Option End) : Type 0 where
@@ -108,22 +108,22 @@ pub record Leaves (p : Stretch) (s : State) (e : Option End) : Type 0 where
   pub end : e ≡ p.end
 
 -- a stretch was told, with this state and this end after it, or the run was cut short in it
-abbrev pub MakesBy : {X : Type 0} → (X → Option End) → Shell → Place → Place → Stretch → State → Result X Halt → Type 0
-MakesBy end_of shell old new p s (Ok x) = IsTold shell old new p.told × Leaves p s (end_of x)
-MakesBy end_of shell old new p s (Err halt) = CutIn shell old new p.told halt
+abbrev pub MakesBy : {X : Type 0} → (X → Option End) → Plan → Place → Place → Stretch → State → Result X Halt → Type 0
+MakesBy end_of plan old new p s (Ok x) = IsTold plan old new p.told × Leaves p s (end_of x)
+MakesBy end_of plan old new p s (Err halt) = CutIn plan old new p.told halt
 
 -- the run may end in it
-abbrev pub Makes : Shell → Place → Place → Stretch → State → Result (Option End) Halt → Type 0
+abbrev pub Makes : Plan → Place → Place → Stretch → State → Result (Option End) Halt → Type 0
 Makes = MakesBy (λ e. e)
 
 -- the run ends in it
-abbrev pub Finishes : Shell → Place → Place → Stretch → State → Result End Halt → Type 0
+abbrev pub Finishes : Plan → Place → Place → Stretch → State → Result End Halt → Type 0
 Finishes = MakesBy (λ e. Some e)
 
 -- what was written of a whole run that began here
-abbrev pub Writes : {X : Type 0} → Shell → (taken given : Option (List ℕ)) → List (List Note) → Result X Halt → Type 0
-Writes shell taken given segments (Ok x) = Appends taken given (trace_text shell segments)
-Writes shell taken given segments (Err halt) = WroteUntil shell taken given segments halt
+abbrev pub Writes : {X : Type 0} → Plan → (taken given : Option (List ℕ)) → List (List Note) → Result X Halt → Type 0
+Writes plan taken given segments (Ok x) = Appends taken given (trace_text plan segments)
+Writes plan taken given segments (Err halt) = WroteUntil plan taken given segments halt
 
 -- ---- decisions
 
@@ -134,16 +134,16 @@ decision_by None None = Over Quiescence
 decision_by None (Some a) = Act a
 
 -- what comes after the wait before a cycle
-abbrev pub decision_after : Shell → Stretch → Decision
-decision_after shell p = decision_by p.end (choice shell p.state)
+abbrev pub decision_after : Plan → Stretch → Decision
+decision_after plan p = decision_by p.end (choice plan p.state)
 
 -- the wait before a cycle was told, with this state after it, and this decision comes
-pub record Waited (shell : Shell) (old new : Place) (s t : State) (decision : Decision) : Type 0 where
-  pub told : IsTold shell old new (wait shell s).told
-  pub state : t ≡ (wait shell s).state
-  pub decision_is : decision ≡ decision_after shell (wait shell s)
+pub record Waited (plan : Plan) (old new : Place) (s t : State) (decision : Decision) : Type 0 where
+  pub told : IsTold plan old new (wait plan s).told
+  pub state : t ≡ (wait plan s).state
+  pub decision_is : decision ≡ decision_after plan (wait plan s)
 
 -- the same, or the run was cut short in the wait
-abbrev pub Waits : Shell → Place → Place → (s t : State) → Result Decision Halt → Type 0
-Waits shell old new s t (Ok decision) = Waited shell old new s t decision
-Waits shell old new s t (Err halt) = CutIn shell old new (wait shell s).told halt
+abbrev pub Waits : Plan → Place → Place → (s t : State) → Result Decision Halt → Type 0
+Waits plan old new s t (Ok decision) = Waited plan old new s t decision
+Waits plan old new s t (Err halt) = CutIn plan old new (wait plan s).told halt

@@ -5,4 +5,4 @@ use Rattle.bb_run.proofs.processing.respond.Given as goal
 
 abbrev pub invariant-loop-place : goal.invariant-loop-place
 invariant-loop-place l =
-    HasNoted l.fn.notes.items l.notes.items (response l.shell l.event l.fn.state) (response_by l.shell.schema l.event l.place (drop l.place l.sources) l.state)
+    HasNoted l.fn.notes.items l.notes.items (response l.plan l.event l.fn.state) (response_by l.plan.schema l.event l.place (drop l.place l.sources) l.state)

@@ -4,26 +4,26 @@ use Rattle.std.proofs.Common.{w64, ◌∙◌}
 use Rattle.bb_shell.proofs.MeaningLemmas.{schema_fails, units_fail, bundle_fails, sources_fail, means}
 use Rattle.bb_shell.proofs.texts.read_input.Goals as goal
 
-pub returns-in_err-schema-clause-means : goal.returns-in_err-schema-clause-means
-returns-in_err-schema-clause-means c =
+pub returns-in_err-schema : goal.returns-in_err-schema
+returns-in_err-schema c =
     let p = err_from_is_err_and c.from_residual.result c.from_residual.ensures.1 in
     rw (p.1, p.2) (schema_fails c.args.schema.now c.args.units.now c.args.bundle.now c.args.floor c.in_err-schema.field-0.0 c.in_err-schema.ensures)
 
-pub returns-in_err-shared-clause-means : goal.returns-in_err-shared-clause-means
-returns-in_err-shared-clause-means c =
+pub returns-in_err-shared : goal.returns-in_err-shared
+returns-in_err-shared c =
     let p = err_from_is_err_and c.from_residual-in_err-shared.result c.from_residual-in_err-shared.ensures.1 in
     rw (p.1, p.2) (units_fail c.args.schema.now c.args.units.now c.args.bundle.now c.args.floor c.in_ok-schema.schema c.in_err-shared.field-0.0 c.in_ok-schema.ensures c.in_err-shared.ensures.means)
 
-pub returns-in_err-codes-clause-means : goal.returns-in_err-codes-clause-means
-returns-in_err-codes-clause-means c =
+pub returns-in_err-codes : goal.returns-in_err-codes
+returns-in_err-codes c =
     let p = err_from_is_err_and c.from_residual-in_err-codes.result c.from_residual-in_err-codes.ensures.1 in
     rw (p.1, p.2) (bundle_fails c.args.schema.now c.args.units.now c.args.bundle.now c.args.floor c.in_ok-schema.schema c.in_ok-shared.board c.in_err-codes.field-0.0 c.in_ok-schema.ensures c.in_ok-shared.ensures.means c.in_err-codes.ensures)
 
-pub returns-in_err-sources-clause-means : goal.returns-in_err-sources-clause-means
-returns-in_err-sources-clause-means c =
+pub returns-in_err-sources : goal.returns-in_err-sources
+returns-in_err-sources c =
     let p = err_from_is_err_and c.from_residual-in_err-sources.result c.from_residual-in_err-sources.ensures.1 in
     rw (p.1, p.2) (sources_fail c.args.schema.now c.args.units.now c.args.bundle.now c.args.floor c.in_ok-schema.schema c.in_ok-shared.board c.in_ok-codes.codes.items c.in_err-sources.field-0.0 c.get.result.now (c.get.ensures ∙ c.in_ok-shared.ensures.schema) c.in_ok-schema.ensures c.in_ok-shared.ensures.means c.in_ok-codes.ensures c.in_err-sources.ensures.given)
 
-pub returns-clause-means : goal.returns-clause-means
-returns-clause-means c =
-    rw (to_z-of_z w64 c.args.floor c.ranges.floor, c.from-sources.ensures, c.in_ok-shared.ensures.schema) (means c.args.schema.now c.args.units.now c.args.bundle.now c.args.floor c.in_ok-schema.schema c.in_ok-shared.board c.in_ok-codes.codes.items c.in_ok-sources.sources.items c.get.result.now (c.get.ensures ∙ c.in_ok-shared.ensures.schema) c.in_ok-schema.ensures c.in_ok-shared.ensures.means c.in_ok-codes.ensures c.in_ok-sources.ensures.given)
+pub returns : goal.returns
+returns c =
+    rw (c.new.ensures, to_z-of_z w64 c.args.floor c.ranges.floor, c.in_ok-shared.ensures.schema) (means c.args.schema.now c.args.units.now c.args.bundle.now c.args.floor c.in_ok-schema.schema c.in_ok-shared.board c.in_ok-codes.codes.items c.in_ok-sources.sources.items c.get.result.now (c.get.ensures ∙ c.in_ok-shared.ensures.schema) c.in_ok-schema.ensures c.in_ok-shared.ensures.means c.in_ok-codes.ensures c.in_ok-sources.ensures.given)

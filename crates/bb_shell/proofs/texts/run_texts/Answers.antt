@@ -6,14 +6,14 @@ use Rattle.bb_shell.proofs.texts.run_texts.Goals as goal
 pub returns-clause-finish : goal.returns-clause-finish
 returns-clause-finish g c =
     let floor = to_z-of_z w64 c.args.floor (search rules) in
-    (record { shell = c.in_ok-shell.shell; board = c.in_ok-shell.board }, sym (ap (meaning c.args.schema.now c.args.units.now c.args.bundle.now) floor) ∙ c.in_ok-shell.ensures.means, c.run.ensures.finish)
+    (record { plan = c.in_ok-plan.plan; board = c.in_ok-plan.board }, sym (ap (meaning c.args.schema.now c.args.units.now c.args.bundle.now) floor) ∙ c.in_ok-plan.ensures, c.run.ensures.finish)
 
 pub returns-clause-text : goal.returns-clause-text
 returns-clause-text g c =
     let floor = to_z-of_z w64 c.args.floor (search rules) in
-    (record { shell = c.in_ok-shell.shell; board = c.in_ok-shell.board }, sym (ap (meaning c.args.schema.now c.args.units.now c.args.bundle.now) floor) ∙ c.in_ok-shell.ensures.means, c.run.ensures.text)
+    (record { plan = c.in_ok-plan.plan; board = c.in_ok-plan.board }, sym (ap (meaning c.args.schema.now c.args.units.now c.args.bundle.now) floor) ∙ c.in_ok-plan.ensures, c.run.ensures.text)
 
 pub returns-clause-front : goal.returns-clause-front
 returns-clause-front g c =
     let floor = to_z-of_z w64 c.args.floor (search rules) in
-    (record { shell = c.in_ok-shell.shell; board = c.in_ok-shell.board }, sym (ap (meaning c.args.schema.now c.args.units.now c.args.bundle.now) floor) ∙ c.in_ok-shell.ensures.means, c.run.ensures.front)
+    (record { plan = c.in_ok-plan.plan; board = c.in_ok-plan.board }, sym (ap (meaning c.args.schema.now c.args.units.now c.args.bundle.now) floor) ∙ c.in_ok-plan.ensures, c.run.ensures.front)

@@ -12,6 +12,6 @@ returns-clause-made g c =
     let a = at g.O.Out.taken c.args.self.now in
     let b = at g.O.Out.taken c.report.new.self in
     let s = c.args.state.now in
-    subst (λ (agenda : Agenda). Makes c.args.shell.now a b (reported c.args.shell.now (noted (with_agenda s agenda) [] None)) c.report.new.state c.report.result) c.requires.new
-    (reported_as c.args.shell.now a b (noted s [] None) c.new-notes.result.items c.take_noted.new.notes.items c.deref.result.now c.take_noted.new.state c.report.new.state None c.report.result
+    subst (λ (agenda : Agenda). Makes c.args.plan.now a b (reported c.args.plan.now (noted (with_agenda s agenda) [] None)) c.report.new.state c.report.result) c.requires.new
+    (reported_as c.args.plan.now a b (noted s [] None) c.new-notes.result.items c.take_noted.new.notes.items c.deref.result.now c.take_noted.new.state c.report.new.state None c.report.result
     c.deref.ensures.value c.new-notes.ensures.items (c.in_ok-take_noted.ensures None) c.report.ensures.made)

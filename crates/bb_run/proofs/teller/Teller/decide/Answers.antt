@@ -7,4 +7,4 @@ use Rattle.bb_run.proofs.teller.Teller.decide.Goals as goal
 pub returns-in_err-end-clause-waited : goal.returns-in_err-end-clause-waited
 returns-in_err-end-clause-waited g c =
     let p = err_from_is_err_and c.from_residual.result c.from_residual.ensures.1 in
-    rw (p.1, p.2) (wait_cut c.args.shell.now (at g.O.Out.taken c.args.self.now) (at g.O.Out.taken c.quiesce.new.self) c.args.state.now c.quiesce.new.state c.in_err-end.field-0.0 (sym c.in_default.ensures) c.in_err-end.ensures.made)
+    rw (p.1, p.2) (wait_cut c.args.plan.now (at g.O.Out.taken c.args.self.now) (at g.O.Out.taken c.quiesce.new.self) c.args.state.now c.quiesce.new.state c.in_err-end.field-0.0 (sym c.in_default.ensures) c.in_err-end.ensures.made)

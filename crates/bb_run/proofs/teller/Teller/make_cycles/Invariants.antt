@@ -6,7 +6,7 @@ use Rattle.bb_run.proofs.teller.Teller.make_cycles.Given as goal
 
 abbrev pub invariant-loop-made : goal.invariant-loop-made
 invariant-loop-made g l = record {
-  told : HasTold l.shell (at g.O.Out.taken l.fn.self) (at g.O.Out.taken l.self) (cycles l.shell 0 l.limit l.fn.state) (cycles l.shell l.made (l.limit - l.made) l.state);
+  told : HasTold l.plan (at g.O.Out.taken l.fn.self) (at g.O.Out.taken l.self) (cycles l.plan 0 l.limit l.fn.state) (cycles l.plan l.made (l.limit - l.made) l.state);
   still_open : g.O.Out.has_failed l.self.out.now ≡ false;
   same : Same l.fn.self l.self;
 }

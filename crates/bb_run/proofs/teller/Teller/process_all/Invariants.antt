@@ -6,7 +6,7 @@ use Rattle.bb_run.proofs.teller.Teller.process_all.Given as goal
 
 abbrev pub invariant-loop-note : goal.invariant-loop-note
 invariant-loop-note g l = record {
-  told : HasTold l.shell (at g.O.Out.taken l.fn.self) (at g.O.Out.taken l.self) (processing_all l.shell (events_in l.notes) l.fn.state) (processing_all l.shell (events_in (drop l.note-index l.notes)) l.state);
+  told : HasTold l.plan (at g.O.Out.taken l.fn.self) (at g.O.Out.taken l.self) (processing_all l.plan (events_in l.notes) l.fn.state) (processing_all l.plan (events_in (drop l.note-index l.notes)) l.state);
   same : Same l.fn.self l.self;
   still_open : g.O.Out.has_failed l.self.out.now ≡ false;
 }

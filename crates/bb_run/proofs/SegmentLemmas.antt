@@ -1,0 +1,113 @@
+-- Segments are told one after another: the first were written, and the page has the text of the others.
+use Rattle.std.proofs.Common.{◌≡◌, ℕ, List, [], ◌∷◌, ◌++◌, take, drop, Option, Result, Ok, Err, subst, sym, ap, ◌∙◌, append_assoc}
+use Rattle.std.specs.Io.KnownBytes.{Appends}
+use Rattle.std.proofs.lemmas.List.{append-nil, take-append-drop}
+use Rattle.std.proofs.lemmas.List.Concat.{flat_map-append, flat_map-cons}
+use Rattle.bb_trace.specs.declared.halt.Halt.{Halt}
+use Rattle.bb_trace.specs.declared.halt.Halt.TheVariants as halts
+use Rattle.bb_trace.specs.declared.note.Note.{Note}
+use Rattle.bb_trace.specs.Plan.{Plan}
+use Rattle.bb_trace.specs.TraceText.{segment_text, trace_text}
+use Rattle.bb_run.specs.proving.Telling.{CutIn, HasWritten, Place, Tells, IsTold, WroteFirst, WroteFront, WroteUntil, at_page}
+use Rattle.bb_trace.specs.Page.{Spills, flushed, kept}
+use Rattle.bb_trace.proofs.Laws.{appends_then}
+
+-- ---- the text of segments
+
+text_of_two : (plan : Plan) (xs ys : List (List Note)) → trace_text plan (xs ++ ys) ≡ trace_text plan xs ++ trace_text plan ys
+text_of_two plan xs ys = flat_map-append (segment_text plan) xs ys
+
+pub text_of_one : (plan : Plan) (notes : List Note) → trace_text plan (notes ∷ []) ≡ segment_text plan notes
+text_of_one plan notes = flat_map-cons (segment_text plan) notes [] ∙ append-nil (segment_text plan notes)
+
+-- ---- a segment is added to the page, and the page is written
+
+pub segment_added : (plan : Plan) (start taken : Option (List ℕ)) (page new : List ℕ) (told : List (List Note)) (notes : List Note) → new ≡ page ++ segment_text plan notes
+    → HasWritten plan start (at_page taken page) told → HasWritten plan start (at_page taken new) (told ++ notes ∷ [])
+segment_added plan start taken page new told notes grown h = record {
+  written = h.written;
+  waiting = h.waiting ++ notes ∷ [];
+  all = ap (λ t. t ++ notes ∷ []) h.all ∙ append_assoc h.written h.waiting (notes ∷ []);
+  appended = h.appended;
+  page_is = grown ∙ ap (λ t. t ++ segment_text plan notes) h.page_is ∙ ap (λ t. trace_text plan h.waiting ++ t) (sym (text_of_one plan notes)) ∙ sym (text_of_two plan h.waiting (notes ∷ []));
+}
+
+-- the text of what was told is what was written and the page
+all_text : (plan : Plan) (start : Option (List ℕ)) (place : Place) (told : List (List Note)) (h : HasWritten plan start place told) → trace_text plan told ≡ trace_text plan h.written ++ place.page
+all_text plan start place told h = ap (trace_text plan) h.all ∙ text_of_two plan h.written h.waiting ∙ ap (λ t. trace_text plan h.written ++ t) (sym h.page_is)
+
+pub all_written : (plan : Plan) (start given : Option (List ℕ)) (place : Place) (told : List (List Note)) → HasWritten plan start place told → Appends place.taken given place.page → Appends start given (trace_text plan told)
+all_written plan start given place told h more =
+    subst (Appends start given) (sym (all_text plan start place told h)) (appends_then start place.taken given (trace_text plan h.written) place.page h.appended more)
+
+page_written : (plan : Plan) (start given : Option (List ℕ)) (place : Place) (new : List ℕ) (told : List (List Note)) → HasWritten plan start place told → Appends place.taken given place.page → new ≡ []
+    → HasWritten plan start (at_page given new) told
+page_written plan start given place new told h more empty = record {
+  written = told;
+  waiting = [];
+  all = sym (append-nil told);
+  appended = all_written plan start given place told h more;
+  page_is = empty;
+}
+
+pub page_cut : (plan : Plan) (start given : Option (List ℕ)) (place : Place) (told : List (List Note)) (count : ℕ) → HasWritten plan start place told → Appends place.taken given (take count place.page)
+    → WroteFront plan start given told
+page_cut plan start given place told count h more = record {
+  front = trace_text plan h.written ++ take count place.page;
+  rest = drop count place.page;
+  all = all_text plan start place told h ∙ ap (λ t. trace_text plan h.written ++ t) (sym (take-append-drop count place.page)) ∙ sym (append_assoc (trace_text plan h.written) (take count place.page) (drop count place.page));
+  appended = appends_then start place.taken given (trace_text plan h.written) (take count place.page) h.appended more;
+}
+
+-- where memory runs out, what was written stays
+pub stays : (plan : Plan) (start : Option (List ℕ)) (place : Place) (told more : List (List Note)) → HasWritten plan start place told → WroteFirst plan start place.taken (told ++ more)
+stays plan start place told more h = record {
+  first = h.written;
+  rest = h.waiting ++ more;
+  all = ap (λ t. t ++ more) h.all ∙ append_assoc h.written h.waiting more;
+  appended = h.appended;
+}
+
+pub cut_by_memory : (plan : Plan) (old : Place) (page : List ℕ) (segments : List (List Note)) → CutIn plan old (at_page old.taken page) segments halts.Memory
+cut_by_memory plan old page segments start told h = stays plan start old told segments h
+
+-- ---- what is told goes on
+
+pub until_later : (plan : Plan) (start taken : Option (List ℕ)) (segments more : List (List Note)) (halt : Halt) → WroteUntil plan start taken segments halt → WroteUntil plan start taken (segments ++ more) halt
+until_later plan start taken segments more halts.Memory w = record {
+  first = w.first;
+  rest = w.rest ++ more;
+  all = ap (λ t. t ++ more) w.all ∙ append_assoc w.first w.rest more;
+  appended = w.appended;
+}
+until_later plan start taken segments more halts.Write w = record {
+  front = w.front;
+  rest = w.rest ++ trace_text plan more;
+  all = text_of_two plan segments more ∙ ap (λ t. t ++ trace_text plan more) w.all ∙ append_assoc w.front w.rest (trace_text plan more);
+  appended = w.appended;
+}
+
+pub told_nothing : (plan : Plan) (place : Place) → IsTold plan place place []
+told_nothing plan place start told h = subst (HasWritten plan start place) (sym (append-nil told)) h
+
+pub told_then : (plan : Plan) (a b c : Place) (xs ys : List (List Note)) → IsTold plan a b xs → IsTold plan b c ys → IsTold plan a c (xs ++ ys)
+told_then plan a b c xs ys p q start told h = subst (HasWritten plan start c) (append_assoc told xs ys) (q start (told ++ xs) (p start told h))
+
+pub cut_then : (plan : Plan) (a b c : Place) (xs ys : List (List Note)) (halt : Halt) → IsTold plan a b xs → CutIn plan b c ys halt → CutIn plan a c (xs ++ ys) halt
+cut_then plan a b c xs ys halt p q start told h = subst (λ t. WroteUntil plan start c.taken t halt) (append_assoc told xs ys) (q start (told ++ xs) (p start told h))
+
+pub cut_before : (plan : Plan) (a b : Place) (xs ys : List (List Note)) (halt : Halt) → CutIn plan a b xs halt → CutIn plan a b (xs ++ ys) halt
+cut_before plan a b xs ys halt p start told h = subst (λ t. WroteUntil plan start b.taken t halt) (append_assoc told xs ys) (until_later plan start b.taken (told ++ xs) ys halt (p start told h))
+
+-- ---- a segment, told in whole
+
+pub segment_told : (plan : Plan) (taken given : Option (List ℕ)) (page mid new : List ℕ) (notes : List Note) (r : Result (Unit {0}) Halt) → mid ≡ page ++ segment_text plan notes → Spills taken given mid new r
+    → Tells plan (at_page taken page) (at_page given new) (notes ∷ []) r
+segment_told plan taken given page mid new notes (Ok x) grown (flushed f) =
+    λ start told h. page_written plan start given (at_page taken mid) new (told ++ notes ∷ []) (segment_added plan start taken page mid told notes grown h) f.0 f.1
+segment_told plan taken given page mid new notes (Err halts.Memory) grown (flushed f) = absurd f
+segment_told plan taken given page mid new notes (Err halts.Write) grown (flushed f) =
+    λ start told h. page_cut plan start given (at_page taken mid) (told ++ notes ∷ []) f.0 (segment_added plan start taken page mid told notes grown h) f.1
+segment_told plan taken given page mid new notes (Ok x) grown (kept same left ok) =
+    λ start told h. subst (λ t. HasWritten plan start (at_page t new) (told ++ notes ∷ [])) (sym same) (segment_added plan start taken page new told notes (left ∙ grown) h)
+segment_told plan taken given page mid new notes (Err halt) grown (kept same left ok) = absurd cc

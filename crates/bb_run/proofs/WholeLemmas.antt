@@ -1,0 +1,70 @@
+-- The whole run is told, its finish last, or it is cut short.
+use Rattle.std.proofs.Common.{◌≡◌, ℕ, false, List, [], ◌∷◌, ◌++◌, length, take, Option, Some, Result, Ok, Err, refl, subst, sym, ap, ◌∙◌}
+use Rattle.std.specs.Io.KnownBytes.{Appends}
+use Rattle.std.proofs.Math.Seq.{take-append_seam}
+use Rattle.bb_trace.specs.declared.end.End.{End}
+use Rattle.bb_run.specs.declared.finish.Finish.{Finish}
+use Rattle.bb_run.specs.declared.finish.Finish.TheVariants as finishes
+use Rattle.bb_trace.specs.declared.halt.Halt.{Halt}
+use Rattle.bb_trace.specs.declared.halt.Halt.TheVariants as halts
+use Rattle.bb_trace.specs.declared.note.Note.TheVariants.{Finished}
+use Rattle.bb_trace.specs.Plan.{Plan}
+use Rattle.bb_run.specs.Finish.{WritesFront, end_of, is_write}
+use Rattle.bb_run.specs.Told.{Stretch}
+use Rattle.bb_run.specs.Run.{finish_segments, with_finish}
+use Rattle.bb_trace.specs.TraceText.{segment_text, trace_text}
+use Rattle.bb_run.specs.proving.Telling.{CutIn, HasWritten, Place, IsTold, Writes, WroteFirst, WroteFront, WroteUntil, at_page}
+use Rattle.bb_trace.specs.Page.{Flushes}
+use Rattle.bb_trace.proofs.Laws.{appends_none}
+use Rattle.bb_run.proofs.SegmentLemmas.{segment_added, all_written, page_cut, stays, until_later}
+
+-- ---- the whole run
+
+-- nothing was told, and the page is empty
+pub nothing_written : (plan : Plan) (taken : Option (List ℕ)) (page : List ℕ) → page ≡ [] → HasWritten plan taken (at_page taken page) []
+nothing_written plan taken page empty = record { written = []; waiting = []; all = refl; appended = appends_none taken; page_is = empty }
+
+module _ (plan : Plan) (taken : Option (List ℕ)) (first : List ℕ) (here : Place) (p : Stretch) (end : End) where
+  -- the last segment is the finish
+  finished : p.end ≡ Some end → (with_finish p).told ≡ p.told ++ (Finished end ∷ []) ∷ []
+  finished is = ap (λ e. p.told ++ finish_segments e) is
+
+  pub run_written : (given : Option (List ℕ)) (page new : List ℕ) (r : Result (Unit {0}) Halt) → first ≡ [] → p.end ≡ Some end → IsTold plan (at_page taken first) here p.told → page ≡ here.page ++ segment_text plan (Finished end ∷ [])
+      → Flushes here.taken given page new r → Writes plan taken given (with_finish p).told r
+  run_written given page new (Ok x) empty is told grown f =
+      let so_far = segment_added plan taken here.taken here.page page p.told (Finished end ∷ []) grown (told taken [] (nothing_written plan taken first empty)) in
+      subst (λ w. Appends taken given (trace_text plan w)) (sym (finished is)) (all_written plan taken given (at_page here.taken page) (p.told ++ (Finished end ∷ []) ∷ []) so_far f.0)
+  run_written given page new (Err halts.Memory) empty is told grown f = absurd f
+  run_written given page new (Err halts.Write) empty is told grown f =
+      let so_far = segment_added plan taken here.taken here.page page p.told (Finished end ∷ []) grown (told taken [] (nothing_written plan taken first empty)) in
+      subst (λ w. WroteFront plan taken given w) (sym (finished is)) (page_cut plan taken given (at_page here.taken page) (p.told ++ (Finished end ∷ []) ∷ []) f.0 so_far f.1)
+
+  pub run_cut_last : first ≡ [] → IsTold plan (at_page taken first) here p.told → WroteFirst plan taken here.taken (with_finish p).told
+  run_cut_last empty told = stays plan taken here p.told (finish_segments p.end) (told taken [] (nothing_written plan taken first empty))
+
+pub run_cut : (plan : Plan) (taken : Option (List ℕ)) (first : List ℕ) (here : Place) (p : Stretch) (halt : Halt) → first ≡ [] → CutIn plan (at_page taken first) here p.told halt → WroteUntil plan taken here.taken (with_finish p).told halt
+run_cut plan taken first here p halt empty cut = until_later plan taken here.taken p.told (finish_segments p.end) halt (cut taken [] (nothing_written plan taken first empty))
+
+-- ---- what is said of a run that was cut short
+
+pub wrote_first : (plan : Plan) (p : Stretch) (old new : Option (List ℕ)) → WroteFirst plan old new p.told → WritesFront plan p finishes.Memory old new
+wrote_first plan p old new w = (length w.first, subst (λ x. Appends old new (trace_text plan x)) (sym (ap (take (length w.first)) w.all ∙ take-append_seam w.first w.rest)) w.appended)
+
+pub wrote_front : (plan : Plan) (p : Stretch) (old new : Option (List ℕ)) → WroteFront plan old new p.told → WritesFront plan p finishes.Write old new
+wrote_front plan p old new w = (length w.front, subst (Appends old new) (sym (ap (take (length w.front)) w.all ∙ take-append_seam w.front w.rest)) w.appended)
+
+pub wrote_whole : (plan : Plan) (p : Stretch) (finish : Finish) (end : End) (old new : Option (List ℕ)) → end_of finish ≡ Some end → WritesFront plan p finish old new
+wrote_whole plan p finishes.Quiescence end old new is = tt
+wrote_whole plan p finishes.Limit end old new is = tt
+wrote_whole plan p finishes.Full end old new is = tt
+wrote_whole plan p finishes.Memory end old new is = absurd cc
+wrote_whole plan p finishes.Write end old new is = absurd cc
+wrote_whole plan p (finishes.Stuck reason) end old new is = tt
+
+pub not_write : (finish : Finish) (end : End) → end_of finish ≡ Some end → is_write finish ≡ false
+not_write finishes.Quiescence end is = refl
+not_write finishes.Limit end is = refl
+not_write finishes.Full end is = refl
+not_write finishes.Memory end is = refl
+not_write finishes.Write end is = absurd cc
+not_write (finishes.Stuck reason) end is = refl

@@ -1,0 +1,2 @@
+-- how a plan is stored
+pub mod Codes

@@ -1,0 +1,14 @@
+-- How a plan is stored as data that can be told apart.
+use Rattle.std.specs.Prelude.{ℤ, List, refl}
+use Rattle.std.specs.Coded.{Coded, code_by, coded×, coded_ℤ, coded_list}
+use Rattle.bb_schema.specs.Schema.{Schema}
+use Rattle.bb_schema.specs.contracts.schema.Schema as schemas
+use Rattle.bb_rules.specs.contracts.source.Source as rules
+use Rattle.bb_trace.specs.Source.{Source}
+use Rattle.bb_trace.specs.Plan.{Plan}
+
+abbrev pub plan_code : Coded Plan
+plan_code =
+    code_by (Schema × (List Source × ℤ)) (coded× schemas.the_row.coded (coded× (coded_list rules.the_row.coded) coded_ℤ))
+    (λ p. (p.schema, (p.sources, p.floor)))
+    (λ t. record { schema = t.0; sources = t.1.0; floor = t.1.1 }) (λ _. refl)

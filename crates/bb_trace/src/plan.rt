@@ -1,0 +1,71 @@
+//! What a run goes by. The meaning of an input (bb_shell) has it, and every part of the run reads it.
+
+ghost use Rattle.std.specs.Prelude.{◌≡◌, ◌≤◌, length};
+
+use bb_basis::Items;
+use bb_board::SharedSchema;
+use bb_rules::Source;
+use bb_schema::Schema;
+use std::marker::Model;
+
+/// The greatest number of sources.
+pub const SOURCE_LIMIT: usize = 256;
+
+/// What a run goes by: the schema, the sources in their order, 256 at most, and the least rating that can be chosen.
+#[derive(Drop)]
+pub struct Plan {
+    schema: SharedSchema,
+    sources: Items<Source>,
+    floor: i64,
+}
+
+impl Model for Plan {
+    ghost use Rattle.std.specs.Prelude.{◌≤◌, length};
+    ghost use Rattle.bb_trace.specs.declared.plan.TheConstants.{SOURCE_LIMIT};
+    ghost use Rattle.bb_trace.specs.Plan.{Plan as Planned};
+    ghost use Rattle.bb_trace.specs.proving.Codes.{plan_code};
+
+    ghost Value = { Planned };
+
+    ghost coded = { plan_code };
+
+    ghost view = { λ p. record { schema = p.schema; sources = p.sources; floor = p.floor } };
+
+    ghost invariant = { λ p. length p.sources ≤ SOURCE_LIMIT };
+}
+
+impl Plan {
+    /// A plan of these sources in their order, 256 at most.
+    pub fn new(schema: SharedSchema, sources: Vec<Source>, floor: i64) -> Plan
+        requires { length sources.items ≤ SOURCE_LIMIT }
+        ensures { result ≡ record { schema = schema; sources = sources.items; floor = floor } }
+    {
+        Plan {
+            schema,
+            sources: Items::from(sources),
+            floor,
+        }
+    }
+
+    /// The schema.
+    pub fn schema(&self) -> &Schema
+        ensures { result.now ≡ self.now.schema }
+    {
+        self.schema.get()
+    }
+
+    /// The sources in their order, 256 at most.
+    pub fn sources(&self) -> &[Source]
+        ensures sources { result.now ≡ self.now.sources }
+        ensures few { length result.now ≤ SOURCE_LIMIT }
+    {
+        self.sources.as_slice()
+    }
+
+    /// The least rating that can be chosen.
+    pub fn floor(&self) -> i64
+        ensures { result ≡ self.now.floor }
+    {
+        self.floor
+    }
+}
