@@ -10,7 +10,7 @@ use Rattle.bb_units.specs.declared.fault.CreateFault.TheVariants.{Full as NoMore
 use Rattle.bb_units.specs.Units.{next_number, is_full}
 use Rattle.bb_board.specs.declared.units_fault.UnitsFault.{UnitsFault}
 use Rattle.bb_board.specs.declared.units_fault.UnitsFault.TheVariants.{Full, Memory}
-use Rattle.bb_world.specs.declared.world.World.{World}
+use Rattle.bb_world.specs.State.{World}
 use Rattle.bb_board.specs.UnitsFaults.{of_create_fault}
 use Rattle.bb_world.specs.World.{after_create}
 use Rattle.bb_board.specs.Load.{with_unit}

@@ -1,13 +1,13 @@
 -- A blackboard (Hayes-Roth, 1985): its schema, its state, and whether memory was refused to a change. From then on each
 -- change is refused.
-use Rattle.std.specs.Prelude.{Bool, true, false, length, ◌==◌, ◌&&◌, if◌then◌else◌}
+use Rattle.std.specs.Prelude.{Bool, true, false, if◌then◌else◌}
 use Rattle.bb_schema.specs.Schema.{Schema}
 use Rattle.bb_units.specs.declared.fault.CreateFault.{CreateFault}
 use Rattle.bb_units.specs.declared.fault.CreateFault.TheVariants as creates
 use Rattle.bb_board.specs.declared.units_fault.UnitsFault.{UnitsFault}
-use Rattle.bb_world.specs.declared.world.World.{World}
+use Rattle.bb_world.specs.State.{World}
 use Rattle.bb_board.specs.UnitsFaults.{is_memory}
-use Rattle.bb_world.specs.World.{empty_world}
+use Rattle.bb_world.specs.World.{empty_world, is_fresh as is_fresh_world}
 
 pub record Board : Type 0 where
   pub schema : Schema
@@ -37,4 +37,4 @@ after_units_fault b fault = if is_memory fault then when_refused b else b
 
 -- nothing was created, and no note is left to take
 abbrev pub is_fresh : Board → Bool
-is_fresh b = b.world.units.next == 1 && length b.world.notes == 0
+is_fresh b = is_fresh_world b.world

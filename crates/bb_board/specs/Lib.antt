@@ -9,7 +9,7 @@ pub use Rattle.bb_world.specs.declared.note.Said
 -- why a change may not be made
 pub use Rattle.bb_world.specs.declared.reason.Reason
 -- the state of a blackboard, and what each change makes of it
-pub use Rattle.bb_world.specs.declared.world.World as State
+pub use Rattle.bb_world.specs.State
 pub use Rattle.bb_world.specs.World
 -- what spaces are told of a unit
 pub use Rattle.bb_world.specs.Told

@@ -19,7 +19,7 @@ use Rattle.bb_schema.specs.Schema.{Schema, class_named, slot_named, space_named,
 use Rattle.bb_units.specs.Units.{is_full}
 use Rattle.bb_board.specs.declared.units_fault.UnitsFault.{UnitsFault}
 use Rattle.bb_board.specs.declared.units_fault.UnitsFault.TheVariants.{Json, Shape, Twice, Unknown, Kind, Full, Memory}
-use Rattle.bb_world.specs.declared.world.World.{World}
+use Rattle.bb_world.specs.State.{World}
 use Rattle.bb_world.specs.World.{empty_world, class_at, after_create, after_set}
 use Rattle.bb_board.specs.UnitsFaults.{of_reason}
 use Rattle.bb_world.specs.Links.{after_link}

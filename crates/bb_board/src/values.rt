@@ -9,11 +9,11 @@ ghost use Rattle.bb_board.specs.declared.units_fault.UnitsFault.TheVariants.{Mem
 ghost use Rattle.bb_board.specs.Load.{are_slots, given_at, given_for, if_given, is_ordinary_in, slot_after, value_at, value_in};
 ghost use Rattle.bb_board.specs.Load.{with_value, with_values};
 
-use crate::board::Board;
 use crate::units_fault::UnitsFault;
 use bb_basis::Text;
 use bb_document::{GivenEntry, GivenValue};
 use bb_schema::{ClassId, Kind, Schema, SlotId, UnitId, Value};
+use bb_world::World;
 use std::alloc::{AllocError, Global};
 
 /// Whether the name is that of an ordinary slot of a class.
@@ -97,21 +97,21 @@ fn value_at(
 fn set_value(
     alloc: Global,
     schema: &Schema,
-    board: &mut Board,
+    world: &mut World,
     unit: UnitId,
     slot: SlotId,
     given: &GivenValue,
 ) -> Result<(), UnitsFault>
-    requires { board.old.schema ≡ schema.now }
-    ensures gives { Gives OutOfMemory (λ _. board.new.world) result
-        (with_value schema.now unit board.old.world slot (value_declaration given.now)) }
-    ensures schema { OnOk result (board.new.schema ≡ board.old.schema) }
+    requires { world.old.schema ≡ schema.now }
+    ensures gives { Gives OutOfMemory (λ _. world.new.world) result
+        (with_value schema.now unit world.old.world slot (value_declaration given.now)) }
+    ensures schema { OnOk result (world.new.schema ≡ world.old.schema) }
 {
     let value = value_at(alloc, schema, slot, given)?.ok_or(UnitsFault::Kind)?;
-    if board.may_set(unit, slot, &value).is_err() {
+    if world.may_set(unit, slot, &value).is_err() {
         return Err(UnitsFault::Kind);
     }
-    board.set(unit, slot, value)?;
+    world.set(unit, slot, value)?;
     Ok(())
 }
 
@@ -120,19 +120,19 @@ fn set_value(
 fn set_slot(
     alloc: Global,
     schema: &Schema,
-    board: &mut Board,
+    world: &mut World,
     unit: UnitId,
     slot: SlotId,
     given: &[GivenEntry],
 ) -> Result<(), UnitsFault>
-    requires { board.old.schema ≡ schema.now }
-    ensures gives { Gives OutOfMemory (λ _. board.new.world) result
-        (slot_after schema.now unit (map given_declaration given.now) board.old.world slot) }
-    ensures schema { OnOk result (board.new.schema ≡ board.old.schema) }
+    requires { world.old.schema ≡ schema.now }
+    ensures gives { Gives OutOfMemory (λ _. world.new.world) result
+        (slot_after schema.now unit (map given_declaration given.now) world.old.world slot) }
+    ensures schema { OnOk result (world.new.schema ≡ world.old.schema) }
 {
     match given_at(schema, given, slot) {
         None => Ok(()),
-        Some(value) => set_value(alloc, schema, board, unit, slot, value),
+        Some(value) => set_value(alloc, schema, world, unit, slot, value),
     }
 }
 
@@ -140,18 +140,18 @@ fn set_slot(
 fn set_slots(
     alloc: Global,
     schema: &Schema,
-    board: &mut Board,
+    world: &mut World,
     unit: UnitId,
     slots: &[SlotId],
     given: &[GivenEntry],
 ) -> Result<(), UnitsFault>
-    requires { board.old.schema ≡ schema.now }
-    ensures gives { Gives OutOfMemory (λ _. board.new.world) result
-        (try_fold (slot_after schema.now unit (map given_declaration given.now)) board.old.world slots.now) }
-    ensures schema { OnOk result (board.new.schema ≡ board.old.schema) }
+    requires { world.old.schema ≡ schema.now }
+    ensures gives { Gives OutOfMemory (λ _. world.new.world) result
+        (try_fold (slot_after schema.now unit (map given_declaration given.now)) world.old.world slots.now) }
+    ensures schema { OnOk result (world.new.schema ≡ world.old.schema) }
 {
     for slot in slots {
-        set_slot(alloc, schema, board, unit, *slot, given)?;
+        set_slot(alloc, schema, world, unit, *slot, given)?;
     }
     Ok(())
 }
@@ -161,19 +161,19 @@ fn set_slots(
 pub(crate) fn set_values(
     alloc: Global,
     schema: &Schema,
-    board: &mut Board,
+    world: &mut World,
     unit: UnitId,
     class: ClassId,
     given: &[GivenEntry],
 ) -> Result<(), UnitsFault>
     requires class { class < length schema.now.classes }
-    requires schema { board.old.schema ≡ schema.now }
-    ensures gives { Gives OutOfMemory (λ _. board.new.world) result
-        (with_values schema.now unit class (map given_declaration given.now) board.old.world) }
-    ensures schema { OnOk result (board.new.schema ≡ board.old.schema) }
+    requires schema { world.old.schema ≡ schema.now }
+    ensures gives { Gives OutOfMemory (λ _. world.new.world) result
+        (with_values schema.now unit class (map given_declaration given.now) world.old.world) }
+    ensures schema { OnOk result (world.new.schema ≡ world.old.schema) }
 {
     if !are_slots(schema, class, given) {
         return Err(UnitsFault::Unknown);
     }
-    set_slots(alloc, schema, board, unit, schema.slots(class), given)
+    set_slots(alloc, schema, world, unit, schema.slots(class), given)
 }

@@ -22,7 +22,7 @@ use Rattle.bb_links.specs.Links.{partners, ends}
 use Rattle.bb_links.specs.Couples.{Couple, forgotten, pairs_of, after_forget}
 use Rattle.bb_links.specs.Fits as links
 use Rattle.bb_world.specs.declared.event.Change.TheVariants.{Delete, Leave}
-use Rattle.bb_world.specs.declared.world.World.{World}
+use Rattle.bb_world.specs.State.{World}
 use Rattle.bb_world.specs.World.{event, class_at}
 use Rattle.bb_space.specs.Spaces.{is_member}
 use Rattle.bb_world.specs.Told.{spaces_of}

@@ -25,7 +25,7 @@ use Rattle.bb_links.specs.Pairs.{near, far, same_pair}
 use Rattle.bb_links.specs.Links.{partners, ends}
 use Rattle.bb_links.specs.Couples.{Couple, pairs_of}
 use Rattle.bb_links.specs.Fits as links
-use Rattle.bb_world.specs.declared.world.World.{World}
+use Rattle.bb_world.specs.State.{World}
 use Rattle.bb_world.specs.Fits.{Fits}
 use Rattle.bb_world.proofs.AllLemmas.{all_filter}
 use Rattle.bb_world.proofs.LinkLemmas.{pairs_live}

@@ -29,7 +29,7 @@ use Rattle.bb_links.specs.Fits as links
 use Rattle.bb_query.specs.Knows.{Knows}
 use Rattle.bb_world.specs.declared.event.Change.{Change}
 use Rattle.bb_world.specs.declared.event.Change.TheVariants.{Create, Update}
-use Rattle.bb_world.specs.declared.world.World.{World}
+use Rattle.bb_world.specs.State.{World}
 use Rattle.bb_world.specs.World.{empty_world, event, class_at, after_create, after_set}
 use Rattle.bb_world.specs.Fits.{names_slot_of, is_noted, is_of_if_live, is_of_owner, PairsFit, Fits}
 use Rattle.bb_world.specs.May.{class_has}

@@ -24,7 +24,7 @@ use Rattle.bb_world.specs.declared.event.Change.{Change}
 use Rattle.bb_world.specs.declared.event.Change.TheVariants.{Link as Links, Unlink}
 use Rattle.bb_world.specs.declared.reason.Reason.{Reason}
 use Rattle.bb_world.specs.declared.reason.Reason.TheVariants.{Deleted, Slot, LinkClass}
-use Rattle.bb_world.specs.declared.world.World.{World}
+use Rattle.bb_world.specs.State.{World}
 use Rattle.bb_world.specs.World.{event, class_at}
 use Rattle.bb_world.specs.Links.{joining, parting, pair_parting, own_pair, partners_pair, link_notes, linked_at, unlinked_at, after_link, after_unlink}
 use Rattle.bb_world.specs.May.{class_has, has_link, leads_to, may_link}

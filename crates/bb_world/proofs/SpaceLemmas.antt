@@ -15,7 +15,7 @@ use Rattle.bb_world.specs.declared.event.Change.{Change}
 use Rattle.bb_world.specs.declared.event.Change.TheVariants.{Enter, Leave}
 use Rattle.bb_world.specs.declared.reason.Reason.{Reason}
 use Rattle.bb_world.specs.declared.reason.Reason.TheVariants.{Deleted, Space as NoSpace}
-use Rattle.bb_world.specs.declared.world.World.{World}
+use Rattle.bb_world.specs.State.{World}
 use Rattle.bb_world.specs.World.{event, class_at}
 use Rattle.bb_world.specs.Spaces.{may_enter, after_enter, after_leave}
 use Rattle.bb_world.specs.Fits.{is_noted, names_slot_of, Fits}

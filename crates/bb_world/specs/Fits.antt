@@ -23,7 +23,7 @@ use Rattle.bb_world.specs.declared.note.Note.{Note}
 use Rattle.bb_world.specs.declared.note.Note.TheVariants as notes
 use Rattle.bb_world.specs.declared.note.Said.{Said}
 use Rattle.bb_world.specs.declared.note.Said.TheVariants as saids
-use Rattle.bb_world.specs.declared.world.World.{World}
+use Rattle.bb_world.specs.State.{World}
 use Rattle.bb_world.specs.May.{class_has}
 
 -- the slot or space that a change names is one of the schema

@@ -3,7 +3,10 @@ pub use Rattle.bb_query.specs.Answer
 -- what events and changes are of
 pub mod Events
 -- the state of a blackboard, and what each change makes of it
+pub mod State
 pub mod World
+-- a schema, and a state of a blackboard with that schema
+pub mod Contents
 -- what spaces are told of a unit
 pub mod Told
 -- which spaces units enter and leave

@@ -15,7 +15,7 @@ use Rattle.bb_links.specs.Links.{ends}
 use Rattle.bb_space.specs.Spaces.{after_forget as out_of_spaces}
 use Rattle.bb_world.specs.declared.event.Change.TheVariants.{Delete, Link, Unlink}
 use Rattle.bb_world.specs.declared.note.Note.{Note}
-use Rattle.bb_world.specs.declared.world.World.{World}
+use Rattle.bb_world.specs.State.{World}
 use Rattle.bb_world.specs.World.{event, class_at}
 use Rattle.bb_world.specs.Spaces.{leavings}
 

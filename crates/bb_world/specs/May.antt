@@ -6,7 +6,7 @@ use Rattle.bb_schema.specs.Schema.{Schema, link_of, owner_of, descends}
 use Rattle.bb_units.specs.Units.{is_live, class_of, has_slot, takes}
 use Rattle.bb_world.specs.declared.reason.Reason.{Reason}
 use Rattle.bb_world.specs.declared.reason.Reason.TheVariants.{Deleted, Slot, Kind, LinkClass, Space}
-use Rattle.bb_world.specs.declared.world.World.{World}
+use Rattle.bb_world.specs.State.{World}
 use Rattle.bb_world.specs.World.{class_at}
 
 -- the numbers of the reasons

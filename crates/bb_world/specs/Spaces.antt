@@ -9,7 +9,7 @@ use Rattle.bb_world.specs.declared.event.Change.TheVariants.{Enter, Leave}
 use Rattle.bb_world.specs.declared.note.Note.{Note}
 use Rattle.bb_world.specs.declared.reason.Reason.{Reason}
 use Rattle.bb_world.specs.declared.reason.Reason.TheVariants.{Deleted, Space}
-use Rattle.bb_world.specs.declared.world.World.{World}
+use Rattle.bb_world.specs.State.{World}
 use Rattle.bb_world.specs.World.{event, class_at}
 use Rattle.bb_world.specs.Told.{spaces_of}
 

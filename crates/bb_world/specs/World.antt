@@ -1,5 +1,5 @@
 -- The state of a blackboard, and what each change makes of it: a change notes what happened, in order.
-use Rattle.std.specs.Prelude.{ℕ, List, [], ◌∷◌, ◌++◌, unwrap_or}
+use Rattle.std.specs.Prelude.{ℕ, Bool, ◌==◌, ◌&&◌, List, [], ◌∷◌, ◌++◌, length, unwrap_or}
 use Rattle.bb_classes.specs.declared.value.Value.{Value}
 use Rattle.bb_schema.specs.Schema.{Schema}
 use Rattle.bb_units.specs.Layout.{layout_of}
@@ -12,12 +12,16 @@ use Rattle.bb_world.specs.declared.event.Event.TheVariants as events
 use Rattle.bb_world.specs.declared.note.Note.{Note}
 use Rattle.bb_world.specs.declared.note.Note.TheVariants as notes
 use Rattle.bb_world.specs.declared.note.Said.{Said}
-use Rattle.bb_world.specs.declared.world.World.{World}
+use Rattle.bb_world.specs.State.{World}
 use Rattle.bb_world.specs.Told.{told_again}
 
 -- the state of a blackboard with a schema, before anything was created
 abbrev pub empty_world : Schema → World
 empty_world s = record { units = no_units (layout_of s); links = no_links s; spaces = no_spaces s; notes = [] }
+
+-- nothing was created, and no note is left to take
+abbrev pub is_fresh : World → Bool
+is_fresh w = w.units.next == 1 && length w.notes == 0
 
 -- the note of a change of a unit, which is of this class
 abbrev pub event : (unit class : ℕ) → Change → Note

@@ -1,4 +1,5 @@
-//! The state of a blackboard, and each change of it with its notes. The board (bb_board) keeps a world and changes it.
+//! A schema with a state of a blackboard that fits it, and each change of it with its notes. The board (bb_board) keeps
+//! such a world and changes it.
 #![tactic(auto)]
 
 mod event;
@@ -8,11 +9,12 @@ mod members;
 mod moves;
 mod note;
 mod reason;
+mod state;
 mod world;
 
-pub use bb_query::{DimValue, Query, find};
+pub use bb_query::{DimValue, Query};
 pub use event::{Change, ChangeKind, Event};
-pub use may::{has_link, leads_to};
 pub use note::{Note, Said};
 pub use reason::Reason;
+pub use state::State;
 pub use world::World;

@@ -1,4 +1,4 @@
-//! The steps of a blackboard's state that change links, and what they note. The board takes them.
+//! The steps of a blackboard's state that change links, and what they note. A world takes them.
 
 ghost use Rattle.std.specs.Prelude.{◌≡◌, ◌<◌, ◌++◌, length, filter, IsSome, IsTrue, IfOk, OnOk, OnErr};
 ghost use Rattle.std.specs.List.{flat_map};
@@ -12,7 +12,7 @@ ghost use Rattle.bb_world.specs.Links.{is_turn, slot_partings, after_link, after
 
 use crate::event::{Change, Event};
 use crate::note::Note;
-use crate::world::World;
+use crate::state::State;
 use bb_basis::Memory;
 use bb_links::Taken;
 use bb_schema::{ClassId, Schema, Side, SlotId, UnitId};
@@ -57,9 +57,9 @@ struct Linking {
     partner: UnitId,
 }
 
-impl World {
+impl State {
     /// The class of a unit, 0 where it is not live.
-    pub fn class_at(&self, unit: UnitId) -> ClassId
+    pub(crate) fn class_at(&self, unit: UnitId) -> ClassId
         ensures { result ≡ class_at self.now unit }
     {
         if !self.units.live(unit) {
@@ -167,7 +167,7 @@ impl World {
     }
 
     /// Links two units by a link slot, and notes what changed. An error changes nothing.
-    pub fn link(
+    pub(crate) fn link(
         &mut self,
         alloc: Global,
         schema: &Schema,
@@ -203,7 +203,7 @@ impl World {
     }
 
     /// Takes the link of two units by a link slot away, and notes it, if it was there. An error changes nothing.
-    pub fn unlink(
+    pub(crate) fn unlink(
         &mut self,
         alloc: Global,
         schema: &Schema,
@@ -285,7 +285,12 @@ impl World {
     }
 
     /// Deletes a live unit with all its links, takes it out of its spaces, and notes all that and its end. An error changes nothing.
-    pub fn delete(&mut self, alloc: Global, schema: &Schema, unit: UnitId) -> Result<(), Memory>
+    pub(crate) fn delete(
+        &mut self,
+        alloc: Global,
+        schema: &Schema,
+        unit: UnitId,
+    ) -> Result<(), Memory>
         requires live { IsTrue (is_live self.old.units unit) }
         requires class { class_at self.old unit < length schema.now.classes }
         requires spaces { length self.old.spaces.spaces ≡ length schema.now.spaces }

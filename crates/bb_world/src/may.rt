@@ -1,4 +1,4 @@
-//! What a change may be made of, by the schema. The board asks it before it links units.
+//! What a change may be made of, by the schema. A world asks it before it links units.
 
 ghost use Rattle.std.specs.Prelude.{◌≡◌};
 ghost use Rattle.bb_world.specs.May.{has_link, leads_to};
@@ -6,7 +6,7 @@ ghost use Rattle.bb_world.specs.May.{has_link, leads_to};
 use bb_schema::{ClassId, Schema, SlotId};
 
 /// Whether a slot is a link slot that a class has.
-pub fn has_link(schema: &Schema, class: ClassId, slot: SlotId) -> bool
+pub(crate) fn has_link(schema: &Schema, class: ClassId, slot: SlotId) -> bool
     ensures { result ≡ has_link schema.now class slot }
 {
     if !schema.is_link(slot) {
@@ -16,7 +16,7 @@ pub fn has_link(schema: &Schema, class: ClassId, slot: SlotId) -> bool
 }
 
 /// Whether a slot is a link slot that leads to units of a class.
-pub fn leads_to(schema: &Schema, slot: SlotId, class: ClassId) -> bool
+pub(crate) fn leads_to(schema: &Schema, slot: SlotId, class: ClassId) -> bool
     ensures { result ≡ leads_to schema.now slot class }
 {
     match schema.link(slot) {

@@ -1,4 +1,4 @@
-//! The steps of a blackboard's state by which units enter and leave spaces. The board takes them.
+//! The steps of a blackboard's state by which units enter and leave spaces. A world takes them.
 
 ghost use Rattle.std.specs.Prelude.{◌≡◌, ◌<◌, ◌++◌, IsTrue, OnOk, OnErr, length};
 ghost use Rattle.bb_units.specs.Units.{is_live};
@@ -6,13 +6,13 @@ ghost use Rattle.bb_world.specs.Spaces.{after_enter, after_leave, leavings};
 
 use crate::event::Change;
 use crate::note::Note;
-use crate::world::World;
+use crate::state::State;
 use bb_basis::Memory;
 use bb_query::values_of;
 use bb_schema::{Schema, SpaceId, UnitId};
 use std::alloc::Global;
 
-impl World {
+impl State {
     /// Adds the notes that a deleted unit leaves its spaces, by their rising numbers.
     pub(crate) fn add_notes_of_leaving(
         &self,
@@ -36,7 +36,7 @@ impl World {
 
     /// Lets a live unit enter a space, with its present values, and notes it. Where it is a member nothing changes. An
     /// error changes nothing.
-    pub fn enter(
+    pub(crate) fn enter(
         &mut self,
         alloc: Global,
         schema: &Schema,
@@ -67,7 +67,7 @@ impl World {
     }
 
     /// Lets a live unit leave a space, and notes it. Where it is no member nothing changes. An error changes nothing.
-    pub fn leave(&mut self, unit: UnitId, space: SpaceId) -> Result<(), Memory>
+    pub(crate) fn leave(&mut self, unit: UnitId, space: SpaceId) -> Result<(), Memory>
         requires live { IsTrue (is_live self.old.units unit) }
         requires space { space < length self.old.spaces.spaces }
         ensures ok { OnOk result (self.new ≡ after_leave self.old unit space) }

@@ -1,4 +1,4 @@
-//! Why a change may not be made. The calls of the board that begin with `may` tell it.
+//! Why a change may not be made. The calls of a world, and of the board, that begin with `may` tell it.
 
 ghost use Rattle.std.specs.Prelude.{◌≡◌};
 ghost use Rattle.bb_world.specs.May.{reason_number};

@@ -1,150 +1,283 @@
-//! The state of a blackboard. The board keeps one, and each of its changes is a step here.
+//! A world: a schema, and a state of a blackboard that fits it. Here stands what can be asked of it, in `changes` what
+//! changes it. The board (bb_board) keeps one.
 
-ghost use Rattle.std.specs.Prelude.{◌≡◌, ◌<◌, ℕ, length, IfOk, IsTrue, OnOk, OnErr};
-ghost use Rattle.bb_basis.specs.Results.{Gives};
-ghost use Rattle.bb_schema.specs.Couples.{couple_of};
-ghost use Rattle.bb_units.specs.Fits as units;
-ghost use Rattle.bb_units.specs.Units.{is_live, next_number, takes};
-ghost use Rattle.bb_links.specs.Couples.{end_of};
-ghost use Rattle.bb_links.specs.Fits as links;
-ghost use Rattle.bb_world.specs.World.{empty_world, event, after_note, after_create, after_set, after_say, after_take};
+ghost use Rattle.std.specs.Prelude.{◌≡◌, ◌<◌, ◌≤◌, ◌↔◌, Ok, Some, length, map, slice_get, IfOk, IsTrue, IsSome};
+ghost use Rattle.bb_pattern.specs.Fits.{query_fits};
+ghost use Rattle.bb_pattern.specs.Values.{kind_of_operand};
+ghost use Rattle.bb_units.specs.Layout.{layout_of, can_hold};
+ghost use Rattle.bb_units.specs.Units.{is_live, class_of, value_of, has_slot};
+ghost use Rattle.bb_units.specs.declared.units.TheConstants.{UNIT_LIMIT};
+ghost use Rattle.bb_links.specs.Links.{ends};
+ghost use Rattle.bb_query.specs.Answer.{answer};
+ghost use Rattle.bb_world.specs.Contents.{new_world};
+ghost use Rattle.bb_world.specs.Fits.{Fits, is_said_of};
+ghost use Rattle.bb_world.specs.May.{has_link, may_set, may_link, was};
+ghost use Rattle.bb_world.specs.Spaces.{may_enter};
+ghost use Rattle.bb_world.specs.World.{class_at, is_fresh};
 
-use crate::event::{Change, Event};
-use crate::moves::moves_of;
-use crate::note::{Note, Said};
-use bb_basis::{Items, Memory};
-use bb_links::Couples;
-use bb_schema::{ClassId, Schema, SlotId, UnitId, Value};
-use bb_space::Spaces;
-use bb_units::{CreateFault, Units};
+mod changes;
+
+use crate::may::{has_link, leads_to};
+use crate::note::Said;
+use crate::reason::Reason;
+use crate::state::State;
+use bb_basis::Memory;
+use bb_query::{DimValue, Query, find};
+use bb_schema::{ClassId, Schema, SharedSchema, SlotId, SpaceId, UnitId, Value};
 use std::alloc::Global;
-use std::mem;
+use std::marker::Model;
 
-/// All that a blackboard holds at a time, and what it noted since its notes were last taken.
+/// A schema, and a state of a blackboard that fits it: units, their links, the members of spaces, and what was noted
+/// since the notes were last taken.
 pub struct World {
-    pub units: Units,
-    pub links: Couples,
-    pub spaces: Spaces,
-    pub notes: Items<Note>,
+    alloc: Global,
+    schema: SharedSchema,
+    state: State,
 }
 
-// By hand, so that a proof meets one call where a state is dropped, and not all its parts.
+// By hand, so that a proof meets one call where a world is dropped, and not all its parts.
 impl Drop for World {
     fn drop(self) {
         let World {
-            units: _,
-            links: _,
-            spaces: _,
-            notes: _,
+            alloc: _,
+            schema: _,
+            state: _,
         } = self;
     }
 }
 
+impl Model for World {
+    ghost use Rattle.bb_world.specs.Contents.{Contents};
+    ghost use Rattle.bb_world.specs.proving.Codes.{contents_code};
+
+    ghost Value = { Contents };
+
+    ghost coded = { contents_code };
+
+    ghost use Rattle.bb_schema.specs.Fits as schemas;
+    ghost use Rattle.bb_world.specs.Fits.{Fits};
+
+    ghost view = { λ w. record { schema = w.schema; world = w.state } };
+
+    ghost invariant = { λ w. schemas.Fits w.schema × Fits w.schema w.state };
+}
+
 impl World {
-    /// The state of a blackboard with a schema, before anything was created.
-    pub fn new(alloc: Global, schema: &Schema) -> Result<World, Memory>
-        ensures empty { IfOk result (λ world. world ≡ empty_world schema.now) }
-        ensures ends { IfOk result (λ world. (slot : ℕ) → end_of world.links slot ≡ couple_of schema.now slot) }
+    /// The world of a schema before anything was created.
+    pub fn new(alloc: Global, schema: SharedSchema) -> Result<World, Memory>
+        ensures { IfOk result (λ world. world ≡ new_world schema) }
     {
+        let state = State::new(alloc, schema.get())?;
+        schema.get().fits();
+        state.fits();
         Ok(World {
-            units: Units::new(alloc, schema)?,
-            links: Couples::new(alloc, schema)?,
-            spaces: Spaces::new(alloc, schema)?,
-            notes: Items::new(alloc),
+            alloc,
+            schema,
+            state,
         })
     }
 
-    /// Does nothing, and says what holds of units and links.
+    /// The allocator of all that it keeps.
+    pub fn alloc(&self) -> Global {
+        self.alloc
+    }
+
+    /// The schema.
+    pub fn schema(&self) -> &Schema
+        ensures { result.now ≡ self.now.schema }
+    {
+        self.schema.get()
+    }
+
+    /// The schema, for one more owner.
+    pub fn shared_schema(&self) -> Result<SharedSchema, Memory>
+        ensures { IfOk result (λ shared. shared ≡ self.now.schema) }
+    {
+        self.schema.share()
+    }
+
+    /// Whether nothing was created, and no note is left to take.
+    pub fn fresh(&self) -> bool
+        ensures { result ≡ is_fresh self.now.world }
+    {
+        self.state.units.next() == 1 && self.state.notes.len() == 0
+    }
+
+    /// The number that the next unit gets, up to 2^63.
+    pub fn next(&self) -> UnitId
+        ensures { result ≡ self.now.world.units.next }
+    {
+        self.state.units.next()
+    }
+
+    /// Whether a number names a unit.
+    pub fn live(&self, unit: UnitId) -> bool
+        ensures { result ≡ is_live self.now.world.units unit }
+    {
+        self.state.units.live(unit)
+    }
+
+    /// Whether a number is 0, or that of a unit that was created and, if it is live, is of a class that descends from
+    /// this one.
+    pub fn was(&self, unit: UnitId, class: ClassId) -> bool
+        ensures { result ≡ was self.now.schema self.now.world unit class }
+    {
+        if unit == 0 {
+            return true;
+        }
+        if unit >= self.state.units.next() {
+            return false;
+        }
+        if !self.state.units.live(unit) {
+            return true;
+        }
+        let own = self.state.units.class_of(unit);
+        self.schema.get().descends(own, class)
+    }
+
+    /// The class of a live unit.
+    pub fn class_of(&self, unit: UnitId) -> ClassId
+        requires { IsTrue (is_live self.now.world.units unit) }
+        ensures { class_of self.now.world.units unit ≡ Some result }
+    {
+        self.state.units.class_of(unit)
+    }
+
+    /// The class of a unit, 0 where it is not live.
+    pub fn class_at(&self, unit: UnitId) -> ClassId
+        ensures { result ≡ class_at self.now.world unit }
+    {
+        self.state.class_at(unit)
+    }
+
+    /// The value of an ordinary slot of a live unit, one that its class has.
+    pub fn get(&self, unit: UnitId, slot: SlotId) -> &Value
+        requires { IsSome (value_of self.now.world.units unit slot) }
+        ensures { value_of self.now.world.units unit slot ≡ Some result.now }
+    {
+        self.state.units.get(unit, slot)
+    }
+
+    /// Whether a number names a unit whose class has the ordinary slot.
+    pub fn has(&self, unit: UnitId, slot: SlotId) -> bool
+        ensures value { IsTrue result ↔ IsSome (value_of self.now.world.units unit slot) }
+        ensures listed { result ≡ has_slot self.now.world.units unit slot }
+    {
+        self.state.units.has(unit, slot)
+    }
+
+    /// Whether a slot is an ordinary one of the schema, and can hold a value: one of its kind, a text of at most 65,535
+    /// bytes, a label that is there, an interval in order.
+    pub fn can_hold(&self, slot: SlotId, value: &Value) -> bool
+        ensures { result ≡ can_hold (layout_of self.now.schema) slot value.now }
+    {
+        self.state.units.can_hold(slot, value)
+    }
+
+    /// Whether a slot of a unit may be set to a value, or the first reason why not: `Deleted`, `Slot`, `Kind`.
+    pub fn may_set(&self, unit: UnitId, slot: SlotId, value: &Value) -> Result<(), Reason>
+        ensures { result ≡ may_set self.now.world unit slot value.now }
+    {
+        if !self.state.units.live(unit) {
+            return Err(Reason::Deleted);
+        }
+        if !self.has(unit, slot) {
+            return Err(Reason::Slot);
+        }
+        if !self.state.units.takes(unit, slot, value) {
+            return Err(Reason::Kind);
+        }
+        Ok(())
+    }
+
+    /// Whether a unit may be linked to another by a slot, or the first reason why not: `Deleted`, `Slot`, `LinkClass`.
+    /// An unlink asks for the same.
+    pub fn may_link(&self, unit: UnitId, slot: SlotId, partner: UnitId) -> Result<(), Reason>
+        ensures { result ≡ may_link self.now.schema self.now.world unit slot partner }
+    {
+        if !self.state.units.live(unit) || !self.state.units.live(partner) {
+            return Err(Reason::Deleted);
+        }
+        let schema = self.schema.get();
+        if !has_link(schema, self.state.class_at(unit), slot) {
+            return Err(Reason::Slot);
+        }
+        if !leads_to(schema, slot, self.state.class_at(partner)) {
+            return Err(Reason::LinkClass);
+        }
+        Ok(())
+    }
+
+    /// Whether a unit may enter a space, or the first reason why not: `Deleted`, `Space`.
+    pub fn may_enter(&self, unit: UnitId, space: SpaceId) -> Result<(), Reason>
+        ensures { result ≡ may_enter self.now.schema self.now.world unit space }
+    {
+        if !self.state.units.live(unit) {
+            return Err(Reason::Deleted);
+        }
+        if !self
+            .schema
+            .get()
+            .allowed(space, self.state.units.class_of(unit))
+        {
+            return Err(Reason::Space);
+        }
+        Ok(())
+    }
+
+    /// Whether a value can be said: a label is one of the schema.
+    pub fn can_say(&self, said: &Said) -> bool
+        ensures { result ≡ is_said_of self.now.schema said.now }
+    {
+        match said {
+            Said::Value(Value::Label(set, label)) => {
+                self.schema.get().label_name(*set, *label).is_some()
+            }
+            _ => true,
+        }
+    }
+
+    /// The answer of a query that fits the schema, with operands of its kinds: the units in its space, of its class or
+    /// one below it, of which its pattern holds by their present values, rising. They are 65,536 at most.
+    pub fn find(&self, query: &Query, operands: &[DimValue]) -> Result<Vec<UnitId>, Memory>
+        requires fits { query_fits self.now.schema query.now ≡ Ok tt }
+        requires kinds { map kind_of_operand operands.now ≡ query.now.kinds }
+        ensures answer { IfOk result (λ found.
+            found.items ≡ answer self.now.schema self.now.world.units self.now.world.spaces query.now operands.now) }
+        ensures few { IfOk result (λ found. length found.items ≤ UNIT_LIMIT) }
+    {
+        let State { units, spaces, .. } = &self.state;
+        let schema = self.schema.get();
+        find(self.alloc, schema, units, spaces, query, operands)
+    }
+
+    /// The partners of a unit by a slot, in order of addition, 65,536 at most: each is live, and none comes twice. A slot
+    /// that is no link slot has none.
+    pub fn links(&self, unit: UnitId, slot: SlotId) -> &[UnitId]
+        ensures links { result.now ≡ ends self.now.world.links unit slot }
+        ensures few { length result.now ≤ UNIT_LIMIT }
+    {
+        self.state.links.ends(unit, slot)
+    }
+
+    /// The first partner of a unit by a slot, which is the only one where the slot is singular.
+    pub fn one(&self, unit: UnitId, slot: SlotId) -> Option<UnitId>
+        ensures { result ≡ slice_get (ends self.now.world.links unit slot) 0 }
+    {
+        self.state.links.one(unit, slot)
+    }
+
+    /// Whether the class of a live unit has a link slot.
+    pub fn has_link(&self, unit: UnitId, slot: SlotId) -> bool
+        ensures { result ≡ has_link self.now.schema (class_at self.now.world unit) slot }
+    {
+        has_link(self.schema.get(), self.state.class_at(unit), slot)
+    }
+
+    /// Does nothing, and says what holds of the world at any time.
     pub fn fits(&self)
-        ensures units { units.Fits self.now.units }
-        ensures links { links.Fits self.now.links }
+        ensures { Fits self.now.schema self.now.world }
     {
-        self.units.fits();
-        self.links.fits();
-    }
-
-    /// Notes a change of a unit, which is of this class. An error changes nothing.
-    pub(crate) fn note(
-        &mut self,
-        unit: UnitId,
-        class: ClassId,
-        change: Change,
-    ) -> Result<(), Memory>
-        ensures ok { OnOk result (self.new ≡ after_note self.old (event unit class change)) }
-        ensures err { OnErr result (self.new ≡ self.old) }
-    {
-        self.notes.push(Note::Event(Event::Change {
-            unit,
-            class,
-            change,
-        }))
-    }
-
-    /// Creates a unit of a class that is there, notes it, and returns its number. An error changes nothing.
-    pub fn create(&mut self, class: ClassId) -> Result<UnitId, CreateFault>
-        requires { class < length self.old.units.layout.slots }
-        ensures number { Gives CreateFault.Memory (λ number. number) result (next_number self.old.units) }
-        ensures created { OnOk result (self.new ≡ after_create self.old class) }
-        ensures err { OnErr result (self.new ≡ self.old) }
-    {
-        // The note comes first: it can be taken back.
-        let count = self.notes.len();
-        let unit = self.units.next();
-        self.note(unit, class, Change::Create)?;
-        match self.units.create(class) {
-            Ok(number) => Ok(number),
-            Err(fault) => {
-                self.notes.truncate(count);
-                Err(fault)
-            }
-        }
-    }
-
-    /// Sets a slot that takes the value, tells the unit's spaces, and notes it. An error changes nothing.
-    pub fn set(
-        &mut self,
-        alloc: Global,
-        schema: &Schema,
-        unit: UnitId,
-        slot: SlotId,
-        value: Value,
-    ) -> Result<(), Memory>
-        requires live { IsTrue (is_live self.old.units unit) }
-        requires takes { IsTrue (takes self.old.units unit slot value) }
-        requires spaces { length self.old.spaces.spaces ≡ length schema.now.spaces }
-        ensures ok { OnOk result (self.new ≡ after_set schema.now self.old unit slot value) }
-        ensures err { OnErr result (self.new ≡ self.old) }
-    {
-        let moves = moves_of(alloc, schema, &self.units, &self.spaces, unit, slot, &value)?;
-        // The note comes first: it can be taken back.
-        let noted = self.notes.len();
-        let class = self.units.class_of(unit);
-        self.note(unit, class, Change::Update(slot))?;
-        match self.spaces.moved_all(unit, moves) {
-            Ok(()) => {
-                self.units.set(unit, slot, value);
-                Ok(())
-            }
-            Err(refused) => {
-                self.notes.truncate(noted);
-                Err(refused)
-            }
-        }
-    }
-
-    /// Notes that values are said. An error changes nothing.
-    pub fn say(&mut self, values: Items<Said>) -> Result<(), Memory>
-        ensures ok { OnOk result (self.new ≡ after_say self.old values) }
-        ensures err { OnErr result (self.new ≡ self.old) }
-    {
-        self.notes.push(Note::Said(values))
-    }
-
-    /// Takes the notes, in order, and leaves none.
-    pub fn take_notes(&mut self, alloc: Global) -> Items<Note>
-        ensures notes { result ≡ self.old.notes }
-        ensures world { self.new ≡ after_take self.old }
-    {
-        mem::replace(&mut self.notes, Items::new(alloc))
+        let _ = &self.state;
     }
 }

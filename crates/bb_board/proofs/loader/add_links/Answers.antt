@@ -9,10 +9,10 @@ use Rattle.bb_board.proofs.loader.add_links.Goals as goal
 pub returns-in_err-add_link-clause-gives : goal.returns-in_err-add_link-clause-gives
 returns-in_err-add_link-clause-gives c =
     let p = err_from_is_err_and c.from_residual.result c.from_residual.ensures.1 in
-    rw (p.1, p.2) (slice_fold_error Memory (link_after c.args.schema.now c.args.names.now) first_link_declaration c.loop-entry.board.world c.args.entries.now c.loop-entry.entry-index c.entry-item.result c.in_err-add_link.field-0.0 _ c.loop-entry-test.true c.entry-item.is c.in_err-add_link.ensures.gives c.loop-entry.invariant.0)
+    rw (p.1, p.2) (slice_fold_error Memory (link_after c.args.schema.now c.args.names.now) first_link_declaration c.loop-entry.world.world c.args.entries.now c.loop-entry.entry-index c.entry-item.result c.in_err-add_link.field-0.0 _ c.loop-entry-test.true c.entry-item.is c.in_err-add_link.ensures.gives c.loop-entry.invariant.0)
 
 pub loop-entry-preserved : goal.loop-entry-preserved
-loop-entry-preserved c = (slice_fold_next (link_after c.args.schema.now c.args.names.now) first_link_declaration c.loop-entry.board.world c.add_link.new.board.world c.args.entries.now c.loop-entry.entry-index c.entry-item.result _ c.loop-entry-test.true c.entry-item.is c.in_ok-add_link.ensures.gives c.loop-entry.invariant.0, c.in_ok-add_link.ensures.schema ∙ c.loop-entry.invariant.1)
+loop-entry-preserved c = (slice_fold_next (link_after c.args.schema.now c.args.names.now) first_link_declaration c.loop-entry.world.world c.add_link.new.world.world c.args.entries.now c.loop-entry.entry-index c.entry-item.result _ c.loop-entry-test.true c.entry-item.is c.in_ok-add_link.ensures.gives c.loop-entry.invariant.0, c.in_ok-add_link.ensures.schema ∙ c.loop-entry.invariant.1)
 
 pub returns-clause-gives : goal.returns-clause-gives
-returns-clause-gives c = slice_fold_end (link_after c.args.schema.now c.args.names.now) first_link_declaration c.loop-entry.board.world c.args.entries.now c.loop-entry.entry-index _ c.loop-entry-test.false c.loop-entry.invariant.0
+returns-clause-gives c = slice_fold_end (link_after c.args.schema.now c.args.names.now) first_link_declaration c.loop-entry.world.world c.args.entries.now c.loop-entry.entry-index _ c.loop-entry-test.false c.loop-entry.invariant.0

@@ -6,6 +6,6 @@ use Rattle.bb_board.proofs.loader.add_members.Given as goal
 
 abbrev pub invariant-loop-entry : goal.invariant-loop-entry
 invariant-loop-entry l =
-    (try_fold (member_after l.schema l.names) l.board.world (drop l.entry-index (map member_declaration l.entries))
-    ≡ try_fold (member_after l.fn.schema l.fn.names) l.fn.board.world (map member_declaration l.fn.entries))
-    × (l.board.schema ≡ l.fn.board.schema)
+    (try_fold (member_after l.schema l.names) l.world.world (drop l.entry-index (map member_declaration l.entries))
+    ≡ try_fold (member_after l.fn.schema l.fn.names) l.fn.world.world (map member_declaration l.fn.entries))
+    × (l.world.schema ≡ l.fn.world.schema)

@@ -9,4 +9,4 @@ abbrev pub invariant-loop-entry : goal.invariant-loop-entry
 invariant-loop-entry l =
     (try_fold (entry_after l.schema) (progress_of l.self) (drop l.entry-index (map unit_declaration l.entries))
     ≡ try_fold (entry_after l.fn.schema) (progress_of l.fn.self) (map unit_declaration l.fn.entries))
-    × (l.self.board.schema ≡ l.fn.self.board.schema)
+    × (l.self.world.schema ≡ l.fn.self.world.schema)

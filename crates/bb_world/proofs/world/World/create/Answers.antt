@@ -1,0 +1,6 @@
+use Rattle.bb_world.proofs.KeepLemmas.{create_keeps}
+use Rattle.bb_world.proofs.world.World.create.Goals as goal
+
+pub invariant_of-self-2 : goal.invariant_of-self-2
+invariant_of-self-2 c =
+    (c.self.invariant.0, rw c.in_ok-unit.ensures.created (create_keeps c.self.inside.schema c.self.inside.state c.args.class c.self.invariant.1 (rw c.in_ok-unit.ensures.created at c.fits.ensures.units) (rw (← c.self.view_is) at c.requires)))

@@ -1,0 +1,20 @@
+use Rattle.std.proofs.Common.{◌≡◌, true, ap, ◌∙◌, rules}
+use Rattle.bb_schema.specs.Schema.{Schema}
+use Rattle.bb_units.specs.Units.{is_live}
+use Rattle.bb_world.specs.Links.{after_delete}
+use Rattle.bb_world.proofs.DeleteLemmas.{delete_keeps}
+use Rattle.bb_world.proofs.KeepLemmas.{class_there}
+use Rattle.bb_world.proofs.world.World.delete.Goals as goal
+
+pub delete-requires-clause-class : goal.delete-requires-clause-class
+delete-requires-clause-class c =
+    let live : is_live c.self.inside.state.units c.args.unit ≡ true = search (rules, rw (← c.self.view_is) at c.requires) in
+    rw c.get-schema.ensures (class_there c.self.inside.schema c.self.inside.state c.args.unit c.self.invariant.1 live).1
+
+pub invariant_of-self-2 : goal.invariant_of-self-2
+invariant_of-self-2 c =
+    let s = c.self.inside.schema in
+    let w = c.self.inside.state in
+    let live : is_live w.units c.args.unit ≡ true = search (rules, rw (← c.self.view_is) at c.requires) in
+    let is = c.in_ok-delete.ensures.ok ∙ ap (λ (x : Schema). after_delete x w c.args.unit) c.get-schema.ensures in
+    (c.self.invariant.0, rw is (delete_keeps s w c.self.invariant.0 c.self.invariant.1 c.args.unit live (rw is at c.fits.ensures.units) (rw is at c.fits.ensures.links)))

@@ -1,0 +1,13 @@
+use Rattle.std.proofs.Common.{◌≡◌, Ok, ap, ◌∙◌}
+use Rattle.bb_schema.specs.Schema.{Schema}
+use Rattle.bb_world.specs.Spaces.{may_enter, after_enter}
+use Rattle.bb_world.proofs.SpaceLemmas.{may_enter_facts, enter_keeps}
+use Rattle.bb_world.proofs.world.World.enter.Goals as goal
+
+pub invariant_of-self-2 : goal.invariant_of-self-2
+invariant_of-self-2 c =
+    let s = c.self.inside.schema in
+    let w = c.self.inside.state in
+    let asked : may_enter s w c.args.unit c.args.space ≡ Ok tt = rw (← c.self.view_is) at c.requires in
+    let is = c.in_ok-enter.ensures.ok ∙ ap (λ (x : Schema). after_enter x w c.args.unit c.args.space) c.get-schema.ensures in
+    (c.self.invariant.0, rw is (enter_keeps s w c.self.invariant.1 c.args.unit c.args.space (may_enter_facts s w c.args.unit c.args.space asked)))

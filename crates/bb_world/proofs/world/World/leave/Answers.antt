@@ -1,0 +1,10 @@
+use Rattle.std.proofs.Common.{◌≡◌, true, rules}
+use Rattle.bb_units.specs.Units.{is_live}
+use Rattle.bb_world.proofs.SpaceLemmas.{leave_keeps}
+use Rattle.bb_world.proofs.world.World.leave.Goals as goal
+
+pub invariant_of-self-2 : goal.invariant_of-self-2
+invariant_of-self-2 c =
+    let w = c.self.inside.state in
+    let live : is_live w.units c.args.unit ≡ true = search (rules, rw (← c.self.view_is) at c.requires.live) in
+    (c.self.invariant.0, rw c.in_ok-leave.ensures.ok (leave_keeps c.self.inside.schema w c.self.invariant.1 c.args.unit c.args.space live (rw (← c.self.view_is) at c.requires.space)))

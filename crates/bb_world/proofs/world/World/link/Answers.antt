@@ -1,0 +1,14 @@
+use Rattle.std.proofs.Common.{◌≡◌, Ok, ap, ◌∙◌}
+use Rattle.bb_schema.specs.Schema.{Schema}
+use Rattle.bb_world.specs.Links.{after_link}
+use Rattle.bb_world.specs.May.{may_link}
+use Rattle.bb_world.proofs.LinkLemmas.{may_link_facts, link_keeps}
+use Rattle.bb_world.proofs.world.World.link.Goals as goal
+
+pub invariant_of-self-2 : goal.invariant_of-self-2
+invariant_of-self-2 c =
+    let s = c.self.inside.schema in
+    let w = c.self.inside.state in
+    let asked : may_link s w c.args.unit c.args.slot c.args.partner ≡ Ok tt = rw (← c.self.view_is) at c.requires in
+    let is = c.in_ok-link.ensures.ok ∙ ap (λ (x : Schema). after_link x w c.args.unit c.args.slot c.args.partner) c.get-schema.ensures in
+    (c.self.invariant.0, rw is (link_keeps s w c.self.invariant.0 c.self.invariant.1 c.args.unit c.args.slot c.args.partner (may_link_facts s w c.args.unit c.args.slot c.args.partner asked) (rw is at c.fits.ensures.links)))

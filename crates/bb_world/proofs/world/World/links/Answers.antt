@@ -1,0 +1,6 @@
+use Rattle.bb_world.proofs.FewLemmas.{few_ends}
+use Rattle.bb_world.proofs.world.World.links.Goals as goal
+
+pub returns-clause-few : goal.returns-clause-few
+returns-clause-few c =
+    rw c.ends.ensures (few_ends c.self.inside.schema c.self.inside.state c.self.invariant.0 c.self.invariant.1 c.args.unit c.args.slot)

@@ -1,0 +1,11 @@
+use Rattle.std.proofs.Common.{rules, ap, ◌∙◌}
+use Rattle.bb_schema.specs.Schema.{Schema}
+use Rattle.bb_world.specs.World.{after_set}
+use Rattle.bb_world.proofs.KeepLemmas.{set_keeps}
+use Rattle.bb_world.proofs.world.World.set.Goals as goal
+
+pub invariant_of-self-2 : goal.invariant_of-self-2
+invariant_of-self-2 c =
+    let w = c.self.inside.state in
+    let is = c.in_ok-set.ensures.ok ∙ ap (λ (x : Schema). after_set x w c.args.unit c.args.slot c.args.value) c.get-schema.ensures in
+    (c.self.invariant.0, rw is (set_keeps c.self.inside.schema w c.args.unit c.args.slot c.args.value c.self.invariant.1 (rw is at c.fits.ensures.units) (search rules) (search rules)))
