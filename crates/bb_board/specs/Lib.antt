@@ -22,7 +22,7 @@ pub use Rattle.bb_world.specs.May
 -- what holds of a blackboard at any time
 pub use Rattle.bb_world.specs.Fits
 -- what a change of units leaves of those that were
-pub use Rattle.bb_world.specs.proving.Outlives
+pub use Rattle.bb_world.specs.Outlives
 -- a blackboard: its schema, its state, and whether it still takes changes
 pub mod Board
 -- the numbers of the faults of a document of first units

@@ -29,8 +29,8 @@ use Rattle.bb_world.specs.Told.{spaces_of}
 use Rattle.bb_world.specs.Spaces.{leavings}
 use Rattle.bb_world.specs.Links.{parting, is_turn, slot_partings, after_delete}
 use Rattle.bb_world.specs.Fits.{is_noted, is_of_owner, Fits}
-use Rattle.bb_world.specs.proving.Outlives.{Outlives}
 use Rattle.bb_world.proofs.AllLemmas.{all_append, all_filter, all_flat_map}
+use Rattle.bb_world.proofs.OutliveLemmas.{deleted_outlives}
 use Rattle.bb_world.proofs.NoteLemmas.{below, notes_kept}
 use Rattle.bb_world.proofs.KeepLemmas.{owner_kept, event_of_live}
 use Rattle.bb_world.proofs.KnowLemmas.{knows_deleted}
@@ -39,16 +39,6 @@ use Rattle.bb_world.proofs.LinkLemmas.{no_flat, parting_noted}
 use Rattle.bb_world.proofs.FewLemmas.{partners_live}
 
 -- units without one
-
-left_by : (n k c : ℕ) (b : Bool) (old : Option OneUnit) → option_map (λ x. x.class) (cond b None old) ≡ Some c → option_map (λ x. x.class) old ≡ Some c
-left_by n k c true old is = absurd (let no : (let none : Option ℕ = None in none) ≡ Some c = is in cc)
-left_by n k c false old is = is
-
-deleted_outlives : (u : Units) (n : ℕ) → Outlives u (without_unit u n)
-deleted_outlives u n = record {
-  next = omega arith;
-  classes = λ k c lt is. left_by n k c (eq_by_cmp nat_cmp k n) (get u.units k) (sym (ap (option_map (λ x. x.class)) (get-remove nat_cmp_total u.units n k)) ∙ is);
-}
 
 others_by : (n k c : ℕ) (b : Bool) (old : Option OneUnit) → eq_by_cmp nat_cmp k n ≡ b → (k ≡ n → ⊥) → option_map (λ x. x.class) old ≡ Some c → option_map (λ x. x.class) (cond b None old) ≡ Some c
 others_by n k c true old same apart is = absurd (apart (nat_cmp-IsAntisymmetric k n ((Equal-is (nat_cmp k n)).0 same)))

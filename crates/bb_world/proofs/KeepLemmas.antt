@@ -33,10 +33,11 @@ use Rattle.bb_world.specs.State.{World}
 use Rattle.bb_world.specs.World.{empty_world, event, class_at, after_create, after_set}
 use Rattle.bb_world.specs.Fits.{names_slot_of, is_noted, is_of_if_live, is_of_owner, PairsFit, Fits}
 use Rattle.bb_world.specs.May.{class_has}
-use Rattle.bb_world.specs.proving.Outlives.{Outlives}
+use Rattle.bb_world.specs.Outlives.{Outlives}
 use Rattle.bb_world.proofs.AllLemmas.{all_weaker}
 use Rattle.bb_world.proofs.ClassLemmas.{same_class_of}
 use Rattle.bb_world.proofs.KnowLemmas.{knows_none, knows_created, knows_set}
+use Rattle.bb_world.proofs.OutliveLemmas.{created_outlives, set_outlives}
 use Rattle.bb_world.proofs.NoteLemmas.{below, still, notes_kept, noted_more, event_of}
 
 without_pairs : (xs : List Singular) → map (λ k. k.singular) (map no_pairs xs) ≡ xs
@@ -83,17 +84,6 @@ live_of : (found : Option Unit) (c : ℕ) → option_map (λ y. y.class) found �
 live_of None c is = absurd cc
 live_of (Some x) c is = refl
 
--- units after one more outlive those before
-created_at : (l n next class c : ℕ) (x : Unit) (b : Bool) (old : Option Unit) → eq_by_cmp nat_cmp n next ≡ b → n < next → option_map (λ y. y.class) (cond b (Some x) old) ≡ Some c → option_map (λ y. y.class) old ≡ Some c
-created_at l n next class c x true old same lt is = absurd (let e = nat_cmp-IsAntisymmetric n next ((Equal-is (nat_cmp n next)).0 same) in omega (arith, e, lt))
-created_at l n next class c x false old other lt is = is
-
-created_outlives : (u : Units) (class : ℕ) → Outlives u (with_new_unit u class)
-created_outlives u class = record {
-  next = omega arith;
-  classes = λ n c lt is. created_at 0 n u.next class c (new_unit u.layout class) (eq_by_cmp nat_cmp n u.next) (get u.units n) refl lt (sym (ap (option_map (λ y. y.class)) (get-insert nat_cmp_total u.units u.next (new_unit u.layout class) n)) ∙ is);
-}
-
 created_persists_by : (u : Units) (n c : ℕ) (x : Unit) (b : Bool) → units.Fits u → eq_by_cmp nat_cmp n u.next ≡ b → class_of u n ≡ Some c → option_map (λ y. y.class) (cond b (Some x) (get u.units n)) ≡ Some c
 created_persists_by u n c x true fits same is =
     let e = nat_cmp-IsAntisymmetric n u.next ((Equal-is (nat_cmp n u.next)).0 same) in
@@ -124,9 +114,6 @@ create_keeps s w class fits u there = record {
       (event_of s (with_new_unit w.units class) w.units.next class Create (omega arith)
       (of_if_live (with_new_unit w.units class) w.units.next class (ap (option_map (λ y. y.class)) (get-insert nat_cmp_total w.units.units w.units.next (new_unit w.units.layout class) w.units.next) ∙ at_next w.units.layout class w.units.next (eq_by_cmp nat_cmp w.units.next w.units.next) (get w.units.units w.units.next) refl)) there refl);
 }
-
-set_outlives : (u : Units) (n slot : ℕ) (value : Value) → Outlives u (with_value u n slot value)
-set_outlives u n slot value = record { next = omega arith; classes = λ k c lt is. sym (same_class_of u n slot k value) ∙ is }
 
 -- a slot that has a default is there
 default_there : (defaults : List (Option Value)) (slot : ℕ) (test : Value → Bool) → option_map_or test (default_at defaults slot) false ≡ true → slot < length defaults

@@ -1,3 +1,4 @@
+pub mod OutliveLemmas
 pub mod NoteLemmas
 pub mod KeepLemmas
 pub mod AllLemmas

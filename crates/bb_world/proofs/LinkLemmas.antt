@@ -29,9 +29,10 @@ use Rattle.bb_world.specs.World.{event, class_at}
 use Rattle.bb_world.specs.Links.{joining, parting, pair_parting, own_pair, partners_pair, link_notes, linked_at, unlinked_at, after_link, after_unlink}
 use Rattle.bb_world.specs.May.{class_has, has_link, leads_to, may_link}
 use Rattle.bb_world.specs.Fits.{names_slot_of, is_noted, is_of_owner, Fits}
-use Rattle.bb_world.specs.proving.Outlives.{Outlives}
+use Rattle.bb_world.specs.Outlives.{Outlives}
 use Rattle.bb_world.proofs.AllLemmas.{all_append, all_weaker, all_both, all_filter, all_found, set_passes, map_set}
 use Rattle.bb_world.proofs.KeepLemmas.{event_of_live, class_there}
+use Rattle.bb_world.proofs.OutliveLemmas.{outlives_same}
 use Rattle.bb_world.proofs.SideLemmas.{link_at, inverse_end, is_either, link_within}
 
 -- a change of one couple, or of all
@@ -202,7 +203,7 @@ module _ (s : Schema) (w : World) (sf : schemas.Fits s) (fits : Fits s w) where
       → list_all (is_noted s w.units) (option_map_or (link_notes s w e.1 n slot m) (option_map (λ k. taken_among k.singular a b k.pairs) found) []) ≡ true
   notes_by slot l link e n m a b None live partner all = refl
   notes_by slot l link e n m a b (Some k) live partner all =
-      notes_of_link w.units (record { next = omega arith; classes = λ i c lt is. is }) slot l link e.1 n m (taken_among k.singular a b k.pairs) live partner
+      notes_of_link w.units (outlives_same w.units) slot l link e.1 n m (taken_among k.singular a b k.pairs) live partner
       (taken_by (λ p. is_live w.units (near e.1 p) && is_live w.units (far e.1 p)) k.singular a b k.pairs (has_pair (a, b) k.pairs) all)
 
   -- a live unit whose class has a slot
@@ -261,7 +262,7 @@ module _ (s : Schema) (w : World) (sf : schemas.Fits s) (fits : Fits s w) where
               (λ c same all. let test = λ (q : ℕ × ℕ). is_of_owner s w.units (near e.1 q) k in all_filter test test (λ q. not (same_pair (p.0, p.1) q)) (λ q kept is. is) c.pairs all) (fits.pairs k e is);
           spaces = fits.spaces;
           notes = all_append (is_noted s w.units) w.notes (if are_linked w.links end.0 p.0 p.1 then parting s w n slot m else []) fits.notes
-              (parted_noted w.units (record { next = omega arith; classes = λ i c lt is. is }) slot asked.link asked.is n m (are_linked w.links end.0 p.0 p.1) asked.live asked.partner);
+              (parted_noted w.units (outlives_same w.units) slot asked.link asked.is n m (are_linked w.links end.0 p.0 p.1) asked.live asked.partner);
         }
 
     pub unlink_keeps : links.Fits (after_unlink s w n slot m).links → Fits s (after_unlink s w n slot m)

@@ -14,7 +14,7 @@ use Rattle.bb_world.specs.declared.event.Event.TheVariants as events
 use Rattle.bb_world.specs.declared.note.Note.{Note}
 use Rattle.bb_world.specs.declared.note.Note.TheVariants as notes
 use Rattle.bb_world.specs.Fits.{names_slot_of, is_of_if_live, is_event_of, is_noted}
-use Rattle.bb_world.specs.proving.Outlives.{Outlives}
+use Rattle.bb_world.specs.Outlives.{Outlives}
 
 pub below : (n m : ℕ) → n < m → nat_lt n m ≡ true
 below n m lt = grind (arith, nat_tests)

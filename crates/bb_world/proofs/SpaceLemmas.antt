@@ -21,6 +21,7 @@ use Rattle.bb_world.specs.Spaces.{may_enter, after_enter, after_leave}
 use Rattle.bb_world.specs.Fits.{is_noted, names_slot_of, Fits}
 use Rattle.bb_world.proofs.NoteLemmas.{below, noted_more}
 use Rattle.bb_world.proofs.KeepLemmas.{event_of_live}
+use Rattle.bb_world.proofs.OutliveLemmas.{outlives_same}
 use Rattle.bb_world.proofs.KnowLemmas.{knows_entered, knows_left}
 
 -- what may enter is live, and admitted
@@ -44,7 +45,7 @@ may_enter_facts s w n space is = may_by s w n space (is_live w.units n) (allowed
 
 module _ (s : Schema) (w : World) (fits : Fits s w) (n space : ℕ) where
   more_noted : (change : Change) → is_live w.units n ≡ true → names_slot_of s change ≡ true → is_noted s w.units (event n (class_at w n) change) ≡ true
-  more_noted change live names = event_of_live s w w.units n change fits (record { next = omega arith; classes = λ i c lt is. is }) live names
+  more_noted change live names = event_of_live s w w.units n change fits (outlives_same w.units) live names
 
   pub enter_keeps : MayEnter s w n space → Fits s (after_enter s w n space)
   enter_keeps asked = by (is_member w.spaces space n)

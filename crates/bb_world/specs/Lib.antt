@@ -17,5 +17,7 @@ pub mod Links
 pub mod May
 -- what holds of a blackboard at any time
 pub mod Fits
--- what only the contracts of private functions and proofs speak of
+-- what each change leaves of the units that were
+pub mod Outlives
+-- what only the invariants of models, the contracts of private functions and proofs speak of
 pub mod proving

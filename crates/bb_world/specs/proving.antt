@@ -1,5 +1,3 @@
 -- What only the invariants of models, the contracts of private functions and proofs speak of.
 -- how a schema with a state is stored as data that can be told apart
 pub mod Codes
--- what a change of units leaves of those that were
-pub mod Outlives

@@ -1,5 +1,5 @@
-//! What changes a world: each change is a step of its state, after which this fits the schema, and is noted. A refusal
-//! changes nothing.
+//! What changes a world: each change is a step of its state, after which this fits the schema, and is noted. The units
+//! that were outlive it (`Outlives`). A refusal changes nothing.
 
 ghost use Rattle.std.specs.Prelude.{◌≡◌, ◌<◌, Ok, true, length, IsTrue, OnOk, OnErr};
 ghost use Rattle.std.specs.List.{list_all};
@@ -8,6 +8,7 @@ ghost use Rattle.bb_units.specs.Units.{is_live, next_number};
 ghost use Rattle.bb_world.specs.Contents.{with_state};
 ghost use Rattle.bb_world.specs.Fits.{is_said_of};
 ghost use Rattle.bb_world.specs.Links.{after_link, after_unlink, after_delete};
+ghost use Rattle.bb_world.specs.Outlives.{Outlives};
 ghost use Rattle.bb_world.specs.May.{may_set, may_link};
 ghost use Rattle.bb_world.specs.Spaces.{may_enter, after_enter, after_leave};
 ghost use Rattle.bb_world.specs.World.{after_create, after_set, after_say, after_take};
@@ -26,6 +27,7 @@ impl World {
         ensures number { Gives CreateFault.Memory (λ number. number) result (next_number self.old.world.units) }
         ensures created { OnOk result (self.new ≡ with_state self.old (after_create self.old.world class)) }
         ensures err { OnErr result (self.new ≡ self.old) }
+        ensures outlives { Outlives self.old.world.units self.new.world.units }
     {
         let unit = self.state.create(class)?;
         self.state.fits();
@@ -38,6 +40,7 @@ impl World {
         ensures ok { OnOk result (self.new ≡
             with_state self.old (after_set self.old.schema self.old.world unit slot value)) }
         ensures err { OnErr result (self.new ≡ self.old) }
+        ensures outlives { Outlives self.old.world.units self.new.world.units }
     {
         let schema = self.schema.get();
         self.state.set(self.alloc, schema, unit, slot, value)?;
@@ -52,6 +55,7 @@ impl World {
         ensures ok { OnOk result (self.new ≡
             with_state self.old (after_link self.old.schema self.old.world unit slot partner)) }
         ensures err { OnErr result (self.new ≡ self.old) }
+        ensures outlives { Outlives self.old.world.units self.new.world.units }
     {
         let schema = self.schema.get();
         self.state.link(self.alloc, schema, unit, slot, partner)?;
@@ -65,6 +69,7 @@ impl World {
         ensures ok { OnOk result (self.new ≡
             with_state self.old (after_unlink self.old.schema self.old.world unit slot partner)) }
         ensures err { OnErr result (self.new ≡ self.old) }
+        ensures outlives { Outlives self.old.world.units self.new.world.units }
     {
         let schema = self.schema.get();
         self.state.unlink(self.alloc, schema, unit, slot, partner)?;
@@ -77,6 +82,7 @@ impl World {
         requires { IsTrue (is_live self.old.world.units unit) }
         ensures ok { OnOk result (self.new ≡ with_state self.old (after_delete self.old.schema self.old.world unit)) }
         ensures err { OnErr result (self.new ≡ self.old) }
+        ensures outlives { Outlives self.old.world.units self.new.world.units }
     {
         let schema = self.schema.get();
         self.state.delete(self.alloc, schema, unit)?;
@@ -90,6 +96,7 @@ impl World {
         ensures ok { OnOk result (self.new ≡
             with_state self.old (after_enter self.old.schema self.old.world unit space)) }
         ensures err { OnErr result (self.new ≡ self.old) }
+        ensures outlives { Outlives self.old.world.units self.new.world.units }
     {
         let schema = self.schema.get();
         self.state.enter(self.alloc, schema, unit, space)?;
@@ -102,6 +109,7 @@ impl World {
         requires space { space < length self.old.schema.spaces }
         ensures ok { OnOk result (self.new ≡ with_state self.old (after_leave self.old.world unit space)) }
         ensures err { OnErr result (self.new ≡ self.old) }
+        ensures outlives { Outlives self.old.world.units self.new.world.units }
     {
         self.state.leave(unit, space)?;
         Ok(())
@@ -112,14 +120,17 @@ impl World {
         requires { list_all (is_said_of self.old.schema) values.items ≡ true }
         ensures ok { OnOk result (self.new ≡ with_state self.old (after_say self.old.world values.items)) }
         ensures err { OnErr result (self.new ≡ self.old) }
+        ensures outlives { Outlives self.old.world.units self.new.world.units }
     {
-        self.state.say(Items::from(values))
+        self.state.say(Items::from(values))?;
+        Ok(())
     }
 
     /// Takes the notes, in order, and leaves none.
     pub fn take_notes(&mut self) -> Vec<Note>
         ensures notes { result.items ≡ self.old.world.notes }
         ensures taken { self.new ≡ with_state self.old (after_take self.old.world) }
+        ensures outlives { Outlives self.old.world.units self.new.world.units }
     {
         self.state.take_notes(self.alloc).into_vec()
     }

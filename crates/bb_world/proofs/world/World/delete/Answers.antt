@@ -4,6 +4,7 @@ use Rattle.bb_units.specs.Units.{is_live}
 use Rattle.bb_world.specs.Links.{after_delete}
 use Rattle.bb_world.proofs.DeleteLemmas.{delete_keeps}
 use Rattle.bb_world.proofs.KeepLemmas.{class_there}
+use Rattle.bb_world.proofs.OutliveLemmas.{outlives_same, deleted_outlives}
 use Rattle.bb_world.proofs.world.World.delete.Goals as goal
 
 pub delete-requires-clause-class : goal.delete-requires-clause-class
@@ -18,3 +19,11 @@ invariant_of-self-2 c =
     let live : is_live w.units c.args.unit ≡ true = search (rules, rw (← c.self.view_is) at c.requires) in
     let is = c.in_ok-delete.ensures.ok ∙ ap (λ (x : Schema). after_delete x w c.args.unit) c.get-schema.ensures in
     (c.self.invariant.0, rw is (delete_keeps s w c.self.invariant.0 c.self.invariant.1 c.args.unit live (rw is at c.fits.ensures.units) (rw is at c.fits.ensures.links)))
+
+pub returns-in_err-delete-clause-outlives : goal.returns-in_err-delete-clause-outlives
+returns-in_err-delete-clause-outlives c =
+    rw (← c.self.view_is, c.in_err-delete.ensures.err) (outlives_same c.self.inside.state.units)
+
+pub returns-clause-outlives : goal.returns-clause-outlives
+returns-clause-outlives c =
+    rw (← c.self.view_is, c.in_ok-delete.ensures.ok) (deleted_outlives c.self.inside.state.units c.args.unit)

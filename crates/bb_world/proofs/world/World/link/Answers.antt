@@ -3,6 +3,7 @@ use Rattle.bb_schema.specs.Schema.{Schema}
 use Rattle.bb_world.specs.Links.{after_link}
 use Rattle.bb_world.specs.May.{may_link}
 use Rattle.bb_world.proofs.LinkLemmas.{may_link_facts, link_keeps}
+use Rattle.bb_world.proofs.OutliveLemmas.{outlives_same, link_outlives}
 use Rattle.bb_world.proofs.world.World.link.Goals as goal
 
 pub invariant_of-self-2 : goal.invariant_of-self-2
@@ -12,3 +13,11 @@ invariant_of-self-2 c =
     let asked : may_link s w c.args.unit c.args.slot c.args.partner ≡ Ok tt = rw (← c.self.view_is) at c.requires in
     let is = c.in_ok-link.ensures.ok ∙ ap (λ (x : Schema). after_link x w c.args.unit c.args.slot c.args.partner) c.get-schema.ensures in
     (c.self.invariant.0, rw is (link_keeps s w c.self.invariant.0 c.self.invariant.1 c.args.unit c.args.slot c.args.partner (may_link_facts s w c.args.unit c.args.slot c.args.partner asked) (rw is at c.fits.ensures.links)))
+
+pub returns-in_err-link-clause-outlives : goal.returns-in_err-link-clause-outlives
+returns-in_err-link-clause-outlives c =
+    rw (← c.self.view_is, c.in_err-link.ensures.err) (outlives_same c.self.inside.state.units)
+
+pub returns-clause-outlives : goal.returns-clause-outlives
+returns-clause-outlives c =
+    rw (← c.self.view_is, c.in_ok-link.ensures.ok) (link_outlives c.get-schema.result.now c.self.inside.state c.args.unit c.args.slot c.args.partner)

@@ -3,6 +3,7 @@ use Rattle.bb_schema.specs.Schema.{Schema}
 use Rattle.bb_world.specs.Links.{after_unlink}
 use Rattle.bb_world.specs.May.{may_link}
 use Rattle.bb_world.proofs.LinkLemmas.{may_link_facts, unlink_keeps}
+use Rattle.bb_world.proofs.OutliveLemmas.{outlives_same, unlink_outlives}
 use Rattle.bb_world.proofs.world.World.unlink.Goals as goal
 
 pub invariant_of-self-2 : goal.invariant_of-self-2
@@ -12,3 +13,11 @@ invariant_of-self-2 c =
     let asked : may_link s w c.args.unit c.args.slot c.args.partner ≡ Ok tt = rw (← c.self.view_is) at c.requires in
     let is = c.in_ok-unlink.ensures.ok ∙ ap (λ (x : Schema). after_unlink x w c.args.unit c.args.slot c.args.partner) c.get-schema.ensures in
     (c.self.invariant.0, rw is (unlink_keeps s w c.self.invariant.0 c.self.invariant.1 c.args.unit c.args.slot c.args.partner (may_link_facts s w c.args.unit c.args.slot c.args.partner asked) (rw is at c.fits.ensures.links)))
+
+pub returns-in_err-unlink-clause-outlives : goal.returns-in_err-unlink-clause-outlives
+returns-in_err-unlink-clause-outlives c =
+    rw (← c.self.view_is, c.in_err-unlink.ensures.err) (outlives_same c.self.inside.state.units)
+
+pub returns-clause-outlives : goal.returns-clause-outlives
+returns-clause-outlives c =
+    rw (← c.self.view_is, c.in_ok-unlink.ensures.ok) (unlink_outlives c.get-schema.result.now c.self.inside.state c.args.unit c.args.slot c.args.partner)

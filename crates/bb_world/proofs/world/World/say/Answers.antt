@@ -1,0 +1,10 @@
+use Rattle.bb_world.proofs.OutliveLemmas.{outlives_same}
+use Rattle.bb_world.proofs.world.World.say.Goals as goal
+
+pub returns-in_err-say-clause-outlives : goal.returns-in_err-say-clause-outlives
+returns-in_err-say-clause-outlives c =
+    rw (← c.self.view_is, c.in_err-say.ensures.err) (outlives_same c.self.inside.state.units)
+
+pub returns-clause-outlives : goal.returns-clause-outlives
+returns-clause-outlives c =
+    rw (← c.self.view_is, c.in_ok-say.ensures.ok) (outlives_same c.self.inside.state.units)
