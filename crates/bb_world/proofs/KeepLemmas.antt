@@ -1,5 +1,5 @@
 -- What holds of a blackboard holds after each change.
-use Rattle.std.proofs.Common.{rules, ◌≡◌, ℕ, zero, suc, ◌<◌, Bool, true, false, cond, List, [], ◌∷◌, map, length, Option, Some, None, option_map, refl, sym, ap, subst, ◌∙◌, arith}
+use Rattle.std.proofs.Common.{rules, ◌≡◌, ℕ, zero, suc, ◌<◌, ◌≤◌, ◌^◌, Bool, true, false, cond, List, [], ◌∷◌, map, length, Option, Some, None, option_map, refl, sym, ap, subst, ◌∙◌, arith}
 use Rattle.std.specs.Prelude.{slice_get, IsTrue, is_some, unwrap_or}
 use Rattle.std.specs.List.{list_all}
 use Rattle.std.specs.Option.{option_map_or}
@@ -17,6 +17,8 @@ use Rattle.bb_classes.specs.Values.{value_fits}
 use Rattle.bb_schema.specs.declared.slot.Slot.{Slot}
 use Rattle.bb_schema.specs.Schema.{Schema, default_in}
 use Rattle.bb_schema.specs.Couples.{couple_of}
+use Rattle.bb_schema.specs.Fits as schemas
+use Rattle.bb_schema.specs.declared.space.Space.{Space}
 use Rattle.bb_units.specs.declared.unit.Unit.{Unit}
 use Rattle.bb_units.specs.Layout.{Layout, layout_of, default_at, can_hold}
 use Rattle.bb_units.specs.Units.{Units, no_units, is_live, class_of, value_of, takes, new_unit, after_create as with_new_unit, after_set as with_value}
@@ -164,3 +166,7 @@ set_keeps s w n slot value fits u live takes_it = record {
       (notes_kept s w.units (with_value w.units n slot value) (set_outlives w.units n slot value) w.notes fits.notes)
       (event_of_live s w (with_value w.units n slot value) n (Update slot) fits (set_outlives w.units n slot value) (search (rules, live)) (below slot (length s.slots) within));
 }
+
+-- the numbers of spaces are short
+pub few_spaces : (s : Schema) → schemas.Fits s → length s.spaces < 2 ^ 16
+few_spaces s fits = let few : length (map (λ p. p.name) s.spaces) ≤ 256 = fits.spaces.named.few in omega (arith, few, length-map s.spaces (λ (p : Space). p.name))

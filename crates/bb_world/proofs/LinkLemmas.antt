@@ -1,6 +1,6 @@
 -- What holds of a blackboard holds after each change of links.
 use Rattle.std.proofs.Common.{◌≡◌, ℕ, ◌⊎◌, inl, inr, Bool, true, false, not, List, [], ◌∷◌, ◌++◌, map, length, Option, Some, None, option_map, refl, sym, ap, subst, ◌∙◌, arith, nat_lt}
-use Rattle.std.specs.Prelude.{◌==◌, ◌&&◌, slice_get, slice_set, find, is_some, Result, Ok, Err, if◌then◌else◌}
+use Rattle.std.specs.Prelude.{◌<◌, ◌==◌, ◌&&◌, slice_get, slice_set, find, is_some, IfSome, Result, Ok, Err, if◌then◌else◌}
 use Rattle.std.specs.List.{list_all, flat_map}
 use Rattle.std.specs.Option.{option_map_or}
 use Rattle.std.specs.FinMap.{get}
@@ -17,7 +17,7 @@ use Rattle.bb_links.specs.declared.couple.Singular.{Singular}
 use Rattle.bb_links.specs.declared.taken.Taken.{Taken}
 use Rattle.bb_links.specs.Layout.{end_among}
 use Rattle.bb_links.specs.Pairs.{near, far, has_pair, without_old, old_pair, is_singular, with_link, taken_among, same_pair}
-use Rattle.bb_links.specs.Couples.{Couple, Couples, changed, linked, unlinked, pairs_of, taken, are_linked}
+use Rattle.bb_links.specs.Couples.{Couple, Couples, end_of, changed, linked, unlinked, pairs_of, taken, are_linked}
 use Rattle.bb_links.specs.Fits as links
 use Rattle.bb_links.specs.proving.Kept.{opposite}
 use Rattle.bb_world.specs.declared.event.Change.{Change}
@@ -121,6 +121,14 @@ may_link_facts s w n slot m is =
     let has = and_parts (is_some (link_of s.slots slot)) (class_has s (class_at w n) slot) tests.1 in
     let link = link_there (link_of s.slots slot) has.0 in
     record { live = lives.0; partner = lives.1; link = link.0; is = link.1; owner = has.1; to = sym (ap (λ o. option_map_or (λ l. descends s (class_at w m) l.to) o false) link.1) ∙ tests.2 }
+
+-- the couple of a link slot is there
+couple_by : (w : World) (slot : ℕ) (o : Option (ℕ × Side)) → links.Fits w.links → end_of w.links slot ≡ o → IfSome o (λ e. e.0 < length w.links.couples)
+couple_by w slot None fits is = tt
+couple_by w slot (Some e) fits is = fits.ends slot e is
+
+pub couple_there : (s : Schema) (w : World) (slot : ℕ) → Fits s w → IfSome (couple_of s slot) (λ e. e.0 < length w.links.couples)
+couple_there s w slot fits = couple_by w slot (couple_of s slot) fits.links (fits.ends slot)
 
 -- notes of links
 

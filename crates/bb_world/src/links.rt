@@ -1,11 +1,10 @@
 //! The steps of a blackboard's state that change links, and what they note. A world takes them.
 
-ghost use Rattle.std.specs.Prelude.{◌≡◌, ◌<◌, ◌++◌, length, filter, IsSome, IsTrue, IfOk, OnOk, OnErr};
+ghost use Rattle.std.specs.Prelude.{◌≡◌, ◌<◌, ◌^◌, ◌++◌, length, filter, IfSome, IsSome, IsTrue, IfOk, OnOk, OnErr};
 ghost use Rattle.std.specs.List.{flat_map};
 ghost use Rattle.bb_schema.specs.Schema.{link_of};
 ghost use Rattle.bb_schema.specs.Couples.{couple_of};
 ghost use Rattle.bb_units.specs.Units.{is_live};
-ghost use Rattle.bb_links.specs.Couples.{end_of};
 ghost use Rattle.bb_world.specs.World.{class_at, event};
 ghost use Rattle.bb_world.specs.Links.{joining, parting, pair_parting, own_pair, partners_pair, link_notes};
 ghost use Rattle.bb_world.specs.Links.{is_turn, slot_partings, after_link, after_unlink, after_delete};
@@ -176,11 +175,10 @@ impl State {
         partner: UnitId,
     ) -> Result<(), Memory>
         requires link { IsSome (link_of schema.now.slots slot) }
-        requires ends { end_of self.old.links slot ≡ couple_of schema.now slot }
+        requires couple { IfSome (couple_of schema.now slot) (λ e. e.0 < length self.old.links.couples) }
         ensures ok { OnOk result (self.new ≡ after_link schema.now self.old unit slot partner) }
         ensures err { OnErr result (self.new ≡ self.old) }
     {
-        self.links.fits();
         let (couple, side) = schema.couple(slot);
         let (a, b) = side.pair(unit, partner);
         let taken = self.links.taken(couple, a, b);
@@ -212,11 +210,10 @@ impl State {
         partner: UnitId,
     ) -> Result<(), Memory>
         requires link { IsSome (link_of schema.now.slots slot) }
-        requires ends { end_of self.old.links slot ≡ couple_of schema.now slot }
+        requires couple { IfSome (couple_of schema.now slot) (λ e. e.0 < length self.old.links.couples) }
         ensures ok { OnOk result (self.new ≡ after_unlink schema.now self.old unit slot partner) }
         ensures err { OnErr result (self.new ≡ self.old) }
     {
-        self.links.fits();
         let (couple, side) = schema.couple(slot);
         let (a, b) = side.pair(unit, partner);
         let mut notes = Vec::new(alloc);
@@ -294,6 +291,7 @@ impl State {
         requires live { IsTrue (is_live self.old.units unit) }
         requires class { class_at self.old unit < length schema.now.classes }
         requires spaces { length self.old.spaces.spaces ≡ length schema.now.spaces }
+        requires few { length schema.now.spaces < 2 ^ 16 }
         ensures ok { OnOk result (self.new ≡ after_delete schema.now self.old unit) }
         ensures err { OnErr result (self.new ≡ self.old) }
     {

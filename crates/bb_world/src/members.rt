@@ -1,6 +1,6 @@
 //! The steps of a blackboard's state by which units enter and leave spaces. A world takes them.
 
-ghost use Rattle.std.specs.Prelude.{◌≡◌, ◌<◌, ◌++◌, IsTrue, OnOk, OnErr, length};
+ghost use Rattle.std.specs.Prelude.{◌≡◌, ◌<◌, ◌^◌, ◌++◌, IsTrue, OnOk, OnErr, length};
 ghost use Rattle.bb_units.specs.Units.{is_live};
 ghost use Rattle.bb_world.specs.Spaces.{after_enter, after_leave, leavings};
 
@@ -20,11 +20,10 @@ impl State {
         schema: &Schema,
         unit: UnitId,
     ) -> Result<(), Memory>
-        requires { length self.now.spaces.spaces ≡ length schema.now.spaces }
+        requires spaces { length self.now.spaces.spaces ≡ length schema.now.spaces }
+        requires few { length schema.now.spaces < 2 ^ 16 }
         ensures { OnOk result (notes.new.items ≡ notes.old.items ++ leavings self.now unit) }
     {
-        // At most 256 spaces.
-        schema.fits();
         for space in 0..schema.space_count() {
             if !self.spaces.contains(space as SpaceId, unit) {
                 continue;

@@ -1,6 +1,6 @@
 //! What spaces are told of a unit whose slot is set. The board's state sets it.
 
-ghost use Rattle.std.specs.Prelude.{◌≡◌, ◌<◌, IfOk, IsTrue, Some, length};
+ghost use Rattle.std.specs.Prelude.{◌≡◌, ◌<◌, ◌^◌, IfOk, IsTrue, Some, length};
 ghost use Rattle.bb_units.specs.Units.{is_live, class_of, takes, after_set};
 ghost use Rattle.bb_query.specs.PresentValues.{value_on, present_values};
 ghost use Rattle.bb_world.specs.Told.{spaces_of, values_for};
@@ -76,11 +76,10 @@ pub(crate) fn moves_of(
     requires live { IsTrue (is_live units.now unit) }
     requires takes { IsTrue (takes units.now unit slot value.now) }
     requires spaces { length spaces.now.spaces ≡ length schema.now.spaces }
+    requires few { length schema.now.spaces < 2 ^ 16 }
     ensures { IfOk result (λ moves. moves.items ≡
         values_for schema.now (after_set units.now unit slot value.now) unit (spaces_of spaces.now unit)) }
 {
-    // At most 256 spaces.
-    schema.fits();
     let mut moves = Vec::new(alloc);
     for space in 0..schema.space_count() {
         if !spaces.contains(space as SpaceId, unit) {

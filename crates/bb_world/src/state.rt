@@ -1,6 +1,6 @@
 //! The state of a blackboard. A world keeps one, and each of its changes is a step here.
 
-ghost use Rattle.std.specs.Prelude.{◌≡◌, ◌<◌, ℕ, length, IfOk, IsTrue, OnOk, OnErr};
+ghost use Rattle.std.specs.Prelude.{◌≡◌, ◌<◌, ◌^◌, ℕ, length, IfOk, IsTrue, OnOk, OnErr};
 ghost use Rattle.bb_basis.specs.Results.{Gives};
 ghost use Rattle.bb_schema.specs.Couples.{couple_of};
 ghost use Rattle.bb_units.specs.Fits as units;
@@ -112,6 +112,7 @@ impl State {
         requires live { IsTrue (is_live self.old.units unit) }
         requires takes { IsTrue (takes self.old.units unit slot value) }
         requires spaces { length self.old.spaces.spaces ≡ length schema.now.spaces }
+        requires few { length schema.now.spaces < 2 ^ 16 }
         ensures ok { OnOk result (self.new ≡ after_set schema.now self.old unit slot value) }
         ensures err { OnErr result (self.new ≡ self.old) }
     {

@@ -3,7 +3,7 @@ use Rattle.bb_schema.specs.Schema.{Schema}
 use Rattle.bb_units.specs.Units.{is_live}
 use Rattle.bb_world.specs.Links.{after_delete}
 use Rattle.bb_world.proofs.DeleteLemmas.{delete_keeps}
-use Rattle.bb_world.proofs.KeepLemmas.{class_there}
+use Rattle.bb_world.proofs.KeepLemmas.{few_spaces, class_there}
 use Rattle.bb_world.proofs.OutliveLemmas.{outlives_same, deleted_outlives}
 use Rattle.bb_world.proofs.world.World.delete.Goals as goal
 
@@ -11,6 +11,9 @@ pub delete-requires-clause-class : goal.delete-requires-clause-class
 delete-requires-clause-class c =
     let live : is_live c.self.inside.state.units c.args.unit ≡ true = search (rules, rw (← c.self.view_is) at c.requires) in
     rw c.get-schema.ensures (class_there c.self.inside.schema c.self.inside.state c.args.unit c.self.invariant.1 live).1
+
+pub delete-requires-clause-few : goal.delete-requires-clause-few
+delete-requires-clause-few c = rw c.get-schema.ensures (few_spaces c.self.inside.schema c.self.invariant.0)
 
 pub invariant_of-self-2 : goal.invariant_of-self-2
 invariant_of-self-2 c =

@@ -2,9 +2,12 @@ use Rattle.std.proofs.Common.{◌≡◌, Ok, ap, ◌∙◌}
 use Rattle.bb_schema.specs.Schema.{Schema}
 use Rattle.bb_world.specs.Links.{after_link}
 use Rattle.bb_world.specs.May.{may_link}
-use Rattle.bb_world.proofs.LinkLemmas.{may_link_facts, link_keeps}
+use Rattle.bb_world.proofs.LinkLemmas.{couple_there, may_link_facts, link_keeps}
 use Rattle.bb_world.proofs.OutliveLemmas.{outlives_same, link_outlives}
 use Rattle.bb_world.proofs.world.World.link.Goals as goal
+
+pub link-requires-clause-couple : goal.link-requires-clause-couple
+link-requires-clause-couple c = rw c.get-schema.ensures (couple_there c.self.inside.schema c.self.inside.state c.args.slot c.self.invariant.1)
 
 pub invariant_of-self-2 : goal.invariant_of-self-2
 invariant_of-self-2 c =

@@ -1,9 +1,12 @@
 use Rattle.std.proofs.Common.{rules, ap, ◌∙◌}
 use Rattle.bb_schema.specs.Schema.{Schema}
 use Rattle.bb_world.specs.World.{after_set}
-use Rattle.bb_world.proofs.KeepLemmas.{set_keeps}
+use Rattle.bb_world.proofs.KeepLemmas.{few_spaces, set_keeps}
 use Rattle.bb_world.proofs.OutliveLemmas.{outlives_same, set_outlives}
 use Rattle.bb_world.proofs.world.World.set.Goals as goal
+
+pub set-requires-clause-few : goal.set-requires-clause-few
+set-requires-clause-few c = rw c.get-schema.ensures (few_spaces c.self.inside.schema c.self.invariant.0)
 
 pub invariant_of-self-2 : goal.invariant_of-self-2
 invariant_of-self-2 c =

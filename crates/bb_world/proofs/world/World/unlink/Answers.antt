@@ -2,9 +2,12 @@ use Rattle.std.proofs.Common.{◌≡◌, Ok, ap, ◌∙◌}
 use Rattle.bb_schema.specs.Schema.{Schema}
 use Rattle.bb_world.specs.Links.{after_unlink}
 use Rattle.bb_world.specs.May.{may_link}
-use Rattle.bb_world.proofs.LinkLemmas.{may_link_facts, unlink_keeps}
+use Rattle.bb_world.proofs.LinkLemmas.{couple_there, may_link_facts, unlink_keeps}
 use Rattle.bb_world.proofs.OutliveLemmas.{outlives_same, unlink_outlives}
 use Rattle.bb_world.proofs.world.World.unlink.Goals as goal
+
+pub unlink-requires-clause-couple : goal.unlink-requires-clause-couple
+unlink-requires-clause-couple c = rw c.get-schema.ensures (couple_there c.self.inside.schema c.self.inside.state c.args.slot c.self.invariant.1)
 
 pub invariant_of-self-2 : goal.invariant_of-self-2
 invariant_of-self-2 c =
