@@ -1,10 +1,11 @@
 //! Tests of the program with readers that give pieces, fail, are interrupted or never end, and with writers that fail;
-//! also with such as fail once and would go on.
+//! also with such as fail once and would go on, and with a segment that is long.
 
 use crate::input::{In, Intake};
 use crate::read::read_input;
 use crate::serving::{program, serve};
 use bb_shell::Pipe;
+use std::alloc::{AllocError, Global};
 use std::io;
 use std::io::{Error, ErrorKind, Read, Write};
 use std::test::Fail;
@@ -170,6 +171,7 @@ fn failing_readers(rt: HostRuntime) {
 #[derive(Drop)]
 struct FailsAtFirst<'a> {
     inner: Pieces<'a>,
+    kind: ErrorKind,
     failed: bool,
 }
 
@@ -177,7 +179,7 @@ impl Read for FailsAtFirst<'_> {
     fn read(&mut self, buf: &mut [u8]) -> io::Result<usize> {
         if !self.failed {
             self.failed = true;
-            return Err(Error::from(ErrorKind::Other));
+            return Err(Error::from(self.kind));
         }
         self.inner.read(buf)
     }
@@ -185,16 +187,24 @@ impl Read for FailsAtFirst<'_> {
 
 #[test]
 fn no_read_after_a_failure(rt: HostRuntime) {
-    let inner = Pieces {
-        bytes: FIRST_RUN.as_bytes(),
-        piece: 50,
-        end: None,
-    };
-    let reader = FailsAtFirst {
-        inner,
-        failed: false,
-    };
-    assert!(rt; serves(&rt, reader, 100, 2, "refused input read\n"));
+    for kind in [
+        ErrorKind::Other,
+        ErrorKind::WouldBlock,
+        ErrorKind::TimedOut,
+        ErrorKind::UnexpectedEof,
+    ] {
+        let inner = Pieces {
+            bytes: FIRST_RUN.as_bytes(),
+            piece: 50,
+            end: None,
+        };
+        let reader = FailsAtFirst {
+            inner,
+            kind,
+            failed: false,
+        };
+        assert!(rt; serves(&rt, reader, 100, 2, "refused input read\n"));
+    }
 }
 
 #[test]
@@ -229,10 +239,11 @@ fn failing_writers(rt: HostRuntime) {
     }
 }
 
-/// Takes some bytes, fails once, and counts what it is given after that.
+/// Takes some bytes, fails once, by an error or by taking none, and counts what it is given after that.
 #[derive(Drop)]
 struct FailsOnce {
     room: usize,
+    end: Option<ErrorKind>,
     failed: bool,
     later: usize,
 }
@@ -245,7 +256,10 @@ impl Write for FailsOnce {
         }
         if self.room == 0 {
             self.failed = true;
-            return Err(Error::from(ErrorKind::Other));
+            return match self.end {
+                None => Ok(0),
+                Some(kind) => Err(Error::from(kind)),
+            };
         }
         let taken = buf.len().min(self.room);
         self.room -= taken;
@@ -257,17 +271,86 @@ impl Write for FailsOnce {
     }
 }
 
+/// Whether the program stops at the writer's first failure.
+fn stops_at(rt: &HostRuntime, input: &str, room: usize, end: Option<ErrorKind>) -> bool {
+    let mut reader = Intake::new(input.as_bytes());
+    let mut writer = Pipe::new(FailsOnce {
+        room,
+        end,
+        failed: false,
+        later: 0,
+    });
+    let status = serve(rt.alloc(), 100, 0, &mut reader, &mut writer);
+    status == 6 && writer.into_inner().later == 0
+}
+
 #[test]
 fn no_write_after_a_failure(rt: HostRuntime) {
     for (input, room) in [(FIRST_RUN, 0), (FIRST_RUN, 20), ("{}", 0), ("{}", 22)] {
-        let mut reader = Intake::new(input.as_bytes());
-        let mut writer = Pipe::new(FailsOnce {
-            room,
-            failed: false,
-            later: 0,
-        });
-        let status = serve(rt.alloc(), 100, 0, &mut reader, &mut writer);
-        assert_eq!(rt; status, 6);
-        assert_eq!(rt; writer.into_inner().later, 0);
+        for end in [
+            None,
+            Some(ErrorKind::Other),
+            Some(ErrorKind::Interrupted),
+            Some(ErrorKind::WouldBlock),
+        ] {
+            assert!(rt; stops_at(&rt, input, room, end), "{room}");
+        }
     }
+}
+
+/// Appends a text so many times.
+fn repeat(text: &mut String, part: &str, times: usize) -> Result<(), AllocError> {
+    for _ in 0..times {
+        text.push_str(part)?;
+    }
+    Ok(())
+}
+
+/// The ops of the long run: sixteen times `PushText 0`, then `Say 16`.
+const PUSH: &str = "020000";
+
+const SAY: &str = "2910";
+
+/// The input of a run of one source, which says two lines of sixteen texts of 40,000 bytes each.
+fn long_run(alloc: Global) -> Result<String, AllocError> {
+    let mut input = String::from_str(
+        alloc,
+        "%schema\n{\"classes\":[{\"name\":\"note\"}]}\n%units\n{\"units\":[{\"name\":\"a\",\"class\":\"note\"}]}\n\
+         %bundle\nsource hail note 100\nwhen create note\ndo 424243010100019c40",
+    )?;
+    repeat(&mut input, "61", 40_000)?;
+    input.push_str("0000000000000023")?;
+    for _ in 0..2 {
+        repeat(&mut input, PUSH, 16)?;
+        input.push_str(SAY)?;
+    }
+    input.push_str("2e\n")?;
+    Ok(input)
+}
+
+/// Its trace. The segment of its execution, from the first `say` to `end`, has 1.28 MB.
+fn long_trace(alloc: Global) -> Result<String, AllocError> {
+    let mut trace = String::from_str(
+        alloc,
+        "create 1 note\ntrigger 1 hail unit 1 rating 100\ncycle 1 act 1 hail unit 1 rating 100\n",
+    )?;
+    for _ in 0..2 {
+        trace.push_str("say")?;
+        for _ in 0..16 {
+            trace.push_str(" \"")?;
+            repeat(&mut trace, "a", 40_000)?;
+            trace.push_str("\"")?;
+        }
+        trace.push_str("\n")?;
+    }
+    trace.push_str("end steps 35 found 0 budget 35\nquiescence\nfinish quiescence\n")?;
+    Ok(trace)
+}
+
+#[test]
+fn long_segments(rt: HostRuntime) -> Result<(), Fail> {
+    let input = long_run(rt.alloc())?;
+    let trace = long_trace(rt.alloc())?;
+    assert!(rt; serves(&rt, input.as_bytes(), 100, 0, trace.as_str()));
+    Ok(())
 }
