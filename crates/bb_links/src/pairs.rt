@@ -1,6 +1,7 @@
 //! The pairs of one couple, in order of addition. `couple.rt` keeps them beside the partners of each unit.
 
-ghost use Rattle.std.specs.Prelude.{◌≡◌, ℕ, [], ◌∷◌, ◌++◌, OnOk, OnErr, Some, None, false, if◌then◌else◌};
+ghost use Rattle.std.specs.Prelude.{◌≡◌, ◌<◌, ◌+◌, ◌^◌, ℕ, [], ◌∷◌, ◌++◌, false, if◌then◌else◌};
+ghost use Rattle.std.specs.Prelude.{OnOk, OnErr, SomeIff, Some, None};
 ghost use Rattle.bb_links.specs.Pairs.{has_pair, same_pair, without_pair};
 ghost use Rattle.bb_links.specs.proving.Stamps.{stamp_of};
 
@@ -29,6 +30,13 @@ impl Model for Pairs {
     ghost view = { λ p. in_order p.by_stamp.entries };
 
     ghost invariant = { λ p. AreStamped p.next p.by_stamp.entries p.stamps };
+}
+
+/// The stamp after one. There is none after 2^64 - 1.
+fn next_stamp(stamp: u64) -> Option<u64>
+    ensures { SomeIff result (stamp + 1 < 2 ^ 64) (stamp + 1) }
+{
+    stamp.checked_add(1)
 }
 
 /// Gives a pair a stamp. An error changes nothing.
@@ -74,19 +82,17 @@ impl Pairs {
     }
 
     /// Appends a pair that is not there. An error changes nothing; one comes too once all stamps are used, after
-    /// 2^64 - 1 pairs.
+    /// 2^64 - 1 pairs, as `next_stamp` says.
     pub(crate) fn push(&mut self, pair: (UnitId, UnitId)) -> Result<(), AllocError>
         requires { has_pair pair self.old ≡ false }
         ensures ok { OnOk result (self.new ≡ self.old ++ pair ∷ []) }
         ensures err { OnErr result (self.new ≡ self.old) }
     {
-        if self.next == u64::MAX {
-            return Err(AllocError);
-        }
+        let after = next_stamp(self.next).ok_or(AllocError)?;
         self.by_stamp.insert(self.next, pair)?;
         match put_stamp(&mut self.stamps, pair, self.next) {
             Ok(()) => {
-                self.next += 1;
+                self.next = after;
                 Ok(())
             }
             Err(refused) => {

@@ -1,5 +1,5 @@
-//! Tests of links: what a link answers with memory, by which slots there is one partner, and all against a plain list of
-//! pairs.
+//! Tests of links: what a link answers with memory, by which slots there is one partner, that a couple takes many pairs,
+//! and all against a plain list of pairs.
 
 use super::*;
 use bb_schema::{CoupleId, Schema, SlotId};
@@ -93,6 +93,21 @@ fn one_partner_by_any_slot(rt: HostRuntime) -> Result<(), Fail> {
     let couples = linked(rt.alloc(), MATE, &[(1, 2)])?;
     assert_eq!(rt; couples.one(1, 0), None);
     assert_eq!(rt; couples.one(1, 10), None);
+    Ok(())
+}
+
+/// Links unit 1 to so many others, and answers how many partners it has then.
+fn partners_after(alloc: Global, times: u64) -> Result<usize, Fail> {
+    let mut couples = no_links(alloc)?;
+    for other in 0..times {
+        link(&mut couples, KNOWS, 1, other)?;
+    }
+    Ok(couples.ends(1, 8).len())
+}
+
+#[test]
+fn many_pairs(rt: HostRuntime) -> Result<(), Fail> {
+    assert_eq!(rt; partners_after(rt.alloc(), 200_000)?, 200_000);
     Ok(())
 }
 

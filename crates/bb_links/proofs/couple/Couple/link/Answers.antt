@@ -1,4 +1,4 @@
-use Rattle.std.proofs.Common.{◌≡◌, ◌∙◌, refl, ap, sym, Option, [], ◌∷◌, ◌++◌, ℕ}
+use Rattle.std.proofs.Common.{◌∙◌, refl, ap, Option, [], ◌∷◌, ◌++◌, ℕ}
 use Rattle.bb_links.specs.Pairs.{without_old, old_pair}
 use Rattle.bb_schema.specs.declared.couple.Side.TheVariants.{B}
 use Rattle.bb_links.specs.Couples.{Couple, with_pairs}

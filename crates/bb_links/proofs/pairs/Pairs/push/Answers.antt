@@ -1,10 +1,10 @@
-use Rattle.std.proofs.Common.{◌≡◌, ◌∙◌, ap, false, List, [], ◌∷◌, ◌++◌, ℕ}
+use Rattle.std.proofs.Common.{◌≡◌, ◌∙◌, ap, sym, subst, false, List, [], ◌∷◌, ◌++◌, ℕ}
 use Rattle.std.specs.Ordering.{nat_cmp}
 use Rattle.std.specs.Map.{remove_entry}
 use Rattle.std.specs.BTreeMap.{is_at}
 use Rattle.std.proofs.lemmas.List.{map-append}
 use Rattle.bb_links.specs.Pairs.{has_pair}
-use Rattle.bb_links.specs.proving.Stamps.{in_order}
+use Rattle.bb_links.specs.proving.Stamps.{in_order, AreStamped}
 use Rattle.bb_links.proofs.StampLemmas.{insert_last, remove_last, stamped_put}
 use Rattle.bb_links.proofs.pairs.Pairs.push.Goals as goal
 
@@ -12,8 +12,10 @@ pub invariant_of-self-in-Ok : goal.invariant_of-self-in-Ok
 invariant_of-self-in-Ok c =
     let old = c.self.inside in
     let absent : has_pair c.args.pair (in_order old.by_stamp.entries) ≡ false = ap (has_pair c.args.pair) c.self.view_is ∙ c.requires in
-    stamped_put old.next old.by_stamp.entries old.stamps c.self.invariant c.args.pair c.insert.new.self.entries c.put_stamp.new.stamps absent
-    (c.in_ok-insert.ensures.entries ∙ insert_last old.next c.args.pair old.by_stamp.entries c.self.invariant.below) c.in-Ok.ensures.ok
+    let after = rw c.in_ok-after.ensures.ok_part at c.next_stamp.ensures in
+    subst (λ n. AreStamped n c.insert.new.self.entries c.put_stamp.new.stamps) (sym after.1)
+    (stamped_put old.next old.by_stamp.entries old.stamps c.self.invariant c.args.pair c.insert.new.self.entries c.put_stamp.new.stamps absent
+    (c.in_ok-insert.ensures.entries ∙ insert_last old.next c.args.pair old.by_stamp.entries c.self.invariant.below) c.in-Ok.ensures.ok)
 
 pub returns-in-Ok-clause-ok : goal.returns-in-Ok-clause-ok
 returns-in-Ok-clause-ok c =
