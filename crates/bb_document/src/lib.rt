@@ -7,7 +7,7 @@ mod entry;
 mod fault;
 mod form;
 mod json;
-pub mod shape;
+mod shape;
 #[cfg(test)]
 mod tests;
 mod units_form;

@@ -24,7 +24,7 @@ fn are_among(members: &Map<String, Value>, keys: &[&str]) -> bool
 }
 
 /// Whether a value is an object each of whose keys is one of these.
-pub fn is_object_with(value: &Value, keys: &[&str]) -> bool
+pub(crate) fn is_object_with(value: &Value, keys: &[&str]) -> bool
     ensures { result ≡ is_object_with (map (λ k. k.now) keys.now) (view value.now) }
 {
     match value.as_object() {
@@ -34,35 +34,35 @@ pub fn is_object_with(value: &Value, keys: &[&str]) -> bool
 }
 
 /// The entries of an array.
-pub fn as_list(value: &Value) -> Option<&[Value]>
+pub(crate) fn as_list(value: &Value) -> Option<&[Value]>
     ensures { option_map (λ vs. map view vs.now) result ≡ as_list (view value.now) }
 {
     Some(value.as_array()?.as_slice())
 }
 
 /// The text under a key of an object, if there is one.
-pub fn text_at<'a>(value: &'a Value, key: &str) -> Option<&'a str>
+pub(crate) fn text_at<'a>(value: &'a Value, key: &str) -> Option<&'a str>
     ensures { option_map (λ t. t.now) result ≡ text_at key.now (view value.now) }
 {
     value.get(key)?.as_str()
 }
 
 /// The truth value under a key of an object, if there is one.
-pub fn bool_at(value: &Value, key: &str) -> Option<bool>
+pub(crate) fn bool_at(value: &Value, key: &str) -> Option<bool>
     ensures { result ≡ bool_at key.now (view value.now) }
 {
     value.get(key)?.as_bool()
 }
 
 /// The list under a key of an object, if there is one.
-pub fn required_list_at<'a>(value: &'a Value, key: &str) -> Option<&'a [Value]>
+pub(crate) fn required_list_at<'a>(value: &'a Value, key: &str) -> Option<&'a [Value]>
     ensures { option_map (λ vs. map view vs.now) result ≡ required_list_at key.now (view value.now) }
 {
     as_list(value.get(key)?)
 }
 
 /// The list under a key of an object. An absent one is empty; a value that is no list gives `None`.
-pub fn list_at<'a>(value: &'a Value, key: &str) -> Option<&'a [Value]>
+pub(crate) fn list_at<'a>(value: &'a Value, key: &str) -> Option<&'a [Value]>
     ensures { option_map (λ vs. map view vs.now) result ≡ list_at key.now (view value.now) }
 {
     match value.get(key) {
@@ -72,7 +72,7 @@ pub fn list_at<'a>(value: &'a Value, key: &str) -> Option<&'a [Value]>
 }
 
 /// The text under a key of an object, `Some(None)` where the key is absent. A value that is no text gives `None`.
-pub fn optional_text_at<'a>(value: &'a Value, key: &str) -> Option<Option<&'a str>>
+pub(crate) fn optional_text_at<'a>(value: &'a Value, key: &str) -> Option<Option<&'a str>>
     ensures { option_map (λ o. option_map (λ t. t.now) o) result ≡ optional_text_at key.now (view value.now) }
 {
     match value.get(key) {
