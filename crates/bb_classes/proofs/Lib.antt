@@ -5,6 +5,7 @@ pub mod SetLemmas
 pub mod ClassesFit
 pub mod FitLemmas
 pub mod IndexLemmas
+pub mod HeldLemmas
 pub mod CouplingLemmas
 pub mod FocusLemmas
 pub mod OwnerLemmas
