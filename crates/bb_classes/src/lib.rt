@@ -15,5 +15,5 @@ pub use draft::{Draft, DraftContent, SLOT_LIMIT, SchemaDraft};
 pub use fault::SchemaFault;
 pub use kind::{Kind, Link, SlotId};
 pub use label_set::{LabelId, LabelSet, LabelSetId, Labels};
-pub use read::{CLASS_LIMIT, Walked, resolve_link};
+pub use read::{CLASS_LIMIT, LABEL_SET_LIMIT, Walked, resolve_link};
 pub use value::{TEXT_LIMIT, Value};

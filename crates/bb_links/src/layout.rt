@@ -50,8 +50,6 @@ pub(crate) fn slot_ends(
     ensures ends { IfOk result (λ ends. ends.items ≡ slot_ends schema.now) }
     ensures there { IfOk result (λ ends. All (λ e. IfSome e (λ x. x.0 < length (couples schema.now))) ends.items) }
 {
-    // At most 65,536 slots.
-    schema.fits();
     let mut ends = Vec::new(alloc);
     for slot in 0..schema.slot_count() {
         ends.push(end_of(schema, slot as SlotId))?;
@@ -63,8 +61,6 @@ pub(crate) fn slot_ends(
 pub(crate) fn couples_of(alloc: Global, schema: &Schema) -> Result<Vec<Couple>, Memory>
     ensures { IfOk result (λ couples. couples.items ≡ map no_pairs (singulars schema.now)) }
 {
-    // At most 65,536 slots.
-    schema.fits();
     let mut couples = Vec::new(alloc);
     for slot in 0..schema.slot_count() {
         if !comes_first(schema, slot as SlotId) {

@@ -1,5 +1,6 @@
 pub mod CoupleLemmas
 pub mod CoupleListLemmas
+pub mod CountLemmas
 pub mod SameLemmas
 pub mod SlotLemmas
 pub mod LinkLemmas

@@ -6,6 +6,10 @@ ghost use Rattle.bb_classes.specs.Inheritance.{parent_of, Descends};
 ghost use Rattle.bb_schema.specs.Couples.{couples, couple_of};
 ghost use Rattle.bb_schema.specs.Fits.{Fits, AreSpaces};
 ghost use Rattle.bb_classes.specs.Values.{label_counts};
+ghost use Rattle.bb_classes.specs.declared.read.labels.TheConstants.{LABEL_SET_LIMIT};
+ghost use Rattle.bb_classes.specs.declared.read.classes.TheConstants.{CLASS_LIMIT};
+ghost use Rattle.bb_classes.specs.declared.draft.TheConstants.{SLOT_LIMIT};
+ghost use Rattle.bb_schema.specs.declared.read.spaces.TheConstants.{SPACE_LIMIT};
 ghost use Rattle.bb_schema.specs.Spaces.{allowed, IsAllowed};
 
 use crate::couple::{CoupleId, Side, couple_end};
@@ -134,7 +138,8 @@ impl Schema {
 
     /// The number of label sets.
     pub fn label_set_count(&self) -> usize
-        ensures { result ≡ length self.now.label_sets }
+        ensures count { result ≡ length self.now.label_sets }
+        ensures few { result ≤ LABEL_SET_LIMIT }
     {
         self.label_sets.len()
     }
@@ -149,28 +154,32 @@ impl Schema {
 
     /// The number of classes, `focus` included.
     pub fn class_count(&self) -> usize
-        ensures { result ≡ length self.now.classes }
+        ensures count { result ≡ length self.now.classes }
+        ensures few { result ≤ CLASS_LIMIT }
     {
         self.classes.len()
     }
 
     /// The number of slots that all classes declare.
     pub fn slot_count(&self) -> usize
-        ensures { result ≡ length self.now.slots }
+        ensures count { result ≡ length self.now.slots }
+        ensures few { result ≤ SLOT_LIMIT }
     {
         self.slots.len()
     }
 
     /// The number of spaces.
     pub fn space_count(&self) -> usize
-        ensures { result ≡ length self.now.spaces }
+        ensures count { result ≡ length self.now.spaces }
+        ensures few { result ≤ SPACE_LIMIT }
     {
         self.spaces.len()
     }
 
     /// The number of couples of link slots.
     pub fn couple_count(&self) -> usize
-        ensures { result ≡ length (couples self.now) }
+        ensures count { result ≡ length (couples self.now) }
+        ensures few { result ≤ SLOT_LIMIT }
     {
         self.couple_count
     }

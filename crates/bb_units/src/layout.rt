@@ -68,8 +68,6 @@ fn defaults_of(
 fn slots_by_class(alloc: Global, schema: &Schema) -> Result<Vec<Vec<SlotId>>, Memory>
     ensures { IfOk result (λ lists. map (λ v. v.items) lists.items ≡ map (λ k. k.slots) schema.now.classes) }
 {
-    // At most 256 classes.
-    schema.fits();
     let mut lists = Vec::new(alloc);
     for class in 0..schema.class_count() {
         lists.push(schema.slots(class as ClassId).to_vec(alloc)?)?;
@@ -92,8 +90,6 @@ fn default_of(schema: &Schema, slot: SlotId) -> Result<Option<Value>, Memory>
 fn defaults_by_slot(alloc: Global, schema: &Schema) -> Result<Vec<Option<Value>>, Memory>
     ensures { IfOk result (λ defaults. defaults.items ≡ map (λ t. default_in t.content) schema.now.slots) }
 {
-    // At most 65,536 slots.
-    schema.fits();
     let mut defaults = Vec::new(alloc);
     for slot in 0..schema.slot_count() {
         defaults.push(default_of(schema, slot as SlotId)?)?;
@@ -105,8 +101,6 @@ fn defaults_by_slot(alloc: Global, schema: &Schema) -> Result<Vec<Option<Value>>
 fn label_counts(alloc: Global, schema: &Schema) -> Result<Vec<usize>, Memory>
     ensures { IfOk result (λ counts. counts.items ≡ label_counts schema.now.label_sets) }
 {
-    // At most 256 label sets.
-    schema.fits();
     let mut counts = Vec::new(alloc);
     for set in 0..schema.label_set_count() {
         counts.push(schema.label_count(set as LabelSetId))?;

@@ -13,7 +13,7 @@ use bb_document::LabelSetEntry;
 use std::alloc::Global;
 
 /// The greatest number of label sets.
-pub(crate) const LABEL_SET_LIMIT: usize = 256;
+pub const LABEL_SET_LIMIT: usize = 256;
 
 #[tactic(auto, unfolding(crate::specs::LabelReading::label_after))]
 fn add_label(alloc: Global, labels: &mut Labels, name: &str) -> Result<(), SchemaFault>

@@ -21,5 +21,5 @@ loop-slot-preserved c =
 
 pub returns-clause-ends : goal.returns-clause-ends
 returns-clause-ends c =
-    let all : c.loop-slot.slot ≡ length c.args.schema.now.slots = omega (arith, c.loop-slot-test.false, c.loop-slot.auto.slot-end, c.slot_count-slot-end.ensures) in
+    let all : c.loop-slot.slot ≡ length c.args.schema.now.slots = omega (arith, c.loop-slot-test.false, c.loop-slot.auto.slot-end, c.slot_count-slot-end.ensures.count) in
     c.loop-slot.invariant.0 ∙ ap (λ n. map (couple_of c.args.schema.now) (range_with_len 0 n)) all
