@@ -7,10 +7,10 @@ use Rattle.bb_pattern.specs.declared.query.Query.{Query}
 use Rattle.bb_pattern.specs.declared.value.DimValue.{DimValue}
 use Rattle.bb_space.specs.Spaces.{Spaces, membership, is_member, values_in, members}
 use Rattle.bb_query.specs.Answer.{answers, answer}
-use Rattle.bb_query.specs.Knows.{Knows}
+use Rattle.bb_query.specs.Knows.{KnowsValues}
 use Rattle.bb_query.proofs.KeyLemmas.{same_kept}
 
-module _ (s : Schema) (u : Units) (t : Spaces) (knows : Knows s u t) where
+module _ (s : Schema) (u : Units) (t : Spaces) (knows : KnowsValues s u t) where
   member_lives : (space n : ℕ) (o : Option (List DimValue)) → values_in t space n ≡ o → is_some o ≡ true → is_live u n ≡ true
   member_lives space n None there is = absurd cc
   member_lives space n (Some values) there is = knows.live space n values there

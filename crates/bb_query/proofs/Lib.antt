@@ -3,3 +3,4 @@ pub mod KeyLemmas
 pub mod AnswerLemmas
 pub mod KnowsLemmas
 pub mod WholeLemmas
+pub mod Laws

@@ -1,10 +1,9 @@
 //! The answer of a query. The board's `find` calls it.
 
-ghost use Rattle.std.specs.Prelude.{◌≡◌, IfOk, Ok, map, filter};
+ghost use Rattle.std.specs.Prelude.{◌≡◌, IfOk, Ok, filter};
 ghost use Rattle.bb_pattern.specs.Fits.{query_fits};
-ghost use Rattle.bb_pattern.specs.Values.{kind_of_operand};
 ghost use Rattle.bb_query.specs.Answer.{answers, answer};
-ghost use Rattle.bb_query.specs.Knows.{Knows};
+ghost use Rattle.bb_query.specs.Knows.{KnowsValues};
 
 use bb_basis::Memory;
 use bb_pattern::{DimValue, Query};
@@ -22,7 +21,7 @@ fn answers(
     operands: &[DimValue],
     unit: UnitId,
 ) -> bool
-    requires knows { Knows schema.now units.now spaces.now }
+    requires knows { KnowsValues schema.now units.now spaces.now }
     requires fits { query_fits schema.now query.now ≡ Ok tt }
     ensures { result ≡ answers schema.now units.now spaces.now query.now operands.now unit }
 {
@@ -45,7 +44,7 @@ fn answered(
     operands: &[DimValue],
     among: &[UnitId],
 ) -> Result<Vec<UnitId>, Memory>
-    requires knows { Knows schema.now units.now spaces.now }
+    requires knows { KnowsValues schema.now units.now spaces.now }
     requires fits { query_fits schema.now query.now ≡ Ok tt }
     ensures { IfOk result (λ found.
         found.items ≡ filter (answers schema.now units.now spaces.now query.now operands.now) among.now) }
@@ -60,8 +59,8 @@ fn answered(
 }
 
 /// The answer of a query: the units in its space, of its class or one below it, of which its pattern holds, rising
-/// (GBBopen Reference Manual, find-instances). The query fits the schema, its operands have its kinds, and the spaces
-/// were told the present values of their members.
+/// (GBBopen Reference Manual, find-instances). The query fits the schema, and the spaces were told the present values of
+/// their members. A test whose operand is of another sort holds of none.
 pub fn find(
     alloc: Global,
     schema: &Schema,
@@ -70,9 +69,8 @@ pub fn find(
     query: &Query,
     operands: &[DimValue],
 ) -> Result<Vec<UnitId>, Memory>
-    requires knows { Knows schema.now units.now spaces.now }
+    requires knows { KnowsValues schema.now units.now spaces.now }
     requires fits { query_fits schema.now query.now ≡ Ok tt }
-    requires kinds { map kind_of_operand operands.now ≡ query.now.kinds }
     ensures { IfOk result (λ found. found.items ≡ answer schema.now units.now spaces.now query.now operands.now) }
 {
     let members = spaces.members(query.space)?;

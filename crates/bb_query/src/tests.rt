@@ -1,8 +1,7 @@
 //! Tests of what queries find with memory, also against a scan of all units.
 
-ghost use Rattle.std.specs.Prelude.{◌≡◌, IfOk, map};
-ghost use Rattle.bb_pattern.specs.Values.{kind_of_operand};
-ghost use Rattle.bb_query.specs.Knows.{Knows};
+ghost use Rattle.std.specs.Prelude.{IfOk};
+ghost use Rattle.bb_query.specs.Knows.{KnowsValues};
 
 use super::*;
 use bb_basis::Items;
@@ -80,8 +79,8 @@ fn enter(
     space: SpaceId,
     unit: UnitId,
 ) -> Result<(), Fail>
-    requires { Knows schema.now units.now spaces.old }
-    ensures { Knows schema.now units.now spaces.new }
+    requires { KnowsValues schema.now units.now spaces.old }
+    ensures { KnowsValues schema.now units.now spaces.new }
 {
     if space as usize >= schema.space_count() || !units.live(unit) {
         return Err(Fail::from(PatternFault::Space));
@@ -96,15 +95,13 @@ fn enter(
 
 /// The spaces, without members.
 fn no_members(alloc: Global, schema: &Schema, units: &Units) -> Result<Spaces, Fail>
-    ensures { IfOk result (λ spaces. Knows schema.now units.now spaces) }
+    ensures { IfOk result (λ spaces. KnowsValues schema.now units.now spaces) }
 {
     Ok(Spaces::new(alloc, schema)?)
 }
 
 /// The kind of an operand, if there is one. More are not asked for.
-fn kinds_of(alloc: Global, operands: &[DimValue]) -> Result<Items<OperandKind>, Fail>
-    ensures { IfOk result (λ kinds. kinds ≡ map kind_of_operand operands.now) }
-{
+fn kinds_of(alloc: Global, operands: &[DimValue]) -> Result<Items<OperandKind>, Fail> {
     let mut kinds = Items::new(alloc);
     match operands {
         [] => Ok(kinds),
@@ -127,7 +124,7 @@ fn found(
     pattern: Pattern,
     operands: &[DimValue],
 ) -> Result<Vec<UnitId>, Fail>
-    requires { Knows schema.now units.now spaces.now }
+    requires { KnowsValues schema.now units.now spaces.now }
 {
     let query = Query {
         class,
@@ -171,7 +168,7 @@ fn scene(alloc: Global, schema: &Schema) -> Result<Units, Fail> {
 
 /// The spaces of the scene.
 fn scene_spaces(alloc: Global, schema: &Schema, units: &Units) -> Result<Spaces, Fail>
-    ensures { IfOk result (λ spaces. Knows schema.now units.now spaces) }
+    ensures { IfOk result (λ spaces. KnowsValues schema.now units.now spaces) }
 {
     let mut spaces = no_members(alloc, schema, units)?;
     enter(alloc, schema, units, &mut spaces, SHELF, 4)?;
