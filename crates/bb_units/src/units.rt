@@ -20,8 +20,8 @@ use std::marker::Model;
 /// The greatest number of live units.
 pub const UNIT_LIMIT: usize = 65_536;
 
-// One more than the last number that a unit can get.
-const NUMBER_LIMIT: u64 = 1 << 63;
+// The greatest number that a unit can get.
+const NUMBER_LIMIT: u64 = (1 << 63) - 1;
 
 /// The units of a blackboard, each under its number (GBBopen Reference Manual, unit instances).
 #[derive(Drop)]
@@ -163,7 +163,7 @@ impl Units {
         ensures created { OnOk result (self.new ≡ after_create self.old class) }
         ensures err { OnErr result (self.new ≡ self.old) }
     {
-        if self.units.len() >= UNIT_LIMIT || self.next >= NUMBER_LIMIT {
+        if self.units.len() >= UNIT_LIMIT || self.next > NUMBER_LIMIT {
             return Err(CreateFault::Full);
         }
         let number = self.next;
