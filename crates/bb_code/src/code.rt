@@ -1,6 +1,6 @@
 //! A code in memory. Whoever makes or executes codes (bb_compile, bb_verify) calls it.
 
-ghost use Rattle.std.specs.Prelude.{◌≡◌, ◌↔◌, IsSome, IfSome};
+ghost use Rattle.std.specs.Prelude.{◌≡◌, ◌↔◌, IsSome, IfSome, slice_get};
 ghost use Rattle.bb_op.specs.Code.{IsCode};
 
 use bb_basis::Text;
@@ -95,5 +95,13 @@ impl Code {
         ensures fits { IsCode self.now }
     {
         self.parts.ops.as_slice()
+    }
+
+    /// The op at a place, if there is one.
+    pub fn op(&self, place: usize) -> Option<Op>
+        ensures value { result ≡ slice_get self.now.ops place }
+        ensures fits { IsCode self.now }
+    {
+        self.ops().get(place).copied()
     }
 }

@@ -63,10 +63,10 @@ fn check_target(count: usize, place: Place, op: Op) -> Result<(), Flaw>
 fn jump_at(code: &Code, place: Place) -> Result<(), VerifyFault>
     ensures { result ≡ jump_at code.now place }
 {
-    let ops = code.ops();
-    match ops.get(place as usize) {
+    let count = code.ops().len();
+    match code.op(place as usize) {
         None => Ok(()),
-        Some(op) => check_target(ops.len(), place, *op).map_err(|flaw| VerifyFault { place, flaw }),
+        Some(op) => check_target(count, place, op).map_err(|flaw| VerifyFault { place, flaw }),
     }
 }
 

@@ -69,12 +69,6 @@ fn ends(l: Loop, op: Option<Op>) -> bool
     }
 }
 
-fn op_at(code: &Code, place: usize) -> Option<Op>
-    ensures { result ≡ slice_get code.now.ops place }
-{
-    Some(*code.ops().get(place)?)
-}
-
 // The op before a place.
 fn op_before(code: &Code, place: usize) -> Option<Op>
     ensures { result ≡ op_before code.now place }
@@ -82,7 +76,7 @@ fn op_before(code: &Code, place: usize) -> Option<Op>
     if place == 0 {
         return None;
     }
-    op_at(code, place - 1)
+    code.op(place - 1)
 }
 
 fn local_in(op: Option<Op>) -> Option<LocalId>
@@ -98,7 +92,7 @@ fn local_in(op: Option<Op>) -> Option<LocalId>
 fn local_of(code: &Code, l: Loop) -> Option<LocalId>
     ensures { result ≡ local_of code.now l }
 {
-    local_in(op_at(code, l.head as usize))
+    local_in(code.op(l.head as usize))
 }
 
 // Both have a local, and it is the same.
@@ -150,7 +144,7 @@ fn loop_due(code: &Code, l: Loop, around: &[Loop]) -> Result<(), Flaw>
     requires { around.now ≡ filter (holds l.head) code.now.loops }
     ensures { result ≡ loop_due code.now l }
 {
-    check_order(begins(l, op_at(code, l.head as usize)))?;
+    check_order(begins(l, code.op(l.head as usize)))?;
     check_order(ends(l, op_before(code, l.end as usize)))?;
     nests_around(code, l, around)
 }
@@ -323,15 +317,9 @@ fn loop_at(
     requires right { jump_at code.now place ≡ Ok tt }
     ensures { result ≡ loop_at code.now place }
 {
-    place_due(
-        code,
-        tables,
-        place,
-        op_at(code, place as usize),
-        here,
-        around,
+    place_due(code, tables, place, code.op(place as usize), here, around).map_err(
+        |flaw| VerifyFault { place, flaw },
     )
-    .map_err(|flaw| VerifyFault { place, flaw })
 }
 
 fn at_head(place: Place, l: Loop) -> Option<Loop>

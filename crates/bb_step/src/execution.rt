@@ -1,6 +1,6 @@
 //! The execution of a code. `trial` calls it, which says more of it (bb_machine).
 
-ghost use Rattle.std.specs.Prelude.{◌≡◌, ◌≤◌, ◌⊎◌, Err, IfOk, length, slice_get};
+ghost use Rattle.std.specs.Prelude.{◌≡◌, ◌≤◌, ◌⊎◌, Err, IfOk, length};
 ghost use Rattle.bb_basis.specs.Results.{Gives};
 ghost use Rattle.bb_state.specs.Limits.{UNIT_LIMIT};
 ghost use Rattle.bb_state.specs.declared.outcome.Stop.TheVariants.{Memory as OutOfMemory};
@@ -8,7 +8,7 @@ ghost use Rattle.bb_step.specs.Activation.{activation, halted};
 ghost use Rattle.bb_state.specs.Machine.{units_of};
 
 use crate::step::step;
-use bb_code::{Code, Op};
+use bb_code::Code;
 use bb_state::{Board, Entry, Halt, Machine, Outcome, Stop, Stuck};
 use std::alloc::Global;
 
@@ -30,11 +30,10 @@ pub fn execute(
         return halted(Halt::Stuck(Stuck::Missing), 0, 0);
     }
     let mut machine = Machine::new(alloc, code, entry)?;
-    let ops = code.ops();
     for steps in 0..limit {
         let place = machine.place();
         let found = machine.found();
-        let Some(op) = op_at(ops, place) else {
+        let Some(op) = code.op(place) else {
             return halted(Halt::Stuck(Stuck::Outside), steps, found);
         };
         machine.go_to(place + 1);
@@ -74,11 +73,4 @@ fn unit_count(entry: Entry) -> usize
         None => 1,
         Some(_) => 2,
     }
-}
-
-// The op at a place, if there is one.
-fn op_at(ops: &[Op], place: usize) -> Option<Op>
-    ensures { result ≡ slice_get ops.now place }
-{
-    ops.get(place).copied()
 }

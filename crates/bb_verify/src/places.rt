@@ -244,9 +244,9 @@ fn visit(
     ensures { Gives out_of_memory (λ _. walk.new) result
         (visit schema.now part code.now (numbered_frames code.now.frames declared.now) walk.old place) }
 {
-    match code.ops().get(place as usize) {
+    match code.op(place as usize) {
         None => Ok(()),
-        Some(op) => match visit_op(schema, part, code, declared, place, *op, walk) {
+        Some(op) => match visit_op(schema, part, code, declared, place, op, walk) {
             Ok(()) => Ok(()),
             Err(Flaw::Memory) => Err(VerifyFault {
                 place: 0,

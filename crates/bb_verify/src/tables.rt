@@ -150,9 +150,9 @@ fn in_tables(schema: &Schema, code: &Code, op: Op) -> Result<(), Flaw>
 fn table_at(schema: &Schema, code: &Code, place: Place) -> Result<(), VerifyFault>
     ensures { result ≡ table_at schema.now code.now place }
 {
-    match code.ops().get(place as usize) {
+    match code.op(place as usize) {
         None => Ok(()),
-        Some(op) => in_tables(schema, code, *op).map_err(|flaw| VerifyFault { place, flaw }),
+        Some(op) => in_tables(schema, code, op).map_err(|flaw| VerifyFault { place, flaw }),
     }
 }
 

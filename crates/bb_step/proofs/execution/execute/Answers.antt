@@ -1,4 +1,4 @@
-use Rattle.std.proofs.Common.{◌≡◌, ◌+◌, List, Option, Some, None, inr, refl, sym, ap, ◌∙◌, arith}
+use Rattle.std.proofs.Common.{◌≡◌, ◌+◌, Option, Some, None, inr, refl, sym, ap, ◌∙◌, arith}
 use Rattle.std.specs.Prelude.{slice_get}
 use Rattle.bb_code.specs.Op.{Op}
 use Rattle.bb_state.specs.declared.halt.Halt.TheVariants as halts
@@ -15,7 +15,7 @@ use Rattle.bb_step.proofs.execution.execute.Goals as goal
 pub returns-in_default-clause-outcome : goal.returns-in_default-clause-outcome
 returns-in_default-clause-outcome c =
     let at : (let none : Option Op = None in none) ≡ slice_get c.args.code.now.ops c.loop-steps.machine.place =
-    sym c.in_default.is ∙ (c.op_at.ensures ∙ (ap (λ (ops : List Op). slice_get ops c.place-place.result) c.ops-ops.ensures.value ∙ ap (slice_get c.args.code.now.ops) c.place-place.ensures)) in
+    sym c.in_default.is ∙ (c.op.ensures.value ∙ ap (slice_get c.args.code.now.ops) c.place-place.ensures) in
     gives_halted (halts.Stuck Outside) c.loop-steps.steps c.loop-steps.machine.found c.halted-in_default.result _ c.loop-steps.board
     (c.halted-in_default.ensures.gives ∙ ap (halted (halts.Stuck Outside) c.loop-steps.steps) c.found-found.ensures.value)
     (inr (c.loop-steps.invariant ∙ ends_outside c.args.limit c.loop-steps.steps c.args.code.now c.loop-steps.machine c.loop-steps.board c.loop-steps-test.true at))
@@ -23,7 +23,7 @@ returns-in_default-clause-outcome c =
 pub returns-in_default-clause-board : goal.returns-in_default-clause-board
 returns-in_default-clause-board c =
     let at : (let none : Option Op = None in none) ≡ slice_get c.args.code.now.ops c.loop-steps.machine.place =
-    sym c.in_default.is ∙ (c.op_at.ensures ∙ (ap (λ (ops : List Op). slice_get ops c.place-place.result) c.ops-ops.ensures.value ∙ ap (slice_get c.args.code.now.ops) c.place-place.ensures)) in
+    sym c.in_default.is ∙ (c.op.ensures.value ∙ ap (slice_get c.args.code.now.ops) c.place-place.ensures) in
     leaves_halted (halts.Stuck Outside) c.loop-steps.steps c.loop-steps.machine.found c.halted-in_default.result _ c.loop-steps.board c.loop-steps.board
     (c.halted-in_default.ensures.gives ∙ ap (halted (halts.Stuck Outside) c.loop-steps.steps) c.found-found.ensures.value)
     (inr (c.loop-steps.invariant ∙ ends_outside c.args.limit c.loop-steps.steps c.args.code.now c.loop-steps.machine c.loop-steps.board c.loop-steps-test.true at))
@@ -31,18 +31,18 @@ returns-in_default-clause-board c =
 
 pub overflow_add-place : goal.overflow_add-place
 overflow_add-place c =
-    let at : slice_get c.args.code.now.ops c.place-place.result ≡ Some c.in-Some.op = sym (c.in-Some.ensures ∙ ap (λ (ops : List Op). slice_get ops c.place-place.result) c.ops-ops.ensures.value) in
-    omega (arith, slice_get_within c.args.code.now.ops c.place-place.result c.in-Some.op at, c.ops-ops.ensures.fits.ops.few)
+    let at : slice_get c.args.code.now.ops c.place-place.result ≡ Some c.in-Some.op = sym c.in-Some.ensures.value in
+    omega (arith, slice_get_within c.args.code.now.ops c.place-place.result c.in-Some.op at, c.in-Some.ensures.fits.ops.few)
 
 pub step-requires : goal.step-requires
 step-requires c =
-    let at : slice_get c.args.code.now.ops c.place-place.result ≡ Some c.in-Some.op = sym (c.in-Some.ensures ∙ ap (λ (ops : List Op). slice_get ops c.place-place.result) c.ops-ops.ensures.value) in
-    All-at IsOp c.args.code.now.ops c.place-place.result c.in-Some.op at c.ops-ops.ensures.fits.ops.each
+    let at : slice_get c.args.code.now.ops c.place-place.result ≡ Some c.in-Some.op = sym c.in-Some.ensures.value in
+    All-at IsOp c.args.code.now.ops c.place-place.result c.in-Some.op at c.in-Some.ensures.fits.ops.each
 
 pub returns-in-Err-clause-outcome : goal.returns-in-Err-clause-outcome
 returns-in-Err-clause-outcome c =
     let at : Some c.in-Some.op ≡ slice_get c.args.code.now.ops c.loop-steps.machine.place =
-    c.in-Some.ensures ∙ (ap (λ (ops : List Op). slice_get ops c.place-place.result) c.ops-ops.ensures.value ∙ ap (slice_get c.args.code.now.ops) c.place-place.ensures) in
+    c.in-Some.ensures.value ∙ ap (slice_get c.args.code.now.ops) c.place-place.ensures in
     let moved : c.go_to.new.self ≡ go_to (c.loop-steps.machine.place + 1) c.loop-steps.machine = c.go_to.ensures ∙ ap (λ p. go_to (p + 1) c.loop-steps.machine) c.place-place.ensures in
     gives_halted c.in-Err.halt (c.loop-steps.steps + 1) c.loop-steps.machine.found c.halted-in-Err.result _ c.loop-steps.board
     (c.halted-in-Err.ensures.gives ∙ ap (halted c.in-Err.halt (c.loop-steps.steps + 1)) c.found-found.ensures.value)
@@ -51,7 +51,7 @@ returns-in-Err-clause-outcome c =
 pub returns-in-Err-clause-board : goal.returns-in-Err-clause-board
 returns-in-Err-clause-board c =
     let at : Some c.in-Some.op ≡ slice_get c.args.code.now.ops c.loop-steps.machine.place =
-    c.in-Some.ensures ∙ (ap (λ (ops : List Op). slice_get ops c.place-place.result) c.ops-ops.ensures.value ∙ ap (slice_get c.args.code.now.ops) c.place-place.ensures) in
+    c.in-Some.ensures.value ∙ ap (slice_get c.args.code.now.ops) c.place-place.ensures in
     let moved : c.go_to.new.self ≡ go_to (c.loop-steps.machine.place + 1) c.loop-steps.machine = c.go_to.ensures ∙ ap (λ p. go_to (p + 1) c.loop-steps.machine) c.place-place.ensures in
     leaves_halted c.in-Err.halt (c.loop-steps.steps + 1) c.loop-steps.machine.found c.halted-in-Err.result _ c.loop-steps.board c.step.new.board
     (c.halted-in-Err.ensures.gives ∙ ap (halted c.in-Err.halt (c.loop-steps.steps + 1)) c.found-found.ensures.value)
@@ -61,7 +61,7 @@ returns-in-Err-clause-board c =
 pub loop-steps-preserved : goal.loop-steps-preserved
 loop-steps-preserved c =
     let at : Some c.in-Some.op ≡ slice_get c.args.code.now.ops c.loop-steps.machine.place =
-    c.in-Some.ensures ∙ (ap (λ (ops : List Op). slice_get ops c.place-place.result) c.ops-ops.ensures.value ∙ ap (slice_get c.args.code.now.ops) c.place-place.ensures) in
+    c.in-Some.ensures.value ∙ ap (slice_get c.args.code.now.ops) c.place-place.ensures in
     let moved : c.go_to.new.self ≡ go_to (c.loop-steps.machine.place + 1) c.loop-steps.machine = c.go_to.ensures ∙ ap (λ p. go_to (p + 1) c.loop-steps.machine) c.place-place.ensures in
     c.loop-steps.invariant
     ∙ goes_on c.args.limit c.loop-steps.steps c.args.code.now c.loop-steps.machine c.loop-steps.board c.in-Some.op (c.step.new.machine, c.step.new.board) c.loop-steps-test.true at
