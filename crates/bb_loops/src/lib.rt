@@ -2,6 +2,9 @@
 #![tactic(auto)]
 
 mod jumps;
+mod loop_list;
+mod loop_nesting;
+mod loop_ops;
 mod loop_tables;
 mod loops;
 

@@ -1,6 +1,6 @@
 use Rattle.std.proofs.Common.{◌∙◌, arith, ap, length}
 use Rattle.bb_loops.proofs.SortedLemmas.{rest_unsorted, rest_sorted}
-use Rattle.bb_loops.proofs.loops.rest_of.Goals as goal
+use Rattle.bb_loops.proofs.loop_list.rest_of.Goals as goal
 
 pub returns-then-sorted-ops : goal.returns-then-sorted-ops
 returns-then-sorted-ops c =

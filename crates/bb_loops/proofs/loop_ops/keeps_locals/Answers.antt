@@ -1,7 +1,7 @@
 use Rattle.std.proofs.lemmas.Result.{err_from_is_err_and}
 use Rattle.bb_loops.specs.Loops.{keeps_local}
 use Rattle.bb_code.proofs.Laws.{each_next, each_error, each_end}
-use Rattle.bb_loops.proofs.loops.keeps_locals.Goals as goal
+use Rattle.bb_loops.proofs.loop_ops.keeps_locals.Goals as goal
 
 pub returns-in_err-keeps_local : goal.returns-in_err-keeps_local
 returns-in_err-keeps_local c =

@@ -2,7 +2,7 @@ use Rattle.std.proofs.Common.{◌∙◌, ap, arith, length, ◌+◌}
 use Rattle.std.specs.Prelude.{nat_lt, slice_index}
 use Rattle.bb_loops.specs.Loops.{never}
 use Rattle.bb_loops.proofs.LoopTableLemmas.{in_ahead, enters_by_head}
-use Rattle.bb_loops.proofs.loops.enters_at_heads.Goals as goal
+use Rattle.bb_loops.proofs.loop_ops.enters_at_heads.Goals as goal
 
 pub bounds-as_slice-target : goal.bounds-as_slice-target
 bounds-as_slice-target c =

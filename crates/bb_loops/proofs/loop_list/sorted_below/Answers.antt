@@ -1,6 +1,6 @@
 use Rattle.std.proofs.Common.{arith}
 use Rattle.bb_loops.proofs.SortedLemmas.{sorted_next, sorted_end}
-use Rattle.bb_loops.proofs.loops.sorted_below.Goals as goal
+use Rattle.bb_loops.proofs.loop_list.sorted_below.Goals as goal
 
 pub loop-next-preserved : goal.loop-next-preserved
 loop-next-preserved c = record {

@@ -1,5 +1,5 @@
 use Rattle.bb_loops.proofs.LoopLemmas.{outside_skip, outside_take, outside_end}
-use Rattle.bb_loops.proofs.loops.lowest_outside.Goals as goal
+use Rattle.bb_loops.proofs.loop_list.lowest_outside.Goals as goal
 
 pub loop-l-preserved-then-l-count : goal.loop-l-preserved-then-l-count
 loop-l-preserved-then-l-count c = outside_skip c.args.count c.loop-l.so_far c.args.loops.now c.loop-l.l-index _ _ c.loop-l-test.true c.if-l-count.true c.loop-l.invariant

@@ -1,7 +1,7 @@
 use Rattle.std.proofs.Common.{◌∙◌, ap}
 use Rattle.std.specs.Option.{option_to_list}
 use Rattle.bb_loops.proofs.OpenLemmas.{none_headed, one_headed}
-use Rattle.bb_loops.proofs.loops.any_head.Goals as goal
+use Rattle.bb_loops.proofs.loop_ops.any_head.Goals as goal
 
 pub returns-in-None : goal.returns-in-None
 returns-in-None c = none_headed c.args.place c.args.code.now.loops (c.requires.loops_at ∙ ap option_to_list c.in-None.is)

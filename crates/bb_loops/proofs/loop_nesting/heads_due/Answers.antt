@@ -2,7 +2,7 @@ use Rattle.std.proofs.Common.{◌∙◌, ap, sym, filter}
 use Rattle.std.specs.Option.{option_to_list}
 use Rattle.bb_loops.specs.Loops.{holds}
 use Rattle.bb_loops.proofs.OpenLemmas.{head_place, no_head_due, one_head_due}
-use Rattle.bb_loops.proofs.loops.heads_due.Goals as goal
+use Rattle.bb_loops.proofs.loop_nesting.heads_due.Goals as goal
 
 pub loop_due-requires : goal.loop_due-requires
 loop_due-requires c =

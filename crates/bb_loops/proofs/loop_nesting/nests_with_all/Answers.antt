@@ -1,7 +1,7 @@
 use Rattle.std.proofs.lemmas.Result.{err_from_is_err_and}
 use Rattle.bb_loops.specs.Loops.{nests}
 use Rattle.bb_code.proofs.Laws.{each_next, each_error, each_end}
-use Rattle.bb_loops.proofs.loops.nests_with_all.Goals as goal
+use Rattle.bb_loops.proofs.loop_nesting.nests_with_all.Goals as goal
 
 pub returns-in_err-nests : goal.returns-in_err-nests
 returns-in_err-nests c =
