@@ -21,7 +21,8 @@ use Rattle.bb_verify.specs.Places.{with_frames, declared_frames, declared_at, en
 use Rattle.bb_effect.proofs.Laws.{each_all, no_fault}
 use Rattle.bb_verify.proofs.WalkLemmas.{Chain, Walked}
 use Rattle.bb_verify.proofs.StandLemmas.{is_declared}
-use Rattle.bb_verify.proofs.KnownLemmas.{IsKnown, AreKnown, effect_known}
+use Rattle.bb_verify.proofs.KnownOps.{IsKnown, AreKnown}
+use Rattle.bb_verify.proofs.KnownLemmas.{effect_known}
 
 all_at : {X : Type 0} (P : X → Type 0) (xs : List X) (i : ℕ) (x : X) → All P xs → slice_get xs i ≡ Some x → P x
 all_at P xs i x all is = subst P (get_or_from_slice_get xs i x x is) (All-get_or P xs i x (slice_get_within xs i x is) all)
