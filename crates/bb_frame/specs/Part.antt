@@ -1,5 +1,5 @@
--- What the parts of a source may do, and how they end (of this project).
-use Rattle.std.specs.Prelude.{List, [], ◌∷◌, Result, Ok, Err}
+-- What the parts of a source may do, how they end, and their words (of this project).
+use Rattle.std.specs.Prelude.{ℕ, List, [], ◌∷◌, Result, Ok, Err, codes}
 use Rattle.bb_code.specs.Kind.{Kind}
 use Rattle.bb_code.specs.Kind.TheVariants.{Old}
 use Rattle.bb_code.specs.Flaw.{Flaw}
@@ -14,6 +14,14 @@ units_of (Obviate class of) = Old class ∷ Old of ∷ []
 units_of (Retrigger class of) = Old class ∷ Old of ∷ []
 units_of (Revalidate class) = Old class ∷ []
 units_of (Do class) = Old class ∷ []
+
+-- the word of a part
+abbrev pub part_word : Part → List ℕ
+part_word (Require class) = codes "require"
+part_word (Obviate class of) = codes "obviate"
+part_word (Retrigger class of) = codes "retrigger"
+part_word (Revalidate class) = codes "revalidate"
+part_word (Do class) = codes "do"
 
 -- the part may change the blackboard
 abbrev pub writes : Part → Result (Unit {0}) Flaw

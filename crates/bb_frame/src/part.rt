@@ -1,7 +1,7 @@
 //! The parts of a source. Each has a code of its own, which ends as the part does.
 
 ghost use Rattle.std.specs.Prelude.{◌≡◌, length};
-ghost use Rattle.bb_frame.specs.Part.{units_of, writes, ends_done, ends_rated, ends_answered};
+ghost use Rattle.bb_frame.specs.Part.{units_of, part_word, writes, ends_done, ends_rated, ends_answered};
 
 use bb_code::{ClassId, Flaw};
 
@@ -29,6 +29,19 @@ impl Part {
             Part::Obviate { class: _, of: _ } => 2,
             Part::Retrigger { class: _, of: _ } => 2,
             _ => 1,
+        }
+    }
+
+    /// The word by which refusals name the part.
+    pub fn word(self) -> &'static str
+        ensures { result.now ≡ part_word self }
+    {
+        match self {
+            Part::Require { class: _ } => "require",
+            Part::Obviate { class: _, of: _ } => "obviate",
+            Part::Retrigger { class: _, of: _ } => "retrigger",
+            Part::Revalidate { class: _ } => "revalidate",
+            Part::Do { class: _ } => "do",
         }
     }
 

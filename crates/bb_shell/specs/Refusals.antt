@@ -7,11 +7,10 @@ use Rattle.bb_compile.specs.declared.fault.BundleFault.{BundleFault}
 use Rattle.bb_compile.specs.declared.fault.BundleFault.TheVariants as bundles
 use Rattle.bb_shell.specs.declared.input_fault.InputFault.{InputFault}
 use Rattle.bb_shell.specs.declared.input_fault.InputFault.TheVariants as inputs
-use Rattle.bb_shell.specs.declared.input_fault.Part.{Part}
-use Rattle.bb_shell.specs.declared.input_fault.Part.TheVariants as parts
 use Rattle.bb_run.specs.UnitsFaults.{fault_number as units_number}
 use Rattle.bb_run.specs.RuleFaults.{fault_number as rule_number}
 use Rattle.bb_verify.specs.Flaws.{fault_number as flaw_number}
+use Rattle.bb_verify.specs.Part.{part_word}
 
 -- the number of each refusal; 3 and 4 are kept free
 abbrev pub fault_number : InputFault → ℕ
@@ -21,10 +20,6 @@ fault_number (inputs.Bundle fault) = 5
 fault_number (inputs.Verify name part fault) = 6
 fault_number (inputs.Rule name fault) = 7
 fault_number inputs.Memory = 8
-
--- the word of a part of a source
-abbrev pub part_word : Part → List ℕ
-part_word parts.Do = codes "do"
 
 -- a bundle's fault, with its line; empty where memory ran out
 abbrev pub bundle_text : BundleFault → List ℕ

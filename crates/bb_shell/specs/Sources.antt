@@ -13,7 +13,6 @@ use Rattle.bb_run.specs.Source.{Source}
 use Rattle.bb_run.specs.MadeSource.{source_of}
 use Rattle.bb_shell.specs.declared.input_fault.InputFault.{InputFault}
 use Rattle.bb_shell.specs.declared.input_fault.InputFault.TheVariants.{Verify, Rule}
-use Rattle.bb_shell.specs.declared.input_fault.Part.TheVariants.{Do}
 use Rattle.bb_shell.specs.declared.sources.AcceptedSource.{AcceptedSource}
 use Rattle.bb_run.specs.Limits.{SOURCE_LIMIT}
 
@@ -21,7 +20,7 @@ use Rattle.bb_run.specs.Limits.{SOURCE_LIMIT}
 abbrev pub accepted_for : Schema → SourceCode → Option ℕ → Result AcceptedSource InputFault
 accepted_for s code None = Err (Rule code.header.name rules.Class)
 accepted_for s code (Some class) = do
-  body ← map_err (Verify code.header.name Do) (checked s (parts.Do class) code.body)
+  body ← map_err (Verify code.header.name (parts.Do class)) (checked s (parts.Do class) code.body)
   Ok (record { header = code.header; body = body })
 
 -- the class is looked up, then the code is verified

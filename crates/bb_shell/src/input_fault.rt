@@ -2,33 +2,15 @@
 
 ghost use Rattle.std.specs.Prelude.{◌≡◌, IfOk, string_bytes};
 ghost use Rattle.bb_shell.specs.declared.input_fault.InputFault.TheVariants.{Memory as OutOfMemory};
-ghost use Rattle.bb_shell.specs.Refusals.{bundle_text, fault_number, part_word, refusal_text};
+ghost use Rattle.bb_shell.specs.Refusals.{bundle_text, fault_number, refusal_text};
 
 use bb_basis::Text;
 use bb_compile::BundleFault;
 use bb_run::{RuleFault, UnitsFault};
 use bb_schema::SchemaFault;
-use bb_verify::VerifyFault;
+use bb_verify::{Part, VerifyFault};
 use std::alloc::{AllocError, AllocFailed, Global};
 use thiserror::Error;
-
-/// A part of a source.
-#[derive(Clone, Copy, Debug, PartialEq, Eq)]
-pub enum Part {
-    /// What an execution runs.
-    Do,
-}
-
-impl Part {
-    /// The word by which refusals name the part.
-    pub fn word(self) -> &'static str
-        ensures { result.now ≡ part_word self }
-    {
-        match self {
-            Part::Do => "do",
-        }
-    }
-}
 
 /// Why an input is refused: the first step that refuses it, and its fault.
 #[derive(Debug, Drop, Error)]

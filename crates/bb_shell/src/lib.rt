@@ -8,6 +8,6 @@ mod texts;
 
 pub use bb_compile::BundleFault;
 pub use bb_run::{End, Finish, Out, Pipe, RuleFault, Stuck, UnitsFault, put_all, runs_are_orderly};
-pub use bb_verify::{Flaw, VerifyFault};
-pub use input_fault::{InputFault, Part};
+pub use bb_verify::{Flaw, Part, VerifyFault};
+pub use input_fault::InputFault;
 pub use texts::run_texts;

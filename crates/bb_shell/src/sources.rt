@@ -4,12 +4,12 @@ ghost use Rattle.std.specs.Prelude.{◌≡◌, ◌≤◌, [], length, IfOk, OnOk
 ghost use Rattle.bb_basis.specs.Results.{Gives, try_map, try_fold};
 ghost use Rattle.bb_shell.specs.Sources.{accepted_source, names_of, resolved_source, source_after, sources_for};
 
-use crate::input_fault::{InputFault, Part};
+use crate::input_fault::InputFault;
 use bb_basis::{Items, Names, Text};
 use bb_compile::{SourceCode, SourceHeader};
 use bb_run::{RuleFault, SOURCE_LIMIT, Source};
 use bb_schema::Schema;
-use bb_verify::{Checked, Flaw, VerifyFault, verify};
+use bb_verify::{Checked, Flaw, Part, VerifyFault, verify};
 use std::alloc::Global;
 
 /// A source whose code is accepted for its class.
@@ -60,7 +60,8 @@ fn accept(alloc: Global, schema: &Schema, code: SourceCode) -> Result<AcceptedSo
             fault: RuleFault::Class,
         });
     };
-    match verify(alloc, schema, bb_verify::Part::Do { class }, body) {
+    let part = Part::Do { class };
+    match verify(alloc, schema, part, body) {
         Ok(body) => Ok(AcceptedSource { header, body }),
         Err(
             VerifyFault {
@@ -70,11 +71,7 @@ fn accept(alloc: Global, schema: &Schema, code: SourceCode) -> Result<AcceptedSo
         ) => Err(InputFault::Memory),
         Err(fault) => {
             let SourceHeader { name, .. } = header;
-            Err(InputFault::Verify {
-                name,
-                part: Part::Do,
-                fault,
-            })
+            Err(InputFault::Verify { name, part, fault })
         }
     }
 }

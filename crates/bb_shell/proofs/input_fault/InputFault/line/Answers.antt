@@ -1,7 +1,8 @@
 use Rattle.std.proofs.Common.{◌≡◌, subst, sym, ap, ◌∙◌}
 use Rattle.std.specs.Prelude.{◌++◌, codes, IfOk, string_bytes}
 use Rattle.std.specs.Fmt.{decimal}
-use Rattle.bb_shell.specs.Refusals.{refusal_text, part_word}
+use Rattle.bb_verify.specs.Part.{part_word}
+use Rattle.bb_shell.specs.Refusals.{refusal_text}
 use Rattle.bb_shell.proofs.RefusalLemmas.{four_pieces, eight_pieces}
 use Rattle.bb_shell.proofs.input_fault.InputFault.line.Goals as goal
 
