@@ -11,7 +11,7 @@ use bb_basis::{Items, Text};
 use bb_code::{
     Code, CodeParts, FRAME_LIMIT, Frame, FrameEntry, Kind, LOCAL_LIMIT, LOOP_LIMIT, Loop,
     NODE_LIMIT, OP_LIMIT, OPERAND_LIMIT, QUERY_LIMIT, Query, STACK_LIMIT, TEXT_BYTES_LIMIT,
-    TEXT_LIMIT,
+    TEXT_COUNT_LIMIT,
 };
 use serde_json::Value;
 use std::alloc::Global;
@@ -93,7 +93,7 @@ impl Draft {
 
     /// `text "TEXT"`
     fn add_text(&mut self, operands: &mut Operands<'_>) -> Result<(), Halt> {
-        room(self.parts.texts.len(), TEXT_LIMIT)?;
+        room(self.parts.texts.len(), TEXT_COUNT_LIMIT)?;
         let word = operands.word()?;
         operands.end()?;
         let Ok(Value::String(text)) = Value::from_str(self.alloc, word) else {

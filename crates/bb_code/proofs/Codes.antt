@@ -7,7 +7,7 @@ use Rattle.std.proofs.lemmas.List.Elements.{All-from_recursion, recursion_from_A
 use Rattle.bb_op.specs.Query.{Query}
 use Rattle.bb_code.specs.declared.fault.CodeFault.{CodeFault}
 use Rattle.bb_code.specs.declared.fault.CodeFault.TheVariants.{Magic, Version, Trailing, Memory}
-use Rattle.bb_op.specs.declared.parts.TheConstants.{LOCAL_LIMIT, TEXT_LIMIT, QUERY_LIMIT, FRAME_LIMIT, LOOP_LIMIT, OP_LIMIT}
+use Rattle.bb_op.specs.declared.parts.TheConstants.{LOCAL_LIMIT, TEXT_COUNT_LIMIT, QUERY_LIMIT, FRAME_LIMIT, LOOP_LIMIT, OP_LIMIT}
 use Rattle.bb_op.specs.declared.frame.FrameEntry.{FrameEntry}
 use Rattle.bb_op.specs.declared.frame.Loop.{Loop}
 use Rattle.bb_op.specs.declared.op.Op.{Op}
@@ -57,8 +57,8 @@ head_again rest = refl
 locals_spelled : IsSpelled ℕ (short_count_at 1 LOCAL_LIMIT) single (IsWithin 1 LOCAL_LIMIT)
 locals_spelled = short_count_spelled 1 LOCAL_LIMIT (omega arith)
 
-texts_spelled : IsSpelled (List (List ℕ)) (list_at 0 TEXT_LIMIT text_at) (listed text_bytes) (AreListed (List ℕ) IsText 0 TEXT_LIMIT)
-texts_spelled = list_spelled (List ℕ) text_at text_bytes IsText text_spelled 0 TEXT_LIMIT (omega arith)
+texts_spelled : IsSpelled (List (List ℕ)) (list_at 0 TEXT_COUNT_LIMIT text_at) (listed text_bytes) (AreListed (List ℕ) IsText 0 TEXT_COUNT_LIMIT)
+texts_spelled = list_spelled (List ℕ) text_at text_bytes IsText text_spelled 0 TEXT_COUNT_LIMIT (omega arith)
 
 queries_spelled : IsSpelled (List Query) (list_at 0 QUERY_LIMIT query_at) (listed query_bytes) (AreListed Query IsQuery 0 QUERY_LIMIT)
 queries_spelled = list_spelled Query query_at query_bytes IsQuery query_spelled 0 QUERY_LIMIT (omega arith)
@@ -151,7 +151,7 @@ abbrev Holds-queries : ℕ → Code → Type 0
 Holds-queries locals c = AreListed Query IsQuery 0 QUERY_LIMIT c.queries × Holds-frames locals c
 
 abbrev Holds-texts : ℕ → Code → Type 0
-Holds-texts locals c = AreListed (List ℕ) IsText 0 TEXT_LIMIT c.texts × Holds-queries locals c
+Holds-texts locals c = AreListed (List ℕ) IsText 0 TEXT_COUNT_LIMIT c.texts × Holds-queries locals c
 
 abbrev Holds-locals : Code → Type 0
 Holds-locals c = IsWithin 1 LOCAL_LIMIT c.locals × Holds-texts c.locals c
@@ -169,7 +169,7 @@ abbrev from-queries : ℕ → List (List ℕ) → Field Code
 from-queries locals texts bytes = list_at 0 QUERY_LIMIT query_at bytes >>= λ queries. from-frames locals texts queries.0 queries.1
 
 abbrev from-texts : ℕ → Field Code
-from-texts locals bytes = list_at 0 TEXT_LIMIT text_at bytes >>= λ texts. from-queries locals texts.0 texts.1
+from-texts locals bytes = list_at 0 TEXT_COUNT_LIMIT text_at bytes >>= λ texts. from-queries locals texts.0 texts.1
 
 abbrev from-locals : Field Code
 from-locals bytes = short_count_at 1 LOCAL_LIMIT bytes >>= λ locals. from-texts locals.0 locals.1
@@ -197,7 +197,7 @@ queries_read locals texts bytes x fits e =
 
 texts_read : (locals : ℕ) (bytes : List ℕ) (x : Code × List ℕ) → IsBytes bytes → from-texts locals bytes ≡ Ok x → IsRest bytes x text-texts (Holds-texts locals) (Same-locals locals)
 texts_read locals bytes x fits e =
-    with_part (List (List ℕ)) (list_at 0 TEXT_LIMIT text_at) (listed text_bytes) (AreListed (List ℕ) IsText 0 TEXT_LIMIT) texts_spelled (λ c. c.texts) (from-queries locals) text-queries (λ a. Holds-queries locals) (Same-locals locals) (queries_read locals) bytes x fits e
+    with_part (List (List ℕ)) (list_at 0 TEXT_COUNT_LIMIT text_at) (listed text_bytes) (AreListed (List ℕ) IsText 0 TEXT_COUNT_LIMIT) texts_spelled (λ c. c.texts) (from-queries locals) text-queries (λ a. Holds-queries locals) (Same-locals locals) (queries_read locals) bytes x fits e
 
 locals_read : (bytes : List ℕ) (x : Code × List ℕ) → IsBytes bytes → from-locals bytes ≡ Ok x → IsRest bytes x text-locals Holds-locals (λ c. Unit {0})
 locals_read bytes x fits e =
@@ -251,7 +251,7 @@ code_again c rest fits =
     ∙ rw (
       head_again after_head,
       locals_spelled.again c.locals after_locals (fits.locals_low, fits.locals_high),
-      texts_spelled.again c.texts after_texts (listed_fit IsText TEXT_LIMIT c.texts fits.texts.few fits.texts.each),
+      texts_spelled.again c.texts after_texts (listed_fit IsText TEXT_COUNT_LIMIT c.texts fits.texts.few fits.texts.each),
       queries_spelled.again c.queries after_queries (listed_fit IsQuery QUERY_LIMIT c.queries fits.queries.few fits.queries.each),
       (frames_spelled c.locals).again c.frames after_frames (listed_fit (IsFrame c.locals) FRAME_LIMIT c.frames fits.frames.few fits.frames.each),
       loops_spelled.again c.loops after_loops (listed_fit IsLoop LOOP_LIMIT c.loops fits.loops.few fits.loops.each),

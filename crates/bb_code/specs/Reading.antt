@@ -1,8 +1,8 @@
 -- Reading a code from the front, with the first fault that is met.
 use Rattle.std.specs.Prelude.{ℕ, List, [], ◌∷◌, length, Result, Ok, Err, ◌==◌, if◌then◌else◌}
 use Rattle.bb_basis.specs.Results.{◌>>=◌}
-use Rattle.bb_op.specs.declared.parts.TheConstants.{LOCAL_LIMIT, TEXT_LIMIT, QUERY_LIMIT, FRAME_LIMIT, LOOP_LIMIT}
-use Rattle.bb_op.specs.declared.parts.TheConstants.{OP_LIMIT}
+use Rattle.bb_op.specs.declared.parts.TheConstants.{LOCAL_LIMIT, TEXT_COUNT_LIMIT, QUERY_LIMIT, FRAME_LIMIT}
+use Rattle.bb_op.specs.declared.parts.TheConstants.{LOOP_LIMIT, OP_LIMIT}
 use Rattle.bb_code.specs.declared.fault.CodeFault.{CodeFault}
 use Rattle.bb_code.specs.declared.fault.CodeFault.TheVariants.{Magic, Version, Short, Trailing}
 use Rattle.bb_op.specs.Code.{Code}
@@ -28,7 +28,7 @@ unfoldable pub code_at : Field Code
 code_at bytes = do
   start ← head_at bytes
   locals ← short_count_at 1 LOCAL_LIMIT start
-  texts ← list_at 0 TEXT_LIMIT text_at locals.1
+  texts ← list_at 0 TEXT_COUNT_LIMIT text_at locals.1
   queries ← list_at 0 QUERY_LIMIT query_at texts.1
   frames ← list_at 0 FRAME_LIMIT (frame_at locals.0) queries.1
   loops ← list_at 0 LOOP_LIMIT loop_at frames.1

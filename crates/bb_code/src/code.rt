@@ -57,7 +57,7 @@ impl Code {
         self.parts.locals
     }
 
-    /// The texts, at most `TEXT_LIMIT` of at most `TEXT_BYTES_LIMIT` bytes each.
+    /// The texts, at most `TEXT_COUNT_LIMIT` of at most `TEXT_BYTES_LIMIT` bytes each.
     pub fn texts(&self) -> &[Text]
         ensures value { result.now ≡ self.now.texts }
         ensures fits { IsCode self.now }

@@ -16,7 +16,7 @@ mod patterns;
 
 use crate::code::Code;
 use crate::fault::CodeFault;
-use bb_op::{CodeParts, LOCAL_LIMIT, LOOP_LIMIT, OP_LIMIT, QUERY_LIMIT, TEXT_LIMIT};
+use bb_op::{CodeParts, LOCAL_LIMIT, LOOP_LIMIT, OP_LIMIT, QUERY_LIMIT, TEXT_COUNT_LIMIT};
 use fields::{read_list, read_short_count};
 use frames::read_frames;
 use std::alloc::Global;
@@ -47,7 +47,7 @@ fn read_parts(alloc: Global, bytes: &[u8]) -> Result<CodeParts, CodeFault>
 {
     let rest = read_head(bytes)?;
     let (locals, rest) = read_short_count(rest, 1, LOCAL_LIMIT as usize)?;
-    let (texts, rest) = read_list(alloc, rest, 0, TEXT_LIMIT)?;
+    let (texts, rest) = read_list(alloc, rest, 0, TEXT_COUNT_LIMIT)?;
     let (queries, rest) = read_list(alloc, rest, 0, QUERY_LIMIT)?;
     let (frames, rest) = read_frames(alloc, locals, rest)?;
     let (loops, rest) = read_list(alloc, rest, 0, LOOP_LIMIT)?;

@@ -107,7 +107,7 @@ fn partners_after(alloc: Global, times: u64) -> Result<usize, Fail> {
 
 #[test]
 fn many_pairs(rt: HostRuntime) -> Result<(), Fail> {
-    assert_eq!(rt; partners_after(rt.alloc(), 200_000)?, 200_000);
+    assert_eq!(rt; partners_after(rt.alloc(), 110_000)?, 110_000);
     Ok(())
 }
 

@@ -1,14 +1,14 @@
 -- The numbers of the limits. Definitions and code go by the same constants, so here each is said once.
 use Rattle.std.proofs.Common.{◌≡◌, refl}
-use Rattle.bb_op.specs.declared.parts.TheConstants.{LOCAL_LIMIT, TEXT_LIMIT, TEXT_BYTES_LIMIT, QUERY_LIMIT, FRAME_LIMIT, LOOP_LIMIT, OP_LIMIT, SAID_LIMIT, STACK_LIMIT}
+use Rattle.bb_op.specs.declared.parts.TheConstants.{LOCAL_LIMIT, TEXT_COUNT_LIMIT, TEXT_BYTES_LIMIT, QUERY_LIMIT, FRAME_LIMIT, LOOP_LIMIT, OP_LIMIT, SAID_LIMIT, STACK_LIMIT}
 
 -- locals
 pub local_limit : LOCAL_LIMIT ≡ 32
 local_limit = refl
 
 -- texts
-pub text_limit : TEXT_LIMIT ≡ 1024
-text_limit = refl
+pub text_count_limit : TEXT_COUNT_LIMIT ≡ 1024
+text_count_limit = refl
 
 -- bytes of a text
 pub text_bytes_limit : TEXT_BYTES_LIMIT ≡ 65535

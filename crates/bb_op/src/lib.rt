@@ -18,6 +18,6 @@ pub use frame::{Frame, FrameEntry, Kind, Loop};
 pub use op::{Bound, Calculation, Comparison, Division, LinkChange, LocalId, Logic, Op, Place};
 pub use parts::{
     CodeParts, FRAME_LIMIT, LOCAL_LIMIT, LOOP_LIMIT, OP_LIMIT, QUERY_LIMIT, SAID_LIMIT,
-    STACK_LIMIT, TEXT_BYTES_LIMIT, TEXT_LIMIT,
+    STACK_LIMIT, TEXT_BYTES_LIMIT, TEXT_COUNT_LIMIT,
 };
 pub use within::are_parts;

@@ -9,7 +9,7 @@ use bb_pattern::Query;
 pub const LOCAL_LIMIT: u8 = 32;
 
 /// The greatest number of texts of a code.
-pub const TEXT_LIMIT: u16 = 1024;
+pub const TEXT_COUNT_LIMIT: u16 = 1024;
 
 /// The greatest number of bytes of a text.
 pub const TEXT_BYTES_LIMIT: u16 = 65535;
@@ -37,7 +37,7 @@ pub const STACK_LIMIT: usize = 64;
 pub struct CodeParts {
     /// The number of locals, from 1 to `LOCAL_LIMIT`.
     pub locals: u8,
-    /// At most `TEXT_LIMIT` of at most `TEXT_BYTES_LIMIT` bytes each.
+    /// At most `TEXT_COUNT_LIMIT` of at most `TEXT_BYTES_LIMIT` bytes each.
     pub texts: Items<Text>,
     /// At most `QUERY_LIMIT`.
     pub queries: Items<Query>,

@@ -11,7 +11,7 @@ use crate::frame::{FrameEntry, Kind, Loop};
 use crate::op::Op;
 use crate::parts::{
     CodeParts, FRAME_LIMIT, LOCAL_LIMIT, LOOP_LIMIT, OP_LIMIT, QUERY_LIMIT, SAID_LIMIT,
-    STACK_LIMIT, TEXT_BYTES_LIMIT, TEXT_LIMIT,
+    STACK_LIMIT, TEXT_BYTES_LIMIT, TEXT_COUNT_LIMIT,
 };
 use bb_basis::Text;
 use bb_pattern::{NODE_LIMIT, Node, OPERAND_LIMIT, OperandKind, Pattern, Query};
@@ -33,7 +33,7 @@ pub fn are_parts(parts: &CodeParts) -> bool
 fn are_texts(texts: &[Text]) -> bool
     ensures { IsTrue result ↔ AreTexts texts.now }
 {
-    if texts.len() > TEXT_LIMIT as usize {
+    if texts.len() > TEXT_COUNT_LIMIT as usize {
         return false;
     }
     for text in texts {
