@@ -33,8 +33,8 @@ fn value_op(name: &str, operands: &mut Operands<'_>) -> Result<Option<Op>, Slip>
         }
         "Load" => Op::Load(operands.number()?),
         "Store" => Op::Store(operands.number()?),
-        "DivBy" => Op::Divide(Division::Quotient, operands.divisor()?),
-        "ModBy" => Op::Divide(Division::Remainder, operands.divisor()?),
+        "DivBy" => Op::Divide(Division::DivBy, operands.divisor()?),
+        "ModBy" => Op::Divide(Division::ModBy, operands.divisor()?),
         "Say" => Op::Say(said_count(operands)?),
         _ => return Ok(None),
     };

@@ -13,9 +13,9 @@ use Rattle.bb_code.specs.declared.fault.CodeFault.{CodeFault}
 use Rattle.bb_code.specs.declared.fault.CodeFault.TheVariants.{Opcode, Operand}
 use Rattle.bb_op.specs.declared.op.Bound.TheVariants.{Low, High}
 use Rattle.bb_op.specs.declared.op.Calculation.TheVariants.{Add, Sub, Mul, Min, Max}
-use Rattle.bb_op.specs.declared.op.Comparison.TheVariants.{Less, LessOrEqual, Equal}
+use Rattle.bb_op.specs.declared.op.Comparison.TheVariants.{Lt, Le, EqInt}
 use Rattle.bb_op.specs.declared.op.Division.{Division}
-use Rattle.bb_op.specs.declared.op.Division.TheVariants.{Quotient, Remainder}
+use Rattle.bb_op.specs.declared.op.Division.TheVariants.{DivBy, ModBy}
 use Rattle.bb_op.specs.declared.op.LinkChange.TheVariants as changes
 use Rattle.bb_op.specs.declared.op.Logic.TheVariants as logic
 use Rattle.bb_op.specs.declared.op.Op.{Op}
@@ -306,8 +306,8 @@ op_again (ops.Relink changes.Link n) rest fits = with_number_again (numbered.Rel
 op_again (ops.Relink changes.Unlink n) rest fits = with_number_again (numbered.Relink changes.Unlink) n rest fits
 op_again (ops.One n place) rest fits = branch_again branches.One n place rest fits.0 fits.1
 op_again (ops.As n place) rest fits = branch_again branches.As n place rest fits.0 fits.1
-op_again (ops.Divide Quotient by) rest fits = divide_again Quotient by rest fits.fits fits.positive
-op_again (ops.Divide Remainder by) rest fits = divide_again Remainder by rest fits.fits fits.positive
+op_again (ops.Divide DivBy by) rest fits = divide_again DivBy by rest fits.fits fits.positive
+op_again (ops.Divide ModBy by) rest fits = divide_again ModBy by rest fits.fits fits.positive
 op_again (ops.Say count) rest fits = say_again count rest fits
 op_again (ops.Next local place) rest fits = two_again Op ℕ ℕ byte_at single Byte byte_spelled number_at two_bytes Number number_spelled ops.Next local place rest fits.0 fits.1
 op_again (ops.Calculate Add) rest fits = refl
@@ -315,9 +315,9 @@ op_again (ops.Calculate Sub) rest fits = refl
 op_again (ops.Calculate Mul) rest fits = refl
 op_again (ops.Calculate Min) rest fits = refl
 op_again (ops.Calculate Max) rest fits = refl
-op_again (ops.Compare Less) rest fits = refl
-op_again (ops.Compare LessOrEqual) rest fits = refl
-op_again (ops.Compare Equal) rest fits = refl
+op_again (ops.Compare Lt) rest fits = refl
+op_again (ops.Compare Le) rest fits = refl
+op_again (ops.Compare EqInt) rest fits = refl
 op_again (ops.Combine logic.And) rest fits = refl
 op_again (ops.Combine logic.Or) rest fits = refl
 op_again (ops.BoundOf Low) rest fits = refl

@@ -8,8 +8,8 @@ use Rattle.bb_op.specs.declared.frame.Kind.TheVariants as kinds
 use Rattle.bb_op.specs.declared.frame.Loop.{Loop}
 use Rattle.bb_op.specs.declared.op.Bound.TheVariants.{Low, High}
 use Rattle.bb_op.specs.declared.op.Calculation.TheVariants.{Add, Sub, Mul, Min, Max}
-use Rattle.bb_op.specs.declared.op.Comparison.TheVariants.{Less, LessOrEqual, Equal}
-use Rattle.bb_op.specs.declared.op.Division.TheVariants.{Quotient, Remainder}
+use Rattle.bb_op.specs.declared.op.Comparison.TheVariants.{Lt, Le, EqInt}
+use Rattle.bb_op.specs.declared.op.Division.TheVariants.{DivBy, ModBy}
 use Rattle.bb_op.specs.declared.op.LinkChange.TheVariants as changes
 use Rattle.bb_op.specs.declared.op.Logic.TheVariants as logic
 use Rattle.bb_op.specs.declared.op.Op.{Op}
@@ -132,13 +132,13 @@ opcode Pop = 7
 opcode (Calculate Add) = 8
 opcode (Calculate Sub) = 9
 opcode (Calculate Mul) = 10
-opcode (Divide Quotient by) = 11
-opcode (Divide Remainder by) = 12
+opcode (Divide DivBy by) = 11
+opcode (Divide ModBy by) = 12
 opcode (Calculate Min) = 13
 opcode (Calculate Max) = 14
-opcode (Compare Less) = 15
-opcode (Compare LessOrEqual) = 16
-opcode (Compare Equal) = 17
+opcode (Compare Lt) = 15
+opcode (Compare Le) = 16
+opcode (Compare EqInt) = 17
 opcode EqText = 18
 opcode EqLabel = 19
 opcode EqUnit = 20

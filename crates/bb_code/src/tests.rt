@@ -166,9 +166,9 @@ fn limits_of_ops(rt: HostRuntime) -> Result<(), Fail> {
         (1, 4097, Op::Done, false),
         (1, 1, Op::Say(16), true),
         (1, 1, Op::Say(17), false),
-        (1, 1, Op::Divide(Division::Quotient, 1), true),
-        (1, 1, Op::Divide(Division::Quotient, 0), false),
-        (1, 1, Op::Divide(Division::Remainder, -1), false),
+        (1, 1, Op::Divide(Division::DivBy, 1), true),
+        (1, 1, Op::Divide(Division::DivBy, 0), false),
+        (1, 1, Op::Divide(Division::ModBy, -1), false),
     ];
     for (locals, count, op, taken) in table {
         let found = takes_ops(rt.alloc(), locals, count, op)?;

@@ -21,16 +21,16 @@ pub enum Calculation {
 /// What a number is made into by a positive divisor. It rounds down.
 #[derive(Clone, Copy, Debug, PartialEq, Eq)]
 pub enum Division {
-    Quotient,
-    Remainder,
+    DivBy,
+    ModBy,
 }
 
 /// How two numbers are compared.
 #[derive(Clone, Copy, Debug, PartialEq, Eq)]
 pub enum Comparison {
-    Less,
-    LessOrEqual,
-    Equal,
+    Lt,
+    Le,
+    EqInt,
 }
 
 /// How two truth values are combined.

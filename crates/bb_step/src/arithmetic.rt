@@ -27,8 +27,8 @@ fn divided(division: Division, a: i64, divisor: i64) -> i64
     ensures { result ≡ def.divided division a divisor }
 {
     match division {
-        Division::Quotient => a.div_euclid(divisor),
-        Division::Remainder => a.rem_euclid(divisor),
+        Division::DivBy => a.div_euclid(divisor),
+        Division::ModBy => a.rem_euclid(divisor),
     }
 }
 
@@ -37,9 +37,9 @@ fn compared(comparison: Comparison, a: i64, b: i64) -> bool
     ensures { result ≡ def.compared comparison a b }
 {
     match comparison {
-        Comparison::Less => a < b,
-        Comparison::LessOrEqual => a <= b,
-        Comparison::Equal => a == b,
+        Comparison::Lt => a < b,
+        Comparison::Le => a <= b,
+        Comparison::EqInt => a == b,
     }
 }
 
