@@ -11,5 +11,6 @@ pub mod FocusLemmas
 pub mod OwnerLemmas
 pub mod SlotNameLemmas
 pub mod WalkLemmas
+pub mod SpanLemmas
 pub mod Laws
 pub mod Limits

@@ -6,6 +6,8 @@ pub mod Kinds
 pub mod Values
 -- parents, which class descends from which, and the slots of a class
 pub mod Inheritance
+-- the same by numbers: spans of a walk over the classes
+pub mod Spans
 -- the built-in class and its slots
 pub mod Focus
 -- lists of names

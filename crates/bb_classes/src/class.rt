@@ -27,24 +27,7 @@ impl Named for Class {
     }
 }
 
-/// Whether a class descends from another: it is that class, or its parent descends from it. A number without a class
-/// descends from itself alone.
-pub fn descends_in(classes: &[Class], class: ClassId, ancestor: ClassId) -> bool
-    requires { ParentsAreEarlier classes.now }
-    ensures computed { result ≡ descends_in classes.now class ancestor }
-    ensures least { IsTrue result ↔ Descends classes.now class ancestor }
-{
-    let mut at = class;
-    while at != ancestor {
-        match parent(classes, at) {
-            None => return false,
-            Some(parent) => at = parent,
-        }
-    }
-    true
-}
-
-/// Whether a class descends from one of some others.
+/// Whether a class descends from one of some others. A number without a class descends from itself alone.
 pub fn descends_from_any(classes: &[Class], class: ClassId, ancestors: &IdSet) -> bool
     requires { ParentsAreEarlier classes.now }
     ensures computed { result ≡ list_any (λ d. descends_in classes.now class d) ancestors.now }

@@ -8,12 +8,14 @@ mod fault;
 mod kind;
 mod label_set;
 mod read;
+mod span;
 mod value;
 
-pub use class::{Class, ClassId, descends_from_any, descends_in, parent};
+pub use class::{Class, ClassId, descends_from_any, parent};
 pub use draft::{Draft, DraftContent, SLOT_LIMIT, SchemaDraft};
 pub use fault::SchemaFault;
 pub use kind::{Kind, Link, SlotId};
 pub use label_set::{LabelId, LabelSet, LabelSetId, Labels};
 pub use read::{CLASS_LIMIT, LABEL_SET_LIMIT, Walked, resolve_link};
+pub use span::{Span, span_at, spans_of};
 pub use value::{TEXT_LIMIT, Value};

@@ -15,7 +15,7 @@ mod spaces;
 use crate::couple::count_couples;
 use crate::schema::Schema;
 use bb_basis::Table;
-use bb_classes::{SchemaFault, Walked};
+use bb_classes::{SchemaFault, Walked, spans_of};
 use bb_document::{Document, DocumentFault, SpaceEntry};
 use resolve::resolve_slots;
 use spaces::spaces_of;
@@ -44,6 +44,7 @@ fn bare_schema(alloc: Global, walked: Walked) -> Result<Schema, SchemaFault>
     let Walked { label_sets, draft } = walked;
     let slots = resolve_slots(alloc, &draft.classes, draft.slots.as_slice())?;
     let (couples_before, couple_count) = count_couples(alloc, &slots)?;
+    let spans = spans_of(alloc, draft.classes.as_slice())?;
     Ok(Schema {
         label_sets,
         classes: draft.classes,
@@ -51,6 +52,7 @@ fn bare_schema(alloc: Global, walked: Walked) -> Result<Schema, SchemaFault>
         spaces: Table::new(alloc),
         couples_before,
         couple_count,
+        spans,
     })
 }
 

@@ -1,6 +1,7 @@
 //! The schema and what can be asked of it. Every crate above looks names, slots and classes up here.
 
 ghost use Rattle.std.specs.Prelude.{◌≡◌, ◌<◌, ◌≤◌, ◌↔◌, Some, IsSome, is_some, IsTrue, length, min, slice_get, option_map, ◌⊎◌};
+ghost use Rattle.std.specs.List.{list_any};
 ghost use Rattle.bb_schema.specs.Schema.{class_named, space_named, label_set_named, label_named, slot_named, name_of_class, name_of_slot, name_of_space, name_of_label, slots_of, owner_of, kind_of_slot, default_of, link_of, inverse_of, dims_of, descends};
 ghost use Rattle.bb_classes.specs.Inheritance.{parent_of, Descends};
 ghost use Rattle.bb_schema.specs.Couples.{couples, couple_of};
@@ -15,10 +16,10 @@ ghost use Rattle.bb_schema.specs.Spaces.{allowed, IsAllowed};
 use crate::couple::{CoupleId, Side, couple_end};
 use crate::slot::{Content, Slot, find_slot, link_at};
 use crate::space::{Dim, Space, SpaceId};
-use bb_basis::Table;
+use bb_basis::{IdSet, Table};
 use bb_classes::{
-    Class, ClassId, Kind, LabelId, LabelSet, LabelSetId, Link, SlotId, Value, descends_from_any,
-    descends_in, parent,
+    Class, ClassId, Kind, LabelId, LabelSet, LabelSetId, Link, SlotId, Span, Value,
+    descends_from_any, parent, span_at,
 };
 use std::marker::Model;
 
@@ -32,6 +33,8 @@ pub struct Schema {
     // For each slot, the number of couples before it.
     pub(crate) couples_before: Vec<CoupleId>,
     pub(crate) couple_count: usize,
+    // For each class, by which numbers it is told what descends from it.
+    pub(crate) spans: Vec<Span>,
 }
 
 impl Model for Schema {
@@ -53,7 +56,7 @@ impl Model for Schema {
       classes = s.classes;
       slots = s.slots.items;
       spaces = s.spaces;
-    }) s.couples_before.items s.couple_count };
+    }) s.couples_before.items s.couple_count s.spans.items };
 }
 
 // By hand, so that a proof meets one call where a schema is dropped, and not all its parts.
@@ -66,6 +69,7 @@ impl Drop for Schema {
             spaces: _,
             couples_before: _,
             couple_count: _,
+            spans: _,
         } = self;
     }
 }
@@ -198,7 +202,20 @@ impl Schema {
         ensures computed { result ≡ descends self.now class ancestor }
         ensures least { IsTrue result ↔ Descends self.now.classes class ancestor }
     {
-        descends_in(self.classes.as_slice(), class, ancestor)
+        let Some(own) = span_at(&self.spans, class) else {
+            return class == ancestor;
+        };
+        match span_at(&self.spans, ancestor) {
+            None => false,
+            Some(above) => above.holds(own),
+        }
+    }
+
+    /// Whether a class descends from one of some others, however many these are.
+    pub fn descends_from_any(&self, class: ClassId, ancestors: &IdSet) -> bool
+        ensures { result ≡ list_any (λ d. descends self.now class d) ancestors.now }
+    {
+        descends_from_any(self.classes.as_slice(), class, ancestors)
     }
 
     /// Whether one of two classes descends from the other.

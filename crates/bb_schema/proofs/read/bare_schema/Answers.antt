@@ -1,6 +1,9 @@
-use Rattle.std.proofs.Common.{◌≡◌, ◌∙◌, ◌⊎◌, inl, inr, Result, Ok, Err, List, length, ap, sym}
+use Rattle.std.proofs.Common.{◌≡◌, ◌≤◌, ◌∙◌, ◌⊎◌, inl, inr, Result, Ok, Err, List, length, ap, sym, subst}
 use Rattle.std.proofs.lemmas.Result.{err_from_is_err_and}
+use Rattle.bb_classes.specs.declared.class.Class.{Class}
 use Rattle.bb_classes.specs.declared.fault.SchemaFault.TheVariants.{Memory}
+use Rattle.bb_classes.specs.declared.read.classes.TheConstants.{CLASS_LIMIT}
+use Rattle.bb_classes.specs.Inheritance.{ParentsAreEarlier}
 use Rattle.bb_schema.specs.declared.slot.Slot.{Slot}
 use Rattle.bb_schema.specs.Couples.{firsts, counts}
 use Rattle.bb_schema.proofs.LinkLemmas.{links_are_there}
@@ -16,7 +19,14 @@ invariant_of-result c =
       fits = bare_fits c.args.walked c.in_ok-slots.slots.items c.requires (rw c.as_slice.ensures at c.in_ok-slots.ensures);
       counted = c.in_ok-couples_before.ensures.before ∙ ap (counts 0 0) c.deref.ensures.value;
       all = c.in_ok-couples_before.ensures.all ∙ ap (λ (ts : List Slot). length (firsts 0 ts)) c.deref.ensures.value;
+      told = rw c.as_slice-2.ensures at c.in_ok-spans.ensures;
     })
+
+pub spans_of-requires : goal.spans_of-requires
+spans_of-requires c = record {
+  few = subst (λ (ks : List Class). length ks ≤ CLASS_LIMIT) (sym c.as_slice-2.ensures) c.requires.few_classes;
+  parents = subst ParentsAreEarlier (sym c.as_slice-2.ensures) c.requires.parents;
+}
 
 never : {X E : Type 0} (memory e : E) (r : Result X E) (made : X) → r ≡ Ok made → (e ≡ memory) ⊎ (r ≡ Err e) → e ≡ memory
 never memory e r made is (inl m) = m
