@@ -14,6 +14,8 @@ pub use Rattle.bb_step.specs.Activation
 -- of bb_state: its state, and how it comes out
 pub use Rattle.bb_step.specs.Reasons
 pub use Rattle.bb_step.specs.Machine
+pub use Rattle.bb_step.specs.Answer
 pub use Rattle.bb_step.specs.Entry
 pub use Rattle.bb_step.specs.Outcome
 pub use Rattle.bb_step.specs.Stop
+pub use Rattle.bb_step.specs.Stuck
