@@ -2,3 +2,5 @@
 pub mod Codes
 -- declared frames by their numbers
 pub mod Numbered
+-- the places of a code by the number of loops that hold them
+pub mod Depths

@@ -6,7 +6,7 @@ ghost use Rattle.bb_verify.specs.Accepted.{checked};
 ghost use Rattle.bb_verify.specs.Facts.{Facts};
 ghost use Rattle.bb_effect.specs.Flaws.{out_of_memory};
 
-use crate::checked::Checked;
+use crate::checked::{Checked, counts_of};
 use crate::places::frames_of;
 use crate::tables::check_tables;
 use bb_effect::{Code, Part, Schema, VerifyFault};
@@ -29,5 +29,6 @@ pub fn verify(
     check_jumps(&code)?;
     let depths = check_loops(alloc, &code)?;
     let frames = frames_of(alloc, schema, part, &code)?;
-    Ok(Checked::new(code, part, frames, depths))
+    let places_in = counts_of(depths.as_slice());
+    Ok(Checked::new(code, part, frames, places_in))
 }

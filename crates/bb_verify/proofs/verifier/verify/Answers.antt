@@ -1,7 +1,8 @@
-use Rattle.std.proofs.Common.{sym, subst}
+use Rattle.std.proofs.Common.{sym, subst, ◌∙◌, arith}
 use Rattle.bb_effect.specs.Code.{IsCode}
 use Rattle.bb_verify.specs.Accepted.{Checked}
 use Rattle.bb_verify.specs.Facts.{Facts}
+use Rattle.bb_verify.proofs.BudgetLemmas.{depths_long}
 use Rattle.bb_verify.proofs.FactLemmas.{facts_by}
 use Rattle.bb_verify.proofs.TableLemmas.{tables_fit}
 use Rattle.bb_verify.proofs.WalkLemmas.{frames_long}
@@ -9,6 +10,11 @@ use Rattle.bb_verify.proofs.verifier.verify.Goals as goal
 
 pub frames_of-requires : goal.frames_of-requires
 frames_of-requires c = tables_fit c.args.schema.now c.args.part c.args.code c.in_ok-check_tables.field-0 c.in_ok-check_tables.ensures
+
+pub counts_of-places_in-requires : goal.counts_of-places_in-requires
+counts_of-places_in-requires c =
+    let code : IsCode c.args.code = subst IsCode c.code.view_is c.code.invariant in
+    omega (arith, code.ops.few, depths_long c.args.code c.as_slice.result.now (c.as_slice.ensures ∙ c.in_ok-depths.ensures.depths))
 
 pub new-requires-clause-frames : goal.new-requires-clause-frames
 new-requires-clause-frames c = frames_long c.args.schema.now c.args.part c.args.code c.in_ok-frames.frames c.in_ok-frames.ensures
