@@ -2,3 +2,4 @@
 pub mod Laws
 pub mod SaidLemmas
 pub mod ExecutionLemmas
+pub mod ReadLemmas

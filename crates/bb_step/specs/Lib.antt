@@ -12,6 +12,8 @@ pub mod Kept
 pub mod Step
 -- an execution: steps from the first place
 pub mod Activation
+-- which codes only read the blackboard
+pub mod Writes
 -- of bb_state: the state of an execution, and how an execution comes out
 pub use Rattle.bb_state.specs.Reasons
 pub use Rattle.bb_state.specs.Sequence

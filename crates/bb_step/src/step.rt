@@ -1,11 +1,12 @@
 //! One step of an execution. `execute` calls it for each op.
 
-ghost use Rattle.std.specs.Prelude.{◌≡◌};
+ghost use Rattle.std.specs.Prelude.{◌≡◌, false};
 ghost use Rattle.bb_basis.specs.Results.{Gives};
 ghost use Rattle.bb_code.specs.Code.{IsOp};
 ghost use Rattle.bb_state.specs.declared.halt.Halt.TheVariants.{Memory as OutOfMemory};
 ghost use Rattle.bb_step.specs.Kept.{Kept};
 ghost use Rattle.bb_step.specs.Step.{step};
+ghost use Rattle.bb_step.specs.Writes.{is_write};
 
 use crate::arithmetic::{
     bound, calculate, combine, compare, divide, eq_label, eq_text, eq_unit, make_interval, negate,
@@ -33,6 +34,7 @@ pub(crate) fn step<'a>(
     ensures gives { Gives OutOfMemory (λ _. (machine.new, board.new)) result
         (step code.now op (machine.old, board.old)) }
     ensures kept { Kept result board.old board.new }
+    ensures reads { is_write op ≡ false → board.new ≡ board.old }
 {
     match op {
         Op::PushInt(number) => machine.push(Value::Int(number)),

@@ -9,6 +9,7 @@ use Rattle.bb_code.specs.Code.{IsOp}
 use Rattle.bb_state.specs.Machine.{go_to}
 use Rattle.bb_step.specs.Step.{step}
 use Rattle.bb_step.specs.Activation.{Execution, halted}
+use Rattle.bb_step.proofs.ReadLemmas.{no_write_at}
 use Rattle.bb_step.proofs.ExecutionLemmas.{goes_on, ends_outside, ends_at_limit, ends_by_op, gives_halted, leaves_halted}
 use Rattle.bb_step.proofs.execution.execute.Goals as goal
 
@@ -18,7 +19,7 @@ returns-in_default-clause-outcome c =
     sym c.in_default.is ∙ (c.op.ensures.value ∙ ap (slice_get c.args.code.now.ops) c.place-place.ensures) in
     gives_halted (halts.Stuck Outside) c.loop-steps.steps c.loop-steps.machine.found c.halted-in_default.result _ c.loop-steps.board
     (c.halted-in_default.ensures.gives ∙ ap (halted (halts.Stuck Outside) c.loop-steps.steps) c.found-found.ensures.value)
-    (inr (c.loop-steps.invariant ∙ ends_outside c.args.limit c.loop-steps.steps c.args.code.now c.loop-steps.machine c.loop-steps.board c.loop-steps-test.true at))
+    (inr (c.loop-steps.invariant.told ∙ ends_outside c.args.limit c.loop-steps.steps c.args.code.now c.loop-steps.machine c.loop-steps.board c.loop-steps-test.true at))
 
 pub returns-in_default-clause-board : goal.returns-in_default-clause-board
 returns-in_default-clause-board c =
@@ -26,8 +27,11 @@ returns-in_default-clause-board c =
     sym c.in_default.is ∙ (c.op.ensures.value ∙ ap (slice_get c.args.code.now.ops) c.place-place.ensures) in
     leaves_halted (halts.Stuck Outside) c.loop-steps.steps c.loop-steps.machine.found c.halted-in_default.result _ c.loop-steps.board c.loop-steps.board
     (c.halted-in_default.ensures.gives ∙ ap (halted (halts.Stuck Outside) c.loop-steps.steps) c.found-found.ensures.value)
-    (inr (c.loop-steps.invariant ∙ ends_outside c.args.limit c.loop-steps.steps c.args.code.now c.loop-steps.machine c.loop-steps.board c.loop-steps-test.true at))
+    (inr (c.loop-steps.invariant.told ∙ ends_outside c.args.limit c.loop-steps.steps c.args.code.now c.loop-steps.machine c.loop-steps.board c.loop-steps-test.true at))
     (inr refl)
+
+pub returns-in_default-clause-reads_only : goal.returns-in_default-clause-reads_only
+returns-in_default-clause-reads_only c = c.loop-steps.invariant.reads
 
 pub overflow_add-place : goal.overflow_add-place
 overflow_add-place c =
@@ -46,7 +50,7 @@ returns-in-Err-clause-outcome c =
     let moved : c.go_to.new.self ≡ go_to (c.loop-steps.machine.place + 1) c.loop-steps.machine = c.go_to.ensures ∙ ap (λ p. go_to (p + 1) c.loop-steps.machine) c.place-place.ensures in
     gives_halted c.in-Err.halt (c.loop-steps.steps + 1) c.loop-steps.machine.found c.halted-in-Err.result _ c.loop-steps.board
     (c.halted-in-Err.ensures.gives ∙ ap (halted c.in-Err.halt (c.loop-steps.steps + 1)) c.found-found.ensures.value)
-    (ends_by_op c.args.limit c.loop-steps.steps c.args.code.now c.loop-steps.machine c.go_to.new.self c.loop-steps.board c.in-Some.op c.in-Err.halt _ c.loop-steps-test.true at moved c.in-Err.ensures.gives c.loop-steps.invariant)
+    (ends_by_op c.args.limit c.loop-steps.steps c.args.code.now c.loop-steps.machine c.go_to.new.self c.loop-steps.board c.in-Some.op c.in-Err.halt _ c.loop-steps-test.true at moved c.in-Err.ensures.gives c.loop-steps.invariant.told)
 
 pub returns-in-Err-clause-board : goal.returns-in-Err-clause-board
 returns-in-Err-clause-board c =
@@ -55,29 +59,42 @@ returns-in-Err-clause-board c =
     let moved : c.go_to.new.self ≡ go_to (c.loop-steps.machine.place + 1) c.loop-steps.machine = c.go_to.ensures ∙ ap (λ p. go_to (p + 1) c.loop-steps.machine) c.place-place.ensures in
     leaves_halted c.in-Err.halt (c.loop-steps.steps + 1) c.loop-steps.machine.found c.halted-in-Err.result _ c.loop-steps.board c.step.new.board
     (c.halted-in-Err.ensures.gives ∙ ap (halted c.in-Err.halt (c.loop-steps.steps + 1)) c.found-found.ensures.value)
-    (ends_by_op c.args.limit c.loop-steps.steps c.args.code.now c.loop-steps.machine c.go_to.new.self c.loop-steps.board c.in-Some.op c.in-Err.halt _ c.loop-steps-test.true at moved c.in-Err.ensures.gives c.loop-steps.invariant)
+    (ends_by_op c.args.limit c.loop-steps.steps c.args.code.now c.loop-steps.machine c.go_to.new.self c.loop-steps.board c.in-Some.op c.in-Err.halt _ c.loop-steps-test.true at moved c.in-Err.ensures.gives c.loop-steps.invariant.told)
     c.in-Err.ensures.kept
+
+pub returns-in-Err-clause-reads_only : goal.returns-in-Err-clause-reads_only
+returns-in-Err-clause-reads_only c =
+    let at : Some c.in-Some.op ≡ slice_get c.args.code.now.ops c.loop-steps.machine.place =
+    c.in-Some.ensures.value ∙ ap (slice_get c.args.code.now.ops) c.place-place.ensures in
+    λ none. c.in-Err.ensures.reads (no_write_at c.args.code.now c.loop-steps.machine.place c.in-Some.op none (sym at)) ∙ c.loop-steps.invariant.reads none
 
 pub loop-steps-preserved : goal.loop-steps-preserved
 loop-steps-preserved c =
     let at : Some c.in-Some.op ≡ slice_get c.args.code.now.ops c.loop-steps.machine.place =
     c.in-Some.ensures.value ∙ ap (slice_get c.args.code.now.ops) c.place-place.ensures in
     let moved : c.go_to.new.self ≡ go_to (c.loop-steps.machine.place + 1) c.loop-steps.machine = c.go_to.ensures ∙ ap (λ p. go_to (p + 1) c.loop-steps.machine) c.place-place.ensures in
-    c.loop-steps.invariant
-    ∙ goes_on c.args.limit c.loop-steps.steps c.args.code.now c.loop-steps.machine c.loop-steps.board c.in-Some.op (c.step.new.machine, c.step.new.board) c.loop-steps-test.true at
-    (ap (λ x. step c.args.code.now c.in-Some.op (x, c.loop-steps.board)) (sym moved) ∙ c.in_default-step.ensures.gives)
+    record {
+      told = c.loop-steps.invariant.told
+          ∙ goes_on c.args.limit c.loop-steps.steps c.args.code.now c.loop-steps.machine c.loop-steps.board c.in-Some.op (c.step.new.machine, c.step.new.board) c.loop-steps-test.true at
+          (ap (λ x. step c.args.code.now c.in-Some.op (x, c.loop-steps.board)) (sym moved) ∙ c.in_default-step.ensures.gives);
+      reads = λ none.
+          c.in_default-step.ensures.reads (no_write_at c.args.code.now c.loop-steps.machine.place c.in-Some.op none (sym at)) ∙ c.loop-steps.invariant.reads none;
+    }
 
 pub returns-clause-outcome : goal.returns-clause-outcome
 returns-clause-outcome c =
     let all : c.loop-steps.steps ≡ c.args.limit = omega arith in
     gives_halted (halts.Stuck Turns) c.args.limit c.loop-steps.machine.found c.halted-2.result _ c.loop-steps.board
     (c.halted-2.ensures.gives ∙ ap (halted (halts.Stuck Turns) c.args.limit) c.found.ensures.value)
-    (inr (c.loop-steps.invariant ∙ (ends_at_limit c.args.limit c.loop-steps.steps c.args.code.now c.loop-steps.machine c.loop-steps.board (omega arith) ∙ ap (λ n. let e : Execution = (halted (halts.Stuck Turns) n c.loop-steps.machine.found, c.loop-steps.board) in e) all)))
+    (inr (c.loop-steps.invariant.told ∙ (ends_at_limit c.args.limit c.loop-steps.steps c.args.code.now c.loop-steps.machine c.loop-steps.board (omega arith) ∙ ap (λ n. let e : Execution = (halted (halts.Stuck Turns) n c.loop-steps.machine.found, c.loop-steps.board) in e) all)))
 
 pub returns-clause-board : goal.returns-clause-board
 returns-clause-board c =
     let all : c.loop-steps.steps ≡ c.args.limit = omega arith in
     leaves_halted (halts.Stuck Turns) c.args.limit c.loop-steps.machine.found c.halted-2.result _ c.loop-steps.board c.loop-steps.board
     (c.halted-2.ensures.gives ∙ ap (halted (halts.Stuck Turns) c.args.limit) c.found.ensures.value)
-    (inr (c.loop-steps.invariant ∙ (ends_at_limit c.args.limit c.loop-steps.steps c.args.code.now c.loop-steps.machine c.loop-steps.board (omega arith) ∙ ap (λ n. let e : Execution = (halted (halts.Stuck Turns) n c.loop-steps.machine.found, c.loop-steps.board) in e) all)))
+    (inr (c.loop-steps.invariant.told ∙ (ends_at_limit c.args.limit c.loop-steps.steps c.args.code.now c.loop-steps.machine c.loop-steps.board (omega arith) ∙ ap (λ n. let e : Execution = (halted (halts.Stuck Turns) n c.loop-steps.machine.found, c.loop-steps.board) in e) all)))
     (inr refl)
+
+pub returns-clause-reads_only : goal.returns-clause-reads_only
+returns-clause-reads_only c = c.loop-steps.invariant.reads
