@@ -20,4 +20,8 @@ pub mod StandLemmas
 pub mod BudgetLemmas
 pub mod RunLemmas
 pub mod EntryLemmas
+pub mod AnswerLemmas
 pub mod NeverWrong
+-- which codes only read, and what crates above use
+pub mod WriteLemmas
+pub mod Laws

@@ -11,6 +11,7 @@ pub use Rattle.bb_step.specs.Reading
 pub use Rattle.bb_step.specs.Changing
 pub use Rattle.bb_step.specs.Step
 pub use Rattle.bb_step.specs.Activation
+pub use Rattle.bb_step.specs.Writes
 -- of bb_state: its state, and how it comes out
 pub use Rattle.bb_step.specs.Reasons
 pub use Rattle.bb_step.specs.Machine

@@ -1,10 +1,13 @@
 -- Steps after which the state suits a frame that the verifier gives for the place.
-use Rattle.std.specs.Prelude.{◌≡◌, ◌⊎◌, ℕ, Option, Some, None, Result, Ok, Err}
+use Rattle.std.specs.Prelude.{◌≡◌, ◌⊎◌, ℕ, Bool, true, false, Option, Some, None, Result, Ok, Err}
 use Rattle.bb_board.specs.Fits.{Fits}
 use Rattle.bb_schema.specs.Schema.{Schema}
 use Rattle.bb_code.specs.Op.{Op}
+use Rattle.bb_code.specs.Op.TheVariants as ops
 use Rattle.bb_verify.specs.FrameType.{Frame}
 use Rattle.bb_verify.specs.Jumps.{target_of}
+use Rattle.bb_step.specs.Answer.{Answer}
+use Rattle.bb_step.specs.Answer.TheVariants.{Done, Rated, Declined, Yes, No}
 use Rattle.bb_step.specs.Halt.{Halt}
 use Rattle.bb_step.specs.Halt.TheVariants.{Answered, Full, Stuck, Memory}
 use Rattle.bb_step.specs.Changing.{State}
@@ -28,10 +31,19 @@ pub record Leads (s : Schema) (next : ℕ) (op : Op) (edges : Option Frame × Op
   pub fits : Fits s state.1.world
   pub edge : IsAtEdge next op edges state
 
--- an op leads on, ends with an answer, or finds no room for one more unit
+-- the op can end an execution with the answer
+abbrev pub can_answer : Op → Answer → Bool
+can_answer ops.Done Done = true
+can_answer ops.Rate (Rated n) = true
+can_answer ops.Decline Declined = true
+can_answer ops.Answer Yes = true
+can_answer ops.Answer No = true
+can_answer _ _ = false
+
+-- an op leads on, ends with an answer that it can give, or finds no room for one more unit
 abbrev pub IsSafe : Schema → (next : ℕ) → Op → Option Frame × Option Frame → Result State Halt → Type 0
 IsSafe s next op edges (Ok state) = Leads s next op edges state
-IsSafe s next op edges (Err (Answered a)) = Unit {0}
+IsSafe s next op edges (Err (Answered a)) = can_answer op a ≡ true
 IsSafe s next op edges (Err Full) = Unit {0}
 IsSafe s next op edges (Err (Stuck reason)) = ⊥
 IsSafe s next op edges (Err Memory) = ⊥

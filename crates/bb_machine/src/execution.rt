@@ -1,6 +1,6 @@
 //! The execution of a code. The run calls it for each activation that is chosen (bb_run).
 
-ghost use Rattle.std.specs.Prelude.{◌≡◌, ◌≤◌, ◌⊎◌, ℕ, List, Some, Err, IfOk};
+ghost use Rattle.std.specs.Prelude.{◌≡◌, ◌≤◌, ◌⊎◌, ℕ, true, List, Some, Err, IfOk};
 ghost use Rattle.bb_basis.specs.Results.{Gives};
 ghost use Rattle.bb_units.specs.declared.units.TheConstants.{UNIT_LIMIT};
 ghost use Rattle.bb_verify.specs.FrameType.{Frame};
@@ -9,7 +9,9 @@ ghost use Rattle.bb_step.specs.Stop.TheVariants.{Memory as OutOfMemory};
 ghost use Rattle.bb_step.specs.Activation.{activation};
 ghost use Rattle.bb_step.specs.Machine.{entry_state};
 ghost use Rattle.bb_step.specs.Changing.{State};
-ghost use Rattle.bb_machine.specs.NeverWrong.{Begins, HasTurns, after, Stands, StuckByTurns, NeverStuck, KeepsBudget};
+ghost use Rattle.bb_step.specs.Writes.{has_no_writes};
+ghost use Rattle.bb_machine.specs.NeverWrong.{Begins, HasTurns, after, Stands, StuckByTurns, AnswersAs};
+ghost use Rattle.bb_machine.specs.NeverWrong.{NeverStuck, KeepsBudget, only_reads};
 
 use bb_board::Board;
 use bb_code::Code;
@@ -18,11 +20,13 @@ use std::alloc::Global;
 
 /// Executes a code from its first place for an entry, at most `limit` steps, on a blackboard, and returns how it came
 /// out. What it changes is noted there. Each op is tested as it is met, so any code can be executed, and what it
-/// declares of frames and loops is not read. `Memory` may come at any op, after changes of those before it.
+/// declares of frames and loops is not read. `Memory` may come at any op, after changes of those before it. A code
+/// without an op that writes leaves the blackboard as it was, however it comes out.
 ///
 /// A code that was accepted for a part never goes wrong, where the entry is one of the part (`Begins`): each state that
-/// it passes through suits the frame of its place, and it is stuck for the limit of steps alone. Where it has no loops
-/// and the limit is at least its budget (`HasTurns`), it is never stuck, and makes no more steps than its budget.
+/// it passes through suits the frame of its place, it is stuck for the limit of steps alone, its answer is one of the
+/// part, and the blackboard stays as it was unless the part is `do`. Where it has no loops and the limit is at least its
+/// budget (`HasTurns`), it is never stuck, and makes no more steps than its budget.
 pub fn trial(
     alloc: Global,
     code: &Code,
@@ -33,12 +37,17 @@ pub fn trial(
     ensures outcome { Gives OutOfMemory (λ o. o) result (activation limit code.now entry board.old).0 }
     ensures few { IfOk result (λ o. o.found ≤ UNIT_LIMIT) }
     ensures board { (result ≡ Err OutOfMemory) ⊎ (board.new ≡ (activation limit code.now entry board.old).1) }
+    ensures reads_only { has_no_writes code.now ≡ true → board.new ≡ board.old }
     ensures suits { (part : Part) (frames : List Frame) (n : ℕ) (state : State) →
         Begins part frames code.now entry board.old →
         after n code.now (entry_state code.now entry, board.old) ≡ Some state →
         Stands board.old.schema code.now frames state }
     ensures turns { (part : Part) (frames : List Frame) →
         Begins part frames code.now entry board.old → StuckByTurns result }
+    ensures answers { (part : Part) (frames : List Frame) →
+        Begins part frames code.now entry board.old → AnswersAs part result }
+    ensures parts_read { (part : Part) (frames : List Frame) →
+        Begins part frames code.now entry board.old → only_reads part ≡ true → board.new ≡ board.old }
     ensures never_stuck { (part : Part) (frames : List Frame) →
         Begins part frames code.now entry board.old → HasTurns code.now limit → NeverStuck result }
     ensures within_budget { (part : Part) (frames : List Frame) →

@@ -26,7 +26,7 @@ use Rattle.bb_step.specs.Jumping.{unless, rate, answer, answered, yes_or_no}
 use Rattle.bb_step.specs.Reading.{alive}
 use Rattle.bb_step.specs.Step.{step, keeps}
 use Rattle.bb_machine.specs.Kinds.{HasKind, WasOf, Suits}
-use Rattle.bb_machine.specs.Safe.{edges_of, IsSafe}
+use Rattle.bb_machine.specs.Safe.{edges_of, can_answer, IsSafe}
 use Rattle.bb_machine.specs.proving.Moves.{Makes}
 use Rattle.bb_machine.proofs.MoveLemmas.{pops, pushes, due_is}
 use Rattle.bb_machine.proofs.LiveLemmas.{of_live}
@@ -44,6 +44,10 @@ rate_on m n rest is = rw is refl
 answer_on : (m : Machine) (b : Bool) (rest : List Value) → m.stack ≡ values.Bool b ∷ rest → answer m ≡ answered (yes_or_no b)
 unfolding answer pop
 answer_on m b rest is = rw is refl
+
+says : (b : Bool) → can_answer ops.Answer (yes_or_no b) ≡ true
+says true = refl
+says false = refl
 
 alive_on : (b : Board) (place : ℕ) (m : Machine) (n : ℕ) (rest : List Value) → m.stack ≡ values.Unit n ∷ rest → (live : Bool) → is_live b.world.units n ≡ live → alive b place m ≡ cond live (push (values.Unit n) (with_stack rest m)) (Ok (go_to place (with_stack rest m)))
 unfolding alive
@@ -68,11 +72,11 @@ module _ (part : Part) (code : Code) (b : Board) (fits : Fits b.schema b.world) 
 
   pub done_safe : Safe ops.Done
   unfolding step
-  done_safe h = tt
+  done_safe h = refl
 
   pub decline_safe : Safe ops.Decline
   unfolding step
-  decline_safe h = tt
+  decline_safe h = refl
 
   goes : (place : ℕ) (left : Machine) (g : Frame) (truth : Bool) → Suits b.schema b.world left g → (let r : Result Machine Halt = Ok (cond truth left (go_to place left)) in (Makes b.schema b.world left g r) ⊎ (r ≡ Ok (go_to place left)))
   goes place left g true left_suits = inl (record { next = left; is = refl; place = refl; suits = left_suits })
@@ -100,7 +104,7 @@ module _ (part : Part) (code : Code) (b : Board) (fits : Fits b.schema b.world) 
       let due = bind_ok (dues.due kinds.Int one.0.0) (λ (u : Unit {0}). ends_rated part >>= λ _. Ok effects.ended) x.0 one.2 in
       let p = pops b.schema b.world m f one.0 one.1 suits in
       let n : HasKind b.schema b.world kinds.Int p.value = subst (λ (k : Kind). HasKind b.schema b.world k p.value) (sym (due_is b.schema b.world kinds.Int one.0.0 due.0 due.1)) p.has in
-      subst (λ (r : Result Machine Halt). IsSafe b.schema m.place ops.Rate e (keeps b r)) (sym (rate_on m n.0 p.rest (p.stack ∙ ap (λ (v : Value). v ∷ p.rest) n.1))) tt
+      subst (λ (r : Result Machine Halt). IsSafe b.schema m.place ops.Rate e (keeps b r)) (sym (rate_on m n.0 p.rest (p.stack ∙ ap (λ (v : Value). v ∷ p.rest) n.1))) refl
 
   pub answer_safe : Safe ops.Answer
   unfolding step effect effects.answer
@@ -110,7 +114,7 @@ module _ (part : Part) (code : Code) (b : Board) (fits : Fits b.schema b.world) 
       let due = bind_ok (dues.due kinds.Bool one.0.0) (λ (u : Unit {0}). ends_answered part >>= λ _. Ok effects.ended) x.0 one.2 in
       let p = pops b.schema b.world m f one.0 one.1 suits in
       let truth : HasKind b.schema b.world kinds.Bool p.value = subst (λ (k : Kind). HasKind b.schema b.world k p.value) (sym (due_is b.schema b.world kinds.Bool one.0.0 due.0 due.1)) p.has in
-      subst (λ (r : Result Machine Halt). IsSafe b.schema m.place ops.Answer e (keeps b r)) (sym (answer_on m truth.0 p.rest (p.stack ∙ ap (λ (v : Value). v ∷ p.rest) truth.1))) tt
+      subst (λ (r : Result Machine Halt). IsSafe b.schema m.place ops.Answer e (keeps b r)) (sym (answer_on m truth.0 p.rest (p.stack ∙ ap (λ (v : Value). v ∷ p.rest) truth.1))) (says truth.0)
 
   alive_by : (place n : ℕ) (left : Machine) (class : ℕ) (g next : Frame) (live : Bool) → is_live b.world.units n ≡ live → WasOf b.schema b.world class n → Suits b.schema b.world left g → frames.push (kinds.Ref class) g ≡ Ok next
       → (let r : Result Machine Halt = cond live (push (values.Unit n) left) (Ok (go_to place left)) in (Makes b.schema b.world left next r) ⊎ (r ≡ Ok (go_to place left)))

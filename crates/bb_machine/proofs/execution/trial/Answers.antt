@@ -1,6 +1,7 @@
 use Rattle.std.proofs.Common.{subst}
 use Rattle.bb_schema.specs.Fits as schemas
-use Rattle.bb_machine.proofs.NeverWrong.{each_stands, stuck_by_turns, never_stuck, within_budget}
+use Rattle.bb_machine.proofs.NeverWrong.{each_stands, stuck_by_turns, answers, never_stuck, within_budget}
+use Rattle.bb_machine.proofs.WriteLemmas.{only_part_reads}
 use Rattle.bb_machine.proofs.execution.trial.Goals as goal
 
 pub returns-clause-suits : goal.returns-clause-suits
@@ -10,6 +11,14 @@ returns-clause-suits c = λ part frames n state begins.
 pub returns-clause-turns : goal.returns-clause-turns
 returns-clause-turns c = λ part frames begins.
     stuck_by_turns part frames c.args.code.now c.args.entry c.args.board.now c.args.limit c.ops.ensures.fits (subst schemas.Fits c.schema.ensures c.fits.ensures) c.fits-2.ensures begins c.execute.result c.execute.ensures.outcome
+
+pub returns-clause-answers : goal.returns-clause-answers
+returns-clause-answers c = λ part frames begins.
+    answers part frames c.args.code.now c.args.entry c.args.board.now c.args.limit c.ops.ensures.fits (subst schemas.Fits c.schema.ensures c.fits.ensures) c.fits-2.ensures begins c.execute.result c.execute.ensures.outcome
+
+pub returns-clause-parts_read : goal.returns-clause-parts_read
+returns-clause-parts_read c = λ part frames begins only.
+    c.execute.ensures.reads_only (only_part_reads c.args.board.now.schema part c.args.code.now frames only begins.accepted)
 
 pub returns-clause-never_stuck : goal.returns-clause-never_stuck
 returns-clause-never_stuck c = λ part frames begins has.
