@@ -220,6 +220,72 @@ def everywhere(name, count):
     yield from placed(SPACES, DIMENSION, name, many, ((i, space) for i in range(many) for space in range(SPACES)))
 
 
+# ---- bundles
+
+NOTHING = "42424301" "01" "0000" "0000" "0000" "0000" "0001" "2e"
+MOST_UNITS = 65_536
+
+
+def noted(rest, count, **values):
+    """Units of class `b`, beside class `a` and what more there is of classes."""
+    yield '%%schema\n{"classes":[{"name":"a"},{"name":"b","slots":[{"name":"score","kind":"int"}]}%s]}\n' % rest
+    given = ',"slots":{%s}' % ",".join('"%s":%d' % value for value in values.items()) if values else ""
+    yield '%units\n{"units":['
+    yield from separated('{"name":"u%d","class":"%s"%s}' % (i, "d" if rest else "b", given) for i in range(count))
+    yield "]}\n%bundle\n"
+
+
+def clauses(name, count):
+    """One source with so many clauses of a class, and as many units of another class as can be live."""
+    yield from noted("", MOST_UNITS)
+    yield "source quiet a 1\n"
+    for _ in range(count):
+        yield "when create a\n"
+    yield "do %s\n" % NOTHING
+
+
+DEEPEST = 252
+
+
+def deep(name, count):
+    """Units of the deepest class, and 256 sources that none of them triggers."""
+    between = ",".join(
+        '{"name":"%s","parent":"%s"}' % ("d" if i == DEEPEST else "d%d" % i, "d%d" % (i - 1) if i else "b")
+        for i in range(DEEPEST + 1)
+    )
+    yield from noted("," + between, count)
+    for i in range(256):
+        yield "source s%d a 1\nwhen create a\ndo %s\n" % (i, NOTHING)
+
+
+def spaces(name, count):
+    """A line of spaces."""
+    yield '%schema\n{}\n%bundle\n'
+    yield " " * count + "\n"
+
+
+# 60 truth values on the stack, and 4,035 times `Not`: each place has a frame of 92 kinds.
+WIDE_LOCALS, WIDE_STACK = 32, 60
+WIDE = "42424301" + "%02x" % WIDE_LOCALS + "0000" * 4 + "%04x" % 4_096 + "0301" * WIDE_STACK + "15" * (4_095 - WIDE_STACK) + "2e"
+
+
+def wide(name, count):
+    """So many sources whose codes have wide frames; past 256 they are too many."""
+    yield '%schema\n{"classes":[{"name":"a"}]}\n%bundle\n'
+    for i in range(count):
+        yield "source s%d a 1\nwhen create a\ndo %s\n" % (i, WIDE)
+
+
+ANSWER_NO = "42424301" "02" "0000" "0000" "0000" "0000" "0002" "0300" "31"
+
+
+def waiting(name, count):
+    """So many activations of a source that waits below the floor, and as many events about which another is asked."""
+    yield from noted("", count, score=1)
+    yield "source low b -1\nwhen create b\ndo %s\n" % NOTHING
+    yield "source asked b 1\nwhen delete b\nobviate b %s\nwhen update b.score\ndo %s\n" % (ANSWER_NO, NOTHING)
+
+
 def short(number):
     return "c%d" % number
 
@@ -239,6 +305,11 @@ KINDS = [
     ("The same, with longer names", "slots", inverses, [("others", other), ("colliding", colliding)], 10_000, 160_000),
     ("Keys that no document has", "keys", keys, [("others", other), ("colliding", colliding)], 12_500, 400_000),
     ("A document of many classes", "classes", classes, [("short", short)], 25_000, 400_000),
+    ("Clauses of a class beside units of another", "clauses", clauses, [("short", short)], 26_781, 857_000),
+    ("Units of a deep class beside 256 sources", "units", deep, [("short", short)], 4_096, 65_536),
+    ("Spaces in a line of a bundle", "spaces", spaces, [("short", short)], 1_000_000, 16_000_000),
+    ("Sources with wide frames", "sources", wide, [("short", short)], 125, 2_000),
+    ("Activations that wait beside events of another source", "units", waiting, [("short", short)], 4_096, 65_536),
 ]
 
 # ---- runs

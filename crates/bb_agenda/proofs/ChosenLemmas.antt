@@ -281,7 +281,7 @@ module _ {X : Type 0} where
   contained_passes p (x ∷ xs) b all (zero, lt, is) = subst (λ y. p y ≡ true) is (and_parts (p x) (list_all p xs) all).0
   contained_passes p (x ∷ xs) b all (suc k, lt, is) = contained_passes p xs b (and_parts (p x) (list_all p xs) all).1 (k, omega arith, is)
 
-  contained_holds : (P : X → Type 0) (xs : List X) (b : X) → AllByRecursion P xs → Contains xs b → P b
+  pub contained_holds : (P : X → Type 0) (xs : List X) (b : X) → AllByRecursion P xs → Contains xs b → P b
   contained_holds P [] b all (k, lt, is) = absurd (omega arith)
   contained_holds P (x ∷ xs) b all (zero, lt, is) = subst P is all.0
   contained_holds P (x ∷ xs) b all (suc k, lt, is) = contained_holds P xs b all.1 (k, omega arith, is)

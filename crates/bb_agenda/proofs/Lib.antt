@@ -1,5 +1,9 @@
 pub mod AgendaLemmas
 pub mod ChosenLemmas
+pub mod FiledLemmas
+pub mod FoundLemmas
+pub mod HistoryLemmas
 pub mod KeptLemmas
 pub mod Laws
 pub mod Limits
+pub mod RisingLemmas

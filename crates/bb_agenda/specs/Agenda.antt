@@ -1,30 +1,79 @@
 -- The agenda: all activations that were ever given, and which are pending (GBBopen Reference Manual, Agenda Shell).
-use Rattle.std.specs.Prelude.{ℕ, ◌+◌, ℤ, Bool, ◌||◌, ◌==◌, nat_le, List, [], ◌∷◌, ◌++◌, map, length, Option, Some, None, if◌then◌else◌}
+use Rattle.std.specs.Prelude.{ℕ, zero, suc, ◌+◌, Bool, false, ◌||◌, ◌==◌, nat_le, List, [], map, filter, find, length, slice_get, Option, Some, None, option_map}
 use Rattle.std.specs.List.{filter_map}
 use Rattle.bb_agenda.specs.declared.activation.Activation.{Activation}
+use Rattle.bb_agenda.specs.declared.status.Status.{Status}
+use Rattle.bb_agenda.specs.declared.status.Status.TheVariants as statuses
 use Rattle.bb_agenda.specs.declared.agenda.TheConstants.{PENDING_LIMIT, NUMBER_LIMIT}
 
--- what became of an activation: it is pending, or it was executed
-pub data Status : Type 0 where
-  pending : Activation → Status
-  executed : Status
+-- what became of an activation: it is pending, or it was executed, or obviated
+pub data Entry : Type 0 where
+  pending : Activation → Entry
+  executed : Entry
+  obviated : Entry
 
 -- the activation, if it is pending
-abbrev pub if_pending : Status → Option Activation
+abbrev pub if_pending : Entry → Option Activation
 if_pending (pending a) = Some a
 if_pending executed = None
+if_pending obviated = None
+
+-- the same in one word
+abbrev pub status_of : Entry → Status
+status_of (pending a) = statuses.Pending
+status_of executed = statuses.Executed
+status_of obviated = statuses.Obviated
 
 pub record Agenda : Type 0 where
   -- all that were ever given, in order of their numbers, from 1
-  pub given : List Status
+  pub given : List Entry
+  -- whether memory was refused to a change; from then on each change is refused
+  pub refused : Bool
 
 -- none was given
 abbrev pub no_activations : Agenda
-no_activations = record { given = [] }
+no_activations = record { given = []; refused = false }
 
 -- what is pending, in order of the numbers
 abbrev pub pending_of : Agenda → List Activation
 pending_of a = filter_map if_pending a.given
+
+-- the number of an activation
+abbrev pub number_of : Activation → ℕ
+number_of a = a.number
+
+-- the activation has this number
+abbrev pub has_number : ℕ → Activation → Bool
+has_number number a = a.number == number
+
+-- the activation is one of this source
+abbrev pub is_of : ℕ → Activation → Bool
+is_of source a = a.source == source
+
+-- the numbers of what is pending
+abbrev pub numbers_pending : Agenda → List ℕ
+numbers_pending a = map number_of (pending_of a)
+
+-- what is pending of a source
+abbrev pub pending_for : Agenda → ℕ → List Activation
+pending_for a source = filter (is_of source) (pending_of a)
+
+-- the numbers of that
+abbrev pub numbers_for : Agenda → ℕ → List ℕ
+numbers_for a source = map number_of (pending_for a source)
+
+-- the pending activation of a number
+abbrev pub pending_at : Agenda → ℕ → Option Activation
+pending_at a number = find (has_number number) (pending_of a)
+
+-- the entry of a number, if the number was given
+abbrev pub entry_of : Agenda → ℕ → Option Entry
+entry_of a zero = None
+entry_of a (suc index) = slice_get a.given index
+
+-- what became of the activation of a number, if the number was given
+abbrev pub status : Agenda → ℕ → Option Status
+status a number = option_map status_of (entry_of a number)
 
 -- the number that the next activation gets
 abbrev pub next_number : Agenda → ℕ
@@ -33,20 +82,3 @@ next_number a = length a.given + 1
 -- no activation can be added: as many are pending as may be, or the last number was given
 abbrev pub is_full : Agenda → Bool
 is_full a = nat_le PENDING_LIMIT (length (pending_of a)) || nat_le NUMBER_LIMIT (length a.given)
-
--- the activation that is added next
-abbrev pub new_activation : Agenda → ℕ → ℕ → ℤ → Activation
-new_activation a source unit base = record { number = next_number a; source = source; unit = unit; base = base }
-
--- the agenda with one activation more, which is pending
-abbrev pub with_activation : Agenda → ℕ → ℕ → ℤ → Agenda
-with_activation a source unit base = record { given = a.given ++ pending (new_activation a source unit base) ∷ [] }
-
--- what becomes of an activation where the one of this number is executed
-abbrev pub executed_at : ℕ → Status → Status
-executed_at number (pending a) = if a.number == number then executed else pending a
-executed_at number executed = executed
-
--- the agenda after the pending activation of a number is executed
-abbrev pub with_executed : Agenda → ℕ → Agenda
-with_executed a number = record { given = map (executed_at number) a.given }

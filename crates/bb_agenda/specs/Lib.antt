@@ -1,5 +1,11 @@
 -- all activations that were given, and what is pending of them
 pub mod Agenda
+-- each change of them
+pub mod Changes
+-- what holds at any time
+pub mod Fits
+-- changes one after another
+pub mod History
 -- the rating of an activation
 pub mod Rating
 -- the activation that a cycle executes

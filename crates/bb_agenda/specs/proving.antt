@@ -1,2 +1,6 @@
 -- how the code keeps an agenda
 pub mod Kept
+-- how it finds what is pending
+pub mod Filed
+-- lists of numbers that rise, and one for each source
+pub mod Lists

@@ -22,10 +22,10 @@ pub struct Activation {
 
 impl Activation {
     /// The rating of the activation.
-    pub fn rating(&self) -> i64
+    pub fn rating(&self) -> i128
         ensures { result ≡ rating self.now }
     {
-        self.base
+        i128::from(self.base)
     }
 
     /// Whether it is rated higher than another one, or the same under a lower number.
@@ -43,7 +43,7 @@ pub(crate) fn best(floor: i64, pending: &[Activation]) -> Option<Activation>
 {
     let mut best: Option<Activation> = None;
     for activation in pending {
-        if activation.rating() >= floor {
+        if activation.rating() >= i128::from(floor) {
             best = Some(better(best, *activation));
         }
     }

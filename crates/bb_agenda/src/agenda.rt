@@ -1,14 +1,23 @@
-//! The agenda. A run (bb_run) adds to it what events trigger, and takes off it what a cycle executes.
+//! The agenda. Here stands what can be asked of it, in `changes` what changes it. A run (bb_run) adds to it what events
+//! trigger, and takes off it what a cycle executes.
 
-ghost use Rattle.std.specs.Prelude.{◌≡◌, IfOk, OnOk, OnErr, false};
-ghost use Rattle.bb_agenda.specs.Agenda.{no_activations, pending_of, is_full, with_activation, new_activation};
-ghost use Rattle.bb_agenda.specs.Agenda.{with_executed};
+ghost use Rattle.std.specs.Prelude.{◌≡◌, Contains, IfSome, IsSome, Some, option_map};
+ghost use Rattle.bb_agenda.specs.Agenda.{no_activations, pending_of, is_full, number_of, numbers_pending, numbers_for};
+ghost use Rattle.bb_agenda.specs.Agenda.{pending_at, pending_for, status};
+ghost use Rattle.bb_agenda.specs.declared.activation.Activation.{Activation};
+ghost use Rattle.bb_agenda.specs.Fits.{Fits};
 ghost use Rattle.bb_agenda.specs.Rating.{rating};
 ghost use Rattle.bb_agenda.specs.Chosen.{chosen};
 
+mod changes;
+mod steps;
+
 use crate::activation::{Activation, best};
+use crate::status::Status;
+use crate::waiting::Waiting;
 use bb_schema::UnitId;
-use std::alloc::{AllocError, Global};
+use std::alloc::Global;
+use std::collections::BTreeSet;
 use std::marker::Model;
 
 /// The greatest number of pending activations.
@@ -17,13 +26,16 @@ pub const PENDING_LIMIT: usize = 65_536;
 /// The greatest number of an activation.
 pub const NUMBER_LIMIT: u64 = (1 << 63) - 1;
 
-/// All activations that were ever given, each under its number, and what is pending of them (GBBopen Reference Manual,
-/// Agenda Shell). Of those that are over it keeps no more than how many there were.
+/// All activations that were ever given, each under its number, what is pending of them, and whether memory was refused
+/// to a change (GBBopen Reference Manual, Agenda Shell). From then on each change is refused. Of those that are over it
+/// keeps no more than how many there were, and which of them were obviated.
 #[derive(Drop)]
 pub struct Agenda {
     // The number of activations that were given.
     given: u64,
-    pending: Vec<Activation>,
+    waiting: Waiting,
+    obviated: BTreeSet<u64>,
+    refused: bool,
 }
 
 impl Model for Agenda {
@@ -31,11 +43,11 @@ impl Model for Agenda {
 
     ghost Value = { Given };
 
-    ghost use Rattle.bb_agenda.specs.proving.Kept.{IsKept, agenda_of};
+    ghost use Rattle.bb_agenda.specs.proving.Kept.{IsKept, entries_of};
 
-    ghost view = { λ a. agenda_of a.given a.pending.items };
+    ghost view = { λ a. record { given = entries_of a.given a.waiting a.obviated.keys; refused = a.refused } };
 
-    ghost invariant = { λ a. IsKept a.given a.pending.items };
+    ghost invariant = { λ a. IsKept a.given a.waiting a.obviated.keys };
 }
 
 impl Agenda {
@@ -45,7 +57,9 @@ impl Agenda {
     {
         Agenda {
             given: 0,
-            pending: Vec::new(alloc),
+            waiting: Waiting::new(alloc),
+            obviated: BTreeSet::new(alloc),
+            refused: false,
         }
     }
 
@@ -53,39 +67,91 @@ impl Agenda {
     pub fn is_full(&self) -> bool
         ensures { result ≡ is_full self.now }
     {
-        self.pending.len() >= PENDING_LIMIT || self.given >= NUMBER_LIMIT
+        self.waiting.len() >= PENDING_LIMIT || self.given >= NUMBER_LIMIT
     }
 
-    /// Adds an activation under the next number and returns it. An error changes nothing.
-    pub fn add(&mut self, source: u16, unit: UnitId, base: i64) -> Result<Activation, AllocError>
-        requires { is_full self.old ≡ false }
-        ensures new { IfOk result (λ a. a ≡ new_activation self.old source unit base) }
-        ensures added { OnOk result (self.new ≡ with_activation self.old source unit base) }
-        ensures err { OnErr result (self.new ≡ self.old) }
+    /// The numbers of what is pending, rising.
+    pub fn pending(&self) -> &[u64]
+        ensures { result.now ≡ numbers_pending self.now }
     {
-        let activation = Activation {
-            number: self.given + 1,
-            source,
-            unit,
-            base,
-        };
-        self.pending.push(activation)?;
-        self.given += 1;
-        Ok(activation)
+        self.waiting.numbers()
     }
 
-    /// The activation to execute: of those rated at least `floor` the one of the highest rating, of equals the one of
-    /// the lowest number (Hayes-Roth 1985, scheduling).
-    pub fn choose(&self, floor: i64) -> Option<Activation>
-        ensures { result ≡ chosen rating floor (pending_of self.now) }
+    /// The numbers of what is pending of a source, rising.
+    pub fn pending_for(&self, source: u16) -> &[u64]
+        ensures numbers { result.now ≡ numbers_for self.now source }
+        // Each is pending under its number.
+        ensures itself { (a : Activation) → Contains (pending_for self.now source) a
+            → pending_at self.now a.number ≡ Some a }
     {
-        best(floor, &self.pending)
+        self.waiting.of_source(source)
     }
 
-    /// The activation of this number is executed now, so it is no longer pending.
-    pub fn executed(&mut self, number: u64)
-        ensures { self.new ≡ with_executed self.old number }
+    /// What became of the activation of a number, if the number was given.
+    pub fn status(&self, number: u64) -> Option<Status>
+        ensures { result ≡ status self.now number }
     {
-        self.pending.retain(|a| a.number != number);
+        let index = number.checked_sub(1)?;
+        if index >= self.given {
+            return None;
+        }
+        if self.obviated.contains(&number) {
+            return Some(Status::Obviated);
+        }
+        if self.waiting.has(number) {
+            return Some(Status::Pending);
+        }
+        Some(Status::Executed)
+    }
+
+    /// The pending activation of a number.
+    pub fn activation(&self, number: u64) -> Activation
+        requires { IsSome (pending_at self.now number) }
+        ensures { pending_at self.now number ≡ Some result }
+    {
+        self.waiting.get(number).unwrap()
+    }
+
+    /// The rating of the pending activation of a number.
+    pub fn rating(&self, number: u64) -> i128
+        requires { IsSome (pending_at self.now number) }
+        ensures { option_map rating (pending_at self.now number) ≡ Some result }
+    {
+        self.activation(number).rating()
+    }
+
+    /// The source of the pending activation of a number.
+    pub fn source(&self, number: u64) -> u16
+        requires { IsSome (pending_at self.now number) }
+        ensures { option_map (λ a. a.source) (pending_at self.now number) ≡ Some result }
+    {
+        self.activation(number).source
+    }
+
+    /// The unit of the pending activation of a number, 0 where it has none.
+    pub fn unit(&self, number: u64) -> UnitId
+        requires { IsSome (pending_at self.now number) }
+        ensures { option_map (λ a. a.unit) (pending_at self.now number) ≡ Some result }
+    {
+        self.activation(number).unit
+    }
+
+    /// The number of the activation to execute: of those rated at least `floor` the one of the highest rating, of
+    /// equals the one of the lowest number (Hayes-Roth 1985, scheduling).
+    pub fn choose(&self, floor: i64) -> Option<u64>
+        ensures number { result ≡ option_map number_of (chosen rating floor (pending_of self.now)) }
+        ensures same { IfSome result (λ number.
+            pending_at self.now number ≡ chosen rating floor (pending_of self.now)) }
+    {
+        let activation = best(floor, self.waiting.activations())?;
+        Some(activation.number)
+    }
+
+    /// Does nothing, and says what holds of the agenda at any time: the numbers of what is pending rise, and an
+    /// activation is pending exactly where its status says so.
+    pub fn fits(&self)
+        ensures { Fits self.now }
+    {
+        let _activations = self.waiting.activations();
     }
 }

@@ -4,9 +4,17 @@
 mod activation;
 mod agenda;
 mod choice;
+mod fault;
+mod history;
+mod lists;
+mod status;
 #[cfg(test)]
 mod tests;
+mod waiting;
 
 pub use activation::Activation;
 pub use agenda::{Agenda, NUMBER_LIMIT, PENDING_LIMIT};
 pub use choice::chosen_is_best;
+pub use fault::AddFault;
+pub use history::what_is_over_stays_over;
+pub use status::Status;

@@ -6,33 +6,68 @@ use Rattle.bb_basis.specs.Results.{◌>>=◌, ok_or, try_fold}
 use Rattle.bb_basis.proofs.ResultLemmas.{bind_ok, same_ok}
 use Rattle.bb_basis.proofs.IntoMapLemmas.{next_one, none_left}
 use Rattle.bb_basis.proofs.TryFoldLemmas.{try_fold_next, try_fold_error, try_fold_end}
-use Rattle.bb_compile.specs.declared.source_code.ClauseText.{ClauseText}
-use Rattle.bb_compile.specs.declared.source_code.SourceHeader.{SourceHeader}
+use Rattle.bb_code.specs.Code.{Code}
+use Rattle.bb_compile.specs.declared.keyword.Keyword.{Keyword}
+use Rattle.bb_compile.specs.declared.keyword.Keyword.TheVariants.{When, Require, Obviate, Retrigger, Revalidate, Do, Native}
+use Rattle.bb_compile.specs.declared.source_code.ActDraft.{ActDraft}
+use Rattle.bb_compile.specs.declared.source_code.ActDraft.TheVariants as acts
+use Rattle.bb_compile.specs.declared.partial.PartialSource.{PartialSource}
 use Rattle.bb_compile.specs.declared.fault.BundleFault.{BundleFault}
 use Rattle.bb_compile.specs.declared.fault.BundleFault.TheVariants.{Line, Memory}
-use Rattle.bb_compile.specs.Line.{words_of, header_of, trigger_of}
-use Rattle.bb_compile.specs.Bundle.{Parser, new_parser, source_of, after_header, after_clause, after_words, after_line, at_end, sources_of}
+use Rattle.bb_compile.specs.Spelled.{if_spelled}
+use Rattle.bb_compile.specs.Clauses.{clause_of}
+use Rattle.bb_compile.specs.Keywords.{keyword_of}
+use Rattle.bb_compile.specs.Line.{words_of, header_of}
+use Rattle.bb_compile.specs.Partial.{may_come, with_clause, with_act}
+use Rattle.bb_compile.specs.Bundle.{Parser, new_parser, with_source, with_whole, code_of_words, reaction_of_words, after_first, after_when, after_require, after_obviate, after_retrigger, after_revalidate, after_do, after_native, after_keyword, after_further, after_words, after_line, at_end, sources_of}
 
 -- one line more leaves a parser that counted one line more
 counted : (r t : Parser) → ◌≡◌ {A = Result Parser BundleFault} (Ok r) (Ok t) → t.lines ≡ r.lines
 counted r t e = sym (ap (λ q. q.lines) (same_ok r t e))
 
-header_counts : (p t : Parser) (ws : List (List ℕ)) → after_header p ws ≡ Ok t → t.lines ≡ p.lines
-unfolding after_header
-header_counts p t ws e =
-    let one = bind_ok (ok_or (header_of ws) (Line p.lines)) (λ header. Ok (record { lines = p.lines; sources = p.sources; partial = Some header })) t e in
-    counted (record { lines = p.lines; sources = p.sources; partial = Some one.0 }) t one.2
+-- what stands behind a step that went well counts no line
+binds_count : {A : Type 0} (r : Result A BundleFault) (f : A → Result Parser BundleFault) (t : Parser) (n : ℕ) → ((a : A) → f a ≡ Ok t → t.lines ≡ n) → (r >>= f) ≡ Ok t → t.lines ≡ n
+binds_count r f t n step e = let one = bind_ok r f t e in step one.0 one.2
 
-clause_counts : (p t : Parser) (header : SourceHeader) (ws : List (List ℕ)) (clause : Option ClauseText) → after_clause p header ws clause ≡ Ok t → t.lines ≡ p.lines
-unfolding after_clause
-clause_counts p t header ws (Some clause) e = counted (record { lines = p.lines; sources = p.sources; partial = Some (record header { triggers = header.triggers ++ clause ∷ [] }) }) t e
-clause_counts p t header ws None e =
-    let one = bind_ok (source_of p.lines header ws) (λ source. Ok (record { lines = p.lines; sources = p.sources ++ source ∷ []; partial = p.partial })) t e in
-    counted (record { lines = p.lines; sources = p.sources ++ one.0 ∷ []; partial = p.partial }) t one.2
+goes_on : (p t : Parser) (source : PartialSource) → ◌≡◌ {A = Result Parser BundleFault} (Ok (with_source p source)) (Ok t) → t.lines ≡ p.lines
+goes_on p t source e = counted (with_source p source) t e
 
-words_count : (p t : Parser) (partial : Option SourceHeader) (ws : List (List ℕ)) → after_words p partial ws ≡ Ok t → t.lines ≡ p.lines
-words_count p t None ws e = header_counts p t ws e
-words_count p t (Some header) ws e = clause_counts p t header ws (trigger_of ws) e
+first_counts : (p t : Parser) (ws : List (List ℕ)) → after_first p ws ≡ Ok t → t.lines ≡ p.lines
+unfolding after_first
+first_counts p t ws e = binds_count (ok_or (header_of ws) (Line p.lines)) (λ source. Ok (with_source p source)) t p.lines (goes_on p t) e
+
+whole_counts : (p t : Parser) (source : PartialSource) (act : ActDraft Code) → with_whole p source act ≡ Ok t → t.lines ≡ p.lines
+unfolding with_whole
+whole_counts p t source act e =
+    binds_count (ok_or (if_spelled (with_act source act)) (Line p.lines)) (λ whole. Ok (record { lines = p.lines; sources = p.sources ++ whole ∷ []; partial = p.partial })) t p.lines
+    (λ whole h. counted (record { lines = p.lines; sources = p.sources ++ whole ∷ []; partial = p.partial }) t h) e
+
+ends : (p t : Parser) (source : PartialSource) (none : Bool) → cond none (with_whole p source acts.Native) (Err (Line p.lines)) ≡ Ok t → t.lines ≡ p.lines
+ends p t source true e = whole_counts p t source acts.Native e
+ends p t source false e = absurd cc
+
+keyword_counts : (p t : Parser) (source : PartialSource) (keyword : Keyword) (ws : List (List ℕ)) → after_keyword p source keyword ws ≡ Ok t → t.lines ≡ p.lines
+unfolding after_keyword after_when after_require after_obviate after_retrigger after_revalidate after_do after_native
+keyword_counts p t source When ws e = binds_count (ok_or (clause_of ws) (Line p.lines)) (λ clause. Ok (with_source p (with_clause source clause))) t p.lines (λ clause. goes_on p t (with_clause source clause)) e
+keyword_counts p t source Require ws e = binds_count (code_of_words p.lines ws) (λ code. Ok (with_source p (record source { require = Some code }))) t p.lines (λ code. goes_on p t (record source { require = Some code })) e
+keyword_counts p t source Obviate ws e = binds_count (reaction_of_words p.lines ws) (λ reaction. Ok (with_source p (record source { obviate = Some reaction }))) t p.lines (λ reaction. goes_on p t (record source { obviate = Some reaction })) e
+keyword_counts p t source Retrigger ws e = binds_count (reaction_of_words p.lines ws) (λ reaction. Ok (with_source p (record source { retrigger = Some reaction }))) t p.lines (λ reaction. goes_on p t (record source { retrigger = Some reaction })) e
+keyword_counts p t source Revalidate ws e = binds_count (code_of_words p.lines ws) (λ code. Ok (with_source p (record source { revalidate = Some code }))) t p.lines (λ code. goes_on p t (record source { revalidate = Some code })) e
+keyword_counts p t source Do ws e = binds_count (code_of_words p.lines ws) (λ code. with_whole p source (acts.Do code)) t p.lines (λ code. whole_counts p t source (acts.Do code)) e
+keyword_counts p t source Native ws e = ends p t source (length ws == 0) e
+
+comes : (p t : Parser) (source : PartialSource) (ws : List (List ℕ)) (keyword : Keyword) (may : Bool) → cond may (after_keyword p source keyword ws) (Err (Line p.lines)) ≡ Ok t → t.lines ≡ p.lines
+comes p t source ws keyword true e = keyword_counts p t source keyword ws e
+comes p t source ws keyword false e = absurd cc
+
+further_counts : (p t : Parser) (source : PartialSource) (ws : List (List ℕ)) → after_further p source ws ≡ Ok t → t.lines ≡ p.lines
+unfolding after_further
+further_counts p t source [] e = absurd cc
+further_counts p t source (word ∷ ws) e = binds_count (ok_or (keyword_of word) (Line p.lines)) (λ keyword. cond (may_come source keyword) (after_keyword p source keyword ws) (Err (Line p.lines))) t p.lines (λ keyword. comes p t source ws keyword (may_come source keyword)) e
+
+words_count : (p t : Parser) (partial : Option PartialSource) (ws : List (List ℕ)) → after_words p partial ws ≡ Ok t → t.lines ≡ p.lines
+words_count p t None ws e = first_counts p t ws e
+words_count p t (Some source) ws e = further_counts p t source ws e
 
 pub line_counts : (p t : Parser) (line : List ℕ) → after_line p line ≡ Ok t → t.lines ≡ p.lines + 1
 unfolding after_line

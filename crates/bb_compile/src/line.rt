@@ -1,23 +1,29 @@
 //! What a line of a bundle says by itself. The parser calls it for each line.
 
 ghost use Rattle.std.specs.Prelude.{◌≡◌, map, option_map, IfOk};
-ghost use Rattle.bb_compile.specs.Line.{words_of, header_of, trigger_of, digits_of};
+ghost use Rattle.bb_compile.specs.Line.{words_of, header_of, digits_of, class_and_digits_of};
 
+use crate::partial::PartialSource;
 use crate::rate::rate_of;
-use crate::source_code::{ClauseText, SourceHeader};
 use bb_basis::{Items, Text, is_name};
 use std::alloc::{AllocError, Global};
 
-/// The words of a line. Between two spaces that follow each other there is an empty one.
+/// So many words of a line are told apart: no line of a bundle has as many.
+pub(crate) const WORD_LIMIT: usize = 5;
+
+/// The first words of a line. Between two spaces that follow each other there is an empty one.
 pub(crate) fn split_words(alloc: Global, line: &str) -> Result<Vec<&str>, AllocError>
     ensures { IfOk result (λ ws. map (λ w. w.now) ws.items ≡ words_of line.now) }
 {
-    line.split(' ').collect(alloc)
+    line.split(' ').take(WORD_LIMIT).collect(alloc)
 }
 
 /// `source NAME CLASS RATE`
 #[tactic(auto, unfolding(crate::specs::Line::header_of))]
-pub(crate) fn read_header(alloc: Global, words: &[&str]) -> Result<Option<SourceHeader>, AllocError>
+pub(crate) fn read_header(
+    alloc: Global,
+    words: &[&str],
+) -> Result<Option<PartialSource>, AllocError>
     ensures { IfOk result (λ h. h ≡ header_of (map (λ w. w.now) words.now)) }
 {
     let [keyword, name, class, rate] = words else {
@@ -29,35 +35,37 @@ pub(crate) fn read_header(alloc: Global, words: &[&str]) -> Result<Option<Source
     let Some(rate) = rate_of(rate) else {
         return Ok(None);
     };
-    Ok(Some(SourceHeader {
+    Ok(Some(PartialSource {
         name: Text::from_str(alloc, name)?,
         class: Text::from_str(alloc, class)?,
         rate,
         triggers: Items::new(alloc),
+        require: None,
+        obviate: None,
+        retrigger: None,
+        revalidate: None,
     }))
 }
 
-/// `when create CLASS`
-#[tactic(auto, unfolding(crate::specs::Line::trigger_of))]
-pub(crate) fn read_trigger(alloc: Global, words: &[&str]) -> Result<Option<ClauseText>, AllocError>
-    ensures { IfOk result (λ t. t ≡ trigger_of (map (λ w. w.now) words.now)) }
-{
-    let [keyword, kind, class] = words else {
-        return Ok(None);
-    };
-    if *keyword != "when" || *kind != "create" || !is_name(class) {
-        return Ok(None);
-    }
-    Ok(Some(ClauseText::Create(Text::from_str(alloc, class)?)))
-}
-
-/// The digits of `do HEX`, if there are any.
+/// `HEX`: its digits.
 #[tactic(auto, unfolding(crate::specs::Line::digits_of))]
 pub(crate) fn read_digits<'a>(words: &[&'a str]) -> Option<&'a str>
     ensures { option_map (λ h. h.now) result ≡ digits_of (map (λ w. w.now) words.now) }
 {
     match words {
-        [keyword, digits] if *keyword == "do" && !digits.is_empty() => Some(*digits),
+        [digits] if !digits.is_empty() => Some(*digits),
+        _ => None,
+    }
+}
+
+/// `CLASS HEX`: the name and the digits.
+#[tactic(auto, unfolding(crate::specs::Line::class_and_digits_of))]
+pub(crate) fn read_class_and_digits<'a>(words: &[&'a str]) -> Option<(&'a str, &'a str)>
+    ensures { option_map (λ p. (p.0.now, p.1.now)) result
+        ≡ class_and_digits_of (map (λ w. w.now) words.now) }
+{
+    match words {
+        [class, digits] if is_name(class) && !digits.is_empty() => Some((*class, *digits)),
         _ => None,
     }
 }

@@ -25,8 +25,8 @@ use std::alloc::Global;
 ///
 /// A code that was accepted for a part never goes wrong, where the entry is one of the part (`Begins`): each state that
 /// it passes through suits the frame of its place, it is stuck for the limit of steps alone, its answer is one of the
-/// part, and the blackboard stays as it was unless the part is `do`. Where it has no loops and the limit is at least its
-/// budget (`HasTurns`), it is never stuck, and makes no more steps than its budget.
+/// part, and the blackboard stays as it was unless the part is `do`. Where it has no loops and the limit is at least
+/// its budget (`HasTurns`), it is never stuck, and makes no more steps than its budget.
 pub fn trial(
     alloc: Global,
     code: &Code,

@@ -1,0 +1,3 @@
+pub mod IndexLemmas
+pub mod LawLemmas
+pub mod StepLemmas

@@ -1,6 +1,10 @@
 -- the number of each fault of a source
 pub mod Faults
--- which events a clause names, and which sources an event triggers
+-- which events a clause names
 pub mod Match
--- the source that a header and a code make under a schema
+-- the source that a draft makes under a schema
 pub mod Source
+-- what holds of every source
+pub mod Law
+-- for proofs alone
+pub mod proving

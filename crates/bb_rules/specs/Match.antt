@@ -1,5 +1,5 @@
 -- When a clause names an event, and when an event triggers a source (GBBopen Reference Manual, trigger events of a KS).
-use Rattle.std.specs.Prelude.{Bool, true, false, ◌&&◌, ◌==◌}
+use Rattle.std.specs.Prelude.{Bool, true, false, ◌&&◌, ◌==◌, List}
 use Rattle.std.specs.List.{list_any}
 use Rattle.bb_schema.specs.Schema.{Schema, descends}
 use Rattle.bb_board.specs.ChangeKind.{ChangeKind}
@@ -9,7 +9,6 @@ use Rattle.bb_board.specs.Event.TheVariants as events
 use Rattle.bb_board.specs.Events.{kind_of}
 use Rattle.bb_rules.specs.declared.clause.Clause.{Clause}
 use Rattle.bb_rules.specs.declared.clause.Clause.TheVariants as clauses
-use Rattle.bb_rules.specs.declared.source.Source.{Source}
 
 -- the two kinds of change are one, with its slot or space
 abbrev pub is_same_kind : ChangeKind → ChangeKind → Bool
@@ -29,6 +28,6 @@ matches s (clauses.Change kind class) (events.Change unit of change) =
     is_same_kind kind (kind_of change) && descends s of class
 matches s _ _ = false
 
--- one clause of the source or more names the event
-abbrev pub is_triggered : Schema → Source → Event → Bool
-is_triggered s source event = list_any (λ c. matches s c event) source.triggers
+-- one of the clauses or more names the event
+abbrev pub any_match : Schema → List Clause → Event → Bool
+any_match s clauses event = list_any (λ c. matches s c event) clauses

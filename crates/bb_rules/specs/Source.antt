@@ -1,38 +1,184 @@
--- The source that a header and a code make under a schema: its names are looked up, up to the first that does not fit.
-use Rattle.std.specs.Prelude.{ℕ, List, Result, Ok, Err, if◌then◌else◌}
+-- The source that a draft makes under a schema: its names are looked up, up to the first that does not fit.
+use Rattle.std.specs.Prelude.{ℕ, Bool, false, ◌&&◌, ◌==◌, List, Option, Some, None, option_map, is_some}
+use Rattle.std.specs.Prelude.{Result, Ok, Err, if◌then◌else◌}
 use Rattle.bb_basis.specs.Results.{◌>>=◌, ok_or, try_map}
-use Rattle.bb_board.specs.ChangeKind.TheVariants.{Create}
+use Rattle.bb_board.specs.ChangeKind.{ChangeKind}
+use Rattle.bb_board.specs.ChangeKind.TheVariants as kinds
+use Rattle.bb_compile.specs.declared.source_code.ChangeText.{ChangeText}
+use Rattle.bb_compile.specs.declared.source_code.ChangeText.TheVariants as changes
 use Rattle.bb_compile.specs.declared.source_code.ClauseText.{ClauseText}
 use Rattle.bb_compile.specs.declared.source_code.ClauseText.TheVariants as texts
-use Rattle.bb_compile.specs.declared.source_code.SourceHeader.{SourceHeader}
-use Rattle.bb_schema.specs.Schema.{Schema, class_named, descends}
+use Rattle.bb_compile.specs.declared.source_code.ReactionDraft.{ReactionDraft}
+use Rattle.bb_compile.specs.declared.source_code.ActDraft.{ActDraft}
+use Rattle.bb_compile.specs.declared.source_code.ActDraft.TheVariants as drafts
+use Rattle.bb_compile.specs.declared.source_code.SourceDraft.{SourceDraft}
+use Rattle.bb_schema.specs.Schema.{Schema, class_named, default_of, descends, link_of, slot_named, space_named}
 use Rattle.bb_verify.specs.Accepted.{Checked}
+use Rattle.bb_verify.specs.PartType.{Part}
+use Rattle.bb_verify.specs.PartType.TheVariants as parts
 use Rattle.bb_rules.specs.declared.clause.Clause.{Clause}
-use Rattle.bb_rules.specs.declared.clause.Clause.TheVariants.{Change}
+use Rattle.bb_rules.specs.declared.clause.Clause.TheVariants as clauses
 use Rattle.bb_rules.specs.declared.fault.RuleFault.{RuleFault}
-use Rattle.bb_rules.specs.declared.fault.RuleFault.TheVariants.{Class}
+use Rattle.bb_rules.specs.declared.fault.RuleFault.TheVariants as faults
+use Rattle.bb_rules.specs.declared.resolve.Classes.{Classes}
+use Rattle.bb_rules.specs.declared.source.Act.{Act}
 use Rattle.bb_rules.specs.declared.source.Act.TheVariants as acts
+use Rattle.bb_rules.specs.declared.source.Reaction.{Reaction}
 use Rattle.bb_rules.specs.declared.source.Source.{Source}
+
+-- ---- classes
 
 -- the class of a name
 abbrev pub class_of : Schema → List ℕ → Result ℕ RuleFault
-class_of s name = ok_or (class_named s name) Class
+class_of s name = ok_or (class_named s name) faults.Class
+
+-- the class of a reaction, if there is one
+abbrev pub reaction_class : {C : Type 0} → Schema → Option (ReactionDraft C) → Result (Option ℕ) RuleFault
+reaction_class s None = Ok None
+reaction_class s (Some draft) = do
+  class ← class_of s draft.class
+  Ok (Some class)
+
+-- the class of a source, and those of its reactions
+unfoldable pub classes_of : {C : Type 0} → Schema → SourceDraft C → Result Classes RuleFault
+classes_of s draft = do
+  own ← class_of s draft.class
+  obviated ← reaction_class s draft.obviate
+  retriggered ← reaction_class s draft.retrigger
+  Ok (record { own = own; obviated = obviated; retriggered = retriggered })
+
+-- the parts of its reactions, which go by their classes
+abbrev pub obviate_part : Classes → Option Part
+obviate_part c = option_map (parts.Obviate c.own) c.obviated
+
+abbrev pub retrigger_part : Classes → Option Part
+retrigger_part c = option_map (parts.Retrigger c.own) c.retriggered
+
+-- ---- codes
+
+-- the two parts are one, of the same classes
+abbrev pub is_same_part : Part → Part → Bool
+is_same_part (parts.Require class) (parts.Require other) = class == other
+is_same_part (parts.Obviate class of) (parts.Obviate other from) = class == other && of == from
+is_same_part (parts.Retrigger class of) (parts.Retrigger other from) = class == other && of == from
+is_same_part (parts.Revalidate class) (parts.Revalidate other) = class == other
+is_same_part (parts.Do class) (parts.Do other) = class == other
+is_same_part _ _ = false
+
+-- a code was accepted for this part, if there is one
+abbrev pub is_for : Part → Option Checked → Result (Unit {0}) RuleFault
+is_for part None = Ok tt
+is_for part (Some code) = if is_same_part code.part part then Ok tt else Err faults.Part
+
+-- the code of a reaction, if there is one
+abbrev pub reaction_code : Option (ReactionDraft Checked) → Option Checked
+reaction_code draft = option_map (λ d. d.code) draft
+
+-- the code of what an activation does, if it has one
+abbrev pub act_code : ActDraft Checked → Option Checked
+act_code (drafts.Do code) = Some code
+act_code drafts.Native = None
+
+-- a reaction's code was accepted for its part, if there is one
+abbrev pub is_for_reaction : Option Part → Option Checked → Result (Unit {0}) RuleFault
+is_for_reaction None code = Ok tt
+is_for_reaction (Some part) code = is_for part code
+
+-- each code of a source was accepted for its part and these classes
+unfoldable pub parts_fit : Classes → SourceDraft Checked → Result (Unit {0}) RuleFault
+parts_fit c draft = do
+  _ ← is_for (parts.Require c.own) draft.require
+  _ ← is_for_reaction (obviate_part c) (reaction_code draft.obviate)
+  _ ← is_for_reaction (retrigger_part c) (reaction_code draft.retrigger)
+  _ ← is_for (parts.Revalidate c.own) draft.revalidate
+  is_for (parts.Do c.own) (act_code draft.act)
+
+-- ---- clauses
 
 -- the class of a name, where it is this one or descends from it
 abbrev pub class_within : Schema → ℕ → List ℕ → Result ℕ RuleFault
 class_within s class name = do
   changed ← class_of s name
-  if descends s changed class then Ok changed else Err Class
+  if descends s changed class then Ok changed else Err faults.Class
 
--- a clause of a source of this class
+-- the ordinary slot of a name in a class
+abbrev pub ordinary_slot : Schema → ℕ → List ℕ → Result ℕ RuleFault
+ordinary_slot s class name = do
+  slot ← ok_or (slot_named s class name) faults.Slot
+  if is_some (default_of s slot) then Ok slot else Err faults.Slot
+
+-- the link slot of a name in a class
+abbrev pub link_slot : Schema → ℕ → List ℕ → Result ℕ RuleFault
+link_slot s class name = do
+  slot ← ok_or (slot_named s class name) faults.Slot
+  if is_some (link_of s.slots slot) then Ok slot else Err faults.Slot
+
+-- the space of a name
+abbrev pub space_of : Schema → List ℕ → Result ℕ RuleFault
+space_of s name = ok_or (space_named s name) faults.Space
+
+-- the kind of change of a clause of this class
+abbrev pub kind_of : Schema → ℕ → ChangeText → Result ChangeKind RuleFault
+kind_of s class changes.Create = Ok kinds.Create
+kind_of s class changes.Delete = Ok kinds.Delete
+kind_of s class (changes.Update name) = do
+  slot ← ordinary_slot s class name
+  Ok (kinds.Update slot)
+kind_of s class (changes.Link name) = do
+  slot ← link_slot s class name
+  Ok (kinds.Link slot)
+kind_of s class (changes.Unlink name) = do
+  slot ← link_slot s class name
+  Ok (kinds.Unlink slot)
+kind_of s class (changes.Enter name) = do
+  space ← space_of s name
+  Ok (kinds.Enter space)
+kind_of s class (changes.Leave name) = do
+  space ← space_of s name
+  Ok (kinds.Leave space)
+
+-- a clause about units of this class
 abbrev pub clause_of : Schema → ℕ → ClauseText → Result Clause RuleFault
-clause_of s class (texts.Create name) = do
-  created ← class_within s class name
-  Ok (Change Create created)
+clause_of s within (texts.Change kind name) = do
+  class ← class_within s within name
+  change ← kind_of s class kind
+  Ok (clauses.Change change class)
+clause_of s within texts.Quiescence = Ok clauses.Quiescence
 
--- first the class of the source is looked up, then each clause
-unfoldable pub source_of : Schema → SourceHeader → Checked → Result Source RuleFault
-source_of s header body = do
-  class ← class_of s header.class
-  triggers ← try_map (clause_of s class) header.triggers
-  Ok (record { name = header.name; class = class; triggers = triggers; rate = header.rate; act = acts.Code body })
+-- all of them, in order
+abbrev pub clauses_of : Schema → ℕ → List ClauseText → Result (List Clause) RuleFault
+clauses_of s within texts = try_map (clause_of s within) texts
+
+-- ---- the source
+
+-- a reaction, if there is one
+abbrev pub reaction_of : Schema → Option ℕ → Option (ReactionDraft Checked) → Result (Option Reaction) RuleFault
+reaction_of s (Some class) (Some draft) = do
+  found ← clauses_of s class draft.clauses
+  Ok (Some (record { class = class; clauses = found; code = draft.code }))
+reaction_of s _ _ = Ok None
+
+-- what an activation does
+abbrev pub act_of : ActDraft Checked → Act
+act_of (drafts.Do code) = acts.Code code
+act_of drafts.Native = acts.Native
+
+-- the classes are looked up, then each code has to be for its part, then each clause is looked up
+unfoldable pub source_of : Schema → SourceDraft Checked → Result Source RuleFault
+source_of s draft = do
+  c ← classes_of s draft
+  _ ← parts_fit c draft
+  triggers ← clauses_of s c.own draft.triggers
+  obviate ← reaction_of s c.obviated draft.obviate
+  retrigger ← reaction_of s c.retriggered draft.retrigger
+  Ok (record {
+    name = draft.name;
+    class = c.own;
+    rate = draft.rate;
+    triggers = triggers;
+    require = draft.require;
+    obviate = obviate;
+    retrigger = retrigger;
+    revalidate = draft.revalidate;
+    act = act_of draft.act;
+  })

@@ -25,15 +25,15 @@ pub enum RuleFault {
     /// No class has the name, or the class of a clause does not descend from that of its source.
     #[error("a class that is unknown or outside that of the source")]
     Class,
-    /// An earlier source has the same name.
-    #[error("a name that an earlier source has")]
-    Twice,
-    /// 256 sources come before it.
-    #[error("too many sources")]
-    Limit,
-    /// No native source has the name.
-    #[error("no native source of that name")]
-    Native,
+    /// An earlier source has the name of the source at this place, from 0.
+    #[error("source {place} has the name of an earlier one")]
+    Twice { place: u64 },
+    /// 256 sources come before the one at this place, from 0.
+    #[error("source {place} is one too many")]
+    Limit { place: u64 },
+    /// No native has the name of the source at this place, from 0.
+    #[error("there is no native for source {place}")]
+    Native { place: u64 },
 }
 
 impl RuleFault {
@@ -47,9 +47,9 @@ impl RuleFault {
             RuleFault::Part => 3,
             RuleFault::Memory => 4,
             RuleFault::Class => 5,
-            RuleFault::Twice => 6,
-            RuleFault::Limit => 7,
-            RuleFault::Native => 8,
+            RuleFault::Twice { .. } => 6,
+            RuleFault::Limit { .. } => 7,
+            RuleFault::Native { .. } => 8,
         }
     }
 }

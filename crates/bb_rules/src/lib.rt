@@ -1,13 +1,21 @@
-//! Sources with their names looked up, and which events trigger them. bb_shell makes them of a bundle's sources, and
-//! bb_run asks at each event which are triggered.
+//! Sources with their names looked up, and which events they answer. bb_shell makes them of a bundle's sources, and
+//! bb_run asks at each event which sources answer it.
 #![tactic(auto)]
 
+mod answered;
+mod classes_by;
 mod clause;
+mod clauses;
 mod fault;
+mod index;
+mod parts;
+mod resolve;
 mod source;
 #[cfg(test)]
 mod tests;
 
 pub use clause::Clause;
+pub use clauses::Clauses;
 pub use fault::RuleFault;
-pub use source::{Act, Source};
+pub use resolve::Classes;
+pub use source::{Act, Reaction, Source};

@@ -1,16 +1,17 @@
-//! A source. bb_shell makes it of what a bundle spells, and bb_run executes its act.
+//! A source. bb_shell makes it of what a bundle spells, and the run (bb_run) asks which events it answers and executes
+//! its codes.
 
-ghost use Rattle.std.specs.Prelude.{◌≡◌};
-ghost use Rattle.std.specs.List.{list_any};
-ghost use Rattle.bb_basis.specs.Results.{Gives, try_map};
-ghost use Rattle.bb_rules.specs.Match.{matches, is_triggered};
-ghost use Rattle.bb_rules.specs.Source.{class_of, class_within, clause_of, source_of};
+ghost use Rattle.std.specs.Prelude.{◌≡◌, IfOk};
+ghost use Rattle.bb_basis.specs.Results.{Gives};
+ghost use Rattle.bb_rules.specs.Source.{act_of, source_of};
+ghost use Rattle.bb_rules.specs.Law.{IsOf};
+ghost use Rattle.bb_rules.specs.proving.Steps.{reaction_with, source_with};
 
-use crate::clause::Clause;
+use crate::answered::Found;
+use crate::clauses::Clauses;
 use crate::fault::RuleFault;
-use bb_basis::{Items, Text};
-use bb_board::{ChangeKind, Event};
-use bb_compile::{ClauseText, SourceHeader};
+use bb_basis::Text;
+use bb_compile::{ActDraft, ReactionDraft, SourceDraft};
 use bb_schema::{ClassId, Schema};
 use bb_verify::Checked;
 use std::alloc::Global;
@@ -20,99 +21,96 @@ use std::alloc::Global;
 pub enum Act {
     /// It executes a code.
     Code(Checked),
+    /// It runs a native source of the host.
+    Native,
 }
 
-/// A source whose names are looked up and whose code is accepted (GBBopen Reference Manual, knowledge sources).
+/// What a source does about each of its pending activations at certain events.
+#[derive(Drop)]
+pub struct Reaction {
+    /// The class of the units of these events.
+    pub class: ClassId,
+    /// Which events these are.
+    pub clauses: Clauses,
+    pub code: Checked,
+}
+
+/// A source whose names are looked up and whose codes are accepted (GBBopen Reference Manual, knowledge sources).
 #[derive(Drop)]
 pub struct Source {
     pub name: Text,
     /// The class of the units that it works on.
     pub class: ClassId,
-    /// Which events trigger it.
-    pub triggers: Items<Clause>,
-    /// The base rating of its activations.
+    /// The base rating of its activations, where `require` gives none.
     pub rate: i64,
+    /// Which events trigger it.
+    pub triggers: Clauses,
+    /// Whether a trigger makes an activation, and with which base rating.
+    pub require: Option<Checked>,
+    /// Which events make its pending activations needless.
+    pub obviate: Option<Reaction>,
+    /// Which events give its pending activations another base rating.
+    pub retrigger: Option<Reaction>,
+    /// Whether a chosen activation is still of use.
+    pub revalidate: Option<Checked>,
     /// What its activations do.
     pub act: Act,
 }
 
 impl Source {
-    /// A source from its header and its code, which is accepted for its class. The fault is `Class` where the class
-    /// of the source or of a clause is unknown, or that of a clause does not descend from that of the source.
-    #[tactic(auto, unfolding(crate::specs::Source::source_of))]
+    /// A source from its draft. The fault is the first of these: `Class` where its class, or that of a reaction, is
+    /// unknown; `Part` where a code was accepted for another part or other classes; and, clause by clause, `Class`
+    /// where the class is unknown or does not descend from that of the source, or of the reaction, `Slot`, `Space`.
     pub fn new(
         alloc: Global,
         schema: &Schema,
-        header: SourceHeader,
-        body: Checked,
+        draft: SourceDraft<Checked>,
     ) -> Result<Source, RuleFault>
-        ensures { Gives RuleFault.Memory (λ s. s) result (source_of schema.now header body) }
+        ensures made { Gives RuleFault.Memory (λ s. s) result (source_of schema.now draft) }
+        ensures law { IfOk result (λ s. IsOf schema.now s) }
     {
-        let class = class_of(schema, header.class.as_str())?;
-        let triggers = clauses(alloc, schema, class, header.triggers.as_slice())?;
-        Ok(Source {
-            name: header.name,
-            class,
-            triggers: Items::from(triggers),
-            rate: header.rate,
-            act: Act::Code(body),
-        })
-    }
-
-    /// Whether an event triggers the source: whether one of its clauses names the event.
-    pub fn is_triggered(&self, schema: &Schema, event: Event) -> bool
-        ensures { result ≡ is_triggered schema.now self.now event }
-    {
-        any_matches(schema, self.triggers.as_slice(), event)
+        let found = Found::of(alloc, schema, &draft)?;
+        Ok(source_with(found, draft))
     }
 }
 
-fn any_matches(schema: &Schema, clauses: &[Clause], event: Event) -> bool
-    ensures { result ≡ list_any (λ c. matches schema.now c event) clauses.now }
+// The source of a draft, once its names are looked up.
+fn source_with(found: Found, draft: SourceDraft<Checked>) -> Source
+    ensures { result ≡ source_with found draft }
 {
-    clauses.iter().any(|clause| clause.matches(schema, event))
-}
-
-fn class_of(schema: &Schema, name: &str) -> Result<ClassId, RuleFault>
-    ensures { result ≡ class_of schema.now name.now }
-{
-    schema.class(name).ok_or(RuleFault::Class)
-}
-
-// The class of a clause, which is that of its source or descends from it.
-fn class_within(schema: &Schema, class: ClassId, name: &str) -> Result<ClassId, RuleFault>
-    ensures { result ≡ class_within schema.now class name.now }
-{
-    let changed = class_of(schema, name)?;
-    if !schema.descends(changed, class) {
-        return Err(RuleFault::Class);
-    }
-    Ok(changed)
-}
-
-fn clause_of(schema: &Schema, class: ClassId, text: &ClauseText) -> Result<Clause, RuleFault>
-    ensures { result ≡ clause_of schema.now class text.now }
-{
-    match text {
-        ClauseText::Create(name) => {
-            let class = class_within(schema, class, name.as_str())?;
-            let kind = ChangeKind::Create;
-            Ok(Clause::Change { kind, class })
-        }
+    let Found { classes, answered } = found;
+    Source {
+        name: draft.name,
+        class: classes.own,
+        rate: draft.rate,
+        triggers: answered.triggers,
+        require: draft.require,
+        obviate: reaction_with(classes.obviated, answered.obviating, draft.obviate),
+        retrigger: reaction_with(classes.retriggered, answered.retriggering, draft.retrigger),
+        revalidate: draft.revalidate,
+        act: act_of(draft.act),
     }
 }
 
-fn clauses(
-    alloc: Global,
-    schema: &Schema,
-    class: ClassId,
-    texts: &[ClauseText],
-) -> Result<Vec<Clause>, RuleFault>
-    ensures { Gives RuleFault.Memory (λ v. v.items) result (try_map (clause_of schema.now class) texts.now) }
+fn reaction_with(
+    class: Option<ClassId>,
+    clauses: Option<Clauses>,
+    draft: Option<ReactionDraft<Checked>>,
+) -> Option<Reaction>
+    ensures { result ≡ reaction_with class clauses draft }
 {
-    let mut clauses = Vec::new(alloc);
-    for text in texts {
-        clauses.push(clause_of(schema, class, text)?)?;
+    Some(Reaction {
+        class: class?,
+        clauses: clauses?,
+        code: draft?.code,
+    })
+}
+
+fn act_of(draft: ActDraft<Checked>) -> Act
+    ensures { result ≡ act_of draft }
+{
+    match draft {
+        ActDraft::Do(code) => Act::Code(code),
+        ActDraft::Native => Act::Native,
     }
-    Ok(clauses)
 }

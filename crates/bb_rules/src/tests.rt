@@ -1,10 +1,11 @@
-//! Tests of sources: how they are made with memory, and events that no clause of a bundle names.
+//! Tests of sources: how they are made with memory, codes that were accepted for something else, and events that no
+//! bundle's clause names.
 
 use super::*;
 use bb_board::{Change, ChangeKind, Event};
-use bb_compile::unbundle;
+use bb_compile::{ActDraft, SourceDraft, unbundle};
 use bb_schema::{ClassId, Schema};
-use bb_verify::{Part, verify};
+use bb_verify::{Checked, Part, verify};
 use std::alloc::Global;
 use std::test::Fail;
 
@@ -12,12 +13,21 @@ use std::test::Fail;
 const SCHEMA: &str =
     r#"{"classes":[{"name":"note"},{"name":"memo","parent":"note"},{"name":"word"}]}"#;
 
-// A source of these clauses, whose code does nothing.
+// The code of an act that has one.
+fn code_of<C: Drop>(act: ActDraft<C>) -> Result<C, Fail> {
+    match act {
+        ActDraft::Do(code) => Ok(code),
+        ActDraft::Native => Err(Fail::from("a code is written")),
+    }
+}
+
+// A source of these clauses, whose code does nothing and was accepted for a part.
 fn source_of(
     alloc: Global,
     schema: &Schema,
     class: &str,
     triggers: &[&str],
+    part: Part,
 ) -> Result<Result<Source, RuleFault>, Fail> {
     let mut text = format!(in alloc; "source hail {class} 7\n")?;
     for trigger in triggers {
@@ -27,9 +37,21 @@ fn source_of(
     }
     text.push_str("do 4242430101000000000000000000012e")?;
     let mut sources = unbundle(alloc, &text)?;
-    let source = sources.pop().ok_or("one source is written")?;
-    let body = verify(alloc, schema, Part::Do { class: 1 }, source.body)?;
-    Ok(Source::new(alloc, schema, source.header, body))
+    let draft = sources.pop().ok_or("one source is written")?.into_draft();
+    let code = code_of(draft.act)?;
+    let act: ActDraft<Checked> = ActDraft::Do(verify(alloc, schema, part, code)?);
+    let checked = SourceDraft {
+        name: draft.name,
+        class: draft.class,
+        rate: draft.rate,
+        triggers: draft.triggers,
+        require: None,
+        obviate: None,
+        retrigger: None,
+        revalidate: None,
+        act,
+    };
+    Ok(Source::new(alloc, schema, checked))
 }
 
 fn changed(class: ClassId, change: Change) -> Event {
@@ -47,19 +69,36 @@ fn created(class: ClassId) -> Event {
 #[test]
 fn triggered_by_classes_below(rt: HostRuntime) -> Result<(), Fail> {
     let schema = Schema::read(rt.alloc(), SCHEMA)?;
-    let source = source_of(rt.alloc(), &schema, "note", &["memo"])??;
+    let part = Part::Do { class: 1 };
+    let source = source_of(rt.alloc(), &schema, "note", &["memo"], part)??;
     assert_eq!(rt; source.name.as_str(), "hail");
     assert_eq!(rt; source.class, 1);
     assert_eq!(rt; source.rate, 7);
-    assert!(rt; source.is_triggered(&schema, created(2)));
-    assert!(rt; !source.is_triggered(&schema, created(1)));
-    assert!(rt; !source.is_triggered(&schema, Event::Quiescence));
-    let source = source_of(rt.alloc(), &schema, "note", &["memo", "note"])??;
-    assert!(rt; source.is_triggered(&schema, created(2)));
-    assert!(rt; source.is_triggered(&schema, created(1)));
-    assert!(rt; !source.is_triggered(&schema, created(3)));
+    assert!(rt; source.triggers.match_any(&schema, created(2)));
+    assert!(rt; !source.triggers.match_any(&schema, created(1)));
+    assert!(rt; !source.triggers.match_any(&schema, Event::Quiescence));
+    let source = source_of(rt.alloc(), &schema, "note", &["memo", "note"], part)??;
+    assert_eq!(rt; source.triggers.as_slice().len(), 2);
+    assert!(rt; source.triggers.match_any(&schema, created(2)));
+    assert!(rt; source.triggers.match_any(&schema, created(1)));
+    assert!(rt; !source.triggers.match_any(&schema, created(3)));
     assert!(rt; Clause::Quiescence.matches(&schema, Event::Quiescence));
     assert!(rt; !Clause::Quiescence.matches(&schema, created(1)));
+    Ok(())
+}
+
+#[test]
+fn codes_of_other_classes(rt: HostRuntime) -> Result<(), Fail> {
+    let schema = Schema::read(rt.alloc(), SCHEMA)?;
+    // The code was accepted for the class below.
+    let source = source_of(
+        rt.alloc(),
+        &schema,
+        "note",
+        &["note"],
+        Part::Do { class: 2 },
+    )?;
+    assert!(rt; matches!(source, Err(RuleFault::Part)));
     Ok(())
 }
 

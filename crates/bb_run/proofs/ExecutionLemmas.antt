@@ -1,39 +1,41 @@
--- What an execution tells, by how it came out.
-use Rattle.std.proofs.Common.{◌≡◌, ◌⊎◌, inl, inr, List, Option, Result, Ok, Err, sym, subst, ap, ◌∙◌}
-use Rattle.bb_basis.specs.Results.{Gives}
+-- What is told of a code that was executed, and of one that was asked, by how that came out.
+use Rattle.std.proofs.Common.{◌≡◌, List, Option, None, Result, sym, subst, ap, ◌∙◌}
 use Rattle.bb_agenda.specs.declared.activation.Activation.{Activation}
+use Rattle.bb_code.specs.Code.{Code}
 use Rattle.bb_verify.specs.Accepted.{Checked}
+use Rattle.bb_machine.specs.Answer.{Answer}
+use Rattle.bb_machine.specs.Entry.{Entry}
 use Rattle.bb_machine.specs.Outcome.{Outcome}
 use Rattle.bb_machine.specs.Stop.{Stop}
-use Rattle.bb_machine.specs.Stop.TheVariants as stops
-use Rattle.bb_trace.specs.Act.{Act}
 use Rattle.bb_trace.specs.Act.TheVariants as acts
 use Rattle.bb_trace.specs.Board.{Board as Blackboard}
 use Rattle.bb_trace.specs.declared.end.End.{End}
 use Rattle.bb_trace.specs.declared.note.Note.{Note}
+use Rattle.bb_run.specs.declared.asking.Reply.{Reply}
 use Rattle.bb_run.specs.declared.state.State.{State}
+use Rattle.bb_run.specs.Asking.{asking, attempt, entry_of, reply_by, upon}
 use Rattle.bb_run.specs.State.{with_board}
-use Rattle.bb_run.specs.Run.{answered, attempt, execution}
-use Rattle.bb_run.specs.proving.Telling.{Attempts, IsResponse}
+use Rattle.bb_run.specs.Told.{Response}
+use Rattle.bb_run.specs.Run.{answered, execution}
+use Rattle.bb_run.specs.proving.Telling.{IsResponse, Replies}
 
-pub attempted : (e : Result Outcome Stop × Blackboard) (r : Result Outcome Stop) (board : Blackboard) → Gives stops.Memory (λ o. o) r e.0 → (r ≡ Err stops.Memory) ⊎ (board ≡ e.1) → Attempts e r board
-attempted e (Ok o) board is (inl none) = absurd cc
-attempted e (Ok o) board is (inr same) = (is, same)
-attempted e (Err (stops.Full steps found)) board is (inl none) = absurd cc
-attempted e (Err (stops.Full steps found)) board (inl none) (inr same) = absurd cc
-attempted e (Err (stops.Full steps found)) board (inr is) (inr same) = (is, same)
-attempted e (Err (stops.Stuck reason steps found)) board is (inl none) = absurd cc
-attempted e (Err (stops.Stuck reason steps found)) board (inl none) (inr same) = absurd cc
-attempted e (Err (stops.Stuck reason steps found)) board (inr is) (inr same) = (is, same)
-attempted e (Err stops.Memory) board is same = tt
+module _ (old new : List Note) (s t : State) (end : Option End) (board : Blackboard) where
+  -- an execution was noted
+  pub execution_noted : (body : Checked) (a : Activation) (entry : Entry) (r : Result Outcome Stop) → entry ≡ entry_of a.unit None → (attempt body.code entry s.board).0 ≡ r → board ≡ (attempt body.code entry s.board).1
+      → IsResponse (answered body.code (with_board s board) r) old new t end → IsResponse (execution (acts.Code body) a s) old new t end
+  execution_noted body a entry r begins came left noted =
+      let by : Entry → Response = λ e. answered body.code (with_board s (attempt body.code e s.board).1) (attempt body.code e s.board).0 in
+      let is : answered body.code (with_board s board) r ≡ execution (acts.Code body) a s =
+      ap (λ b. answered body.code (with_board s b) r) left ∙ ap (answered body.code (with_board s (attempt body.code entry s.board).1)) (sym came) ∙ ap by begins
+      in
+      subst (λ q. IsResponse q old new t end) is noted
 
--- the response of an act that executes a code
-executed : (act : Act) (body : Checked) (a : Activation) (s : State) (r : Result Outcome Stop) (board : Blackboard) → act ≡ acts.Code body → (attempt body.code a s.board).0 ≡ r → board ≡ (attempt body.code a s.board).1
-    → answered body.code (with_board s board) r ≡ execution act a s
-executed act body a s r board is came same =
-    ap (λ b. answered body.code (with_board s b) r) same ∙ ap (answered body.code (with_board s (attempt body.code a s.board).1)) (sym came) ∙ ap (λ x. execution x a s) (sym is)
-
-pub execution_noted : (act : Act) (body : Checked) (a : Activation) (s : State) (r : Result Outcome Stop) (board : Blackboard) (old new : List Note) (t : State) (end : Option End)
-    → act ≡ acts.Code body → (attempt body.code a s.board).0 ≡ r → board ≡ (attempt body.code a s.board).1
-    → IsResponse (answered body.code (with_board s board) r) old new t end → IsResponse (execution act a s) old new t end
-execution_noted act body a s r board old new t end is came same noted = subst (λ q. IsResponse q old new t end) (executed act body a s r board is came same) noted
+  -- what the reply to a question brings about was noted
+  pub reply_noted : (code : Code) (entry begun : Entry) (reply known : Reply) (next : Answer → State → Response) → begun ≡ entry → Replies (attempt code begun s.board) reply board → reply ≡ known
+      → IsResponse (upon known next (with_board s board)) old new t end → IsResponse (asking code entry next s) old new t end
+  reply_noted code entry begun reply known next begins replied is noted =
+      let by : Entry → Response = λ e. upon (reply_by (attempt code e s.board).0) next (with_board s (attempt code e s.board).1) in
+      let same : upon known next (with_board s board) ≡ asking code entry next s =
+      ap (λ r. upon r next (with_board s board)) (sym is ∙ replied.reply_is) ∙ ap (λ b. upon (reply_by (attempt code begun s.board).0) next (with_board s b)) replied.board_is ∙ ap by begins
+      in
+      subst (λ q. IsResponse q old new t end) same noted

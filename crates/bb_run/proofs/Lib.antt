@@ -16,5 +16,25 @@ pub mod OrderLemmas
 pub mod PendingLemmas
 -- each part of a run goes on orderly
 pub mod OrderlyParts
+-- each cycle does
+pub mod OrderlyCycles
+-- what answers to an event answers what it asks for
+pub mod PaidLemmas
+-- each part of a run answers the events that it tells
+pub mod AskedLemmas
+-- a longer limit
+pub mod LimitLemmas
 -- each run does
 pub mod OrderlyRuns
+-- what holds of every response
+pub mod ResponseRule
+-- why a run ends full or stuck
+pub mod CauseLemmas
+-- what leaves the blackboard as it was
+pub mod ReadLemmas
+-- each part of a run goes by its phases
+pub mod PhaseLemmas
+-- each run does
+pub mod PhasedRuns
+-- what is pending of a source, one after another
+pub mod WaitingLemmas

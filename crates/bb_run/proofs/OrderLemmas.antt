@@ -1,8 +1,23 @@
 -- Notes that may come one after another, by any rule for what may come after what.
-use Rattle.std.proofs.Common.{◌≡◌, ◌⊎◌, inl, inr, List, [], ◌∷◌, ◌++◌, sym, subst, append_assoc}
+use Rattle.std.proofs.Common.{◌≡◌, ◌⊎◌, inl, inr, List, [], ◌∷◌, ◌++◌, refl, sym, ap, subst, ◌∙◌, append_assoc}
 use Rattle.std.specs.Prelude.{⊤}
 use Rattle.std.proofs.lemmas.List.{append-nil}
 use Rattle.bb_trace.specs.declared.note.Note.{Note}
+
+not_none : (bs : List Note) (note : Note) (after : List Note) → (let none : List Note = [] in none) ≡ bs ++ note ∷ after → ⊥
+not_none [] note after is = absurd cc
+not_none (b ∷ bs) note after is = absurd cc
+
+-- two lists with a last note each
+pub same_last : (xs ys : List Note) (x y : Note) → xs ++ x ∷ [] ≡ ys ++ y ∷ [] → (xs ≡ ys) × (x ≡ y)
+same_last [] [] x y is = (refl, cc)
+same_last [] (b ∷ ys) x y is = let none : [] ≡ ys ++ y ∷ [] = cc in absurd (not_none ys y [] none)
+same_last (a ∷ xs) [] x y is = let none : xs ++ x ∷ [] ≡ [] = cc in absurd (not_none xs x [] (sym none))
+same_last (a ∷ xs) (b ∷ ys) x y is =
+    let first : a ≡ b = cc in
+    let more : xs ++ x ∷ [] ≡ ys ++ y ∷ [] = cc in
+    let rest = same_last xs ys x y more in
+    (ap (λ c. c ∷ xs) first ∙ ap (λ l. b ∷ l) rest.0, rest.1)
 
 module _ (May : List Note → Note → Type 0) where
   -- notes to come, each of which may come after those before it
@@ -22,10 +37,6 @@ module _ (May : List Note → Note → Type 0) where
   unfolding Comes
   comes_then past [] ys p q = subst (λ b. Comes b ys) (append-nil past) q
   comes_then past (x ∷ xs) ys p q = (p.0, comes_then (past ++ x ∷ []) xs ys p.1 (subst (λ b. Comes b ys) (sym (append_assoc past (x ∷ []) xs)) q))
-
-  not_none : (bs : List Note) (note : Note) (after : List Note) → (let none : List Note = [] in none) ≡ bs ++ note ∷ after → ⊥
-  not_none [] note after is = absurd cc
-  not_none (b ∷ bs) note after is = absurd cc
 
   -- a note of these and one more: it may come where it is, or it is the last
   pub comes_or_last : (past xs : List Note) (last : Note) (before : List Note) (note : Note) (after : List Note) → Comes past xs → xs ++ last ∷ [] ≡ before ++ note ∷ after → May (past ++ before) note ⊎ ((note ≡ last) × (after ≡ []))

@@ -1,46 +1,46 @@
 -- Each part of a run goes on orderly after the notes before it.
-use Rattle.std.proofs.Common.{◌≡◌, ◌<◌, ℕ, zero, suc, ℤ, ◌+◌, ◌-◌, Bool, true, false, cond, List, [], ◌∷◌, ◌++◌, length, map, slice_get, Option, Some, None, Result, Ok, Err, refl, sym, ap, subst, ◌∙◌, append_assoc, arith}
-use Rattle.std.specs.Prelude.{⊤, Contains, ◌≤ℤ◌}
-use Rattle.std.specs.List.{flat_map}
+use Rattle.std.proofs.Common.{◌≡◌, ◌<◌, ℕ, ℤ, ◌+◌, ◌-◌, Bool, true, false, cond, List, [], ◌∷◌, ◌++◌, length, map, Option, Some, None, Result, Ok, Err, refl, sym, ap, subst, ◌∙◌, append_assoc, arith, length-append}
+use Rattle.std.specs.Prelude.{⊤, All, Contains, ◌≤ℤ◌}
 use Rattle.std.proofs.lemmas.List.{append-nil}
 use Rattle.std.proofs.lemmas.List.Concat.{flat_map-append}
-use Rattle.std.proofs.lemmas.List.Elements.{All-contains}
+use Rattle.std.proofs.lemmas.List.Elements.{All-filter, All-head, All-tail, All-weaker}
 use Rattle.bb_trace.specs.Event.{Event}
 use Rattle.bb_trace.specs.Event.TheVariants.{Quiescence as quiescence}
 use Rattle.bb_trace.specs.BoardNote.{Note as BoardNote}
 use Rattle.bb_trace.specs.BoardNote.TheVariants.{Event as happened}
 use Rattle.bb_trace.specs.Board.{Board as Blackboard}
 use Rattle.bb_trace.specs.Events.{unit_of}
+use Rattle.bb_trace.specs.Match.{any_match}
 use Rattle.bb_agenda.specs.declared.activation.Activation.{Activation}
-use Rattle.bb_agenda.specs.Agenda.{Agenda, is_full, new_activation, next_number, pending_of}
+use Rattle.bb_agenda.specs.Agenda.{Agenda, is_full, is_of, next_number, pending_for, pending_of}
+use Rattle.bb_agenda.specs.Changes.{new_activation, with_activation}
 use Rattle.bb_code.specs.Code.{Code}
+use Rattle.bb_verify.specs.Accepted.{Checked}
 use Rattle.bb_verify.specs.Budget.{budget}
-use Rattle.bb_verify.specs.declared.checked.TheConstants.{FOUND_LIMIT}
+use Rattle.bb_machine.specs.Answer.{Answer}
+use Rattle.bb_machine.specs.Answer.TheVariants as answers
+use Rattle.bb_machine.specs.Entry.{Entry}
 use Rattle.bb_machine.specs.Outcome.{Outcome}
 use Rattle.bb_machine.specs.Stop.{Stop}
 use Rattle.bb_machine.specs.Stop.TheVariants as stops
-use Rattle.bb_machine.specs.Activation.{activation}
-use Rattle.bb_trace.specs.Act.{Act}
-use Rattle.bb_trace.specs.Act.TheVariants as acts
+use Rattle.bb_trace.specs.Reaction.{Reaction}
 use Rattle.bb_trace.specs.Source.{Source}
-use Rattle.bb_trace.specs.Match.{is_triggered}
 use Rattle.bb_trace.specs.declared.end.End.{End}
 use Rattle.bb_trace.specs.declared.end.End.TheVariants as finishes
 use Rattle.bb_trace.specs.declared.note.Note.{Note}
-use Rattle.bb_trace.specs.declared.note.Note.TheVariants.{Board, Triggered, Chosen, Ended, Finished}
+use Rattle.bb_trace.specs.declared.note.Note.TheVariants.{Board, Triggered, Declined, Obviated, Retriggered, Chosen, Invalid, Ended, Finished}
 use Rattle.bb_trace.specs.Plan.{Plan}
+use Rattle.bb_run.specs.declared.execution.Verdict.{Verdict}
+use Rattle.bb_run.specs.declared.execution.Verdict.TheVariants as verdicts
 use Rattle.bb_run.specs.declared.state.State.{State}
-use Rattle.bb_run.specs.State.{with_board}
-use Rattle.bb_run.specs.Told.{Response, Stretch, telling, idle, over, and_then_unless, segment}
-use Rattle.bb_run.specs.Processing.{triggering, source_response, response_by, response, processing, processing_all, events_in, reported}
-use Rattle.bb_run.specs.Run.{rating, wait_for, with_notes_taken, noted, end_by, answered, entry_of, execution, acting, after_choice, cycle, run}
-use Rattle.bb_run.specs.Order.{notes_of, triggered_in, chosen_in, ends_in, pending_after, IsChosenAfter}
+use Rattle.bb_run.specs.State.{with_board, with_agenda}
+use Rattle.bb_run.specs.Told.{Response, Stretch, telling, idle, over, and_then, and_then_unless, segment}
+use Rattle.bb_run.specs.Asking.{attempt, asking, end_by, entry_of, reply_by, upon}
+use Rattle.bb_run.specs.Processing.{activating, events_in, if_triggered, obviated_by, processing, processing_all, reacting, reacting_to, reacting_to_each, reported, required_by, rerated_by, response, response_by, source_response, triggering}
+use Rattle.bb_run.specs.Run.{wait_for, run, validity, verdict_by, verdict_of}
+use Rattle.bb_run.specs.Order.{all_of, notes_of, triggered_in, chosen_in, gone_in, ends_in, is_among, pending_after, IsChosenAfter}
 use Rattle.bb_run.proofs.OrderLemmas.{Comes, comes_none, comes_one, comes_then}
-use Rattle.bb_run.proofs.PendingLemmas.{IsKnown, Stands, IsSilent, stands_silent, stands_triggered, stands_chosen}
-
--- all notes of segments
-abbrev pub all_of : List (List Note) → List Note
-all_of segments = flat_map (λ segment. segment) segments
+use Rattle.bb_run.proofs.PendingLemmas.{IsKnown, Stands, IsSilent, triggered_then, stands_silent, stands_triggered, stands_obviated, stands_rebased}
 
 pub all_of_two : (xs ys : List (List Note)) → all_of (xs ++ ys) ≡ all_of xs ++ all_of ys
 all_of_two xs ys = flat_map-append (λ segment. segment) xs ys
@@ -53,22 +53,48 @@ IsEarly (Some finishes.Limit) = ⊥
 IsEarly (Some finishes.Full) = ⊤
 IsEarly (Some (finishes.Stuck reason)) = ⊤
 
+pub early_end : (stop : Stop) → IsEarly (Some (end_by stop))
+early_end (stops.Full steps found) = tt
+early_end (stops.Stuck reason steps found) = tt
+early_end stops.Memory = tt
+
+-- the run ends by a verdict only where a revalidation was stopped
+abbrev pub IsEarlyVerdict : Verdict → Type 0
+IsEarlyVerdict v = (end : End) → v ≡ verdicts.Over end → IsEarly (Some end)
+
+early_of : (answer : Answer) → IsEarlyVerdict (verdict_of answer)
+early_of answers.No end is = absurd cc
+early_of answers.Yes end is = absurd cc
+early_of answers.Done end is = absurd cc
+early_of answers.Declined end is = absurd cc
+early_of (answers.Rated base) end is = absurd cc
+
+early_by : (r : Result Outcome Stop) → IsEarlyVerdict (verdict_by (reply_by r))
+early_by (Ok o) end is = early_of o.answer end is
+early_by (Err stop) end is = let same : end_by stop ≡ end = cc in subst (λ e. IsEarly (Some e)) same (early_end stop)
+
+pub early_verdict : (code : Option Checked) (a : Activation) (b : Blackboard) → IsEarlyVerdict (validity code a b).0
+early_verdict None a b end is = absurd cc
+early_verdict (Some code) a b end is = early_by (attempt code.code (entry_of a.unit None) b).0 end is
+
 module _ (plan : Plan) (board : Blackboard) where
   -- a cycle may choose after these notes
   pub record MayChoose (before : List Note) (number : ℕ) (a : Activation) (r : ℤ) : Type 0 where
     pub counted : number ≡ length (chosen_in before) + 1
     pub pending : Contains (pending_after before) a
+    pub once : is_among a.number (gone_in before) ≡ false
     pub enough : plan.floor ≤ℤ r
     pub in_turn : ends_in before ≡ length (chosen_in before)
     pub choice : IsChosenAfter plan (run plan board (number - 1)) before a r
 
   -- a note of a run may come after these, before it finishes
   abbrev pub May : List Note → Note → Type 0
-  May before (Board note) = ⊤
   May before (Triggered a) = a.number ≡ length (triggered_in before) + 1
   May before (Chosen number a r) = MayChoose before number a r
+  May before (Invalid number) = ends_in before + 1 ≡ length (chosen_in before)
   May before (Ended steps found budget) = ends_in before + 1 ≡ length (chosen_in before)
   May before (Finished end) = ⊥
+  May before _ = ⊤
 
   -- the agenda is what is pending by the notes
   abbrev pub Agrees : (past : List Note) (made executed : ℕ) → Agenda → Type 0
@@ -92,7 +118,7 @@ module _ (plan : Plan) (board : Blackboard) where
       record { comes = comes_none May past; cycles = stands.cycles ∙ ap (λ l. length (chosen_in l)) same; stands = λ e. subst (λ l. Agrees l made executed s.agenda) same stands; early = early }
 
   -- notes before others
-  keeps_more : (past xs ys : List Note) (made executed : ℕ) (s : State) (end : Option End) → Comes May past xs → Keeps (past ++ xs) ys made executed s end → Keeps past (xs ++ ys) made executed s end
+  pub keeps_more : (past xs ys : List Note) (made executed : ℕ) (s : State) (end : Option End) → Comes May past xs → Keeps (past ++ xs) ys made executed s end → Keeps past (xs ++ ys) made executed s end
   keeps_more past xs ys made executed s end may rest =
       let same : (past ++ xs) ++ ys ≡ past ++ (xs ++ ys) = append_assoc past xs ys in
       record {
@@ -117,7 +143,7 @@ module _ (plan : Plan) (board : Blackboard) where
   -- ---- the response to an event
 
   -- the same of a response
-  abbrev Responds : (past : List Note) (made executed : ℕ) → Response → Type 0
+  abbrev pub Responds : (past : List Note) (made executed : ℕ) → Response → Type 0
   Responds past made executed r = Keeps past r.told made executed r.state r.end
 
   -- a response, and then the next
@@ -132,22 +158,138 @@ module _ (plan : Plan) (board : Blackboard) where
   either past made executed true p q x y = x
   either past made executed false p q x y = y
 
-  triggers : (event : Event) (place : ℕ) (source : Source) (past : List Note) (made executed : ℕ) (s : State) → place < length plan.sources → Agrees past made executed s.agenda
-      → Responds past made executed (triggering event place source s)
-  triggers event place source past made executed s under stands =
-      let a = new_activation s.agenda place (unit_of event) source.rate in
-      let later = stands_triggered (length plan.sources) past made executed s.agenda stands place (unit_of event) source.rate under in
-      record { comes = comes_one May past (Triggered a) stands.numbers; cycles = later.cycles; stands = λ e. later; early = tt }
+  -- a code is asked, and what its answer brings about goes on orderly
+  replied : (next : Answer → State → Response) (past : List Note) (made executed : ℕ) (r : Result Outcome Stop) (t : State) → Agrees past made executed t.agenda
+      → ((answer : Answer) → Responds past made executed (next answer t)) → Responds past made executed (upon (reply_by r) next t)
+  replied next past made executed (Ok o) t stands goes = goes o.answer
+  replied next past made executed (Err stop) t stands goes = keeps_none past made executed t (Some (end_by stop)) (early_end stop) stands
+
+  asks : (code : Code) (entry : Entry) (next : Answer → State → Response) (past : List Note) (made executed : ℕ) (s : State) → Agrees past made executed s.agenda
+      → ((answer : Answer) (t : State) → Agrees past made executed t.agenda → Responds past made executed (next answer t)) → Responds past made executed (asking code entry next s)
+  asks code entry next past made executed s stands goes =
+      let e = attempt code entry s.board in
+      replied next past made executed e.0 (with_board s e.1) stands (λ answer. goes answer (with_board s e.1) stands)
+
+  -- a note that tells of no activation
+  agrees_silent : (past : List Note) (note : Note) (made executed : ℕ) (agenda : Agenda) → IsSilent (note ∷ []) → ends_in (note ∷ []) ≡ 0 → Agrees past made executed agenda → Agrees (past ++ note ∷ []) made executed agenda
+  agrees_silent past note made executed agenda silent none stands =
+      let same : executed + 0 ≡ executed = omega arith in
+      subst (λ n. Agrees (past ++ note ∷ []) made n agenda) same (stands_silent (length plan.sources) past made executed agenda stands (note ∷ []) 0 silent none)
+
+  -- one note that leaves this
+  tells_one : (past : List Note) (note : Note) (made executed : ℕ) (s : State) → May past note → Agrees (past ++ note ∷ []) made executed s.agenda → Responds past made executed (telling (note ∷ []) s None)
+  tells_one past note made executed s may later = record { comes = comes_one May past note may; cycles = later.cycles; stands = λ e. later; early = tt }
+
+  -- ---- what a source does about its pending activations
+
+  -- the number was given
+  abbrev IsGiven : List Note → Activation → Type 0
+  IsGiven past a = a.number < length (triggered_in past) + 1
+
+  given_still : (past xs : List Note) (a : Activation) → IsGiven past a → IsGiven (past ++ xs) a
+  given_still past xs a under =
+      let more : length (triggered_in (past ++ xs)) ≡ length (triggered_in past) + length (triggered_in xs) = ap length (triggered_then past xs) ∙ length-append (triggered_in past) (triggered_in xs) in
+      omega (arith, more, under)
+
+  -- what an answer does about a pending activation goes on orderly
+  abbrev Reacts : (Activation → Answer → State → Response) → Type 0
+  Reacts by = (past : List Note) (made executed : ℕ) (a : Activation) (answer : Answer) (s : State) → IsGiven past a → Agrees past made executed s.agenda → Responds past made executed (by a answer s)
+
+  obviates : Reacts obviated_by
+  obviates past made executed a answers.Yes s under stands =
+      tells_one past (Obviated a.number) made executed (obviated_by a answers.Yes s).state tt
+      (stands_obviated (length plan.sources) past made executed s.agenda stands a.number (subst (λ n. a.number < n) (sym stands.numbers) under))
+  obviates past made executed a answers.No s under stands = keeps_none past made executed s None tt stands
+  obviates past made executed a answers.Done s under stands = keeps_none past made executed s None tt stands
+  obviates past made executed a answers.Declined s under stands = keeps_none past made executed s None tt stands
+  obviates past made executed a (answers.Rated base) s under stands = keeps_none past made executed s None tt stands
+
+  rerates : Reacts rerated_by
+  rerates past made executed a (answers.Rated base) s under stands =
+      tells_one past (Retriggered a.number base) made executed (rerated_by a (answers.Rated base) s).state tt (stands_rebased (length plan.sources) past made executed s.agenda stands a.number base)
+  rerates past made executed a answers.Yes s under stands = keeps_none past made executed s None tt stands
+  rerates past made executed a answers.No s under stands = keeps_none past made executed s None tt stands
+  rerates past made executed a answers.Done s under stands = keeps_none past made executed s None tt stands
+  rerates past made executed a answers.Declined s under stands = keeps_none past made executed s None tt stands
+
+  module _ (event : Event) (by : Activation → Answer → State → Response) (reacts : Reacts by) where
+    reacts_one : (reaction : Reaction) (a : Activation) (past : List Note) (made executed : ℕ) (s : State) → IsGiven past a → Agrees past made executed s.agenda → Responds past made executed (reacting_to event by reaction a s)
+    reacts_one reaction a past made executed s under stands =
+        asks reaction.code.code (entry_of a.unit (Some (unit_of event))) (by a) past made executed s stands (λ answer t later. reacts past made executed a answer t under later)
+
+    reacts_each : (reaction : Reaction) (items : List Activation) (past : List Note) (made executed : ℕ) (s : State) → All (IsGiven past) items → Agrees past made executed s.agenda
+        → Responds past made executed (reacting_to_each event by reaction items s)
+    unfolding reacting_to_each
+    reacts_each reaction [] past made executed s all stands = keeps_none past made executed s None tt stands
+    reacts_each reaction (a ∷ more) past made executed s all stands =
+        let r = reacting_to event by reaction a s in
+        responds_then past made executed r (reacting_to_each event by reaction more) r.end refl (reacts_one reaction a past made executed s (All-head (IsGiven past) a more all) stands)
+        (λ later. reacts_each reaction more (past ++ r.told) made executed r.state (All-weaker (IsGiven past) (IsGiven (past ++ r.told)) (given_still past r.told) more (All-tail (IsGiven past) a more all)) later)
+
+    -- what is pending was given
+    given_pending : (place : ℕ) (past : List Note) (made executed : ℕ) (agenda : Agenda) → Agrees past made executed agenda → All (IsGiven past) (pending_for agenda place)
+    given_pending place past made executed agenda stands =
+        All-filter (is_of place) (IsGiven past) (pending_of agenda)
+        (All-weaker (IsKnown (next_number agenda) (length plan.sources)) (IsGiven past) (λ a k. subst (λ n. a.number < n) stands.numbers k.number) (pending_of agenda) stands.known)
+
+    reacts_if : (place : ℕ) (reaction : Option Reaction) (past : List Note) (made executed : ℕ) (s : State) → Agrees past made executed s.agenda → Responds past made executed (reacting plan.schema event place by reaction s)
+    reacts_if place None past made executed s stands = keeps_none past made executed s None tt stands
+    reacts_if place (Some reaction) past made executed s stands =
+        either past made executed (any_match plan.schema reaction.clauses event) (reacting_to_each event by reaction (pending_for s.agenda place) s) (idle s)
+        (reacts_each reaction (pending_for s.agenda place) past made executed s (given_pending place past made executed s.agenda stands) stands)
+        (keeps_none past made executed s None tt stands)
+
+  -- ---- what triggers a source
+
+  activates : (event : Event) (place : ℕ) (base : ℤ) (past : List Note) (made executed : ℕ) (s : State) → place < length plan.sources → Agrees past made executed s.agenda
+      → Responds past made executed (activating event place base s)
+  activates event place base past made executed s under stands =
+      let a = new_activation s.agenda place (unit_of event) base in
+      let full : Response = over finishes.Full s in
+      let new : Response = telling (Triggered a ∷ []) (with_agenda s (with_activation s.agenda place (unit_of event) base)) None in
+      either past made executed (is_full s.agenda) full new
+      (keeps_none past made executed s (Some finishes.Full) tt stands)
+      (tells_one past (Triggered a) made executed new.state stands.numbers (stands_triggered (length plan.sources) past made executed s.agenda stands place (unit_of event) base under))
+
+  declines : (event : Event) (place : ℕ) (past : List Note) (made executed : ℕ) (s : State) → Agrees past made executed s.agenda
+      → Responds past made executed (telling (Declined place (unit_of event) ∷ []) s None)
+  declines event place past made executed s stands =
+      tells_one past (Declined place (unit_of event)) made executed s tt
+      (agrees_silent past (Declined place (unit_of event)) made executed s.agenda (record { none_triggered = refl; none_chosen = refl; none_gone = refl; same_pending = λ pending. refl }) refl stands)
+
+  requires_by : (event : Event) (place : ℕ) (past : List Note) (made executed : ℕ) (answer : Answer) (s : State) → place < length plan.sources → Agrees past made executed s.agenda
+      → Responds past made executed (required_by event place answer s)
+  requires_by event place past made executed (answers.Rated base) s under stands = activates event place base past made executed s under stands
+  requires_by event place past made executed answers.Declined s under stands = declines event place past made executed s stands
+  requires_by event place past made executed answers.Yes s under stands = declines event place past made executed s stands
+  requires_by event place past made executed answers.No s under stands = declines event place past made executed s stands
+  requires_by event place past made executed answers.Done s under stands = declines event place past made executed s stands
+
+  triggers : (event : Event) (place : ℕ) (rate : ℤ) (code : Option Checked) (past : List Note) (made executed : ℕ) (s : State) → place < length plan.sources → Agrees past made executed s.agenda
+      → Responds past made executed (triggering event place rate code s)
+  triggers event place rate None past made executed s under stands = activates event place rate past made executed s under stands
+  triggers event place rate (Some code) past made executed s under stands =
+      asks code.code (entry_of (unit_of event) None) (required_by event place) past made executed s stands (λ answer t later. requires_by event place past made executed answer t under later)
+
+  triggers_if : (event : Event) (place : ℕ) (source : Source) (past : List Note) (made executed : ℕ) (s : State) → place < length plan.sources → Agrees past made executed s.agenda
+      → Responds past made executed (if_triggered plan.schema event place source s)
+  triggers_if event place source past made executed s under stands =
+      either past made executed (any_match plan.schema source.triggers event) (triggering event place source.rate source.require s) (idle s)
+      (triggers event place source.rate source.require past made executed s under stands)
+      (keeps_none past made executed s None tt stands)
+
+  -- ---- sources in order
 
   source_responds : (event : Event) (place : ℕ) (source : Source) (past : List Note) (made executed : ℕ) (s : State) → place < length plan.sources → Agrees past made executed s.agenda
       → Responds past made executed (source_response plan.schema event place source s)
   source_responds event place source past made executed s under stands =
-      let full : Response = over finishes.Full s in
-      let new : Response = triggering event place source s in
-      let none : Response = idle s in
-      either past made executed (is_triggered plan.schema source event) (cond (is_full s.agenda) full new) none
-      (either past made executed (is_full s.agenda) full new (keeps_none past made executed s (Some finishes.Full) tt stands) (triggers event place source past made executed s under stands))
-      (keeps_none past made executed s None tt stands)
+      let first = reacting plan.schema event place obviated_by source.obviate s in
+      responds_then past made executed first (λ t. and_then (reacting plan.schema event place rerated_by source.retrigger t) (if_triggered plan.schema event place source)) first.end refl
+      (reacts_if event obviated_by obviates place source.obviate past made executed s stands)
+      (λ then. let second = reacting plan.schema event place rerated_by source.retrigger first.state in
+      responds_then (past ++ first.told) made executed second (if_triggered plan.schema event place source) second.end refl
+      (reacts_if event rerated_by rerates place source.retrigger (past ++ first.told) made executed first.state then)
+      (λ later. triggers_if event place source ((past ++ first.told) ++ second.told) made executed second.state under later))
 
   -- each source in order, with those before it
   responds : (event : Event) (place : ℕ) (sources : List Source) (past : List Note) (made executed : ℕ) (s : State) → place + length sources ≡ length plan.sources → Agrees past made executed s.agenda
@@ -184,20 +326,22 @@ module _ (plan : Plan) (board : Blackboard) where
 
   -- ---- notes of the blackboard
 
-  comes_board : (past : List Note) (notes : List BoardNote) → Comes May past (map Board notes)
+  pub comes_board : (past : List Note) (notes : List BoardNote) → Comes May past (map Board notes)
   unfolding Comes
   comes_board past [] = tt
   comes_board past (note ∷ notes) = (tt, comes_board (past ++ Board note ∷ []) notes)
 
   silent_board : (notes : List BoardNote) → IsSilent (map Board notes)
-  silent_board [] = record { none_triggered = refl; none_chosen = refl }
-  silent_board (note ∷ notes) = let rest = silent_board notes in record { none_triggered = rest.none_triggered; none_chosen = rest.none_chosen }
+  silent_board [] = record { none_triggered = refl; none_chosen = refl; none_gone = refl; same_pending = λ pending. refl }
+  silent_board (note ∷ notes) =
+      let rest = silent_board notes in
+      record { none_triggered = rest.none_triggered; none_chosen = rest.none_chosen; none_gone = rest.none_gone; same_pending = rest.same_pending }
 
   none_ended : (notes : List BoardNote) → ends_in (map Board notes) ≡ 0
   none_ended [] = refl
   none_ended (note ∷ notes) = none_ended notes
 
-  agrees_board : (past : List Note) (notes : List BoardNote) (made executed : ℕ) (agenda : Agenda) → Agrees past made executed agenda → Agrees (past ++ map Board notes) made executed agenda
+  pub agrees_board : (past : List Note) (notes : List BoardNote) (made executed : ℕ) (agenda : Agenda) → Agrees past made executed agenda → Agrees (past ++ map Board notes) made executed agenda
   agrees_board past notes made executed agenda stands =
       let same : executed + 0 ≡ executed = omega arith in
       subst (λ n. Agrees (past ++ map Board notes) made n agenda) same (stands_silent (length plan.sources) past made executed agenda stands (map Board notes) 0 (silent_board notes) (none_ended notes))
@@ -211,69 +355,3 @@ module _ (plan : Plan) (board : Blackboard) where
       let note : List BoardNote = happened quiescence ∷ [] in
       keeps_last past (map Board note ++ r.told) made executed r.state r.end
       (keeps_more past (map Board note) r.told made executed r.state r.end (comes_board past note) (all_respond quiescence (past ++ map Board note) made executed s (agrees_board past note made executed s.agenda stands)))
-
-  -- ---- what the blackboard noted
-
-  -- nothing more is told
-  pub keeps_board : (past : List Note) (made before executed : ℕ) (s : State) (end : Option End) → IsEarly end → (end ≡ None → before ≡ executed) → Agrees past made before s.agenda → Responds past made executed (noted s [] end)
-  keeps_board past made before executed s end early same stands =
-      let notes = map Board s.board.world.notes in
-      let later = agrees_board past s.board.world.notes made before s.agenda stands in
-      subst (λ l. Keeps past l made executed (with_notes_taken s) end) (sym (append-nil notes)) (record {
-        comes = comes_board past s.board.world.notes;
-        cycles = later.cycles;
-        stands = λ none. subst (λ n. Agrees (past ++ notes) made n s.agenda) (same none) later;
-        early = early;
-      })
-
-  -- the end of an execution is told too
-  keeps_ended : (past : List Note) (made steps found allowed : ℕ) (s : State) → Agrees past (made + 1) made s.agenda → Responds past (made + 1) (made + 1) (noted s (Ended steps found allowed ∷ []) None)
-  keeps_ended past made steps found allowed s stands =
-      let notes = map Board s.board.world.notes in
-      let note : Note = Ended steps found allowed in
-      let told = agrees_board past s.board.world.notes (made + 1) made s.agenda stands in
-      let ended = stands_silent (length plan.sources) (past ++ notes) (made + 1) made s.agenda told (note ∷ []) 1 (record { none_triggered = refl; none_chosen = refl }) refl in
-      let later = subst (λ l. Agrees l (made + 1) (made + 1) s.agenda) (append_assoc past notes (note ∷ [])) ended in
-      record {
-        comes = comes_then May past notes (note ∷ []) (comes_board past s.board.world.notes) (comes_one May (past ++ notes) note (sym (ap (λ n. n + 1) told.executions) ∙ told.cycles));
-        cycles = later.cycles;
-        stands = λ none. later;
-        early = tt;
-      }
-
-  -- ---- a cycle
-
-  early_end : (stop : Stop) → IsEarly (Some (end_by stop))
-  early_end (stops.Full steps found) = tt
-  early_end (stops.Stuck reason steps found) = tt
-  early_end stops.Memory = tt
-
-  executes : (code : Code) (s : State) (r : Result Outcome Stop) (past : List Note) (made : ℕ) → Agrees past (made + 1) made s.agenda → Responds past (made + 1) (made + 1) (answered code s r)
-  executes code s (Ok o) past made stands = keeps_ended past made o.steps o.found (budget code o.found) s stands
-  executes code s (Err stop) past made stands = keeps_board past (made + 1) made (made + 1) s (Some (end_by stop)) (early_end stop) (λ none. absurd cc) stands
-
-  acts_by : (act : Act) (a : Activation) (s : State) (past : List Note) (made : ℕ) → Agrees past (made + 1) made s.agenda → Tells past (made + 1) (made + 1) (reported plan (execution act a s))
-  acts_by (acts.Code body) a s past made stands =
-      let e = activation (budget body.code FOUND_LIMIT) body.code (entry_of a) s.board in
-      reports past (made + 1) (made + 1) (answered body.code (with_board s e.1) e.0) (executes body.code (with_board s e.1) e.0 past made stands)
-
-  -- each place within a list has its item
-  within_some : {X : Type 0} (xs : List X) (i : ℕ) → i < length xs → slice_get xs i ≡ None → ⊥
-  within_some [] i lt none = omega arith
-  within_some (x ∷ xs) zero lt none = absurd cc
-  within_some (x ∷ xs) (suc i) lt none = within_some xs i (omega arith) none
-
-  acts_at : (source : Option Source) (a : Activation) (s : State) (past : List Note) (made : ℕ) → slice_get plan.sources a.source ≡ source → a.source < length plan.sources → Agrees past (made + 1) made s.agenda
-      → Tells past (made + 1) (made + 1) (acting plan source a s)
-  acts_at None a s past made is lt stands = absurd (within_some plan.sources a.source lt is)
-  acts_at (Some source) a s past made is lt stands = acts_by source.act a s past made stands
-
-  -- the choice, and what its source does
-  pub cycles_once : (a : Activation) (s : State) (past : List Note) (made : ℕ) → MayChoose past (made + 1) a (rating plan s a) → Contains (pending_of s.agenda) a → Agrees past made made s.agenda → Tells past (made + 1) (made + 1) (cycle plan (made + 1) a s)
-  cycles_once a s past made may there stands =
-      let note : Note = Chosen (made + 1) a (rating plan s a) in
-      let later = after_choice s a in
-      let p = acting plan (slice_get plan.sources a.source) a later in
-      keeps_more past (note ∷ []) (notes_of p) (made + 1) (made + 1) p.state p.end (comes_one May past note may)
-      (acts_at (slice_get plan.sources a.source) a later (past ++ note ∷ []) made refl (All-contains (IsKnown (next_number s.agenda) (length plan.sources)) (pending_of s.agenda) a stands.known there).source
-      (stands_chosen (length plan.sources) past made made s.agenda stands (made + 1) a (rating plan s a) there))

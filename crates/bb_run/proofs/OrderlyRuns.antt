@@ -9,15 +9,22 @@ use Rattle.bb_agenda.proofs.Laws.{chosen_some}
 use Rattle.bb_trace.specs.declared.end.End.{End}
 use Rattle.bb_trace.specs.declared.end.End.TheVariants as finishes
 use Rattle.bb_trace.specs.declared.note.Note.{Note}
-use Rattle.bb_trace.specs.declared.note.Note.TheVariants.{Triggered, Chosen, Ended, Finished}
+use Rattle.bb_trace.specs.declared.note.Note.TheVariants.{Triggered, Chosen, Invalid, Ended, Finished}
 use Rattle.bb_trace.specs.Plan.{Plan}
 use Rattle.bb_run.specs.declared.state.State.{State}
 use Rattle.bb_run.specs.Told.{Stretch, telling, over, after_told, and_then, and_then_unless}
 use Rattle.bb_run.specs.Run.{rating, choice, wait, noted, cycle, if_chosen, cycles, start, finish_segments, with_finish, unfinished, run}
-use Rattle.bb_run.specs.Order.{notes_of, At, chosen_in, IsCounted, ActsOnPending, ExecutesInTurn, IsFinished, KeepsLimit, IsChosenAfter}
-use Rattle.bb_run.proofs.OrderLemmas.{Comes, comes_none, comes_then, comes_or_last}
-use Rattle.bb_run.proofs.PendingLemmas.{chosen_then, stands_first}
-use Rattle.bb_run.proofs.OrderlyParts.{all_of, all_of_two, IsEarly, MayChoose, May, Agrees, Tells, reports, waits_for, keeps_board, cycles_once}
+use Rattle.bb_run.specs.Order.{all_of, notes_of, At, chosen_in, IsCounted, ActsOnPending, ExecutesInTurn, IsFinished, KeepsLimit, IsChosenAfter}
+use Rattle.bb_run.proofs.OrderLemmas.{Comes, comes_none, comes_then, comes_or_last, same_last}
+use Rattle.bb_run.specs.Processing.{events_in}
+use Rattle.bb_run.specs.Asked.{asked_for, answered_in, IsAnswered, MayOwe}
+use Rattle.bb_run.proofs.AskedLemmas.{GoesOn, MayAsk, goes_then, reports_board, cycles_go}
+use Rattle.bb_run.proofs.PendingLemmas.{chosen_then, is_apart, stands_first}
+use Rattle.bb_run.proofs.OrderlyParts.{all_of_two, IsEarly, MayChoose, May, Agrees, Tells, reports, waits_for}
+use Rattle.bb_run.proofs.OrderlyCycles.{keeps_board, cycles_once}
+
+same_end : (d e : End) → Finished d ≡ Finished e → d ≡ e
+same_end d e is = cc
 
 module _ (plan : Plan) (board : Blackboard) where
   -- ---- the run so far
@@ -90,6 +97,7 @@ module _ (plan : Plan) (board : Blackboard) where
       record {
         counted = ap (λ n. n + 1) stands.cycles;
         pending = subst (λ l. Contains l a) stands.pending best.waits;
+        once = is_apart (length plan.sources) (past ++ notes_of p) made made p.state.agenda stands a best.waits;
         enough = best.enough;
         in_turn = sym stands.executions ∙ stands.cycles;
         choice = choice_after (unfinished plan board (made + 1 - 1)) past told p.told made p.state a (begins zero (made + 1 - 1) count ∙ ap (λ q. after_told told q) (limit_after made s a goes chosen)) before stands chosen;
@@ -246,6 +254,7 @@ module _ (plan : Plan) (board : Blackboard) where
   pub run_acts_on_pending : (limit : ℕ) → ActsOnPending plan.floor (notes_of (run plan board limit))
   run_acts_on_pending limit = record {
     pending = λ before number a r at. (may_choose_at limit before number a r at).pending;
+    once = λ before number a r at. (may_choose_at limit before number a r at).once;
     enough = λ before number a r at. (may_choose_at limit before number a r at).enough;
   }
 
@@ -253,6 +262,7 @@ module _ (plan : Plan) (board : Blackboard) where
   run_executes_in_turn limit = record {
     choices = λ before number a r at. (may_choose_at limit before number a r at).in_turn;
     ends = λ before steps found budget at. may_come limit before (Ended steps found budget) (λ e is. absurd cc) at;
+    invalids = λ before number at. may_come limit before (Invalid number) (λ e is. absurd cc) at;
   }
 
   pub run_finishes : (limit : ℕ) → IsFinished (run plan board limit)
@@ -286,3 +296,39 @@ module _ (plan : Plan) (board : Blackboard) where
 
   pub run_chooses : (limit : ℕ) (before : List Note) (number : ℕ) (a : Activation) (r : ℤ) → At (notes_of (run plan board limit)) before (Chosen number a r) → IsChosenAfter plan (run plan board (number - 1)) before a r
   run_chooses limit before number a r at = (may_choose_at limit before number a r at).choice
+
+  -- ---- what the events ask for
+
+  -- the run up to its finish answers the events that it tells
+  goes_all : (limit : ℕ) → GoesOn plan (unfinished plan board limit)
+  goes_all limit =
+      let first : State = record { board = board; agenda = no_activations } in
+      let p = start plan board in
+      goes_then plan p (cycles plan 0 limit) p.end refl (reports_board plan first) (λ s. cycles_go plan 0 limit s)
+
+  pub run_is_answered : (limit : ℕ) → IsAnswered plan (notes_of (run plan board limit))
+  run_is_answered limit =
+      let p = unfinished plan board limit in
+      let end = end_of_run limit in
+      let goes = goes_all limit in
+      let comes = goes.comes [] refl in
+      record {
+        choices = λ before cycle a r at.
+            elim (comes_or_last (MayAsk plan) [] (notes_of p) (Finished end.0) before (Chosen cycle a r) at.0 comes (sym (notes_of_run limit) ∙ at.1)) [
+              | inl may ↦ may
+              | inr last ↦ absurd cc
+            ];
+        finish = λ before e at. at_finish limit before e at.0 at.1;
+      }
+    where
+      at_finish : (limit : ℕ) (before : List Note) (e : End) (after : List Note) → notes_of (run plan board limit) ≡ before ++ Finished e ∷ after
+          → (owed : List (ℕ × ℕ)) × (answered_in before ++ owed ≡ asked_for plan (events_in before)) × MayOwe e owed
+      at_finish limit before e after is =
+          let end = end_of_run limit in
+          let none : after ≡ [] = (run_finishes limit).once before e after is in
+          let same : notes_of (unfinished plan board limit) ++ Finished end.0 ∷ [] ≡ before ++ Finished e ∷ [] = sym (notes_of_run limit) ∙ is ∙ ap (λ l. before ++ Finished e ∷ l) none in
+          let parts = same_last (notes_of (unfinished plan board limit)) before (Finished end.0) (Finished e) same in
+          let is_end : end.0 ≡ e = same_end end.0 e parts.1 in
+          let left = (goes_all limit).owes end.0 end.1 in
+          subst (λ ns. (owed : List (ℕ × ℕ)) × (answered_in ns ++ owed ≡ asked_for plan (events_in ns)) × MayOwe e owed) parts.0
+          (left.0, left.1, subst (λ f. MayOwe f left.0) is_end left.2)

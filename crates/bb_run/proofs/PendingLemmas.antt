@@ -1,58 +1,73 @@
 -- The agenda is what is pending by the notes so far.
-use Rattle.std.proofs.Common.{◌≡◌, ℕ, ℤ, ◌+◌, ◌<◌, Bool, true, false, not, cond, ◌&&◌, ◌||◌, ◌==◌, List, [], ◌∷◌, ◌++◌, length, filter, refl, sym, ap, subst, ◌∙◌, arith, length-append}
+use Rattle.std.proofs.Common.{◌≡◌, ℕ, ℤ, ◌+◌, ◌<◌, Bool, true, false, not, cond, ◌||◌, ◌==◌, List, [], ◌∷◌, ◌++◌, length, map, refl, sym, ap, subst, ◌∙◌, arith, length-append}
 use Rattle.std.specs.Prelude.{All, Contains}
+use Rattle.std.specs.List.{fold}
 use Rattle.std.proofs.lemmas.Bool.{ne_eqb}
 use Rattle.std.proofs.lemmas.List.{append-nil}
 use Rattle.std.proofs.lemmas.List.Concat.{flat_map-append}
-use Rattle.std.proofs.lemmas.List.Elements.{All-append, All-cons, All-contains, All-filter, All-nil, All-weaker, filter-append, filter_agree}
+use Rattle.std.proofs.lemmas.List.Elements.{All-append, All-cons, All-contains, All-filter, All-head, All-nil, All-tail, All-weaker}
 use Rattle.std.proofs.lemmas.List.Folds.{list_any-append, list_any_none}
-use Rattle.std.proofs.lemmas.List.Sums.{sum_by-append}
+use Rattle.std.proofs.lemmas.List.Sums.{fold-append, sum_by-append}
 use Rattle.bb_agenda.specs.declared.activation.Activation.{Activation}
-use Rattle.bb_agenda.specs.Agenda.{Agenda, no_activations, pending_of, next_number, new_activation, with_activation, with_executed}
-use Rattle.bb_agenda.proofs.Laws.{pending_added, pending_executed, given_added, given_executed}
+use Rattle.bb_agenda.specs.Agenda.{Agenda, no_activations, pending_of, next_number}
+use Rattle.bb_agenda.specs.Changes.{based_at, new_activation, other_than, rebased, with_activation, with_base, with_executed, with_obviated}
+use Rattle.bb_agenda.proofs.Laws.{pending_added, pending_executed, pending_obviated, pending_rebased, given_added, given_executed, given_obviated, given_rebased}
 use Rattle.bb_trace.specs.declared.note.Note.{Note}
-use Rattle.bb_trace.specs.declared.note.Note.TheVariants.{Triggered, Chosen}
-use Rattle.bb_run.specs.Order.{triggered_by, chosen_by, is_end, triggered_in, chosen_in, ends_in, has_number, pending_after}
+use Rattle.bb_trace.specs.declared.note.Note.TheVariants.{Triggered, Obviated, Retriggered, Chosen}
+use Rattle.bb_run.specs.Order.{triggered_by, chosen_by, gone_by, is_end, triggered_in, chosen_in, gone_in, ends_in, is_among, without, after_note, pending_after}
 
 -- ---- lists
 
 module _ {X : Type 0} (P : X → Type 0) where
-  All-last : (xs : List X) (x : X) → All P xs → P x → All P (xs ++ x ∷ [])
+  pub All-last : (xs : List X) (x : X) → All P xs → P x → All P (xs ++ x ∷ [])
   All-last xs x all here = All-append P xs (x ∷ []) all (All-cons P x [] here (All-nil P))
 
-filter_both : {X : Type 0} (p q : X → Bool) (xs : List X) → filter (λ x. p x && q x) xs ≡ filter q (filter p xs)
-filter_both p q [] = refl
-filter_both p q (x ∷ xs) = by (p x) (q x) refl (filter_both p q xs)
-  where
-    by : (s t : Bool) → q x ≡ t → filter (λ y. p y && q y) xs ≡ filter q (filter p xs) → cond (s && t) (x ∷ filter (λ y. p y && q y) xs) (filter (λ y. p y && q y) xs) ≡ filter q (cond s (x ∷ filter p xs) (filter p xs))
-    by true t is e = ap (λ l. cond t (x ∷ l) l) e ∙ ap (λ u. cond u (x ∷ filter q (filter p xs)) (filter q (filter p xs))) (sym is)
-    by false t is e = e
+-- the number of an activation is not among these
+abbrev pub IsApart : List ℕ → Activation → Type 0
+IsApart numbers a = is_among a.number numbers ≡ false
 
--- what is left of these, where those were chosen
-abbrev left_of : (chosen known : List Activation) → List Activation
-left_of chosen known = filter (λ a. not (has_number chosen a.number)) known
+or_none : (b c : Bool) → b ≡ false → c ≡ false → (b || (c || false)) ≡ false
+or_none true c p q = absurd cc
+or_none false true p q = absurd cc
+or_none false false p q = refl
 
-neither : (s t : Bool) → not (s || (t || false)) ≡ (not s && not t)
-neither true t = refl
-neither false true = refl
-neither false false = refl
+apart_one : (number : ℕ) (numbers : List ℕ) (a : Activation) → IsApart numbers a → (a.number == number) ≡ false → IsApart (numbers ++ number ∷ []) a
+apart_one number numbers a apart other = list_any-append (λ n. a.number == n) numbers (number ∷ []) ∙ or_none (is_among a.number numbers) (a.number == number) apart other
 
-left_without : (chosen known : List Activation) (a : Activation) → left_of (chosen ++ a ∷ []) known ≡ filter (λ b. not (b.number == a.number)) (left_of chosen known)
-left_without chosen known a =
-    filter_agree (λ b. not (has_number (chosen ++ a ∷ []) b.number)) (λ b. not (has_number chosen b.number) && not (b.number == a.number))
-    (λ b. ap not (list_any-append (λ c. b.number == c.number) chosen (a ∷ [])) ∙ neither (has_number chosen b.number) (b.number == a.number)) known
-    ∙ filter_both (λ b. not (has_number chosen b.number)) (λ b. not (b.number == a.number)) known
+apart_kept : (number : ℕ) (numbers : List ℕ) (a : Activation) (rest : List Activation) (t : Bool) → (a.number == number) ≡ t → IsApart numbers a → All (IsApart (numbers ++ number ∷ [])) rest → All (IsApart (numbers ++ number ∷ [])) (cond (not t) (a ∷ rest) rest)
+apart_kept number numbers a rest true is apart all = all
+apart_kept number numbers a rest false is apart all = All-cons (IsApart (numbers ++ number ∷ [])) a rest (apart_one number numbers a apart is) all
+
+-- what is left without the one of a number is apart from that number too
+apart_without : (number : ℕ) (numbers : List ℕ) (xs : List Activation) → All (IsApart numbers) xs → All (IsApart (numbers ++ number ∷ [])) (without number xs)
+apart_without number numbers [] all = All-nil (IsApart (numbers ++ number ∷ []))
+apart_without number numbers (a ∷ xs) all =
+    apart_kept number numbers a (without number xs) (a.number == number) refl (All-head (IsApart numbers) a xs all) (apart_without number numbers xs (All-tail (IsApart numbers) a xs all))
+
+-- what does not go by the base holds of activations with another base
+pub all_rebased : (P : Activation → Type 0) → ((a : Activation) (base : ℤ) → P a → P (based_at base a)) → (number : ℕ) (base : ℤ) (xs : List Activation) → All P xs → All P (map (rebased number base) xs)
+all_rebased P keeps number base [] all = All-nil P
+all_rebased P keeps number base (a ∷ xs) all =
+    All-cons P (rebased number base a) (map (rebased number base) xs)
+    (keeps a (cond (a.number == number) base a.base) (All-head P a xs all))
+    (all_rebased P keeps number base xs (All-tail P a xs all))
 
 -- ---- notes, one after another
 
-triggered_then : (xs ys : List Note) → triggered_in (xs ++ ys) ≡ triggered_in xs ++ triggered_in ys
+pub triggered_then : (xs ys : List Note) → triggered_in (xs ++ ys) ≡ triggered_in xs ++ triggered_in ys
 triggered_then xs ys = flat_map-append triggered_by xs ys
 
 pub chosen_then : (xs ys : List Note) → chosen_in (xs ++ ys) ≡ chosen_in xs ++ chosen_in ys
 chosen_then xs ys = flat_map-append chosen_by xs ys
 
+gone_then : (xs ys : List Note) → gone_in (xs ++ ys) ≡ gone_in xs ++ gone_in ys
+gone_then xs ys = flat_map-append gone_by xs ys
+
 ends_then : (xs ys : List Note) → ends_in (xs ++ ys) ≡ ends_in xs + ends_in ys
 ends_then xs ys = sum_by-append (λ note. cond (is_end note) 1 0) xs ys
+
+pending_then : (xs ys : List Note) → pending_after (xs ++ ys) ≡ fold after_note (pending_after xs) ys
+pending_then xs ys = fold-append after_note [] xs ys
 
 -- ---- the agenda and the notes
 
@@ -61,40 +76,64 @@ pub record IsKnown (next sources : ℕ) (a : Activation) : Type 0 where
   pub number : a.number < next
   pub source : a.source < sources
 
--- after these notes, with so many cycles made and so many of them executed, the agenda is what is pending
+-- after these notes, with so many cycles made and so many of them over, the agenda is what is pending
 pub record Stands (sources : ℕ) (past : List Note) (made executed : ℕ) (agenda : Agenda) : Type 0 where
   pub numbers : next_number agenda ≡ length (triggered_in past) + 1
   pub cycles : made ≡ length (chosen_in past)
   pub executions : executed ≡ ends_in past
   pub pending : pending_of agenda ≡ pending_after past
   pub known : All (IsKnown (next_number agenda) sources) (pending_of agenda)
-  pub chosen_before : All (λ a. a.number < next_number agenda) (chosen_in past)
+  pub gone : All (λ n. n < next_number agenda) (gone_in past)
+  pub apart : All (IsApart (gone_in past)) (pending_of agenda)
 
 pub stands_first : (sources : ℕ) → Stands sources [] 0 0 no_activations
-stands_first sources = record { numbers = refl; cycles = refl; executions = refl; pending = refl; known = All-nil (IsKnown 1 sources); chosen_before = All-nil (λ a. a.number < 1) }
+stands_first sources = record {
+  numbers = refl;
+  cycles = refl;
+  executions = refl;
+  pending = refl;
+  known = All-nil (IsKnown 1 sources);
+  gone = All-nil (λ n. n < 1);
+  apart = All-nil (IsApart []);
+}
 
 -- notes that tell of no activation
 pub record IsSilent (notes : List Note) : Type 0 where
   pub none_triggered : triggered_in notes ≡ []
   pub none_chosen : chosen_in notes ≡ []
+  pub none_gone : gone_in notes ≡ []
+  pub same_pending : (pending : List Activation) → fold after_note pending notes ≡ pending
 
 module _ (sources : ℕ) (past : List Note) (made executed : ℕ) (agenda : Agenda) (s : Stands sources past made executed agenda) where
-  -- after notes that tell of no activation, but of the ends of so many executions
+  same_triggered : (notes : List Note) → triggered_in notes ≡ [] → triggered_in past ≡ triggered_in (past ++ notes)
+  same_triggered notes none = sym (triggered_then past notes ∙ ap (λ l. triggered_in past ++ l) none ∙ append-nil (triggered_in past))
+
+  same_chosen : (notes : List Note) → chosen_in notes ≡ [] → chosen_in past ≡ chosen_in (past ++ notes)
+  same_chosen notes none = sym (chosen_then past notes ∙ ap (λ l. chosen_in past ++ l) none ∙ append-nil (chosen_in past))
+
+  same_gone : (notes : List Note) → gone_in notes ≡ [] → gone_in past ≡ gone_in (past ++ notes)
+  same_gone notes none = sym (gone_then past notes ∙ ap (λ l. gone_in past ++ l) none ∙ append-nil (gone_in past))
+
+  -- after notes that tell of no activation, but that so many cycles are over
   pub stands_silent : (notes : List Note) (more : ℕ) → IsSilent notes → ends_in notes ≡ more → Stands sources (past ++ notes) made (executed + more) agenda
   stands_silent notes more silent ended =
-      let triggered : triggered_in (past ++ notes) ≡ triggered_in past = triggered_then past notes ∙ ap (λ l. triggered_in past ++ l) silent.none_triggered ∙ append-nil (triggered_in past) in
-      let chosen : chosen_in (past ++ notes) ≡ chosen_in past = chosen_then past notes ∙ ap (λ l. chosen_in past ++ l) silent.none_chosen ∙ append-nil (chosen_in past) in
+      let gone = same_gone notes silent.none_gone in
       record {
-        numbers = s.numbers ∙ ap (λ l. length l + 1) (sym triggered);
-        cycles = s.cycles ∙ ap length (sym chosen);
+        numbers = s.numbers ∙ ap (λ l. length l + 1) (same_triggered notes silent.none_triggered);
+        cycles = s.cycles ∙ ap length (same_chosen notes silent.none_chosen);
         executions = ap (λ n. n + more) s.executions ∙ ap (λ n. ends_in past + n) (sym ended) ∙ sym (ends_then past notes);
-        pending = s.pending ∙ ap (λ l. left_of l (triggered_in past)) (sym chosen) ∙ ap (left_of (chosen_in (past ++ notes))) (sym triggered);
+        pending = s.pending ∙ sym (pending_then past notes ∙ silent.same_pending (pending_after past));
         known = s.known;
-        chosen_before = subst (All (λ a. a.number < next_number agenda)) (sym chosen) s.chosen_before;
+        gone = subst (All (λ n. n < next_number agenda)) gone s.gone;
+        apart = subst (λ g. All (IsApart g) (pending_of agenda)) gone s.apart;
       }
 
   no_end : (note : Note) → ends_in (note ∷ []) ≡ 0 → executed ≡ ends_in (past ++ note ∷ [])
   no_end note none = s.executions ∙ (let same : ends_in past ≡ ends_in past + ends_in (note ∷ []) = omega (arith, none) in same) ∙ sym (ends_then past (note ∷ []))
+
+  -- the number of what is pending was given
+  pub number_given : (a : Activation) → Contains (pending_of agenda) a → a.number < next_number agenda
+  number_given a there = (All-contains (IsKnown (next_number agenda) sources) (pending_of agenda) a s.known there).number
 
   -- after a new activation
   pub stands_triggered : (source unit : ℕ) (base : ℤ) → source < sources → Stands sources (past ++ Triggered (new_activation agenda source unit base) ∷ []) made executed (with_activation agenda source unit base)
@@ -103,39 +142,94 @@ module _ (sources : ℕ) (past : List Note) (made executed : ℕ) (agenda : Agen
       let later = with_activation agenda source unit base in
       let grown = given_added agenda source unit base in
       let note : List Note = Triggered a ∷ [] in
-      let triggered : triggered_in (past ++ note) ≡ triggered_in past ++ a ∷ [] = triggered_then past note in
-      let chosen : chosen_in (past ++ note) ≡ chosen_in past = chosen_then past note ∙ append-nil (chosen_in past) in
-      let new : has_number (chosen_in past) a.number ≡ false =
-      list_any_none (λ b. next_number agenda == b.number) (chosen_in past) (All-weaker (λ b. b.number < next_number agenda) (λ b. (next_number agenda == b.number) ≡ false) (λ b under. ne_eqb (next_number agenda) b.number (λ e. omega (arith, e))) (chosen_in past) s.chosen_before) in
-      let last : left_of (chosen_in past) (a ∷ []) ≡ a ∷ [] = ap (λ t. cond (not t) (a ∷ []) []) new in
+      let gone = same_gone note refl in
+      let new : IsApart (gone_in past) a =
+      list_any_none (λ n. next_number agenda == n) (gone_in past) (All-weaker (λ n. n < next_number agenda) (λ n. (next_number agenda == n) ≡ false) (λ n under. ne_eqb (next_number agenda) n (λ e. omega (arith, e, under))) (gone_in past) s.gone) in
       record {
-        numbers = ap (λ n. n + 1) (given_added agenda source unit base ∙ s.numbers) ∙ ap (λ n. n + 1) (sym (length-append (triggered_in past) (a ∷ []))) ∙ ap (λ l. length l + 1) (sym triggered);
-        cycles = s.cycles ∙ ap length (sym chosen);
+        numbers = ap (λ n. n + 1) (grown ∙ s.numbers) ∙ ap (λ n. n + 1) (sym (length-append (triggered_in past) (a ∷ []))) ∙ ap (λ l. length l + 1) (sym (triggered_then past note));
+        cycles = s.cycles ∙ ap length (same_chosen note refl);
         executions = no_end (Triggered a) refl;
-        pending = pending_added agenda source unit base ∙ ap (λ l. l ++ a ∷ []) s.pending ∙ ap (λ l. left_of (chosen_in past) (triggered_in past) ++ l) (sym last)
-            ∙ sym (filter-append (λ b. not (has_number (chosen_in past) b.number)) (triggered_in past) (a ∷ []))
-            ∙ ap (left_of (chosen_in past)) (sym triggered) ∙ ap (λ l. left_of l (triggered_in (past ++ note))) (sym chosen);
+        pending = pending_added agenda source unit base ∙ ap (λ l. l ++ a ∷ []) s.pending ∙ sym (pending_then past note);
         known = subst (All (IsKnown (next_number later) sources)) (sym (pending_added agenda source unit base)) (All-last (IsKnown (next_number later) sources) (pending_of agenda) a
             (All-weaker (IsKnown (next_number agenda) sources) (IsKnown (next_number later) sources) (λ b k. let under = k.number in record { number = omega (arith, grown); source = k.source }) (pending_of agenda) s.known)
             (record { number = omega (arith, grown); source = lt }));
-        chosen_before = subst (All (λ b. b.number < next_number later)) (sym chosen) (All-weaker (λ b. b.number < next_number agenda) (λ b. b.number < next_number later) (λ b under. omega (arith, grown)) (chosen_in past) s.chosen_before);
+        gone = subst (All (λ n. n < next_number later)) gone (All-weaker (λ n. n < next_number agenda) (λ n. n < next_number later) (λ n under. omega (arith, grown, under)) (gone_in past) s.gone);
+        apart = subst (λ g. All (IsApart g) (pending_of later)) gone
+            (subst (All (IsApart (gone_in past))) (sym (pending_added agenda source unit base)) (All-last (IsApart (gone_in past)) (pending_of agenda) a s.apart new));
       }
 
-  -- after a choice of what is pending
-  pub stands_chosen : (number : ℕ) (a : Activation) (r : ℤ) → Contains (pending_of agenda) a → Stands sources (past ++ Chosen number a r ∷ []) (made + 1) executed (with_executed agenda a.number)
-  stands_chosen number a r there =
-      let same = given_executed agenda a.number in
-      let note : List Note = Chosen number a r ∷ [] in
-      let triggered : triggered_in (past ++ note) ≡ triggered_in past = triggered_then past note ∙ append-nil (triggered_in past) in
-      let chosen : chosen_in (past ++ note) ≡ chosen_in past ++ a ∷ [] = chosen_then past note in
+  -- without the one of a number that was given
+  known_without : (later : Agenda) (number : ℕ) → next_number later ≡ next_number agenda → pending_of later ≡ without number (pending_of agenda) → All (IsKnown (next_number later) sources) (pending_of later)
+  known_without later number same left =
+      subst (λ n. All (IsKnown n sources) (pending_of later)) (sym same)
+      (subst (All (IsKnown (next_number agenda) sources)) (sym left) (All-filter (other_than number) (IsKnown (next_number agenda) sources) (pending_of agenda) s.known))
+
+  gone_one : (later : Agenda) (number : ℕ) → next_number later ≡ next_number agenda → number < next_number agenda → All (λ n. n < next_number later) (gone_in past ++ number ∷ [])
+  gone_one later number same under = subst (λ m. All (λ n. n < m) (gone_in past ++ number ∷ [])) (sym same) (All-last (λ n. n < next_number agenda) (gone_in past) number s.gone under)
+
+  apart_left : (later : Agenda) (number : ℕ) → pending_of later ≡ without number (pending_of agenda) → All (IsApart (gone_in past ++ number ∷ [])) (pending_of later)
+  apart_left later number left = subst (All (IsApart (gone_in past ++ number ∷ []))) (sym left) (apart_without number (gone_in past) (pending_of agenda) s.apart)
+
+  -- after one that is pending was obviated
+  pub stands_obviated : (number : ℕ) → number < next_number agenda → Stands sources (past ++ Obviated number ∷ []) made executed (with_obviated agenda number)
+  stands_obviated number under =
+      let later = with_obviated agenda number in
+      let same : next_number later ≡ next_number agenda = ap (λ n. n + 1) (given_obviated agenda number) in
+      let note : List Note = Obviated number ∷ [] in
+      let left = pending_obviated agenda number in
+      let gone = sym (gone_then past note) in
       record {
-        numbers = ap (λ n. n + 1) same ∙ s.numbers ∙ ap (λ l. length l + 1) (sym triggered);
-        cycles = ap (λ n. n + 1) s.cycles ∙ sym (length-append (chosen_in past) (a ∷ [])) ∙ ap length (sym chosen);
-        executions = no_end (Chosen number a r) refl;
-        pending = pending_executed agenda a.number ∙ ap (filter (λ b. not (b.number == a.number))) s.pending ∙ sym (left_without (chosen_in past) (triggered_in past) a)
-            ∙ ap (λ l. left_of l (triggered_in past)) (sym chosen) ∙ ap (left_of (chosen_in (past ++ note))) (sym triggered);
-        known = subst (λ n. All (IsKnown (n + 1) sources) (pending_of (with_executed agenda a.number))) (sym same)
-            (subst (All (IsKnown (next_number agenda) sources)) (sym (pending_executed agenda a.number)) (All-filter (λ b. not (b.number == a.number)) (IsKnown (next_number agenda) sources) (pending_of agenda) s.known));
-        chosen_before = subst (λ n. All (λ b. b.number < n + 1) (chosen_in (past ++ note))) (sym same) (subst (All (λ b. b.number < next_number agenda)) (sym chosen)
-            (All-last (λ b. b.number < next_number agenda) (chosen_in past) a s.chosen_before (All-contains (IsKnown (next_number agenda) sources) (pending_of agenda) a s.known there).number));
+        numbers = same ∙ s.numbers ∙ ap (λ l. length l + 1) (same_triggered note refl);
+        cycles = s.cycles ∙ ap length (same_chosen note refl);
+        executions = no_end (Obviated number) refl;
+        pending = left ∙ ap (without number) s.pending ∙ sym (pending_then past note);
+        known = known_without later number same left;
+        gone = subst (All (λ n. n < next_number later)) gone (gone_one later number same under);
+        apart = subst (λ g. All (IsApart g) (pending_of later)) gone (apart_left later number left);
       }
+
+  -- after one got another base
+  pub stands_rebased : (number : ℕ) (base : ℤ) → Stands sources (past ++ Retriggered number base ∷ []) made executed (with_base agenda number base)
+  stands_rebased number base =
+      let later = with_base agenda number base in
+      let same : next_number later ≡ next_number agenda = ap (λ n. n + 1) (given_rebased agenda number base) in
+      let note : List Note = Retriggered number base ∷ [] in
+      let left = pending_rebased agenda number base in
+      let gone = same_gone note refl in
+      record {
+        numbers = same ∙ s.numbers ∙ ap (λ l. length l + 1) (same_triggered note refl);
+        cycles = s.cycles ∙ ap length (same_chosen note refl);
+        executions = no_end (Retriggered number base) refl;
+        pending = left ∙ ap (map (rebased number base)) s.pending ∙ sym (pending_then past note);
+        known = subst (λ n. All (IsKnown n sources) (pending_of later)) (sym same)
+            (subst (All (IsKnown (next_number agenda) sources)) (sym left) (all_rebased (IsKnown (next_number agenda) sources) (λ a b k. record { number = k.number; source = k.source }) number base (pending_of agenda) s.known));
+        gone = subst (λ n. All (λ m. m < n) (gone_in (past ++ note))) (sym same) (subst (All (λ n. n < next_number agenda)) gone s.gone);
+        apart = subst (λ g. All (IsApart g) (pending_of later)) gone
+            (subst (All (IsApart (gone_in past))) (sym left) (all_rebased (IsApart (gone_in past)) (λ a b apart. apart) number base (pending_of agenda) s.apart));
+      }
+
+  -- after a choice of what is pending, whatever becomes of it
+  stands_taken : (number : ℕ) (a : Activation) (r : ℤ) (later : Agenda) → length later.given ≡ length agenda.given → pending_of later ≡ without a.number (pending_of agenda) → Contains (pending_of agenda) a → Stands sources (past ++ Chosen number a r ∷ []) (made + 1) executed later
+  stands_taken number a r later count left there =
+      let same : next_number later ≡ next_number agenda = ap (λ n. n + 1) count in
+      let note : List Note = Chosen number a r ∷ [] in
+      let gone = sym (gone_then past note) in
+      record {
+        numbers = same ∙ s.numbers ∙ ap (λ l. length l + 1) (same_triggered note refl);
+        cycles = ap (λ n. n + 1) s.cycles ∙ sym (length-append (chosen_in past) (a ∷ [])) ∙ ap length (sym (chosen_then past note));
+        executions = no_end (Chosen number a r) refl;
+        pending = left ∙ ap (without a.number) s.pending ∙ sym (pending_then past note);
+        known = known_without later a.number same left;
+        gone = subst (All (λ n. n < next_number later)) gone (gone_one later a.number same (number_given a there));
+        apart = subst (λ g. All (IsApart g) (pending_of later)) gone (apart_left later a.number left);
+      }
+
+  pub stands_executed : (number : ℕ) (a : Activation) (r : ℤ) → Contains (pending_of agenda) a → Stands sources (past ++ Chosen number a r ∷ []) (made + 1) executed (with_executed agenda a.number)
+  stands_executed number a r there = stands_taken number a r (with_executed agenda a.number) (given_executed agenda a.number) (pending_executed agenda a.number) there
+
+  pub stands_invalid : (number : ℕ) (a : Activation) (r : ℤ) → Contains (pending_of agenda) a → Stands sources (past ++ Chosen number a r ∷ []) (made + 1) executed (with_obviated agenda a.number)
+  stands_invalid number a r there = stands_taken number a r (with_obviated agenda a.number) (given_obviated agenda a.number) (pending_obviated agenda a.number) there
+
+  -- what is pending was not gone before
+  pub is_apart : (a : Activation) → Contains (pending_of agenda) a → is_among a.number (gone_in past) ≡ false
+  is_apart a there = All-contains (IsApart (gone_in past)) (pending_of agenda) a s.apart there

@@ -2,7 +2,7 @@
 use Rattle.std.proofs.Common.{◌≡◌, ◌<◌, ◌≤◌, ◌⊎◌, inl, inr, ℕ, suc, ◌+◌, ◌-◌, arith, List, [], ◌∷◌, ◌++◌, length, get_or, drop, Option, Some, None, Result, Ok, Err, refl, subst, sym, ap, ◌∙◌, append_assoc}
 use Rattle.std.proofs.lemmas.List.{append-nil, drop_all}
 use Rattle.std.proofs.lemmas.Option.{slice_get-get_or}
-use Rattle.std.specs.Prelude.{ℤ, slice_get}
+use Rattle.std.specs.Prelude.{slice_get, option_and_then}
 use Rattle.std.proofs.lemmas.List.Concat.{flat_map-cons}
 use Rattle.bb_basis.proofs.IntoMapLemmas.{next_one}
 use Rattle.bb_trace.specs.Event.{Event}
@@ -12,16 +12,18 @@ use Rattle.bb_trace.specs.declared.end.End.{End}
 use Rattle.bb_trace.specs.declared.end.End.TheVariants.{Limit, Quiescence}
 use Rattle.bb_trace.specs.declared.halt.Halt.{Halt}
 use Rattle.bb_trace.specs.declared.note.Note.{Note}
-use Rattle.bb_trace.specs.declared.note.Note.TheVariants.{Chosen}
 use Rattle.bb_run.specs.declared.cycles.Decision.{Decision}
 use Rattle.bb_run.specs.declared.cycles.Decision.TheVariants.{Act, Over}
 use Rattle.bb_trace.specs.Plan.{Plan}
+use Rattle.bb_trace.specs.Board.{Board as Blackboard}
+use Rattle.bb_run.specs.declared.execution.Verdict.{Verdict}
 use Rattle.bb_run.specs.declared.state.State.{State}
 use Rattle.bb_run.specs.declared.teller.Teller.{Teller}
 use Rattle.bb_run.specs.Told.{Response, Stretch, after_told, and_then, and_then_unless, idle, over, segment, telling}
 use Rattle.bb_run.specs.Processing.{event_in, events_in, processing, processing_all, reported}
-use Rattle.bb_run.specs.Run.{acting, after_choice, choice, choosing, cycle, cycles, if_chosen, quiet, rating, wait, wait_for}
-use Rattle.bb_run.specs.proving.Telling.{CutIn, Finishes, IsResponse, Leaves, Makes, MakesBy, Place, Same, IsTold, Waited, decision_after, decision_by, option_list}
+use Rattle.bb_run.specs.State.{with_board}
+use Rattle.bb_run.specs.Run.{acting, choice, chosen_with, cycle, cycle_of, cycles, if_chosen, if_valid, quiet, rating, validity, wait, wait_for}
+use Rattle.bb_run.specs.proving.Telling.{CutIn, Finishes, IsResponse, Leaves, Makes, MakesBy, Place, Same, IsTold, Validates, Waited, decision_after, decision_by, option_list}
 use Rattle.bb_run.proofs.SegmentLemmas.{told_nothing, told_then, cut_then, cut_before}
 
 -- ---- one teller
@@ -186,20 +188,34 @@ reported_as plan a b r old new told s t end result is none i m =
 
 -- ---- a cycle
 
-module _ (plan : Plan) (a b : Place) (number : ℕ) (x : Activation) (s : State) (r : ℤ) where
+module _ (plan : Plan) (a b : Place) (number : ℕ) (x : Activation) (s : State) (source : Option Source) (v : Verdict) (board : Blackboard) where
+  -- what is told of the choice, and what comes after it
+  abbrev chosen' : Response
+  chosen' = chosen_with number x (rating plan s x) v (with_board s board)
+
   abbrev then_acts : State → Stretch
-  then_acts = acting plan (slice_get plan.sources x.source) x
+  then_acts = acting plan (if_valid v source) x
 
-  pub choice_cut : (halt : Halt) → r ≡ rating plan s x → CutIn plan a b ((Chosen number x r ∷ []) ∷ []) halt → CutIn plan a b (cycle plan number x s).told halt
-  choice_cut halt is t =
-      part_cut plan a a b (cycle plan number x s) (segment (choosing plan number x s)) then_acts halt (nothing_told plan a (cycle plan number x s))
-      (subst (λ z. CutIn plan a b ((Chosen number x z ∷ []) ∷ []) halt) is t)
+  -- the cycle, once there is a verdict
+  cycle_is : slice_get plan.sources x.source ≡ source → Validates (validity (option_and_then (λ t. t.revalidate) source) x s.board) v board → cycle plan number x s ≡ and_then (segment chosen') then_acts
+  cycle_is there valid =
+      let w = validity (option_and_then (λ t. t.revalidate) source) x s.board in
+      let by : Verdict → Blackboard → Stretch = λ u c. and_then (segment (chosen_with number x (rating plan s x) u (with_board s c))) (acting plan (if_valid u source) x) in
+      ap (λ o. cycle_of plan number o x s) there ∙ (ap (λ u. by u w.1) (sym valid.verdict_is) ∙ ap (by v) (sym valid.board_is))
 
-  pub choice_told : (t : State) (source : Option Source) → r ≡ rating plan s x → t ≡ after_choice s x → slice_get plan.sources x.source ≡ source → IsTold plan a b ((Chosen number x r ∷ []) ∷ []) → HasTold plan a b (cycle plan number x s) (acting plan source x t)
-  choice_told t source is left at_place told =
-      subst (λ o. HasTold plan a b (cycle plan number x s) (acting plan o x t)) at_place
-      (part_told plan a a b (cycle plan number x s) (segment (choosing plan number x s)) then_acts t (nothing_told plan a (cycle plan number x s))
-      (subst (λ z. IsTold plan a b ((Chosen number x z ∷ []) ∷ [])) is told) (record { state = left; end = refl }))
+  module _ (there : slice_get plan.sources x.source ≡ source) (valid : Validates (validity (option_and_then (λ t. t.revalidate) source) x s.board) v board)
+      (notes : List Note) (t : State) (end : Option End) (noted : IsResponse chosen' [] notes t end) where
+    begun : HasTold plan a a (cycle plan number x s) (and_then (segment chosen') then_acts)
+    begun = subst (HasTold plan a a (cycle plan number x s)) (cycle_is there valid) (nothing_told plan a (cycle plan number x s))
+
+    pub choice_cut : (halt : Halt) → CutIn plan a b (notes ∷ []) halt → CutIn plan a b (cycle plan number x s).told halt
+    choice_cut halt cut = part_cut plan a a b (cycle plan number x s) (segment chosen') then_acts halt begun (subst (λ ns. CutIn plan a b (ns ∷ []) halt) noted.notes cut)
+
+    pub choice_over : (e : End) → end ≡ Some e → IsTold plan a b (notes ∷ []) → Makes plan a b (cycle plan number x s) t (Ok (Some e))
+    choice_over e is told = part_ends plan a a b (cycle plan number x s) (segment chosen') then_acts t e begun (subst (λ ns. IsTold plan a b (ns ∷ [])) noted.notes told) (record { state = noted.state; end = sym is ∙ noted.end })
+
+    pub choice_told : end ≡ None → IsTold plan a b (notes ∷ []) → HasTold plan a b (cycle plan number x s) (acting plan (if_valid v source) x t)
+    choice_told is told = part_told plan a a b (cycle plan number x s) (segment chosen') then_acts t begun (subst (λ ns. IsTold plan a b (ns ∷ [])) noted.notes told) (record { state = noted.state; end = sym is ∙ noted.end })
 
 -- ---- decisions
 

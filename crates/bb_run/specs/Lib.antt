@@ -2,12 +2,22 @@
 pub mod State
 -- what a part of a run tells, the state that it leaves, and the end
 pub mod Told
+-- what a code of a source answers
+pub mod Asking
 -- what an event brings about
 pub mod Processing
 -- the run
 pub mod Run
 -- what every run is like
 pub mod Order
+-- whether the sources are asked what the events ask for
+pub mod Asked
+-- the phases of a run
+pub mod Phases
+-- why a run ends full or stuck
+pub mod Causes
+-- what leaves the blackboard as it was
+pub mod Reads
 -- how a run's answer tells its end, and what was written where it was cut short
 pub mod Finish
 -- for proofs alone
@@ -23,7 +33,9 @@ pub use Rattle.bb_trace.specs.Board
 pub use Rattle.bb_trace.specs.Load
 pub use Rattle.bb_trace.specs.UnitsFaults
 -- of bb_rules: sources, and how they are made
+pub use Rattle.bb_trace.specs.Classes
 pub use Rattle.bb_trace.specs.MadeSource
 pub use Rattle.bb_trace.specs.RuleFault
 pub use Rattle.bb_trace.specs.RuleFaults
+pub use Rattle.bb_trace.specs.Act
 pub use Rattle.bb_trace.specs.Source

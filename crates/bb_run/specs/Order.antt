@@ -1,22 +1,29 @@
 -- What every run is like. Most of it is read off the notes alone.
-use Rattle.std.specs.Prelude.{◌≡◌, ℕ, ◌+◌, ◌≤◌, ℤ, ◌≤ℤ◌, Bool, true, false, not, ◌==◌, List, [], ◌∷◌, ◌++◌, length, filter, Some, None, Contains}
-use Rattle.std.specs.List.{count_by, flat_map, list_any}
+use Rattle.std.specs.Prelude.{◌≡◌, ◌⊎◌, ℕ, ◌+◌, ◌≤◌, ℤ, ◌≤ℤ◌, Bool, true, false, ◌==◌, Some, None}
+use Rattle.std.specs.Prelude.{List, [], ◌∷◌, ◌++◌, length, map, filter, Contains}
+use Rattle.std.specs.List.{count_by, flat_map, fold, list_any}
 use Rattle.bb_agenda.specs.declared.activation.Activation.{Activation}
 use Rattle.bb_agenda.specs.Agenda.{pending_of}
+use Rattle.bb_agenda.specs.Changes.{other_than, rebased}
 use Rattle.bb_agenda.specs.Chosen.{IsChosen}
 use Rattle.bb_trace.specs.declared.end.End.{End}
 use Rattle.bb_trace.specs.declared.end.End.TheVariants as ends
 use Rattle.bb_trace.specs.declared.note.Note.{Note}
-use Rattle.bb_trace.specs.declared.note.Note.TheVariants.{Board, Triggered, Chosen, Ended, Finished}
+use Rattle.bb_trace.specs.declared.note.Note.TheVariants.{Triggered, Obviated, Retriggered, Chosen}
+use Rattle.bb_trace.specs.declared.note.Note.TheVariants.{Invalid, Ended, Finished}
 use Rattle.bb_trace.specs.Plan.{Plan}
 use Rattle.bb_run.specs.Told.{Stretch}
 use Rattle.bb_run.specs.Run.{choice, rating}
 
 -- ---- what notes tell
 
--- all notes of a stretch, in order
+-- all notes of segments, in order
+abbrev pub all_of : List (List Note) → List Note
+all_of segments = flat_map (λ segment. segment) segments
+
+-- all notes of a stretch
 abbrev pub notes_of : Stretch → List Note
-notes_of p = flat_map (λ segment. segment) p.told
+notes_of p = all_of p.told
 
 -- the note is one of these notes, and comes after those before it
 abbrev pub At : (notes before : List Note) → Note → Type 0
@@ -24,27 +31,25 @@ At notes before note = (after : List Note) × (notes ≡ before ++ note ∷ afte
 
 -- the activation that a note tells to be new
 abbrev pub triggered_by : Note → List Activation
-triggered_by (Board note) = []
 triggered_by (Triggered a) = a ∷ []
-triggered_by (Chosen cycle a r) = []
-triggered_by (Ended steps found budget) = []
-triggered_by (Finished end) = []
+triggered_by _ = []
 
 -- the activation that a note tells to be chosen
 abbrev pub chosen_by : Note → List Activation
-chosen_by (Board note) = []
-chosen_by (Triggered a) = []
 chosen_by (Chosen cycle a r) = a ∷ []
-chosen_by (Ended steps found budget) = []
-chosen_by (Finished end) = []
+chosen_by _ = []
 
--- the note tells that an execution has ended
+-- the number of an activation that is no longer pending after a note
+abbrev pub gone_by : Note → List ℕ
+gone_by (Chosen cycle a r) = a.number ∷ []
+gone_by (Obviated number) = number ∷ []
+gone_by _ = []
+
+-- the note tells that a cycle is over: its execution has ended, or its activation was invalid
 abbrev pub is_end : Note → Bool
-is_end (Board note) = false
-is_end (Triggered a) = false
-is_end (Chosen cycle a r) = false
 is_end (Ended steps found budget) = true
-is_end (Finished end) = false
+is_end (Invalid number) = true
+is_end _ = false
 
 -- all activations that notes tell to be new
 abbrev pub triggered_in : List Note → List Activation
@@ -54,17 +59,33 @@ triggered_in notes = flat_map triggered_by notes
 abbrev pub chosen_in : List Note → List Activation
 chosen_in notes = flat_map chosen_by notes
 
--- the number of executions that have ended
+-- the numbers of all activations that are no longer pending
+abbrev pub gone_in : List Note → List ℕ
+gone_in notes = flat_map gone_by notes
+
+-- the number of cycles that are over
 abbrev pub ends_in : List Note → ℕ
 ends_in notes = count_by is_end notes
 
--- one of the activations has this number
-abbrev pub has_number : List Activation → ℕ → Bool
-has_number activations number = list_any (λ a. number == a.number) activations
+-- the number is among these
+abbrev pub is_among : ℕ → List ℕ → Bool
+is_among number numbers = list_any (λ n. number == n) numbers
 
--- what is pending after these notes: what was triggered, but for what was chosen
+-- activations without the one of a number
+abbrev pub without : ℕ → List Activation → List Activation
+without number activations = filter (other_than number) activations
+
+-- what is pending after a note, where these were pending before it
+abbrev pub after_note : List Activation → Note → List Activation
+after_note pending (Triggered a) = pending ++ a ∷ []
+after_note pending (Obviated number) = without number pending
+after_note pending (Retriggered number base) = map (rebased number base) pending
+after_note pending (Chosen cycle a r) = without a.number pending
+after_note pending _ = pending
+
+-- what is pending after these notes
 abbrev pub pending_after : List Note → List Activation
-pending_after notes = filter (λ a. not (has_number (chosen_in notes) a.number)) (triggered_in notes)
+pending_after notes = fold after_note [] notes
 
 -- ---- what holds of the notes of every run
 
@@ -79,20 +100,24 @@ pub record IsCounted (notes : List Note) : Type 0 where
 
 -- a cycle acts on what is pending then
 pub record ActsOnPending (floor : ℤ) (notes : List Note) : Type 0 where
-  -- what is chosen was triggered before, and not chosen before
+  -- what is chosen was triggered before, and neither chosen nor obviated before
   pub pending : (before : List Note) (cycle : ℕ) (a : Activation) (r : ℤ) → At notes before (Chosen cycle a r)
       → Contains (pending_after before) a
+  pub once : (before : List Note) (cycle : ℕ) (a : Activation) (r : ℤ) → At notes before (Chosen cycle a r)
+      → is_among a.number (gone_in before) ≡ false
   -- the rating that the line of the choice prints is at least the floor
   pub enough : (before : List Note) (cycle : ℕ) (a : Activation) (r : ℤ) → At notes before (Chosen cycle a r)
       → floor ≤ℤ r
 
 -- each execution follows its choice
 pub record ExecutesInTurn (notes : List Note) : Type 0 where
-  -- at a choice the execution of each choice before has ended
+  -- at a choice each cycle before is over: its execution has ended, or its activation was invalid
   pub choices : (before : List Note) (cycle : ℕ) (a : Activation) (r : ℤ) → At notes before (Chosen cycle a r)
       → ends_in before ≡ length (chosen_in before)
-  -- at the end of an execution one choice more was made than executions have ended before
+  -- where a cycle is over one choice more was made than cycles were over before
   pub ends : (before : List Note) (steps found budget : ℕ) → At notes before (Ended steps found budget)
+      → ends_in before + 1 ≡ length (chosen_in before)
+  pub invalids : (before : List Note) (number : ℕ) → At notes before (Invalid number)
       → ends_in before + 1 ≡ length (chosen_in before)
 
 -- ---- how every run ends
@@ -133,3 +158,12 @@ pub record IsChosenAfter (plan : Plan) (run : Stretch) (before : List Note) (a :
   pub rated : r ≡ rating plan run.state a
   -- nothing that is pending there is rated higher, and of equals it is the earliest
   pub best : IsChosen (rating plan run.state) plan.floor (pending_of run.state.agenda) a
+
+-- ---- how runs of two limits compare
+
+-- of two runs, the other with a longer limit: they are the same, or the first is over by its limit, and the other tells
+-- the same up to that finish
+abbrev pub Extends : Stretch → Stretch → Type 0
+Extends run longer =
+    (longer ≡ run) ⊎ ((run.end ≡ Some ends.Limit) × ((front : List (List Note)) × ((rest : List (List Note)) ×
+    ((run.told ≡ front ++ (Finished ends.Limit ∷ []) ∷ []) × (longer.told ≡ front ++ rest)))))

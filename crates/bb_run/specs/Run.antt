@@ -1,32 +1,39 @@
 -- The run of the blackboard machine (the control cycle of the GBBopen Agenda Shell).
-use Rattle.std.specs.Prelude.{ℕ, zero, suc, ◌+◌, ℤ, List, [], ◌∷◌, ◌++◌, map, Option, Some, None, Result, Ok, Err, slice_get}
+use Rattle.std.specs.Prelude.{ℕ, zero, suc, ◌+◌, ℤ, List, [], ◌∷◌, ◌++◌, map, Option, Some, None, option_and_then}
+use Rattle.std.specs.Prelude.{Result, Ok, Err, slice_get}
 use Rattle.bb_trace.specs.Event.TheVariants.{Quiescence as quiescence}
 use Rattle.bb_trace.specs.BoardNote.TheVariants.{Event as happened}
 use Rattle.bb_trace.specs.Board.{Board as Blackboard, with_world}
 use Rattle.bb_trace.specs.World.{after_take}
 use Rattle.bb_agenda.specs.declared.activation.Activation.{Activation}
-use Rattle.bb_agenda.specs.Agenda.{no_activations, pending_of, with_executed}
+use Rattle.bb_agenda.specs.Agenda.{no_activations, pending_of}
+use Rattle.bb_agenda.specs.Changes.{with_executed, with_obviated}
 use Rattle.bb_agenda.specs.Rating as base
 use Rattle.bb_agenda.specs.Chosen.{chosen}
 use Rattle.bb_code.specs.Code.{Code}
+use Rattle.bb_verify.specs.Accepted.{Checked}
 use Rattle.bb_verify.specs.Budget.{budget}
-use Rattle.bb_verify.specs.declared.checked.TheConstants.{FOUND_LIMIT}
-use Rattle.bb_machine.specs.Entry.{Entry}
+use Rattle.bb_machine.specs.Answer.{Answer}
+use Rattle.bb_machine.specs.Answer.TheVariants.{No}
 use Rattle.bb_machine.specs.Outcome.{Outcome}
 use Rattle.bb_machine.specs.Stop.{Stop}
-use Rattle.bb_machine.specs.Stop.TheVariants as stops
-use Rattle.bb_machine.specs.Activation.{activation}
+use Rattle.bb_machine.specs.Stuck.TheVariants.{Missing}
 use Rattle.bb_trace.specs.Act.{Act}
 use Rattle.bb_trace.specs.Act.TheVariants as acts
 use Rattle.bb_trace.specs.Source.{Source}
 use Rattle.bb_trace.specs.declared.end.End.{End}
 use Rattle.bb_trace.specs.declared.end.End.TheVariants as finishes
 use Rattle.bb_trace.specs.declared.note.Note.{Note}
-use Rattle.bb_trace.specs.declared.note.Note.TheVariants.{Board, Chosen, Ended, Finished}
+use Rattle.bb_trace.specs.declared.note.Note.TheVariants.{Board, Chosen, Invalid, Ended, Finished}
 use Rattle.bb_trace.specs.Plan.{Plan}
 use Rattle.bb_run.specs.declared.state.State.{State}
+use Rattle.bb_run.specs.declared.asking.Reply.{Reply}
+use Rattle.bb_run.specs.declared.asking.Reply.TheVariants as replies
+use Rattle.bb_run.specs.declared.execution.Verdict.{Verdict}
+use Rattle.bb_run.specs.declared.execution.Verdict.TheVariants as verdicts
 use Rattle.bb_run.specs.State.{with_board, with_agenda}
 use Rattle.bb_run.specs.Told.{Response, Stretch, telling, idle, over, after_told, and_then, segment}
+use Rattle.bb_run.specs.Asking.{attempt, end_by, entry_of, reply_by}
 use Rattle.bb_run.specs.Processing.{response, reported}
 
 -- the rating of an activation in a state: its base
@@ -58,46 +65,61 @@ with_notes_taken s = with_board s (with_world s.board (after_take s.board.world)
 abbrev pub noted : State → List Note → Option End → Response
 noted s more end = telling (map Board s.board.world.notes ++ more) (with_notes_taken s) end
 
--- how the run ends where an execution stops before an answer; an execution of the definitions has all memory it needs
-abbrev pub end_by : Stop → End
-end_by (stops.Full steps found) = finishes.Full
-end_by (stops.Stuck reason steps found) = finishes.Stuck reason
-end_by stops.Memory = finishes.Full
-
 -- what an execution tells: the run is over where it did not come to an answer
 abbrev pub answered : Code → State → Result Outcome Stop → Response
 answered code s (Ok o) = noted s (Ended o.steps o.found (budget code o.found) ∷ []) None
 answered code s (Err stop) = noted s [] (Some (end_by stop))
 
--- an activation's execution begins with its unit
-abbrev pub entry_of : Activation → Entry
-entry_of a = record { it = a.unit; ev = None }
-
--- a code is executed for an activation, within the greatest budget that it may need
-abbrev pub attempt : Code → Activation → Blackboard → Result Outcome Stop × Blackboard
-attempt code a board = activation (budget code FOUND_LIMIT) code (entry_of a) board
-
--- a source's act is executed for an activation
+-- a source's act is executed for an activation; a native that is not there is missing
 abbrev pub execution : Act → Activation → State → Response
-execution (acts.Code body) a s = let e = attempt body.code a s.board in answered body.code (with_board s e.1) e.0
+execution (acts.Code body) a s =
+    let e = attempt body.code (entry_of a.unit None) s.board in answered body.code (with_board s e.1) e.0
+execution acts.Native a s = over (finishes.Stuck Missing) s
 
 -- the source at the activation's place acts; each pending activation has one
 abbrev pub acting : Plan → Option Source → Activation → State → Stretch
 acting plan None a s = idle s
 acting plan (Some source) a s = reported plan (execution source.act a s)
 
--- the chosen activation is no longer pending
-abbrev pub after_choice : State → Activation → State
-after_choice s a = with_agenda s (with_executed s.agenda a.number)
+-- what the answer of a revalidation says: an activation is still of use unless it is no
+abbrev pub verdict_of : Answer → Verdict
+verdict_of No = verdicts.Invalid
+verdict_of _ = verdicts.Valid
 
--- the choice of a cycle is told
-abbrev pub choosing : Plan → (number : ℕ) → Activation → State → Response
-choosing plan number a s = telling (Chosen number a (rating plan s a) ∷ []) (after_choice s a) None
+-- the same of a reply, which may be no answer
+abbrev pub verdict_by : Reply → Verdict
+verdict_by (replies.Answer answer) = verdict_of answer
+verdict_by (replies.Over end) = verdicts.Over end
 
--- a cycle: the choice is told, and its source acts
+-- the verdict on an activation, and the blackboard after it; without a revalidation it is of use
+abbrev pub validity : Option Checked → Activation → Blackboard → Verdict × Blackboard
+validity None a board = (verdicts.Valid, board)
+validity (Some code) a board =
+    let e = attempt code.code (entry_of a.unit None) board in (verdict_by (reply_by e.0), e.1)
+
+-- the choice of a cycle is told, with the verdict on it; then the activation is no longer pending
+abbrev pub chosen_with : (number : ℕ) → Activation → ℤ → Verdict → State → Response
+chosen_with number a r verdicts.Valid s =
+    telling (Chosen number a r ∷ []) (with_agenda s (with_executed s.agenda a.number)) None
+chosen_with number a r verdicts.Invalid s =
+    telling (Chosen number a r ∷ Invalid a.number ∷ []) (with_agenda s (with_obviated s.agenda a.number)) None
+chosen_with number a r (verdicts.Over end) s = telling (Chosen number a r ∷ []) s (Some end)
+
+-- the source that acts: that of the activation, where it is still of use
+abbrev pub if_valid : Verdict → Option Source → Option Source
+if_valid verdicts.Valid source = source
+if_valid _ source = None
+
+-- a cycle by the source of its activation: it is revalidated, the choice is told, and the source acts
+abbrev pub cycle_of : Plan → (number : ℕ) → Option Source → Activation → State → Stretch
+cycle_of plan number source a s =
+    let v = validity (option_and_then (λ t. t.revalidate) source) a s.board in
+    and_then (segment (chosen_with number a (rating plan s a) v.0 (with_board s v.1)))
+    (acting plan (if_valid v.0 source) a)
+
+-- the cycle of an activation
 abbrev pub cycle : Plan → (number : ℕ) → Activation → State → Stretch
-cycle plan number a s =
-    and_then (segment (choosing plan number a s)) (acting plan (slice_get plan.sources a.source) a)
+cycle plan number a s = cycle_of plan number (slice_get plan.sources a.source) a s
 
 -- what comes of a choice: the run is over where nothing can be chosen
 abbrev pub if_chosen : State → Option Activation → (Activation → Stretch) → Stretch

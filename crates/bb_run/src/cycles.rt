@@ -1,20 +1,21 @@
 //! The run of the blackboard machine, in parts as its definition is. `run_texts` calls `run`.
 
-ghost use Rattle.std.specs.Prelude.{◌≡◌, ◌≤◌, [], Some, IfOk, IfSome, false, length, option_map, slice_get};
+ghost use Rattle.std.specs.Prelude.{◌≡◌, [], Some, IfOk, IfSome, false, option_and_then, option_map, slice_get};
 ghost use Rattle.std.specs.Io.KnownBytes.{Appends};
 ghost use Rattle.bb_agenda.specs.Agenda.{no_activations};
 ghost use Rattle.bb_trace.specs.Page.{stopped_by_write};
 ghost use Rattle.bb_trace.specs.TraceText.{trace_text};
 ghost use Rattle.bb_run.specs.Finish.{WritesFront, end_of, is_write};
-ghost use Rattle.bb_run.specs.Run.{acting, choice, cycle, cycles, run, start, unfinished};
+ghost use Rattle.bb_run.specs.Run.{acting, choice, cycle, cycles, if_valid, run, start, unfinished};
 ghost use Rattle.bb_run.specs.proving.Telling.{Finishes, Makes, Same, Waits, Writes, at};
 
-use crate::execution::{execute, take_noted};
+use crate::execution::{Verdict, execute, take_choice, take_noted, validate};
 use crate::finish::Finish;
 use crate::state::State;
 use crate::teller::Teller;
 use bb_agenda::{Activation, Agenda};
 use bb_trace::{Board, End, Halt, Note, Out, Page, Plan, Source};
+use bb_verify::Checked;
 use std::alloc::Global;
 
 /// What comes before a cycle: an activation is chosen, or the run is over.
@@ -27,13 +28,32 @@ pub(crate) enum Decision {
 fn choose(plan: &Plan, state: &State) -> Option<Activation>
     ensures { result ≡ choice plan.now state.now }
 {
-    state.agenda.choose(plan.floor())
+    let number = state.agenda.choose(plan.floor())?;
+    Some(state.agenda.activation(number))
 }
 
 fn source_at(sources: &[Source], place: u16) -> Option<&Source>
     ensures { option_map (λ s. s.now) result ≡ slice_get sources.now place }
 {
     sources.get(place as usize)
+}
+
+// The code by which a source revalidates, if it has one.
+fn revalidation(source: Option<&Source>) -> Option<&Checked>
+    ensures { option_map (λ c. c.now) result
+        ≡ option_and_then (λ t. t.revalidate) (option_map (λ s. s.now) source.entry) }
+{
+    source?.revalidate.as_ref()
+}
+
+// The source that acts, where the verdict on its activation lets it.
+fn if_valid(verdict: Verdict, source: Option<&Source>) -> Option<&Source>
+    ensures { option_map (λ s. s.now) result ≡ if_valid verdict (option_map (λ s. s.now) source.entry) }
+{
+    match verdict {
+        Verdict::Valid => source,
+        _ => None,
+    }
 }
 
 impl<O: Out> Teller<'_, O> {
@@ -76,7 +96,8 @@ impl<O: Out> Teller<'_, O> {
         self.report(plan, &notes, end, state)
     }
 
-    // Makes a cycle: tells of the choice, takes it off the agenda, and has its source act.
+    // Makes a cycle: asks whether the activation is still of use, tells of the choice, takes it off what is pending,
+    // and has its source act.
     fn make_cycle(
         &mut self,
         plan: &Plan,
@@ -90,14 +111,20 @@ impl<O: Out> Teller<'_, O> {
             (cycle plan.now number activation state.old) state.new result }
         ensures failed { O.has_failed self.new.out.now ≡ stopped_by_write result }
     {
-        let chosen = Note::Chosen {
-            cycle: number,
+        let source = source_at(plan.sources(), activation.source);
+        let verdict = validate(
+            self.alloc(),
+            revalidation(source),
             activation,
-            rating: activation.rating(),
-        };
-        self.tell(plan, &[chosen])?;
-        state.agenda.executed(activation.number);
-        match source_at(plan.sources(), activation.source) {
+            &mut state.board,
+        )?;
+        let mut notes = Vec::new(self.alloc());
+        let end = take_choice(number, activation, verdict, state, &mut notes)?;
+        self.tell(plan, &notes)?;
+        if let Some(end) = end {
+            return Ok(Some(end));
+        }
+        match if_valid(verdict, source) {
             Some(source) => self.act(plan, source, activation, state),
             None => Ok(None),
         }

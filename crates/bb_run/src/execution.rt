@@ -1,19 +1,32 @@
-//! The execution of a source's act for an activation. A cycle (cycles.rt) has its notes told.
+//! What a cycle does with its activation: whether it is still of use, and the execution of its source's act. A cycle
+//! (cycles.rt) has the notes told.
 
-ghost use Rattle.std.specs.Prelude.{◌≡◌, ◌≤◌, ◌++◌, IfOk, Option, map};
+ghost use Rattle.std.specs.Prelude.{◌≡◌, ◌++◌, IfOk, Option, map, option_map};
+ghost use Rattle.bb_agenda.specs.Rating as base;
 ghost use Rattle.bb_trace.specs.Act.TheVariants.{Code};
 ghost use Rattle.bb_trace.specs.declared.end.End.{End};
 ghost use Rattle.bb_trace.specs.declared.note.Note.TheVariants.{Board as BoardNote};
-ghost use Rattle.bb_verify.specs.declared.checked.TheConstants.{FOUND_LIMIT};
-ghost use Rattle.bb_run.specs.Run.{attempt, execution, noted};
-ghost use Rattle.bb_run.specs.proving.Telling.{Attempts, IsResponse, option_list};
+ghost use Rattle.bb_run.specs.Run.{chosen_with, execution, noted, validity, verdict_by};
+ghost use Rattle.bb_run.specs.proving.Telling.{IsResponse, Validates, option_list};
 
+use crate::asking::{Reply, ask, attempt, entry_of};
 use crate::state::State;
 use bb_agenda::Activation;
-use bb_machine::{Entry, Outcome, Stop, trial};
+use bb_machine::{Answer, Stop, Stuck};
 use bb_trace::{Act, Board, BoardNote as Noted, End, Note};
-use bb_verify::{Checked, FOUND_LIMIT};
+use bb_verify::Checked;
 use std::alloc::{AllocError, Global};
+
+/// What a revalidation says of a chosen activation.
+#[derive(Clone, Copy, Debug)]
+pub(crate) enum Verdict {
+    /// It is still of use.
+    Valid,
+    /// It is needless by now.
+    Invalid,
+    /// The revalidation came to no answer, so the run is over.
+    Over(End),
+}
 
 // Appends what a blackboard noted, as notes of the run.
 fn add_board_notes(notes: &mut Vec<Note>, noted: Vec<Noted>) -> Result<(), AllocError>
@@ -41,31 +54,68 @@ pub(crate) fn take_noted(
     Ok(())
 }
 
-// The code that an act executes.
-fn code_of(act: &Act) -> &Checked
-    ensures { act.now ≡ Code result.now }
+// What a reply to the question of a revalidation says.
+fn verdict_by(reply: Reply) -> Verdict
+    ensures { result ≡ verdict_by reply }
 {
-    match act {
-        Act::Code(code) => code,
+    match reply {
+        Reply::Answer(Answer::No) => Verdict::Invalid,
+        Reply::Answer(_) => Verdict::Valid,
+        Reply::Over(end) => Verdict::Over(end),
     }
 }
 
-// Executes a code for an activation, within the greatest budget that it may need.
-fn attempt(
+/// Asks the revalidation of a source about an activation, if there is one.
+pub(crate) fn validate(
     alloc: Global,
-    code: &Checked,
+    code: Option<&Checked>,
     activation: Activation,
     board: &mut Board,
-) -> Result<Outcome, Stop>
-    ensures attempted { Attempts (attempt code.now.code activation board.old) result board.new }
-    ensures few { IfOk result (λ o. o.found ≤ FOUND_LIMIT) }
+) -> Result<Verdict, AllocError>
+    ensures { IfOk result (λ v. Validates
+        (validity (option_map (λ c. c.now) code.entry) activation board.old) v board.new) }
 {
-    let entry = Entry {
-        it: activation.unit,
-        ev: None,
-    };
-    let limit = code.budget(FOUND_LIMIT);
-    trial(alloc, code.code(), board, entry, limit)
+    match code {
+        None => Ok(Verdict::Valid),
+        Some(code) => {
+            let reply = ask(alloc, code, entry_of(activation.unit, None), board)?;
+            Ok(verdict_by(reply))
+        }
+    }
+}
+
+/// Appends what there is to tell of the choice of a cycle, with the verdict on it, and takes the activation off what is
+/// pending. Returns the end of the run where the verdict is that.
+pub(crate) fn take_choice(
+    cycle: u64,
+    activation: Activation,
+    verdict: Verdict,
+    state: &mut State,
+    notes: &mut Vec<Note>,
+) -> Result<Option<End>, AllocError>
+    ensures { IfOk result (IsResponse
+        (chosen_with cycle activation (base.rating activation) verdict state.old)
+        notes.old.items notes.new.items state.new) }
+{
+    let number = activation.number;
+    let rating = activation.rating();
+    notes.push(Note::Chosen {
+        cycle,
+        activation,
+        rating,
+    })?;
+    match verdict {
+        Verdict::Valid => {
+            state.agenda.executed(number)?;
+            Ok(None)
+        }
+        Verdict::Invalid => {
+            state.agenda.obviate(number)?;
+            notes.push(Note::Invalid { number })?;
+            Ok(None)
+        }
+        Verdict::Over(end) => Ok(Some(end)),
+    }
 }
 
 /// Executes a source's act for an activation, and appends what there is to tell of it. Returns the end of the run where
@@ -79,8 +129,24 @@ pub(crate) fn execute(
     ensures { IfOk result (IsResponse (execution act.now activation state.old)
         notes.old.items notes.new.items state.new) }
 {
-    let code = code_of(act);
-    match attempt(*notes.allocator(), code, activation, &mut state.board) {
+    match act {
+        Act::Code(code) => execute_code(code, activation, state, notes),
+        // No plan of an input has one: whoever makes a plan of it has no native for it.
+        Act::Native => Ok(Some(End::Stuck(Stuck::Missing))),
+    }
+}
+
+fn execute_code(
+    code: &Checked,
+    activation: Activation,
+    state: &mut State,
+    notes: &mut Vec<Note>,
+) -> Result<Option<End>, AllocError>
+    ensures { IfOk result (IsResponse (execution (Code code.now) activation state.old)
+        notes.old.items notes.new.items state.new) }
+{
+    let entry = entry_of(activation.unit, None);
+    match attempt(*notes.allocator(), code, entry, &mut state.board) {
         Ok(outcome) => {
             let ended = Note::Ended {
                 steps: outcome.steps,

@@ -1,6 +1,6 @@
 //! What holds of every run. No code calls it: it says what the runs are like that `run_texts` tells.
 
-ghost use Rattle.std.specs.Prelude.{ℕ, ◌-◌, ℤ, List};
+ghost use Rattle.std.specs.Prelude.{ℕ, ◌+◌, ◌-◌, ℤ, List};
 ghost use Rattle.bb_agenda.specs.declared.activation.Activation.{Activation};
 ghost use Rattle.bb_trace.specs.Board.{Board};
 ghost use Rattle.bb_trace.specs.declared.note.Note.{Note};
@@ -8,16 +8,32 @@ ghost use Rattle.bb_trace.specs.declared.note.Note.TheVariants.{Chosen};
 ghost use Rattle.bb_trace.specs.Plan.{Plan};
 ghost use Rattle.bb_run.specs.Run.{run};
 ghost use Rattle.bb_run.specs.Order.{notes_of, At, IsCounted, ActsOnPending, ExecutesInTurn, IsFinished, KeepsLimit};
-ghost use Rattle.bb_run.specs.Order.{IsChosenAfter};
+ghost use Rattle.bb_run.specs.Order.{Extends, IsChosenAfter};
+ghost use Rattle.bb_run.specs.Asked.{IsAnswered};
+ghost use Rattle.bb_run.specs.Phases.{GoesByPhases};
+ghost use Rattle.bb_run.specs.Causes.{HasCause};
+ghost use Rattle.bb_run.specs.Reads.{AsksByReading, LeavesBoard};
 
 /// What every run is like, whatever the plan, the first state of the blackboard and the limit.
 ///
 /// - `counted`: activations and cycles have the numbers from 1 on, in order.
 /// - `pending`: a cycle acts on an activation that is pending then, and prints a rating of at least the floor.
 /// - `executions`: the execution of a cycle ends before the next cycle.
+/// - `phases`: a run begins with what its blackboard had noted. After that a note of the blackboard comes between a
+///   choice and the end of its cycle, or it is quiescence, which comes where nothing can be chosen, and not twice
+///   without a choice between; and a run that finishes by quiescence has told it, and made no choice after it.
 /// - `finish`: a run has an end, and tells it last and once.
+/// - `causes`: a run is full only where its agenda is full in its last state, or its last execution was stopped for
+///   want of units; it is stuck only where its last execution was, or where a source has a native for its act.
 /// - `limit`: a run makes no more cycles than its limit. Where it ends by that it made as many, and something can be
 ///   chosen still; where it ends in quiescence nothing can be chosen.
+/// - `answered`: sources are triggered as the events ask for it. At each choice, and at a finish by quiescence or by
+///   the limit, all that the events before it ask for has come, in their order, source by source; at another finish
+///   the first of it.
+/// - `reads`: what answers to an event changes the agenda alone, and what is asked about a choice changes nothing, where
+///   no code that a source asks writes; the codes that are accepted for those parts are so.
+/// - `longer`: a longer limit changes nothing before the finish of a run that ends by its limit, and nothing at all of
+///   another.
 /// - `choices`: up to the choice of a cycle a run is the run whose limit is one less, and in the last state of that
 ///   run the activation is chosen: nothing that is pending there is rated higher, and of equals it is the earliest.
 pub fn runs_are_orderly()
@@ -26,8 +42,17 @@ pub fn runs_are_orderly()
         ActsOnPending plan.floor (notes_of (run plan board limit)) }
     ensures executions { (plan : Plan) (board : Board) (limit : ℕ) →
         ExecutesInTurn (notes_of (run plan board limit)) }
+    ensures phases { (plan : Plan) (board : Board) (limit : ℕ) →
+        GoesByPhases plan.floor board.world.notes (run plan board limit) }
     ensures finish { (plan : Plan) (board : Board) (limit : ℕ) → IsFinished (run plan board limit) }
+    ensures causes { (plan : Plan) (board : Board) (limit : ℕ) →
+        HasCause plan (run plan board limit).state (run plan board limit).end }
     ensures limit { (plan : Plan) (board : Board) (limit : ℕ) → KeepsLimit plan limit (run plan board limit) }
+    ensures answered { (plan : Plan) (board : Board) (limit : ℕ) →
+        IsAnswered plan (notes_of (run plan board limit)) }
+    ensures reads { (plan : Plan) → AsksByReading plan → LeavesBoard plan }
+    ensures longer { (plan : Plan) (board : Board) (limit more : ℕ) →
+        Extends (run plan board limit) (run plan board (limit + more)) }
     ensures choices { (plan : Plan) (board : Board) (limit : ℕ)
         (before : List Note) (cycle : ℕ) (a : Activation) (r : ℤ) →
         At (notes_of (run plan board limit)) before (Chosen cycle a r) →

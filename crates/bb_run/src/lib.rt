@@ -2,17 +2,20 @@
 //! best one. What it tells is written by bb_trace.
 #![tactic(auto)]
 
+mod asking;
 mod cycles;
 mod execution;
 mod finish;
 mod laws;
 mod processing;
+mod reacting;
 mod state;
 mod teller;
+mod triggering;
 
 pub use bb_trace::{
-    Board, End, Out, Pipe, Plan, RuleFault, SOURCE_LIMIT, SharedSchema, Source, Stuck, UnitsFault,
-    put_all,
+    Act, Board, Classes, End, Out, Pipe, Plan, RuleFault, SOURCE_LIMIT, SharedSchema, Source,
+    Stuck, UnitsFault, put_all,
 };
 pub use cycles::run;
 pub use finish::Finish;

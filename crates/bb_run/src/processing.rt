@@ -1,16 +1,108 @@
 //! The processing of an event. The teller (teller.rt) calls it for each event, and for quiescence.
 
-ghost use Rattle.std.specs.Prelude.{◌≡◌, ◌≤◌, IfOk, length};
-ghost use Rattle.bb_trace.specs.Match.{is_triggered};
-ghost use Rattle.bb_run.specs.Processing.{response};
+ghost use Rattle.std.specs.Prelude.{◌≡◌, ◌<◌, ◌≤◌, IfOk, length};
+ghost use Rattle.bb_run.specs.Processing.{if_triggered, obviated_by, reacting, rerated_by, response, source_response};
 ghost use Rattle.bb_run.specs.proving.Telling.{IsResponse};
 
+use crate::reacting::{obviate_all, retrigger_all};
 use crate::state::State;
+use crate::triggering::{activate, require};
+use bb_schema::Schema;
 use bb_trace::{End, Event, Note, Plan, Source};
 use std::alloc::AllocError;
 
-/// Processes an event: each source that it triggers gets an activation, in order, and the notes tell of it. Returns the
-/// end of the run where the agenda is full.
+/// A source and its place among the sources of a plan.
+#[derive(Clone, Copy)]
+struct Placed<'a> {
+    source: &'a Source,
+    place: u16,
+}
+
+// Has a source obviate its pending activations, if the event is one for that.
+fn obviate(
+    schema: &Schema,
+    placed: Placed<'_>,
+    event: Event,
+    state: &mut State,
+    notes: &mut Vec<Note>,
+) -> Result<Option<End>, AllocError>
+    ensures { IfOk result (IsResponse
+        (reacting schema.now event placed.entry.place obviated_by placed.entry.source.now.obviate state.old)
+        notes.old.items notes.new.items state.new) }
+{
+    match &placed.source.obviate {
+        Some(reaction) if reaction.clauses.match_any(schema, event) => {
+            obviate_all(reaction, event, placed.place, state, notes)
+        }
+        _ => Ok(None),
+    }
+}
+
+// Has a source rate its pending activations anew, if the event is one for that.
+fn retrigger(
+    schema: &Schema,
+    placed: Placed<'_>,
+    event: Event,
+    state: &mut State,
+    notes: &mut Vec<Note>,
+) -> Result<Option<End>, AllocError>
+    ensures { IfOk result (IsResponse
+        (reacting schema.now event placed.entry.place rerated_by placed.entry.source.now.retrigger state.old)
+        notes.old.items notes.new.items state.new) }
+{
+    match &placed.source.retrigger {
+        Some(reaction) if reaction.clauses.match_any(schema, event) => {
+            retrigger_all(reaction, event, placed.place, state, notes)
+        }
+        _ => Ok(None),
+    }
+}
+
+// Has an event trigger a source, if one of its clauses names the event.
+fn trigger(
+    schema: &Schema,
+    placed: Placed<'_>,
+    event: Event,
+    state: &mut State,
+    notes: &mut Vec<Note>,
+) -> Result<Option<End>, AllocError>
+    ensures { IfOk result (IsResponse
+        (if_triggered schema.now event placed.entry.place placed.entry.source.now state.old)
+        notes.old.items notes.new.items state.new) }
+{
+    let source = placed.source;
+    if !source.triggers.match_any(schema, event) {
+        return Ok(None);
+    }
+    match &source.require {
+        None => activate(event, placed.place, source.rate, state, notes),
+        Some(code) => require(code, event, placed.place, state, notes),
+    }
+}
+
+// Has a source respond to an event.
+fn source_responds(
+    schema: &Schema,
+    placed: Placed<'_>,
+    event: Event,
+    state: &mut State,
+    notes: &mut Vec<Note>,
+) -> Result<Option<End>, AllocError>
+    ensures { IfOk result (IsResponse
+        (source_response schema.now event placed.entry.place placed.entry.source.now state.old)
+        notes.old.items notes.new.items state.new) }
+{
+    if let Some(end) = obviate(schema, placed, event, state, notes)? {
+        return Ok(Some(end));
+    }
+    if let Some(end) = retrigger(schema, placed, event, state, notes)? {
+        return Ok(Some(end));
+    }
+    trigger(schema, placed, event, state, notes)
+}
+
+/// Processes an event: each source in order obviates and retriggers its pending activations, and is triggered, and the
+/// notes tell of it. Returns the end of the run where it ends in that.
 pub(crate) fn respond(
     plan: &Plan,
     event: Event,
@@ -21,20 +113,13 @@ pub(crate) fn respond(
 {
     let sources = plan.sources();
     for (place, source) in sources.iter().enumerate() {
-        if !is_triggered(plan, source, event) {
-            continue;
+        let placed = Placed {
+            source,
+            place: place as u16,
+        };
+        if let Some(end) = source_responds(plan.schema(), placed, event, state, notes)? {
+            return Ok(Some(end));
         }
-        if state.agenda.is_full() {
-            return Ok(Some(End::Full));
-        }
-        let activation = state.agenda.add(place as u16, event.unit(), source.rate)?;
-        notes.push(Note::Triggered(activation))?;
     }
     Ok(None)
-}
-
-fn is_triggered(plan: &Plan, source: &Source, event: Event) -> bool
-    ensures { result ≡ is_triggered plan.now.schema source.now event }
-{
-    source.is_triggered(plan.schema(), event)
 }

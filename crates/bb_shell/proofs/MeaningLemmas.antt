@@ -6,7 +6,8 @@ use Rattle.bb_schema.specs.Reading.{schema_of}
 use Rattle.bb_shell.specs.declared.input_fault.InputFault.{InputFault}
 use Rattle.bb_shell.specs.declared.input_fault.InputFault.TheVariants as inputs
 use Rattle.bb_compile.specs.Bundle.{sources_of}
-use Rattle.bb_compile.specs.declared.source_code.SourceCode.{SourceCode}
+use Rattle.bb_code.specs.Code.{Code}
+use Rattle.bb_compile.specs.declared.source_code.SourceDraft.{SourceDraft}
 use Rattle.bb_run.specs.Board.{Board, new_board}
 use Rattle.bb_run.specs.Load.{loaded}
 use Rattle.bb_shell.specs.Meaning.{Meaning, meaning}
@@ -16,7 +17,7 @@ use Rattle.bb_shell.specs.Sources.{sources_for}
 abbrev of_sources : Schema → Board → ℤ → List Source → Result Meaning InputFault
 of_sources s made floor sources = Ok (record { plan = record { schema = s; sources = sources; floor = floor }; board = made })
 
-abbrev of_codes : Schema → Board → ℤ → List SourceCode → Result Meaning InputFault
+abbrev of_codes : Schema → Board → ℤ → List (SourceDraft Code) → Result Meaning InputFault
 of_codes s made floor codes = sources_for s codes >>= of_sources s made floor
 
 abbrev of_loaded : Schema → List ℕ → ℤ → Board → Result Meaning InputFault
@@ -51,15 +52,15 @@ after_units schema units bundle floor s made ok loaded' = stepped (map_err input
 pub bundle_fails : (schema units bundle : List ℕ) (floor : ℤ) (s : Schema) (made : Board) (e : InputFault) → map_err inputs.Schema (schema_of schema) ≡ Ok s → map_err inputs.Units (loaded (new_board s) units) ≡ Ok made → (e ≡ inputs.Memory) ⊎ (map_err inputs.Bundle (sources_of bundle) ≡ Err e) → (e ≡ inputs.Memory) ⊎ (meaning schema units bundle floor ≡ Err e)
 bundle_fails schema units bundle floor s made e ok loaded' failed = fails e (map_err inputs.Bundle (sources_of bundle)) (of_codes s made floor) (meaning schema units bundle floor) (after_units schema units bundle floor s made ok loaded') failed
 
-pub after_bundle : (schema units bundle : List ℕ) (floor : ℤ) (s : Schema) (made : Board) (codes : List SourceCode) → map_err inputs.Schema (schema_of schema) ≡ Ok s → map_err inputs.Units (loaded (new_board s) units) ≡ Ok made → map_err inputs.Bundle (sources_of bundle) ≡ Ok codes → meaning schema units bundle floor ≡ of_codes s made floor codes
+pub after_bundle : (schema units bundle : List ℕ) (floor : ℤ) (s : Schema) (made : Board) (codes : List (SourceDraft Code)) → map_err inputs.Schema (schema_of schema) ≡ Ok s → map_err inputs.Units (loaded (new_board s) units) ≡ Ok made → map_err inputs.Bundle (sources_of bundle) ≡ Ok codes → meaning schema units bundle floor ≡ of_codes s made floor codes
 after_bundle schema units bundle floor s made codes ok loaded' read = stepped (map_err inputs.Bundle (sources_of bundle)) (of_codes s made floor) (meaning schema units bundle floor) codes (after_units schema units bundle floor s made ok loaded') read
 
-pub sources_fail : (schema units bundle : List ℕ) (floor : ℤ) (s : Schema) (made : Board) (codes : List SourceCode) (e : InputFault) (held : Schema) → held ≡ s → map_err inputs.Schema (schema_of schema) ≡ Ok s → map_err inputs.Units (loaded (new_board s) units) ≡ Ok made → map_err inputs.Bundle (sources_of bundle) ≡ Ok codes → (e ≡ inputs.Memory) ⊎ (sources_for held codes ≡ Err e) → (e ≡ inputs.Memory) ⊎ (meaning schema units bundle floor ≡ Err e)
+pub sources_fail : (schema units bundle : List ℕ) (floor : ℤ) (s : Schema) (made : Board) (codes : List (SourceDraft Code)) (e : InputFault) (held : Schema) → held ≡ s → map_err inputs.Schema (schema_of schema) ≡ Ok s → map_err inputs.Units (loaded (new_board s) units) ≡ Ok made → map_err inputs.Bundle (sources_of bundle) ≡ Ok codes → (e ≡ inputs.Memory) ⊎ (sources_for held codes ≡ Err e) → (e ≡ inputs.Memory) ⊎ (meaning schema units bundle floor ≡ Err e)
 sources_fail schema units bundle floor s made codes e held same ok loaded' read failed =
     fails e (sources_for s codes) (of_sources s made floor) (meaning schema units bundle floor) (after_bundle schema units bundle floor s made codes ok loaded' read)
     (subst (λ (t : Schema). (e ≡ inputs.Memory) ⊎ (sources_for t codes ≡ Err e)) same failed)
 
-pub means : (schema units bundle : List ℕ) (floor : ℤ) (s : Schema) (made : Board) (codes : List SourceCode) (sources : List Source) (held : Schema) → held ≡ s → map_err inputs.Schema (schema_of schema) ≡ Ok s → map_err inputs.Units (loaded (new_board s) units) ≡ Ok made → map_err inputs.Bundle (sources_of bundle) ≡ Ok codes → sources_for held codes ≡ Ok sources
+pub means : (schema units bundle : List ℕ) (floor : ℤ) (s : Schema) (made : Board) (codes : List (SourceDraft Code)) (sources : List Source) (held : Schema) → held ≡ s → map_err inputs.Schema (schema_of schema) ≡ Ok s → map_err inputs.Units (loaded (new_board s) units) ≡ Ok made → map_err inputs.Bundle (sources_of bundle) ≡ Ok codes → sources_for held codes ≡ Ok sources
     → meaning schema units bundle floor ≡ Ok (record { plan = record { schema = s; sources = sources; floor = floor }; board = made })
 means schema units bundle floor s made codes sources held same ok loaded' read fit =
     stepped (sources_for s codes) (of_sources s made floor) (meaning schema units bundle floor) sources (after_bundle schema units bundle floor s made codes ok loaded' read)

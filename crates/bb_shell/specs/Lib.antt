@@ -1,9 +1,17 @@
 -- the number of a refusal, and its line
 pub mod Refusals
+-- the codes of a source, accepted for their parts
+pub mod Accepting
 -- the sources that run together
+pub mod Fitting
+-- the sources of an input
 pub mod Sources
 -- what an input means
 pub mod Meaning
+-- the shell of a blackboard and sources
+pub mod Shell
+-- for models alone
+pub mod proving
 -- of bb_run: what a part of a run tells, and what an event brings about
 pub use Rattle.bb_run.specs.Told
 pub use Rattle.bb_run.specs.Processing

@@ -1,27 +1,34 @@
 //! The sources that run together, from what a bundle spells. `run_texts` calls `sources_for`.
 
-ghost use Rattle.std.specs.Prelude.{◌≡◌, ◌≤◌, [], length, IfOk, OnOk};
-ghost use Rattle.bb_basis.specs.Results.{Gives, try_map, try_fold};
-ghost use Rattle.bb_shell.specs.Sources.{accepted_source, names_of, resolved_source, source_after, sources_for};
+ghost use Rattle.std.specs.Prelude.{◌≡◌, ◌≤◌, length, IfOk, Ok, Err};
+ghost use Rattle.bb_basis.specs.Results.{Gives};
+ghost use Rattle.bb_shell.specs.Fitting.{source_after};
+ghost use Rattle.bb_shell.specs.Sources.{resolved_source, sources_for};
+ghost use Rattle.bb_shell.specs.proving.Gathering.{gathered_as, gathering, with_draft};
 
+use crate::accepting::accept;
+use crate::fitting::{Together, Unfit};
 use crate::input_fault::InputFault;
-use bb_basis::{Items, Names, Text};
-use bb_compile::{SourceCode, SourceHeader};
+use bb_basis::Text;
+use bb_compile::{SourceCode, SourceDraft};
 use bb_run::{RuleFault, SOURCE_LIMIT, Source};
 use bb_schema::Schema;
-use bb_verify::{Checked, Flaw, Part, VerifyFault, verify};
-use std::alloc::Global;
+use bb_verify::Checked;
+use std::alloc::{AllocError, Global};
 
-/// A source whose code is accepted for its class.
+/// What comes of the sources so far. Each of their codes is accepted.
 #[derive(Drop)]
-pub(crate) struct AcceptedSource {
-    header: SourceHeader,
-    body: Checked,
+pub(crate) enum Gathered {
+    /// Each of them fits those before it.
+    Fit(Together),
+    /// One does not fit those before it. A source after it whose names are not found is refused first.
+    Unfit(Unfit),
+    /// The names of one are not found. A source after it whose code is not accepted is refused first.
+    Unresolved(InputFault),
 }
 
-/// The sources that run together: each is accepted, then the names of each are resolved, then each has to fit those
-/// before it.
-#[tactic(auto, unfolding(crate::specs::Sources::sources_for))]
+/// The sources that run together: the codes of each are accepted, then the names of each are resolved, then each has to
+/// fit those before it. The first step that refuses one tells why, and no source is kept behind one that does not fit.
 pub(crate) fn sources_for(
     alloc: Global,
     schema: &Schema,
@@ -30,117 +37,104 @@ pub(crate) fn sources_for(
     ensures given { Gives InputFault.Memory (λ v. v.items) result (sources_for schema.now codes.items) }
     ensures few { IfOk result (λ v. length v.items ≤ SOURCE_LIMIT) }
 {
-    let accepted = accept_all(alloc, schema, codes)?;
-    let resolved = resolve_all(alloc, schema, accepted)?;
-    fit_all(alloc, resolved)
+    match gather_all(alloc, schema, codes)? {
+        Gathered::Fit(together) => Ok(together.into_sources()),
+        Gathered::Unfit(Unfit::Source { name, fault }) => Err(InputFault::Rule { name, fault }),
+        Gathered::Unfit(Unfit::Memory) => Err(InputFault::Memory),
+        Gathered::Unresolved(fault) => Err(fault),
+    }
 }
 
-fn accept_all(
+fn gather_all(
     alloc: Global,
     schema: &Schema,
     codes: Vec<SourceCode>,
-) -> Result<Vec<AcceptedSource>, InputFault>
-    ensures { Gives InputFault.Memory (λ v. v.items) result (try_map (accepted_source schema.now) codes.items) }
+) -> Result<Gathered, InputFault>
+    ensures { Gives InputFault.Memory gathered_as result (gathering schema.now codes.items) }
 {
-    let mut accepted = Vec::new(alloc);
+    let mut gathered = Gathered::Fit(Together::new(alloc));
     for code in codes {
-        accepted.push(accept(alloc, schema, code)?)?;
+        let draft = accept(alloc, schema, code.into_draft())?;
+        gathered = gather(alloc, schema, gathered, draft)?;
     }
-    Ok(accepted)
+    Ok(gathered)
 }
 
-fn accept(alloc: Global, schema: &Schema, code: SourceCode) -> Result<AcceptedSource, InputFault>
-    ensures { Gives InputFault.Memory (λ s. s) result (accepted_source schema.now code) }
+// What comes of one source more.
+fn gather(
+    alloc: Global,
+    schema: &Schema,
+    gathered: Gathered,
+    draft: SourceDraft<Checked>,
+) -> Result<Gathered, AllocError>
+    ensures { IfOk result (λ g. gathered_as g ≡ with_draft schema.now (gathered_as gathered) draft) }
 {
-    let SourceCode { header, body } = code;
-    let Some(class) = schema.class(header.class.as_str()) else {
-        let SourceHeader { name, .. } = header;
-        return Err(InputFault::Rule {
-            name,
-            fault: RuleFault::Class,
-        });
-    };
-    let part = Part::Do { class };
-    match verify(alloc, schema, part, body) {
-        Ok(body) => Ok(AcceptedSource { header, body }),
-        Err(
-            VerifyFault {
-                flaw: Flaw::Memory,
-                ..
-            },
-        ) => Err(InputFault::Memory),
-        Err(fault) => {
-            let SourceHeader { name, .. } = header;
-            Err(InputFault::Verify { name, part, fault })
+    match gathered {
+        Gathered::Fit(together) => gather_fit(alloc, schema, together, draft),
+        Gathered::Unfit(unfit) => gather_unfit(alloc, schema, unfit, draft),
+        Gathered::Unresolved(fault) => {
+            drop(draft);
+            Ok(Gathered::Unresolved(fault))
         }
     }
 }
 
-fn resolve_all(
+// What comes of one source more, where each before it fits.
+fn gather_fit(
     alloc: Global,
     schema: &Schema,
-    accepted: Vec<AcceptedSource>,
-) -> Result<Vec<Source>, InputFault>
-    ensures { Gives InputFault.Memory (λ v. v.items) result (try_map (resolved_source schema.now) accepted.items) }
+    together: Together,
+    draft: SourceDraft<Checked>,
+) -> Result<Gathered, AllocError>
+    ensures { IfOk result (λ g. gathered_as g ≡ with_draft schema.now (Ok (Ok together)) draft) }
 {
-    let mut resolved = Vec::new(alloc);
-    for source in accepted {
-        resolved.push(resolve(alloc, schema, source)?)?;
-    }
-    Ok(resolved)
-}
-
-fn resolve(alloc: Global, schema: &Schema, source: AcceptedSource) -> Result<Source, InputFault>
-    ensures { Gives InputFault.Memory (λ s. s) result (resolved_source schema.now source) }
-{
-    let AcceptedSource { header, body } = source;
-    let name = Text::from_str(alloc, header.name.as_str())?;
-    match Source::new(alloc, schema, header, body) {
-        Ok(source) => Ok(source),
-        Err(RuleFault::Memory) => Err(InputFault::Memory),
-        Err(fault) => Err(InputFault::Rule { name, fault }),
+    match resolve(alloc, schema, draft)? {
+        Ok(source) => join(alloc, together, source),
+        Err(fault) => Ok(Gathered::Unresolved(fault)),
     }
 }
 
-fn fit_all(alloc: Global, resolved: Vec<Source>) -> Result<Vec<Source>, InputFault>
-    ensures given { Gives InputFault.Memory (λ v. v.items) result (try_fold source_after [] resolved.items) }
-    ensures few { IfOk result (λ v. length v.items ≤ SOURCE_LIMIT) }
-{
-    let mut names = Names::new(alloc);
-    let mut sources = Vec::new(alloc);
-    for source in resolved {
-        fit(alloc, &mut names, &mut sources, source)?;
-    }
-    Ok(sources)
-}
-
-fn fit(
+// What comes of one source more, where one before it does not fit.
+fn gather_unfit(
     alloc: Global,
-    names: &mut Names,
-    sources: &mut Vec<Source>,
-    source: Source,
-) -> Result<(), InputFault>
-    requires { names.old ≡ names_of sources.old.items }
-    ensures after { Gives InputFault.Memory (λ _. sources.new.items) result (source_after sources.old.items source) }
-    ensures names { OnOk result (names.new ≡ names_of sources.new.items) }
-    ensures few { OnOk result (length sources.new.items ≤ SOURCE_LIMIT) }
+    schema: &Schema,
+    unfit: Unfit,
+    draft: SourceDraft<Checked>,
+) -> Result<Gathered, AllocError>
+    ensures { IfOk result (λ g. gathered_as g ≡ with_draft schema.now (Ok (Err unfit)) draft) }
 {
-    if names.contains(source.name.as_str()) {
-        let Source { name, .. } = source;
-        return Err(InputFault::Rule {
-            name,
-            fault: RuleFault::Twice,
-        });
+    match resolve(alloc, schema, draft)? {
+        Ok(source) => {
+            drop(source);
+            Ok(Gathered::Unfit(unfit))
+        }
+        Err(fault) => Ok(Gathered::Unresolved(fault)),
     }
-    if sources.len() >= SOURCE_LIMIT {
-        let Source { name, .. } = source;
-        return Err(InputFault::Rule {
-            name,
-            fault: RuleFault::Limit,
-        });
+}
+
+// The source of a draft, or why it is refused.
+fn resolve(
+    alloc: Global,
+    schema: &Schema,
+    draft: SourceDraft<Checked>,
+) -> Result<Result<Source, InputFault>, AllocError>
+    ensures { IfOk result (λ r. r ≡ resolved_source schema.now draft) }
+{
+    let name = Text::from_str(alloc, draft.name.as_str())?;
+    match Source::new(alloc, schema, draft) {
+        Ok(source) => Ok(Ok(source)),
+        Err(RuleFault::Memory) => Err(AllocError),
+        Err(fault) => Ok(Err(InputFault::Rule { name, fault })),
     }
-    sources.reserve(1)?;
-    names.insert(alloc, source.name.as_str())?;
-    sources.push_reserved(source);
-    Ok(())
+}
+
+// Adds a source to those that run together, if it fits them.
+fn join(alloc: Global, mut together: Together, source: Source) -> Result<Gathered, AllocError>
+    ensures { IfOk result (λ g. gathered_as g ≡ Ok (source_after together source)) }
+{
+    match together.add(alloc, source) {
+        Ok(()) => Ok(Gathered::Fit(together)),
+        Err(Unfit::Memory) => Err(AllocError),
+        Err(unfit) => Ok(Gathered::Unfit(unfit)),
+    }
 }

@@ -23,5 +23,7 @@ pub use Rattle.bb_rules.specs.Source as MadeSource
 pub use Rattle.bb_rules.specs.Faults as RuleFaults
 pub use Rattle.bb_rules.specs.declared.clause.Clause
 pub use Rattle.bb_rules.specs.declared.fault.RuleFault
+pub use Rattle.bb_rules.specs.declared.resolve.Classes
 pub use Rattle.bb_rules.specs.declared.source.Act
+pub use Rattle.bb_rules.specs.declared.source.Reaction
 pub use Rattle.bb_rules.specs.declared.source.Source

@@ -21,7 +21,8 @@ use Rattle.bb_rules.specs.declared.source.Source.{Source}
 use Rattle.bb_trace.specs.declared.end.End.{End}
 use Rattle.bb_trace.specs.declared.end.End.TheVariants as ends
 use Rattle.bb_trace.specs.declared.note.Note.{Note}
-use Rattle.bb_trace.specs.declared.note.Note.TheVariants.{Board, Triggered, Chosen, Ended, Finished}
+use Rattle.bb_trace.specs.declared.note.Note.TheVariants.{Board, Triggered, Declined, Obviated, Retriggered}
+use Rattle.bb_trace.specs.declared.note.Note.TheVariants.{Chosen, Invalid, Ended, Finished}
 use Rattle.bb_trace.specs.Plan.{Plan}
 
 -- the name of a class, empty where there is none
@@ -93,6 +94,10 @@ numbered_text sources a r =
 abbrev pub trigger_text : List Source → Activation → List ℕ
 trigger_text sources a = codes "trigger " ++ numbered_text sources a a.base
 
+-- a trigger that made no activation
+abbrev pub decline_text : List Source → (source unit : ℕ) → List ℕ
+decline_text sources source unit = codes "decline " ++ source_name sources source ++ codes " unit " ++ decimal unit
+
 -- the choice of a cycle
 abbrev pub choice_text : List Source → (cycle : ℕ) → Activation → ℤ → List ℕ
 choice_text sources cycle a r = codes "cycle " ++ decimal cycle ++ codes " act " ++ numbered_text sources a r
@@ -113,7 +118,12 @@ end_text (ends.Stuck reason) = codes "finish stuck " ++ decimal (reason_number r
 abbrev pub note_text : Plan → Note → List ℕ
 note_text plan (Board note) = board_note_text plan.schema note
 note_text plan (Triggered a) = trigger_text plan.sources a
+note_text plan (Declined source unit) = decline_text plan.sources source unit
+note_text plan (Obviated number) = codes "obviate " ++ decimal number
+note_text plan (Retriggered number base) =
+    codes "retrigger " ++ decimal number ++ codes " " ++ signed_decimal base
 note_text plan (Chosen cycle a r) = choice_text plan.sources cycle a r
+note_text plan (Invalid number) = codes "invalid " ++ decimal number
 note_text plan (Ended steps found budget) = ended_text steps found budget
 note_text plan (Finished end) = end_text end
 

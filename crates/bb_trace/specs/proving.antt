@@ -1,2 +1,4 @@
--- how a plan is stored
+-- how sources and a plan are stored
 pub mod Codes
+-- how a blackboard is
+pub use Rattle.bb_board.specs.proving.Codes as BoardCodes

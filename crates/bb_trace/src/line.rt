@@ -3,8 +3,8 @@
 ghost use Rattle.std.specs.Prelude.{◌≡◌, ◌++◌, ◌∷◌, [], OnOk, string_bytes};
 ghost use Rattle.bb_board.specs.Note.TheVariants.{Said as says};
 ghost use Rattle.bb_trace.specs.declared.end.End.TheVariants as ends;
-ghost use Rattle.bb_trace.specs.TraceText.{board_note_text, change_text, choice_text, end_text, ended_text, event_text};
-ghost use Rattle.bb_trace.specs.TraceText.{line, numbered_text, said_text, slot_name, source_name, trigger_text, value_text};
+ghost use Rattle.bb_trace.specs.TraceText.{board_note_text, change_text, choice_text, decline_text, end_text, ended_text};
+ghost use Rattle.bb_trace.specs.TraceText.{event_text, line, numbered_text, said_text, slot_name, source_name, trigger_text, value_text};
 
 use crate::end::End;
 use crate::note::Note;
@@ -30,11 +30,15 @@ pub(crate) fn add_note(
     match note {
         Note::Board(note) => add_board_note(alloc, text, plan.schema(), note),
         Note::Triggered(activation) => { add_trigger(text, plan.sources(), *activation) }
+        Note::Declined { source, unit } => add_decline(text, plan.sources(), *source, *unit),
+        Note::Obviated { number } => writeln!(text, "obviate {number}"),
+        Note::Retriggered { number, base } => writeln!(text, "retrigger {number} {base}"),
         Note::Chosen {
             cycle,
             activation,
             rating,
         } => add_choice(text, plan.sources(), *cycle, *activation, *rating),
+        Note::Invalid { number } => writeln!(text, "invalid {number}"),
         Note::Ended {
             steps,
             found,
@@ -195,7 +199,20 @@ fn add_trigger(
         ≡ string_bytes text.old ++ (trigger_text sources.now activation ++ 10 ∷ [])) }
 {
     write!(text, "trigger ")?;
-    add_rated(text, sources, activation, activation.base)
+    add_rated(text, sources, activation, i128::from(activation.base))
+}
+
+fn add_decline(
+    text: &mut String,
+    sources: &[Source],
+    source: u16,
+    unit: UnitId,
+) -> Result<(), AllocError>
+    ensures { OnOk result (string_bytes text.new
+        ≡ string_bytes text.old ++ (decline_text sources.now source unit ++ 10 ∷ [])) }
+{
+    let name = source_name(sources, source);
+    writeln!(text, "decline {name} unit {unit}")
 }
 
 // Appends the number of an activation, its source, unit and rating, and ends the line.
@@ -203,7 +220,7 @@ fn add_rated(
     text: &mut String,
     sources: &[Source],
     activation: Activation,
-    rating: i64,
+    rating: i128,
 ) -> Result<(), AllocError>
     ensures { OnOk result (string_bytes text.new
         ≡ string_bytes text.old ++ (numbered_text sources.now activation rating ++ 10 ∷ [])) }
@@ -219,7 +236,7 @@ fn add_choice(
     sources: &[Source],
     cycle: u64,
     activation: Activation,
-    rating: i64,
+    rating: i128,
 ) -> Result<(), AllocError>
     ensures { OnOk result (string_bytes text.new
         ≡ string_bytes text.old ++ (choice_text sources.now cycle activation rating ++ 10 ∷ [])) }

@@ -2,6 +2,7 @@
 
 use crate::end::End;
 use bb_agenda::Activation;
+use bb_schema::UnitId;
 
 /// What a run tells: what the blackboard noted, and the steps of control.
 #[derive(Debug, Drop)]
@@ -10,11 +11,29 @@ pub enum Note {
     Board(bb_board::Note),
     /// A new activation.
     Triggered(Activation),
+    /// A trigger that gave the source at this place no activation for a unit.
+    Declined {
+        source: u16,
+        unit: UnitId,
+    },
+    /// A pending activation became needless.
+    Obviated {
+        number: u64,
+    },
+    /// A pending activation got another base rating.
+    Retriggered {
+        number: u64,
+        base: i64,
+    },
     /// The choice of a cycle, the rating by which it was made included.
     Chosen {
         cycle: u64,
         activation: Activation,
-        rating: i64,
+        rating: i128,
+    },
+    /// The chosen activation is no longer of use.
+    Invalid {
+        number: u64,
     },
     /// The end of an execution.
     Ended {

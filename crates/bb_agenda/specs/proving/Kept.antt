@@ -1,20 +1,30 @@
--- How the code keeps an agenda: how many activations were given, and those that are pending. No public clause cites it.
-use Rattle.std.specs.Prelude.{◌≡◌, ◌≤◌, ℕ, ◌==◌, List, map, find}
-use Rattle.std.specs.List.{AllByRecursion, range_with_len}
+-- How the code keeps an agenda: how many activations were given, those that are pending, and the numbers of those that
+-- were obviated. No public clause cites it.
+use Rattle.std.specs.Prelude.{◌≡◌, ◌<◌, ◌≤◌, ℕ, Bool, false, List, map, find, if◌then◌else◌}
+use Rattle.std.specs.List.{AllByRecursion, filter_map, list_any, range_with_len}
 use Rattle.std.specs.Option.{option_map_or}
+use Rattle.std.specs.Ordering.{nat_cmp}
+use Rattle.std.specs.BTreeMap.{is_at}
 use Rattle.bb_agenda.specs.declared.activation.Activation.{Activation}
-use Rattle.bb_agenda.specs.Agenda.{Agenda, Status, pending, executed, pending_of}
+use Rattle.bb_agenda.specs.Agenda.{Entry, pending, executed, obviated, if_pending, has_number}
 
--- what became of the activation of a number, where these are pending
-abbrev pub status_of : List Activation → ℕ → Status
-status_of kept number = option_map_or pending (find (λ a. a.number == number) kept) executed
+-- the number is one of those that were obviated
+abbrev pub is_gone : List ℕ → ℕ → Bool
+is_gone gone number = list_any (is_at (nat_cmp number)) gone
 
--- the agenda of so many activations, of which these are pending
-unfoldable pub agenda_of : ℕ → List Activation → Agenda
-agenda_of given kept = record { given = map (status_of kept) (range_with_len 1 given) }
+-- what became of the activation of a number
+abbrev pub entry_in : List Activation → List ℕ → ℕ → Entry
+entry_in kept gone number =
+    if is_gone gone number then obviated else option_map_or pending (find (has_number number) kept) executed
 
-pub record IsKept (given : ℕ) (kept : List Activation) : Type 0 where
-  -- each number was given
+-- what became of so many activations
+unfoldable pub entries_of : ℕ → List Activation → List ℕ → List Entry
+entries_of given kept gone = map (entry_in kept gone) (range_with_len 1 given)
+
+pub record IsKept (given : ℕ) (kept : List Activation) (gone : List ℕ) : Type 0 where
+  -- each pending number was given
   pub numbers : AllByRecursion (λ a. a.number ≤ given) kept
+  -- no other number was obviated
+  pub gone_given : (number : ℕ) → given < number → is_gone gone number ≡ false
   -- they are all that is pending
-  pub all : pending_of (agenda_of given kept) ≡ kept
+  pub all : filter_map if_pending (entries_of given kept gone) ≡ kept

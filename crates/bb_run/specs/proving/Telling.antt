@@ -14,9 +14,12 @@ use Rattle.bb_trace.specs.declared.note.Note.{Note}
 use Rattle.bb_run.specs.declared.cycles.Decision.{Decision}
 use Rattle.bb_run.specs.declared.cycles.Decision.TheVariants.{Act, Over}
 use Rattle.bb_trace.specs.Plan.{Plan}
+use Rattle.bb_run.specs.declared.asking.Reply.{Reply}
+use Rattle.bb_run.specs.declared.execution.Verdict.{Verdict}
 use Rattle.bb_run.specs.declared.state.State.{State}
 use Rattle.bb_run.specs.declared.teller.Teller.{Teller}
 use Rattle.bb_run.specs.Told.{Response, Stretch}
+use Rattle.bb_run.specs.Asking.{reply_by}
 use Rattle.bb_run.specs.Run.{choice, wait}
 use Rattle.bb_trace.specs.TraceText.{trace_text}
 
@@ -39,6 +42,16 @@ Attempts e (Ok o) board = (e.0 ≡ Ok o) × (board ≡ e.1)
 Attempts e (Err (stops.Full steps found)) board = (e.0 ≡ Err (stops.Full steps found)) × (board ≡ e.1)
 Attempts e (Err (stops.Stuck reason steps found)) board = (e.0 ≡ Err (stops.Stuck reason steps found)) × (board ≡ e.1)
 Attempts e (Err stops.Memory) board = ⊤
+
+-- a code was asked so
+pub record Replies (e : Result Outcome Stop × Blackboard) (reply : Reply) (board : Blackboard) : Type 0 where
+  pub reply_is : reply ≡ reply_by e.0
+  pub board_is : board ≡ e.1
+
+-- a verdict was given so
+pub record Validates (v : Verdict × Blackboard) (verdict : Verdict) (board : Blackboard) : Type 0 where
+  pub verdict_is : verdict ≡ v.0
+  pub board_is : board ≡ v.1
 
 -- ---- segments
 

@@ -1,4 +1,4 @@
--- How a plan is stored as data that can be told apart.
+-- How sources and a plan are stored as data that can be told apart.
 use Rattle.std.specs.Prelude.{ℤ, List, refl}
 use Rattle.std.specs.Coded.{Coded, code_by, coded×, coded_ℤ, coded_list}
 use Rattle.bb_schema.specs.Schema.{Schema}
@@ -7,8 +7,11 @@ use Rattle.bb_rules.specs.contracts.source.Source as rules
 use Rattle.bb_trace.specs.Source.{Source}
 use Rattle.bb_trace.specs.Plan.{Plan}
 
+abbrev pub sources_code : Coded (List Source)
+sources_code = coded_list rules.the_row.coded
+
 abbrev pub plan_code : Coded Plan
 plan_code =
-    code_by (Schema × (List Source × ℤ)) (coded× schemas.the_row.coded (coded× (coded_list rules.the_row.coded) coded_ℤ))
+    code_by (Schema × (List Source × ℤ)) (coded× schemas.the_row.coded (coded× sources_code coded_ℤ))
     (λ p. (p.schema, (p.sources, p.floor)))
     (λ t. record { schema = t.0; sources = t.1.0; floor = t.1.1 }) (λ _. refl)

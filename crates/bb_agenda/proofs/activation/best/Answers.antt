@@ -2,15 +2,15 @@ use Rattle.std.proofs.Common.{to_z, of_z, w64, arith}
 use Rattle.std.proofs.lemmas.Int.{ints, to_z-of_z}
 use Rattle.bb_agenda.specs.Rating.{rating}
 use Rattle.bb_agenda.proofs.ChosenLemmas.{best_more, best_same, best_all}
-use Rattle.bb_agenda.proofs.activation.best.Goals.{then-rating-floor, else-rating-floor}
+use Rattle.bb_agenda.proofs.activation.best.Goals.{then-rating-from, else-rating-from}
 use Rattle.bb_agenda.proofs.activation.best.Goals as goal
 
 pub loop-activation-preserved : goal.loop-activation-preserved
 loop-activation-preserved c =
     let floor = to_z w64 (of_z w64 c.args.floor) in
-    elim c.if-rating-floor.branch [
-      | then-rating-floor w ↦ best_more rating floor c.args.pending.now c.loop-activation.activation-index _ w.better.result c.rating.result c.loop-activation.best c.if-rating-floor.best c.loop-activation-test.true c.rating.ensures (omega (arith, ints)) w.better.ensures w.best-is c.loop-activation.invariant
-      | else-rating-floor w ↦ best_same rating floor c.args.pending.now c.loop-activation.activation-index _ c.rating.result c.loop-activation.best c.if-rating-floor.best c.loop-activation-test.true c.rating.ensures (omega (arith, ints)) w.best-is c.loop-activation.invariant
+    elim c.if-rating-from.branch [
+      | then-rating-from w ↦ best_more rating floor c.args.pending.now c.loop-activation.activation-index _ w.better.result c.rating.result c.loop-activation.best c.if-rating-from.best c.loop-activation-test.true c.rating.ensures (omega (arith, ints, c.from.ensures)) w.better.ensures w.best-is c.loop-activation.invariant
+      | else-rating-from w ↦ best_same rating floor c.args.pending.now c.loop-activation.activation-index _ c.rating.result c.loop-activation.best c.if-rating-from.best c.loop-activation-test.true c.rating.ensures (omega (arith, ints, c.from.ensures)) w.best-is c.loop-activation.invariant
     ]
 
 pub returns : goal.returns

@@ -1,4 +1,8 @@
-use Rattle.bb_run.proofs.OrderlyRuns.{run_is_counted, run_acts_on_pending, run_executes_in_turn, run_finishes, run_keeps_limit, run_chooses}
+use Rattle.bb_run.proofs.OrderlyRuns.{run_is_counted, run_acts_on_pending, run_executes_in_turn, run_finishes, run_keeps_limit, run_chooses, run_is_answered}
+use Rattle.bb_run.proofs.LimitLemmas.{run_extends}
+use Rattle.bb_run.proofs.PhasedRuns.{run_goes_by_phases}
+use Rattle.bb_run.proofs.CauseLemmas.{run_has_cause}
+use Rattle.bb_run.proofs.ReadLemmas.{run_reads}
 use Rattle.bb_run.proofs.laws.runs_are_orderly.Goals as goal
 
 pub returns : goal.returns
@@ -6,7 +10,12 @@ returns c = record {
   counted = run_is_counted;
   pending = run_acts_on_pending;
   executions = run_executes_in_turn;
+  phases = run_goes_by_phases;
   finish = run_finishes;
+  causes = run_has_cause;
   limit = run_keeps_limit;
+  answered = run_is_answered;
+  reads = run_reads;
+  longer = λ plan board limit more. run_extends plan board limit more;
   choices = run_chooses;
 }

@@ -5,7 +5,7 @@ use Rattle.bb_shell.proofs.sources.resolve.Goals as goal
 
 pub returns-in-Err : goal.returns-in-Err
 returns-in-Err c =
-    elim c.in-Err.ensures [
+    elim c.in-Err.ensures.made [
       | inl memory ↦ search rules
-      | inr failed ↦ inr (ap (map_err (Rule c.args.source.header.name)) failed ∙ ap (λ n. Err (Rule n c.in-Err.fault)) (sym (c.in_ok-name.ensures ∙ c.as_str.ensures)))
+      | inr failed ↦ ap (λ n. Err (Rule n c.in-Err.fault)) (c.in_ok-name.ensures ∙ c.as_str.ensures) ∙ sym (ap (map_err (Rule c.args.draft.name)) failed)
     ]

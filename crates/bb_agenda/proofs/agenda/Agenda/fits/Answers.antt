@@ -1,0 +1,8 @@
+use Rattle.std.proofs.Common.{subst}
+use Rattle.bb_agenda.specs.Fits.{Fits}
+use Rattle.bb_agenda.proofs.KeptLemmas.{fits_kept}
+use Rattle.bb_agenda.proofs.agenda.Agenda.fits.Goals as goal
+
+pub returns : goal.returns
+returns c =
+    subst Fits c.self.view_is (fits_kept c.self.inside.given c.self.inside.waiting c.self.inside.obviated.keys c.self.inside.refused c.self.invariant c.activations-activations.ensures.rising)

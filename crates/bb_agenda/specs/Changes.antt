@@ -1,0 +1,64 @@
+-- Each change of an agenda (GBBopen Reference Manual, Agenda Shell).
+use Rattle.std.specs.Prelude.{ℕ, ℤ, Bool, true, not, [], ◌∷◌, ◌++◌, map, Result, Ok, Err, if◌then◌else◌}
+use Rattle.bb_agenda.specs.declared.activation.Activation.{Activation}
+use Rattle.bb_agenda.specs.declared.fault.AddFault.{AddFault}
+use Rattle.bb_agenda.specs.declared.fault.AddFault.TheVariants as faults
+use Rattle.bb_agenda.specs.Agenda.{Agenda, Entry, pending, executed, obviated, has_number, next_number, is_full}
+
+-- the activation that is added next
+abbrev pub new_activation : Agenda → ℕ → ℕ → ℤ → Activation
+new_activation a source unit base = record { number = next_number a; source = source; unit = unit; base = base }
+
+-- the agenda with one activation more, which is pending
+abbrev pub with_activation : Agenda → ℕ → ℕ → ℤ → Agenda
+with_activation a source unit base =
+    record { given = a.given ++ pending (new_activation a source unit base) ∷ []; refused = a.refused }
+
+-- the number that a new activation gets, if there can be one
+abbrev pub added_number : Agenda → Result ℕ AddFault
+added_number a = if is_full a then Err faults.Full else Ok (next_number a)
+
+-- what becomes of an entry where the pending activation of this number gets another entry
+abbrev pub becoming : ℕ → (Activation → Entry) → Entry → Entry
+becoming number new_entry (pending a) = if has_number number a then new_entry a else pending a
+becoming number new_entry executed = executed
+becoming number new_entry obviated = obviated
+
+-- the agenda where the pending activation of this number gets another entry; if there is none nothing changes
+abbrev pub with_entry : Agenda → ℕ → (Activation → Entry) → Agenda
+with_entry a number new_entry = record { given = map (becoming number new_entry) a.given; refused = a.refused }
+
+-- after it is obviated
+abbrev pub with_obviated : Agenda → ℕ → Agenda
+with_obviated a number = with_entry a number (λ _. obviated)
+
+-- after it is executed
+abbrev pub with_executed : Agenda → ℕ → Agenda
+with_executed a number = with_entry a number (λ _. executed)
+
+-- an activation with another base
+abbrev pub based_at : ℤ → Activation → Activation
+based_at base a = record { number = a.number; source = a.source; unit = a.unit; base = base }
+
+-- after it gets another base
+abbrev pub with_base : Agenda → ℕ → ℤ → Agenda
+with_base a number base = with_entry a number (λ x. pending (based_at base x))
+
+-- the same agenda, once memory was refused
+abbrev pub when_refused : Agenda → Agenda
+when_refused a = record { given = a.given; refused = true }
+
+-- after an activation could not be added
+abbrev pub after_add_fault : Agenda → AddFault → Agenda
+after_add_fault a faults.Full = a
+after_add_fault a faults.Memory = when_refused a
+
+-- ---- what that does to what is pending
+
+-- the activation has another number
+abbrev pub other_than : ℕ → Activation → Bool
+other_than number a = not (has_number number a)
+
+-- the activation, with another base if it has this number
+abbrev pub rebased : ℕ → ℤ → Activation → Activation
+rebased number base a = based_at (if has_number number a then base else a.base) a

@@ -1,0 +1,46 @@
+//! The two changes of an agenda that can want memory, where it was refused to none before. `changes` calls them.
+
+ghost use Rattle.std.specs.Prelude.{◌≡◌, OnOk, OnErr};
+ghost use Rattle.bb_basis.specs.Results.{Gives};
+ghost use Rattle.bb_agenda.specs.Changes.{added_number, with_activation, with_obviated};
+
+use crate::activation::Activation;
+use crate::agenda::Agenda;
+use crate::fault::AddFault;
+use bb_basis::Memory;
+use bb_schema::UnitId;
+
+impl Agenda {
+    /// Puts an activation under the next number, and returns that. An error changes nothing.
+    pub(crate) fn put(&mut self, source: u16, unit: UnitId, base: i64) -> Result<u64, AddFault>
+        ensures number { Gives AddFault.Memory (λ number. number) result (added_number self.old) }
+        ensures added { OnOk result (self.new ≡ with_activation self.old source unit base) }
+        ensures err { OnErr result (self.new ≡ self.old) }
+    {
+        if self.is_full() {
+            return Err(AddFault::Full);
+        }
+        let number = self.given + 1;
+        self.waiting.push(Activation {
+            number,
+            source,
+            unit,
+            base,
+        })?;
+        self.given = number;
+        Ok(number)
+    }
+
+    /// Takes the pending activation of a number off. An error changes nothing.
+    pub(crate) fn take_off(&mut self, number: u64) -> Result<(), Memory>
+        ensures ok { OnOk result (self.new ≡ with_obviated self.old number) }
+        ensures err { OnErr result (self.new ≡ self.old) }
+    {
+        if !self.waiting.has(number) {
+            return Ok(());
+        }
+        self.obviated.insert(number)?;
+        self.waiting.remove(number);
+        Ok(())
+    }
+}

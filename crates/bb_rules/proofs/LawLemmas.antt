@@ -1,0 +1,167 @@
+-- What holds of every source that was made under a schema.
+use Rattle.std.proofs.Common.{◌≡◌, ℕ, Bool, true, false, ◌==◌, cond, List, [], ◌∷◌, Option, Some, None, Result, Ok, Err, refl, sym, ap, subst, ◌∙◌, eqb-true}
+use Rattle.std.specs.Prelude.{All, option_map}
+use Rattle.std.proofs.lemmas.Bool.{and_parts}
+use Rattle.std.proofs.lemmas.List.Elements.{All-nil, All-cons}
+use Rattle.bb_basis.specs.Results.{◌>>=◌}
+use Rattle.bb_basis.proofs.ResultLemmas.{bind_ok, same_ok, All-try_map}
+use Rattle.bb_schema.specs.Schema.{Schema, descends}
+use Rattle.bb_verify.specs.Accepted.{Checked}
+use Rattle.bb_verify.specs.PartType.{Part}
+use Rattle.bb_verify.specs.PartType.TheVariants as parts
+use Rattle.bb_compile.specs.declared.source_code.ClauseText.{ClauseText}
+use Rattle.bb_compile.specs.declared.source_code.ClauseText.TheVariants as texts
+use Rattle.bb_compile.specs.declared.source_code.ReactionDraft.{ReactionDraft}
+use Rattle.bb_compile.specs.declared.source_code.ActDraft.{ActDraft}
+use Rattle.bb_compile.specs.declared.source_code.ActDraft.TheVariants as drafts
+use Rattle.bb_compile.specs.declared.source_code.SourceDraft.{SourceDraft}
+use Rattle.bb_rules.specs.declared.clause.Clause.{Clause}
+use Rattle.bb_rules.specs.declared.clause.Clause.TheVariants as clauses
+use Rattle.bb_rules.specs.declared.fault.RuleFault.{RuleFault}
+use Rattle.bb_rules.specs.declared.fault.RuleFault.TheVariants as faults
+use Rattle.bb_rules.specs.declared.resolve.Classes.{Classes}
+use Rattle.bb_rules.specs.declared.source.Act.TheVariants as acts
+use Rattle.bb_rules.specs.declared.source.Reaction.{Reaction}
+use Rattle.bb_rules.specs.declared.source.Source.{Source}
+use Rattle.bb_rules.specs.Source.{class_of, classes_of, obviate_part, retrigger_part, is_same_part, is_for, is_for_reaction, reaction_code, act_code, parts_fit, class_within, kind_of, clause_of, clauses_of, reaction_of, act_of, source_of}
+use Rattle.bb_rules.specs.Law.{IsWithin, IsPart, Reacts, IsOf}
+
+-- ---- clauses
+
+guarded : {X E : Type 0} (b : Bool) (x y : X) (e : E) → cond b (Ok x) (Err e) ≡ Ok y → (b ≡ true) × (x ≡ y)
+guarded true x y e h = (refl, same_ok x y h)
+guarded false x y e h = absurd cc
+
+within : (s : Schema) (class : ℕ) (name : List ℕ) (changed : ℕ) → class_within s class name ≡ Ok changed → descends s changed class ≡ true
+within s class name changed h =
+    let one = bind_ok (class_of s name) (λ c. cond (descends s c class) (Ok c) (Err faults.Class)) changed h in
+    let two = guarded (descends s one.0 class) one.0 changed faults.Class one.2 in
+    ap (λ c. descends s c class) (sym two.1) ∙ two.0
+
+clause_within : (s : Schema) (class : ℕ) (text : ClauseText) (clause : Clause) → clause_of s class text ≡ Ok clause → IsWithin s class clause
+clause_within s class (texts.Change kind name) clause h =
+    let one = bind_ok (class_within s class name) (λ c. kind_of s c kind >>= λ change. Ok (clauses.Change change c)) clause h in
+    let two = bind_ok (kind_of s one.0 kind) (λ change. Ok (clauses.Change change one.0)) clause one.2 in
+    subst (IsWithin s class) (same_ok (clauses.Change two.0 one.0) clause two.2) (within s class name one.0 one.1)
+clause_within s class texts.Quiescence clause h = subst (IsWithin s class) (same_ok clauses.Quiescence clause h) tt
+
+all_any : {X : Type 0} (xs : List X) → All (λ _. Unit {0}) xs
+all_any [] = All-nil (λ _. Unit {0})
+all_any (x ∷ xs) = All-cons (λ _. Unit {0}) x xs tt (all_any xs)
+
+clauses_within : (s : Schema) (class : ℕ) (texts : List ClauseText) (made : List Clause) → clauses_of s class texts ≡ Ok made → All (IsWithin s class) made
+clauses_within s class texts made h = All-try_map (λ _. Unit {0}) (IsWithin s class) (clause_of s class) (λ text clause _ is. clause_within s class text clause is) texts made (all_any texts) h
+
+-- ---- codes
+
+same_part : (p q : Part) → is_same_part p q ≡ true → p ≡ q
+same_part (parts.Require class) (parts.Require other) h = ap parts.Require (eqb-true class other h)
+same_part (parts.Obviate class of) (parts.Obviate other from) h =
+    let both = and_parts (class == other) (of == from) h in
+    ap (λ c. parts.Obviate c of) (eqb-true class other both.0) ∙ ap (λ o. parts.Obviate other o) (eqb-true of from both.1)
+same_part (parts.Retrigger class of) (parts.Retrigger other from) h =
+    let both = and_parts (class == other) (of == from) h in
+    ap (λ c. parts.Retrigger c of) (eqb-true class other both.0) ∙ ap (λ o. parts.Retrigger other o) (eqb-true of from both.1)
+same_part (parts.Revalidate class) (parts.Revalidate other) h = ap parts.Revalidate (eqb-true class other h)
+same_part (parts.Do class) (parts.Do other) h = ap parts.Do (eqb-true class other h)
+same_part (parts.Require class) (parts.Obviate other from) h = absurd cc
+same_part (parts.Require class) (parts.Retrigger other from) h = absurd cc
+same_part (parts.Require class) (parts.Revalidate other) h = absurd cc
+same_part (parts.Require class) (parts.Do other) h = absurd cc
+same_part (parts.Obviate class of) (parts.Require other) h = absurd cc
+same_part (parts.Obviate class of) (parts.Retrigger other from) h = absurd cc
+same_part (parts.Obviate class of) (parts.Revalidate other) h = absurd cc
+same_part (parts.Obviate class of) (parts.Do other) h = absurd cc
+same_part (parts.Retrigger class of) (parts.Require other) h = absurd cc
+same_part (parts.Retrigger class of) (parts.Obviate other from) h = absurd cc
+same_part (parts.Retrigger class of) (parts.Revalidate other) h = absurd cc
+same_part (parts.Retrigger class of) (parts.Do other) h = absurd cc
+same_part (parts.Revalidate class) (parts.Require other) h = absurd cc
+same_part (parts.Revalidate class) (parts.Obviate other from) h = absurd cc
+same_part (parts.Revalidate class) (parts.Retrigger other from) h = absurd cc
+same_part (parts.Revalidate class) (parts.Do other) h = absurd cc
+same_part (parts.Do class) (parts.Require other) h = absurd cc
+same_part (parts.Do class) (parts.Obviate other from) h = absurd cc
+same_part (parts.Do class) (parts.Retrigger other from) h = absurd cc
+same_part (parts.Do class) (parts.Revalidate other) h = absurd cc
+
+is_part : (part : Part) (code : Option Checked) (done : Unit {0}) → is_for part code ≡ Ok done → IsPart part code
+is_part part None done h c is = absurd cc
+is_part part (Some code) done h c is =
+    let same : code ≡ c = cc in
+    ap (λ d. d.part) (sym same) ∙ same_part code.part part (guarded (is_same_part code.part part) tt done faults.Part h).0
+
+module _ (s : Schema) (part : ℕ → Part) where
+  reacts : (of : Option ℕ) (draft : Option (ReactionDraft Checked)) (made : Option Reaction) (done : Unit {0}) → is_for_reaction (option_map part of) (reaction_code draft) ≡ Ok done → reaction_of s of draft ≡ Ok made → Reacts s part made
+  reacts None draft made done fit h =
+      let none : None ≡ made = same_ok None made h in
+      record { clauses = λ r is. absurd cc; code = λ r is. absurd cc }
+  reacts (Some class) None made done fit h =
+      let none : None ≡ made = same_ok None made h in
+      record { clauses = λ r is. absurd cc; code = λ r is. absurd cc }
+  reacts (Some class) (Some draft) made done fit h =
+      let one = bind_ok (clauses_of s class draft.clauses) (λ found. Ok (Some (record { class = class; clauses = found; code = draft.code }))) made h in
+      let whole : Reaction = record { class = class; clauses = one.0; code = draft.code } in
+      let is_made : Some whole ≡ made = same_ok (Some whole) made one.2 in
+      subst (Reacts s part) is_made (record {
+        clauses = λ r is. let same : whole ≡ r = cc in subst (λ t. All (IsWithin s t.class) t.clauses) same (clauses_within s class draft.clauses one.0 one.1);
+        code = λ r is. let same : whole ≡ r = cc in subst (λ t. t.code.part ≡ part t.class) same (is_part (part class) (Some draft.code) done fit draft.code refl);
+      })
+
+act_part : (class : ℕ) (draft : ActDraft Checked) (done : Unit {0}) → is_for (parts.Do class) (act_code draft) ≡ Ok done → (c : Checked) → act_of draft ≡ acts.Code c → c.part ≡ parts.Do class
+act_part class (drafts.Do code) done h c is = is_part (parts.Do class) (Some code) done h c (let same : code ≡ c = cc in ap (λ d. Some d) same)
+act_part class drafts.Native done h c is = absurd cc
+
+-- ---- the source
+
+-- each code is for its part
+record FitParts (c : Classes) (draft : SourceDraft Checked) : Type 0 where
+  done : Unit {0}
+  require : is_for (parts.Require c.own) draft.require ≡ Ok done
+  obviate : is_for_reaction (obviate_part c) (reaction_code draft.obviate) ≡ Ok done
+  retrigger : is_for_reaction (retrigger_part c) (reaction_code draft.retrigger) ≡ Ok done
+  revalidate : is_for (parts.Revalidate c.own) draft.revalidate ≡ Ok done
+  act : is_for (parts.Do c.own) (act_code draft.act) ≡ Ok done
+
+fit_parts : (c : Classes) (draft : SourceDraft Checked) (done : Unit {0}) → parts_fit c draft ≡ Ok done → FitParts c draft
+unfolding parts_fit
+fit_parts c draft done h =
+    let obviated = is_for_reaction (obviate_part c) (reaction_code draft.obviate) in
+    let retriggered = is_for_reaction (retrigger_part c) (reaction_code draft.retrigger) in
+    let valid = is_for (parts.Revalidate c.own) draft.revalidate in
+    let acts = is_for (parts.Do c.own) (act_code draft.act) in
+    let one = bind_ok (is_for (parts.Require c.own) draft.require) (λ _. obviated >>= λ _. retriggered >>= λ _. valid >>= λ _. acts) done h in
+    let two = bind_ok obviated (λ _. retriggered >>= λ _. valid >>= λ _. acts) done one.2 in
+    let three = bind_ok retriggered (λ _. valid >>= λ _. acts) done two.2 in
+    let four = bind_ok valid (λ _. acts) done three.2 in
+    record { done = done; require = one.1; obviate = two.1; retrigger = three.1; revalidate = four.1; act = four.2 }
+
+pub source_law : (s : Schema) (draft : SourceDraft Checked) (source : Source) → source_of s draft ≡ Ok source → IsOf s source
+unfolding source_of
+source_law s draft source h =
+    let with_all : Classes → List Clause → Option Reaction → Option Reaction → Source = λ c ts o r. record {
+      name = draft.name;
+      class = c.own;
+      rate = draft.rate;
+      triggers = ts;
+      require = draft.require;
+      obviate = o;
+      retrigger = r;
+      revalidate = draft.revalidate;
+      act = act_of draft.act;
+    } in
+    let after : Classes → List Clause → Result Source RuleFault = λ c ts. reaction_of s c.obviated draft.obviate >>= λ o. reaction_of s c.retriggered draft.retrigger >>= λ r. Ok (with_all c ts o r) in
+    let c = bind_ok (classes_of s draft) (λ c. parts_fit c draft >>= λ _. clauses_of s c.own draft.triggers >>= λ ts. after c ts) source h in
+    let p = bind_ok (parts_fit c.0 draft) (λ _. clauses_of s c.0.own draft.triggers >>= λ ts. after c.0 ts) source c.2 in
+    let t = bind_ok (clauses_of s c.0.own draft.triggers) (λ ts. after c.0 ts) source p.2 in
+    let o = bind_ok (reaction_of s c.0.obviated draft.obviate) (λ o. reaction_of s c.0.retriggered draft.retrigger >>= λ r. Ok (with_all c.0 t.0 o r)) source t.2 in
+    let r = bind_ok (reaction_of s c.0.retriggered draft.retrigger) (λ r. Ok (with_all c.0 t.0 o.0 r)) source o.2 in
+    let fit = fit_parts c.0 draft p.0 p.1 in
+    subst (IsOf s) (same_ok (with_all c.0 t.0 o.0 r.0) source r.2) (record {
+      triggers = clauses_within s c.0.own draft.triggers t.0 t.1;
+      require = is_part (parts.Require c.0.own) draft.require fit.done fit.require;
+      obviate = reacts s (parts.Obviate c.0.own) c.0.obviated draft.obviate o.0 fit.done fit.obviate o.1;
+      retrigger = reacts s (parts.Retrigger c.0.own) c.0.retriggered draft.retrigger r.0 fit.done fit.retrigger r.1;
+      revalidate = is_part (parts.Revalidate c.0.own) draft.revalidate fit.done fit.revalidate;
+      act = act_part c.0.own draft.act fit.done fit.act;
+    })

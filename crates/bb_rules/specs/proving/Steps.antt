@@ -1,0 +1,57 @@
+-- The steps by which the code makes a source of its draft. No public clause cites them.
+use Rattle.std.specs.Prelude.{ℕ, List, Option, Some, None, Result, Ok}
+use Rattle.bb_basis.specs.Results.{◌>>=◌}
+use Rattle.bb_compile.specs.declared.source_code.ReactionDraft.{ReactionDraft}
+use Rattle.bb_compile.specs.declared.source_code.SourceDraft.{SourceDraft}
+use Rattle.bb_schema.specs.Schema.{Schema}
+use Rattle.bb_verify.specs.Accepted.{Checked}
+use Rattle.bb_rules.specs.declared.answered.Answered.{Answered}
+use Rattle.bb_rules.specs.declared.answered.Found.{Found}
+use Rattle.bb_rules.specs.declared.clause.Clause.{Clause}
+use Rattle.bb_rules.specs.declared.fault.RuleFault.{RuleFault}
+use Rattle.bb_rules.specs.declared.resolve.Classes.{Classes}
+use Rattle.bb_rules.specs.declared.source.Reaction.{Reaction}
+use Rattle.bb_rules.specs.declared.source.Source.{Source}
+use Rattle.bb_rules.specs.Source.{act_of, classes_of, clauses_of, parts_fit}
+
+-- the clauses of a reaction, if there is one
+abbrev pub reaction_clauses : {C : Type 0} → Schema → Option ℕ → Option (ReactionDraft C) → Result (Option (List Clause)) RuleFault
+reaction_clauses s (Some class) (Some draft) = do
+  found ← clauses_of s class draft.clauses
+  Ok (Some found)
+reaction_clauses s _ _ = Ok None
+
+-- the events that a source answers
+unfoldable pub answered : {C : Type 0} → Schema → Classes → SourceDraft C → Result Answered RuleFault
+answered s c draft = do
+  triggers ← clauses_of s c.own draft.triggers
+  obviating ← reaction_clauses s c.obviated draft.obviate
+  retriggering ← reaction_clauses s c.retriggered draft.retrigger
+  Ok (record { triggers = triggers; obviating = obviating; retriggering = retriggering })
+
+-- what the names in a draft stand for, where each code is for its part
+unfoldable pub found : Schema → SourceDraft Checked → Result Found RuleFault
+found s draft = do
+  c ← classes_of s draft
+  _ ← parts_fit c draft
+  answers ← answered s c draft
+  Ok (record { classes = c; answered = answers })
+
+-- a reaction of its class, its clauses and its code, where all are there
+abbrev pub reaction_with : Option ℕ → Option (List Clause) → Option (ReactionDraft Checked) → Option Reaction
+reaction_with (Some class) (Some clauses) (Some draft) = Some (record { class = class; clauses = clauses; code = draft.code })
+reaction_with _ _ _ = None
+
+-- the source of a draft whose names are looked up
+abbrev pub source_with : Found → SourceDraft Checked → Source
+source_with f draft = record {
+  name = draft.name;
+  class = f.classes.own;
+  rate = draft.rate;
+  triggers = f.answered.triggers;
+  require = draft.require;
+  obviate = reaction_with f.classes.obviated f.answered.obviating draft.obviate;
+  retrigger = reaction_with f.classes.retriggered f.answered.retriggering draft.retrigger;
+  revalidate = draft.revalidate;
+  act = act_of draft.act;
+}

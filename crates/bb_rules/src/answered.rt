@@ -1,0 +1,70 @@
+//! What the names in a draft stand for: classes, and the events that a source answers. `Source::new` looks them up.
+
+ghost use Rattle.bb_basis.specs.Results.{Gives};
+ghost use Rattle.bb_rules.specs.proving.Steps.{answered, found};
+
+use crate::clauses::Clauses;
+use crate::fault::RuleFault;
+use crate::parts::parts_fit;
+use crate::resolve::{Classes, clauses_of, reaction_clauses};
+use bb_compile::SourceDraft;
+use bb_schema::Schema;
+use bb_verify::Checked;
+use std::alloc::Global;
+
+/// The events that a source answers, each kind of answer apart.
+#[derive(Drop)]
+pub(crate) struct Answered {
+    /// Those that trigger it.
+    pub triggers: Clauses,
+    /// Those that make its pending activations needless, if it has a part for them.
+    pub obviating: Option<Clauses>,
+    /// Those that give its pending activations another base rating, if it has a part for them.
+    pub retriggering: Option<Clauses>,
+}
+
+impl Answered {
+    /// Looks up the clauses of a draft, whose classes are known: its triggers first.
+    #[tactic(auto, unfolding(crate::specs::proving::Steps::answered))]
+    pub(crate) fn find<C>(
+        alloc: Global,
+        schema: &Schema,
+        classes: Classes,
+        draft: &SourceDraft<C>,
+    ) -> Result<Answered, RuleFault>
+        ensures { Gives RuleFault.Memory (λ a. a) result (answered schema.now classes draft.now) }
+    {
+        let triggers = clauses_of(alloc, schema, classes.own, draft.triggers.as_slice())?;
+        let obviating = reaction_clauses(alloc, schema, classes.obviated, &draft.obviate)?;
+        let retriggering = reaction_clauses(alloc, schema, classes.retriggered, &draft.retrigger)?;
+        Ok(Answered {
+            triggers,
+            obviating,
+            retriggering,
+        })
+    }
+}
+
+/// What the names in a draft stand for.
+#[derive(Drop)]
+pub(crate) struct Found {
+    pub classes: Classes,
+    pub answered: Answered,
+}
+
+impl Found {
+    /// Looks up a draft's classes, then sees that each code is for its part, and looks up the clauses.
+    #[tactic(auto, unfolding(crate::specs::proving::Steps::found))]
+    pub(crate) fn of(
+        alloc: Global,
+        schema: &Schema,
+        draft: &SourceDraft<Checked>,
+    ) -> Result<Found, RuleFault>
+        ensures { Gives RuleFault.Memory (λ f. f) result (found schema.now draft.now) }
+    {
+        let classes = Classes::find(schema, draft)?;
+        parts_fit(classes, draft)?;
+        let answered = Answered::find(alloc, schema, classes, draft)?;
+        Ok(Found { classes, answered })
+    }
+}

@@ -1,0 +1,103 @@
+//! The clauses of a source, found by the kind of an event. A source has its triggers so, and a reaction its clauses.
+
+ghost use Rattle.std.specs.Prelude.{◌≡◌, ◌∷◌, ◌++◌, [], IfOk};
+ghost use Rattle.std.specs.List.{list_any};
+ghost use Rattle.bb_schema.specs.Schema.{descends};
+ghost use Rattle.bb_rules.specs.Match.{any_match};
+ghost use Rattle.bb_rules.specs.proving.Index.{classes_for};
+
+use crate::clause::Clause;
+use crate::index::Index;
+use bb_basis::Items;
+use bb_board::{ChangeKind, Event};
+use bb_schema::{ClassId, Schema};
+use std::alloc::{AllocError, Global};
+use std::marker::Model;
+
+/// Clauses in order. Whether one of them names an event is found by the event's kind and the classes from which its
+/// class descends, however many clauses there are.
+#[derive(Drop)]
+pub struct Clauses {
+    list: Items<Clause>,
+    index: Index,
+    // One of them is `Quiescence`.
+    quiescence: bool,
+}
+
+impl Model for Clauses {
+    ghost use Rattle.std.specs.Prelude.{List};
+    ghost use Rattle.bb_rules.specs.declared.clause.Clause.{Clause as Named};
+    ghost use Rattle.bb_rules.specs.proving.Index.{IsIndex};
+
+    ghost Value = { List Named };
+
+    ghost view = { λ c. c.list };
+
+    ghost invariant = { λ c. IsIndex c.list c.index c.quiescence };
+}
+
+impl Clauses {
+    /// No clauses. It allocates nothing.
+    pub(crate) fn new(alloc: Global) -> Clauses
+        ensures { result ≡ [] }
+    {
+        Clauses {
+            list: Items::new(alloc),
+            index: Index::new(alloc),
+            quiescence: false,
+        }
+    }
+
+    /// The clauses, in order.
+    pub fn as_slice(&self) -> &[Clause]
+        ensures { result.now ≡ self.now }
+    {
+        self.list.as_slice()
+    }
+
+    /// The same clauses and one more, the last.
+    pub(crate) fn and(self, clause: Clause) -> Result<Clauses, AllocError>
+        ensures { IfOk result (λ clauses. clauses ≡ self ++ clause ∷ []) }
+    {
+        let Clauses {
+            mut list,
+            mut index,
+            quiescence,
+        } = self;
+        let quiescence = match clause {
+            Clause::Change { kind, class } => {
+                index.add(kind, class)?;
+                quiescence
+            }
+            Clause::Quiescence => true,
+        };
+        list.push(clause)?;
+        Ok(Clauses {
+            list,
+            index,
+            quiescence,
+        })
+    }
+
+    /// Whether one of the clauses names an event.
+    pub fn match_any(&self, schema: &Schema, event: Event) -> bool
+        ensures { result ≡ any_match schema.now self.now event }
+    {
+        match event {
+            Event::Change { class, change, .. } => {
+                descends_from_named(schema, class, &self.index, change.kind())
+            }
+            Event::Quiescence => self.quiescence,
+        }
+    }
+}
+
+// Whether a class descends from one that the index has for a kind.
+fn descends_from_named(schema: &Schema, class: ClassId, index: &Index, kind: ChangeKind) -> bool
+    ensures { result ≡ list_any (λ d. descends schema.now class d) (classes_for index.now kind) }
+{
+    match index.at(kind) {
+        None => false,
+        Some(classes) => schema.descends_from_any(class, classes),
+    }
+}

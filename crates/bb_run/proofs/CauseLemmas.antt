@@ -1,0 +1,182 @@
+-- A run that ends full or stuck has a cause.
+use Rattle.std.proofs.Common.{◌≡◌, ◌<◌, inl, inr, ℕ, zero, suc, ◌+◌, ℤ, List, [], ◌∷◌, length, slice_get, Option, Some, None, Result, Ok, Err, refl, subst, arith}
+use Rattle.std.specs.Prelude.{Contains, option_and_then}
+use Rattle.std.proofs.lemmas.Option.{get_or_from_slice_get}
+use Rattle.bb_trace.specs.Event.{Event}
+use Rattle.bb_trace.specs.Event.TheVariants.{Quiescence as quiescence}
+use Rattle.bb_trace.specs.Board.{Board as Blackboard}
+use Rattle.bb_agenda.specs.declared.activation.Activation.{Activation}
+use Rattle.bb_agenda.specs.Agenda.{no_activations}
+use Rattle.bb_verify.specs.Accepted.{Checked}
+use Rattle.bb_machine.specs.Answer.{Answer}
+use Rattle.bb_machine.specs.Answer.TheVariants as answers
+use Rattle.bb_machine.specs.Entry.{Entry}
+use Rattle.bb_machine.specs.Outcome.{Outcome}
+use Rattle.bb_machine.specs.Stop.{Stop}
+use Rattle.bb_machine.specs.Stop.TheVariants as stops
+use Rattle.bb_trace.specs.Act.{Act}
+use Rattle.bb_trace.specs.Act.TheVariants as acts
+use Rattle.bb_trace.specs.Source.{Source}
+use Rattle.bb_trace.specs.declared.end.End.{End}
+use Rattle.bb_trace.specs.declared.end.End.TheVariants as finishes
+use Rattle.bb_trace.specs.Plan.{Plan}
+use Rattle.bb_run.specs.declared.execution.Verdict.{Verdict}
+use Rattle.bb_run.specs.declared.execution.Verdict.TheVariants as verdicts
+use Rattle.bb_run.specs.declared.state.State.{State}
+use Rattle.bb_run.specs.State.{with_board}
+use Rattle.bb_run.specs.Told.{Response, Told, over, and_then, and_then_unless, segment}
+use Rattle.bb_run.specs.Asking.{attempt, end_by, entry_of, reply_by}
+use Rattle.bb_run.specs.Processing.{events_in, processing, processing_all, reported, response}
+use Rattle.bb_run.specs.Run.{rating, choice, wait, wait_for, noted, answered, execution, acting, verdict_by, verdict_of, validity, chosen_with, if_valid, cycle, if_chosen, cycles, start, run}
+use Rattle.bb_run.specs.Causes.{WasStopped, of_agenda, of_execution, of_native, HasCause}
+use Rattle.bb_run.proofs.ResponseRule.{HoldsOfParts, OfPlan, holds}
+
+-- ---- an item at a place is one of the list
+
+within_some : {X : Type 0} (xs : List X) (i : ℕ) (x : X) → slice_get xs i ≡ Some x → i < length xs
+within_some [] i x is = absurd cc
+within_some (y ∷ ys) zero x is = omega arith
+within_some (y ∷ ys) (suc i) x is = let under : i < length ys = within_some ys i x is in omega arith
+
+there_at : {X : Type 0} (xs : List X) (i : ℕ) (x : X) → slice_get xs i ≡ Some x → Contains xs x
+there_at xs i x is = (i, within_some xs i x is, get_or_from_slice_get xs i x x is)
+
+module _ (plan : Plan) where
+  -- a part of a run has a cause, if the run ends in it
+  abbrev pub IsCaused : {X : Type 0} → Told X → Type 0
+  IsCaused p = HasCause plan p.state p.end
+
+  caused_then : {X : Type 0} (p : Told X) (next : State → Told X) (end : Option End) → p.end ≡ end → IsCaused p → IsCaused (next p.state) → IsCaused (and_then_unless end p next)
+  caused_then p next (Some e) is first rest = first
+  caused_then p next None is first rest = rest
+
+  by_stop : (s : State) (stop : Stop) → WasStopped plan s.board stop → HasCause plan s (Some (end_by stop))
+  by_stop s (stops.Full steps found) was = of_execution (stops.Full steps found) was
+  by_stop s (stops.Stuck reason steps found) was = of_execution (stops.Stuck reason steps found) was
+  by_stop s stops.Memory was = of_execution stops.Memory was
+
+  -- ---- what answers to an event
+
+  abbrev Caused : State → Response → Type 0
+  Caused s r = IsCaused r
+
+  stopped_by : (code : Checked) (entry : Entry) (stop : Stop) (board : Blackboard) → OfPlan plan Caused code → (attempt code.code entry board).0 ≡ Err stop → WasStopped plan (attempt code.code entry board).1 stop
+  stopped_by code entry stop board of came = record { source = of.0; one = of.1; code = code; part = inr of.2; entry = entry; before = board; came = came; left = inl refl }
+
+  response_parts : HoldsOfParts plan Caused
+  response_parts = record {
+    nothing = λ s. tt;
+    full = λ s is. of_agenda is;
+    stopped = λ s code entry stop of came. by_stop (with_board s (attempt code.code entry s.board).1) stop (stopped_by code entry stop s.board of came);
+    went_on = λ s code entry r of caused. caused;
+    triggered = λ s source unit base under. tt;
+    declined = λ s source unit. tt;
+    obviated = λ s number. tt;
+    rebased = λ s number base. tt;
+    further = λ s r next first rest. caused_then r next r.end refl first rest;
+  }
+
+  responds : (event : Event) (s : State) → IsCaused (response plan event s)
+  responds event s = holds plan Caused response_parts event s
+
+  processes_all : (events : List Event) (s : State) → IsCaused (processing_all plan events s)
+  unfolding processing_all
+  processes_all [] s = tt
+  processes_all (event ∷ events) s = let p = processing plan event s in caused_then p (processing_all plan events) p.end refl (responds event s) (processes_all events p.state)
+
+  reports : (r : Response) → IsCaused r → IsCaused (reported plan r)
+  reports r first = caused_then (segment r) (processing_all plan (events_in r.told)) r.end refl first (processes_all (events_in r.told) r.state)
+
+  -- ---- a cycle
+
+  module _ (source : Source) (there : Contains plan.sources source) (a : Activation) (s : State) where
+    executes : (code : Checked) (r : Result Outcome Stop) → source.act ≡ acts.Code code → let e = attempt code.code (entry_of a.unit None) s.board in e.0 ≡ r → IsCaused (answered code.code (with_board s e.1) r)
+    executes code (Ok o) is came = tt
+    executes code (Err stop) is came =
+        by_stop (answered code.code (with_board s (attempt code.code (entry_of a.unit None) s.board).1) (Err stop)).state stop
+        (record { source = source; one = there; code = code; part = inl is; entry = entry_of a.unit None; before = s.board; came = came; left = inr refl })
+
+    acts_by : (act : Act) → source.act ≡ act → IsCaused (reported plan (execution act a s))
+    acts_by (acts.Code code) is =
+        let e = attempt code.code (entry_of a.unit None) s.board in
+        reports (answered code.code (with_board s e.1) e.0) (executes code e.0 is refl)
+    acts_by acts.Native is = reports (execution acts.Native a s) (of_native (source, there, is))
+
+  acts_at : (source : Option Source) (a : Activation) (s : State) → slice_get plan.sources a.source ≡ source → IsCaused (acting plan source a s)
+  acts_at None a s is = tt
+  acts_at (Some source) a s is = acts_by source (there_at plan.sources a.source source is) a s source.act refl
+
+  -- a choice has a cause for its end, if its verdict has
+  abbrev VerdictCaused : Verdict → Blackboard → Type 0
+  VerdictCaused v board = (s : State) (end : End) → v ≡ verdicts.Over end → s.board ≡ board → HasCause plan s (Some end)
+
+  not_over : (answer : Answer) (board : Blackboard) → VerdictCaused (verdict_of answer) board
+  not_over answers.No board s end is same = absurd cc
+  not_over answers.Yes board s end is same = absurd cc
+  not_over answers.Done board s end is same = absurd cc
+  not_over answers.Declined board s end is same = absurd cc
+  not_over (answers.Rated base) board s end is same = absurd cc
+
+  verdict_caused : (source : Source) (code : Checked) (a : Activation) (before : Blackboard) (r : Result Outcome Stop) → Contains plan.sources source → source.revalidate ≡ Some code
+      → (attempt code.code (entry_of a.unit None) before).0 ≡ r → VerdictCaused (verdict_by (reply_by r)) (attempt code.code (entry_of a.unit None) before).1
+  verdict_caused source code a before (Ok o) there part came = not_over o.answer (attempt code.code (entry_of a.unit None) before).1
+  verdict_caused source code a before (Err stop) there part came = λ s end is same.
+      let ends : end_by stop ≡ end = cc in
+      subst (λ e. HasCause plan s (Some e)) ends (by_stop s stop
+      (record { source = source; one = there; code = code; part = inr (inr (inl part)); entry = entry_of a.unit None; before = before; came = came; left = inl same }))
+
+  validity_caused : (source : Source) (code : Option Checked) (a : Activation) (before : Blackboard) → Contains plan.sources source → source.revalidate ≡ code → let v = validity code a before in VerdictCaused v.0 v.1
+  validity_caused source None a before there part = λ s end is same. absurd cc
+  validity_caused source (Some code) a before there part = verdict_caused source code a before (attempt code.code (entry_of a.unit None) before).0 there part refl
+
+  by_source : (source : Option Source) (a : Activation) (before : Blackboard) → slice_get plan.sources a.source ≡ source → let v = validity (option_and_then (λ t. t.revalidate) source) a before in VerdictCaused v.0 v.1
+  by_source None a before is = λ s end over' same. absurd cc
+  by_source (Some source) a before is = validity_caused source source.revalidate a before (there_at plan.sources a.source source is) refl
+
+  chooses : (number : ℕ) (a : Activation) (r : ℤ) (v : Verdict) (s : State) → VerdictCaused v s.board → IsCaused (segment (chosen_with number a r v s))
+  chooses number a r verdicts.Valid s caused = tt
+  chooses number a r verdicts.Invalid s caused = tt
+  chooses number a r (verdicts.Over end) s caused = caused s end refl refl
+
+  goes_if_valid : (v : Verdict) (source : Option Source) (a : Activation) (s : State) → slice_get plan.sources a.source ≡ source → IsCaused (acting plan (if_valid v source) a s)
+  goes_if_valid verdicts.Valid source a s is = acts_at source a s is
+  goes_if_valid verdicts.Invalid source a s is = tt
+  goes_if_valid (verdicts.Over end) source a s is = tt
+
+  cycle_caused : (number : ℕ) (a : Activation) (s : State) → IsCaused (cycle plan number a s)
+  cycle_caused number a s =
+      let source = slice_get plan.sources a.source in
+      let v = validity (option_and_then (λ t. t.revalidate) source) a s.board in
+      let t = with_board s v.1 in
+      let p = segment (chosen_with number a (rating plan s a) v.0 t) in
+      caused_then p (acting plan (if_valid v.0 source) a) p.end refl (chooses number a (rating plan s a) v.0 t (by_source source a s.board refl)) (goes_if_valid v.0 source a p.state refl)
+
+  -- ---- the whole run
+
+  waits : (s : State) (c : Option Activation) → IsCaused (wait_for plan s c)
+  waits s None = responds quiescence s
+  waits s (Some a) = tt
+
+  last : (t : State) (c : Option Activation) → IsCaused (if_chosen t c (λ a. over finishes.Limit t))
+  last t None = tt
+  last t (Some a) = tt
+
+  next_cycle : (made left : ℕ) (t : State) (c : Option Activation) → ((s : State) → IsCaused (cycles plan (made + 1) left s)) → IsCaused (if_chosen t c (λ a. and_then (cycle plan (made + 1) a t) (cycles plan (made + 1) left)))
+  next_cycle made left t None rest = tt
+  next_cycle made left t (Some a) rest = let p = cycle plan (made + 1) a t in caused_then p (cycles plan (made + 1) left) p.end refl (cycle_caused (made + 1) a t) (rest p.state)
+
+  cycles_caused : (made left : ℕ) (s : State) → IsCaused (cycles plan made left s)
+  unfolding cycles
+  cycles_caused made zero s =
+      let p = wait plan s in
+      caused_then p (λ t. if_chosen t (choice plan t) (λ a. over finishes.Limit t)) p.end refl (waits s (choice plan s)) (last p.state (choice plan p.state))
+  cycles_caused made (suc left) s =
+      let p = wait plan s in
+      caused_then p (λ t. if_chosen t (choice plan t) (λ a. and_then (cycle plan (made + 1) a t) (cycles plan (made + 1) left))) p.end refl (waits s (choice plan s))
+      (next_cycle made left p.state (choice plan p.state) (λ t. cycles_caused (made + 1) left t))
+
+  pub run_has_cause : (board : Blackboard) (limit : ℕ) → let p = run plan board limit in HasCause plan p.state p.end
+  run_has_cause board limit =
+      let first : State = record { board = board; agenda = no_activations } in
+      let p = start plan board in
+      caused_then p (cycles plan 0 limit) p.end refl (reports (noted first [] None) tt) (cycles_caused 0 limit p.state)

@@ -1,0 +1,304 @@
+-- Each part of a run goes by its phases.
+use Rattle.std.proofs.Common.{◌≡◌, ◌<◌, ◌⊎◌, inl, inr, ℕ, zero, suc, ◌+◌, ℤ, List, [], ◌∷◌, ◌++◌, length, map, slice_get, Option, Some, None, Result, Ok, Err, refl, sym, ap, subst, ◌∙◌, append_assoc, arith}
+use Rattle.std.specs.Prelude.{⊤, All, option_and_then}
+use Rattle.std.proofs.lemmas.List.{append-nil}
+use Rattle.std.proofs.lemmas.List.Elements.{All-contains, All-filter, All-nil}
+use Rattle.std.proofs.lemmas.List.Sums.{fold-append}
+use Rattle.bb_trace.specs.Event.{Event}
+use Rattle.bb_trace.specs.Event.TheVariants.{Quiescence as quiescence}
+use Rattle.bb_trace.specs.BoardNote.{Note as BoardNote}
+use Rattle.bb_trace.specs.BoardNote.TheVariants.{Event as happened}
+use Rattle.bb_agenda.specs.declared.activation.Activation.{Activation}
+use Rattle.bb_agenda.specs.Agenda.{Agenda, no_activations, pending_of}
+use Rattle.bb_agenda.specs.Chosen.{chosen}
+use Rattle.bb_agenda.specs.Changes.{new_activation, other_than, with_activation, with_base, with_obviated}
+use Rattle.bb_agenda.proofs.Laws.{chosen_some, pending_added, pending_executed, pending_obviated, pending_rebased}
+use Rattle.bb_code.specs.Code.{Code}
+use Rattle.bb_verify.specs.Budget.{budget}
+use Rattle.bb_machine.specs.Outcome.{Outcome}
+use Rattle.bb_machine.specs.Stop.{Stop}
+use Rattle.bb_trace.specs.Act.{Act}
+use Rattle.bb_trace.specs.Act.TheVariants as acts
+use Rattle.bb_trace.specs.Source.{Source}
+use Rattle.bb_trace.specs.declared.end.End.{End}
+use Rattle.bb_trace.specs.declared.end.End.TheVariants as finishes
+use Rattle.bb_trace.specs.declared.note.Note.{Note}
+use Rattle.bb_trace.specs.declared.note.Note.TheVariants.{Board, Triggered, Declined, Obviated, Retriggered, Chosen, Invalid, Ended, Finished}
+use Rattle.bb_trace.specs.Plan.{Plan}
+use Rattle.bb_run.specs.declared.execution.Verdict.{Verdict}
+use Rattle.bb_run.specs.declared.execution.Verdict.TheVariants as verdicts
+use Rattle.bb_run.specs.declared.state.State.{State}
+use Rattle.bb_run.specs.State.{with_agenda, with_board}
+use Rattle.bb_run.specs.Told.{Response, Stretch, telling, over, after_told, and_then, and_then_unless, segment}
+use Rattle.bb_run.specs.Asking.{attempt, end_by, entry_of}
+use Rattle.bb_run.specs.Processing.{events_in, processing, processing_all, reported, response}
+use Rattle.bb_run.specs.Run.{rating, choice, wait_for, quiet, with_notes_taken, answered, execution, acting, validity, chosen_with, if_valid, cycle, if_chosen, cycles}
+use Rattle.bb_run.specs.Order.{notes_of, after_note, pending_after, without}
+use Rattle.bb_run.specs.Phases.{Phase, outside, rested, inside, after_in, phase_after, IsQuiet}
+use Rattle.bb_run.proofs.OrderLemmas.{Comes, comes_none, comes_one, comes_then}
+use Rattle.bb_run.proofs.OrderlyParts.{all_of_two, IsEarly, early_end, IsEarlyVerdict, early_verdict}
+use Rattle.bb_run.proofs.PendingLemmas.{All-last, all_rebased}
+use Rattle.bb_run.proofs.ResponseRule.{HoldsOfParts, holds}
+
+module _ (plan : Plan) where
+  -- ---- where a run is
+
+  abbrev pub IsOne : Activation → Type 0
+  IsOne a = a.source < length plan.sources
+
+  -- after these notes a run is in this phase, the agenda is what is pending by them, and each is of one of the sources
+  pub record IsAt (past : List Note) (phase : Phase) (agenda : Agenda) : Type 0 where
+    pub phase_is : phase_after past ≡ phase
+    pub pending : pending_of agenda ≡ pending_after past
+    pub known : All IsOne (pending_of agenda)
+
+  pub at_first : IsAt [] outside no_activations
+  at_first = record { phase_is = refl; pending = refl; known = All-nil IsOne }
+
+  -- one note more
+  at_next : (past : List Note) (phase : Phase) (before after : Agenda) (note : Note) → IsAt past phase before → pending_of after ≡ after_note (pending_of before) note → All IsOne (pending_of after) → IsAt (past ++ note ∷ []) (after_in phase note) after
+  at_next past phase before after note at left known = record {
+    phase_is = fold-append after_in outside past (note ∷ []) ∙ ap (λ p. after_in p note) at.phase_is;
+    pending = left ∙ ap (λ l. after_note l note) at.pending ∙ sym (fold-append after_note [] past (note ∷ []));
+    known = known;
+  }
+
+  -- without the one of a number
+  known_left : (before after : Agenda) (number : ℕ) → pending_of after ≡ without number (pending_of before) → All IsOne (pending_of before) → All IsOne (pending_of after)
+  known_left before after number left known = subst (All IsOne) (sym left) (All-filter (other_than number) IsOne (pending_of before) known)
+
+  -- a note may come where the run is
+  abbrev pub MayStand : List Note → Note → Type 0
+  MayStand before (Board note) = (phase_after before ≡ inside) ⊎ IsQuiet plan.floor before note
+  MayStand before (Chosen cycle a r) = (phase_after before ≡ outside) ⊎ (phase_after before ≡ rested)
+  MayStand before (Ended steps found allowed) = phase_after before ≡ inside
+  MayStand before (Invalid number) = phase_after before ≡ inside
+  MayStand before (Finished end) = ⊥
+  MayStand before _ = ⊤
+
+  -- notes after these, with what they leave
+  pub record Moves (past notes : List Note) (phase : Phase) (s : State) (end : Option End) : Type 0 where
+    pub comes : Comes MayStand past notes
+    pub leaves : end ≡ None → IsAt (past ++ notes) phase s.agenda
+    pub early : IsEarly end
+
+  abbrev pub TellsTo : (past : List Note) → Phase → Stretch → Type 0
+  TellsTo past phase p = Moves past (notes_of p) phase p.state p.end
+
+  moves_none : (past : List Note) (phase : Phase) (s : State) (end : Option End) → IsEarly end → IsAt past phase s.agenda → Moves past [] phase s end
+  moves_none past phase s end early at = record { comes = comes_none MayStand past; leaves = λ e. subst (λ l. IsAt l phase s.agenda) (sym (append-nil past)) at; early = early }
+
+  moves_one : (past : List Note) (note : Note) (phase : Phase) (s : State) → MayStand past note → IsAt (past ++ note ∷ []) phase s.agenda → Moves past (note ∷ []) phase s None
+  moves_one past note phase s may at = record { comes = comes_one MayStand past note may; leaves = λ e. at; early = tt }
+
+  moves_more : (past xs ys : List Note) (phase : Phase) (s : State) (end : Option End) → Comes MayStand past xs → Moves (past ++ xs) ys phase s end → Moves past (xs ++ ys) phase s end
+  moves_more past xs ys phase s end may rest = record {
+    comes = comes_then MayStand past xs ys may rest.comes;
+    leaves = λ e. subst (λ l. IsAt l phase s.agenda) (append_assoc past xs ys) (rest.leaves e);
+    early = rest.early;
+  }
+
+  moves_segment : (past notes : List Note) (phase : Phase) (s : State) (end : Option End) → Moves past notes phase s end → TellsTo past phase (telling (notes ∷ []) s end)
+  moves_segment past notes phase s end p = subst (λ l. Moves past l phase s end) (sym (append-nil notes)) p
+
+  -- a stretch, and then the next
+  tells_then : (past : List Note) (first after : Phase) (p : Stretch) (next : State → Stretch) (end : Option End) → p.end ≡ end → TellsTo past first p
+      → (IsAt (past ++ notes_of p) first p.state.agenda → TellsTo (past ++ notes_of p) after (next p.state)) → TellsTo past after (and_then_unless end p next)
+  tells_then past first after p next (Some e) is told rest = record { comes = told.comes; leaves = λ none. absurd (let no : Some e ≡ None = sym is ∙ none in cc); early = told.early }
+  tells_then past first after p next None is told rest =
+      let q = next p.state in
+      subst (λ l. Moves past l after q.state q.end) (sym (all_of_two p.told q.told)) (moves_more past (notes_of p) (notes_of q) after q.state q.end told.comes (rest (told.leaves is)))
+
+  -- ---- what answers to an event leaves the phase
+
+  abbrev Stays : State → Response → Type 0
+  Stays s r = (past : List Note) (phase : Phase) → IsAt past phase s.agenda → Moves past r.told phase r.state r.end
+
+  stays_then : (s : State) (r : Response) (next : State → Response) (end : Option End) → r.end ≡ end → Stays s r → Stays r.state (next r.state) → Stays s (and_then_unless end r next)
+  stays_then s r next (Some e) is first rest past phase at = first past phase at
+  stays_then s r next None is first rest past phase at =
+      let q = next r.state in
+      let told = first past phase at in
+      moves_more past r.told q.told phase q.state q.end told.comes (rest (past ++ r.told) phase (told.leaves is))
+
+  response_parts : HoldsOfParts plan Stays
+  response_parts = record {
+    nothing = λ s past phase at. moves_none past phase s None tt at;
+    full = λ s is past phase at. moves_none past phase s (Some finishes.Full) tt at;
+    stopped = λ s code entry stop of came past phase at. moves_none past phase (with_board s (attempt code.code entry s.board).1) (Some (end_by stop)) (early_end stop) at;
+    went_on = λ s code entry r of stays. stays;
+    triggered = λ s source unit base under past phase at.
+        let a = new_activation s.agenda source unit base in
+        let later = with_activation s.agenda source unit base in
+        let grown = pending_added s.agenda source unit base in
+        moves_one past (Triggered a) phase (with_agenda s later) tt
+        (at_next past phase s.agenda later (Triggered a) at grown (subst (All IsOne) (sym grown) (All-last IsOne (pending_of s.agenda) a at.known under)));
+    declined = λ s source unit past phase at. moves_one past (Declined source unit) phase s tt (at_next past phase s.agenda s.agenda (Declined source unit) at refl at.known);
+    obviated = λ s number past phase at.
+        let later = with_obviated s.agenda number in
+        let left = pending_obviated s.agenda number in
+        moves_one past (Obviated number) phase (with_agenda s later) tt (at_next past phase s.agenda later (Obviated number) at left (known_left s.agenda later number left at.known));
+    rebased = λ s number base past phase at.
+        let later = with_base s.agenda number base in
+        let left = pending_rebased s.agenda number base in
+        moves_one past (Retriggered number base) phase (with_agenda s later) tt
+        (at_next past phase s.agenda later (Retriggered number base) at left (subst (All IsOne) (sym left) (all_rebased IsOne (λ a b one. one) number base (pending_of s.agenda) at.known)));
+    further = λ s r next first rest. stays_then s r next r.end refl first rest;
+  }
+
+  responds : (event : Event) (s : State) → Stays s (response plan event s)
+  responds event s = holds plan Stays response_parts event s
+
+  pub processes_all : (events : List Event) (past : List Note) (phase : Phase) (s : State) → IsAt past phase s.agenda → TellsTo past phase (processing_all plan events s)
+  unfolding processing_all
+  processes_all [] past phase s at = moves_none past phase s None tt at
+  processes_all (event ∷ events) past phase s at =
+      let r = response plan event s in
+      let p = processing plan event s in
+      tells_then past phase phase p (processing_all plan events) p.end refl (moves_segment past r.told phase r.state r.end (responds event s past phase at))
+      (λ later. processes_all events (past ++ notes_of p) phase p.state later)
+
+  reports : (past : List Note) (phase : Phase) (r : Response) → Moves past r.told phase r.state r.end → TellsTo past phase (reported plan r)
+  reports past phase r first =
+      let p = segment r in
+      tells_then past phase phase p (processing_all plan (events_in r.told)) r.end refl (moves_segment past r.told phase r.state r.end first)
+      (λ later. processes_all (events_in r.told) (past ++ notes_of p) phase r.state later)
+
+  -- ---- a cycle
+
+  -- notes of the blackboard in a cycle
+  board_comes : (past : List Note) (notes : List BoardNote) (agenda : Agenda) → IsAt past inside agenda → Comes MayStand past (map Board notes)
+  unfolding Comes
+  board_comes past [] agenda at = tt
+  board_comes past (note ∷ notes) agenda at = (inl at.phase_is, board_comes (past ++ Board note ∷ []) notes agenda (at_next past inside agenda agenda (Board note) at refl at.known))
+
+  board_leaves : (past : List Note) (notes : List BoardNote) (agenda : Agenda) → IsAt past inside agenda → IsAt (past ++ map Board notes) inside agenda
+  board_leaves past [] agenda at = subst (λ l. IsAt l inside agenda) (sym (append-nil past)) at
+  board_leaves past (note ∷ notes) agenda at =
+      subst (λ l. IsAt l inside agenda) (append_assoc past (Board note ∷ []) (map Board notes)) (board_leaves (past ++ Board note ∷ []) notes agenda (at_next past inside agenda agenda (Board note) at refl at.known))
+
+  executes : (code : Code) (s : State) (r : Result Outcome Stop) (past : List Note) → IsAt past inside s.agenda → let q = answered code s r in Moves past q.told outside q.state q.end
+  executes code s (Ok o) past at =
+      let notes = s.board.world.notes in
+      let note : Note = Ended o.steps o.found (budget code o.found) in
+      let there = board_leaves past notes s.agenda at in
+      moves_more past (map Board notes) (note ∷ []) outside (with_notes_taken s) None (board_comes past notes s.agenda at)
+      (moves_one (past ++ map Board notes) note outside (with_notes_taken s) there.phase_is (at_next (past ++ map Board notes) inside s.agenda s.agenda note there refl there.known))
+  executes code s (Err stop) past at =
+      let notes = map Board s.board.world.notes in
+      subst (λ l. Moves past l outside (with_notes_taken s) (Some (end_by stop))) (sym (append-nil notes))
+      (record { comes = board_comes past s.board.world.notes s.agenda at; leaves = λ none. absurd cc; early = early_end stop })
+
+  acts_by : (act : Act) (a : Activation) (s : State) (past : List Note) → IsAt past inside s.agenda → TellsTo past outside (reported plan (execution act a s))
+  acts_by (acts.Code body) a s past at =
+      let e = attempt body.code (entry_of a.unit None) s.board in
+      reports past outside (answered body.code (with_board s e.1) e.0) (executes body.code (with_board s e.1) e.0 past at)
+  acts_by acts.Native a s past at = reports past outside (execution acts.Native a s) (record { comes = comes_none MayStand past; leaves = λ none. absurd cc; early = tt })
+
+  -- each place within a list has its item
+  within_some : {X : Type 0} (xs : List X) (i : ℕ) → i < length xs → slice_get xs i ≡ None → ⊥
+  within_some [] i lt none = omega arith
+  within_some (x ∷ xs) zero lt none = absurd cc
+  within_some (x ∷ xs) (suc i) lt none = within_some xs i (omega arith) none
+
+  acts_at : (source : Option Source) (a : Activation) (s : State) (past : List Note) → slice_get plan.sources a.source ≡ source → IsOne a → IsAt past inside s.agenda → TellsTo past outside (acting plan source a s)
+  acts_at None a s past is one at = absurd (within_some plan.sources a.source one is)
+  acts_at (Some source) a s past is one at = acts_by source.act a s past at
+
+  -- where no cycle is open
+  abbrev IsFree : List Note → Type 0
+  IsFree past = (phase_after past ≡ outside) ⊎ (phase_after past ≡ rested)
+
+  module _ (number : ℕ) (a : Activation) (r : ℤ) (s : State) (past : List Note) (phase : Phase) (free : IsFree past) (at : IsAt past phase s.agenda) (one : IsOne a) where
+    abbrev choosing : Note
+    choosing = Chosen number a r
+
+    -- the choice, after which it is no longer pending
+    chosen_at : (later : Agenda) → pending_of later ≡ without a.number (pending_of s.agenda) → IsAt (past ++ choosing ∷ []) inside later
+    chosen_at later left = at_next past phase s.agenda later choosing at left (known_left s.agenda later a.number left at.known)
+
+    chosen_by_verdict : (source : Option Source) (v : Verdict) → IsEarlyVerdict v → slice_get plan.sources a.source ≡ source → TellsTo past outside (and_then (segment (chosen_with number a r v s)) (acting plan (if_valid v source) a))
+    chosen_by_verdict source verdicts.Valid early is =
+        let t = (chosen_with number a r verdicts.Valid s).state in
+        let p = acting plan source a t in
+        moves_more past (choosing ∷ []) (notes_of p) outside p.state p.end (comes_one MayStand past choosing free)
+        (acts_at source a t (past ++ choosing ∷ []) is one (chosen_at t.agenda (pending_executed s.agenda a.number)))
+    chosen_by_verdict source verdicts.Invalid early is =
+        let t = (chosen_with number a r verdicts.Invalid s).state in
+        let told = chosen_at t.agenda (pending_obviated s.agenda a.number) in
+        moves_more past (choosing ∷ []) (Invalid a.number ∷ []) outside t None (comes_one MayStand past choosing free)
+        (moves_one (past ++ choosing ∷ []) (Invalid a.number) outside t told.phase_is (at_next (past ++ choosing ∷ []) inside t.agenda t.agenda (Invalid a.number) told refl told.known))
+    chosen_by_verdict source (verdicts.Over end) early is = record { comes = comes_one MayStand past choosing free; leaves = λ none. absurd cc; early = early end refl }
+
+  cycle_moves : (number : ℕ) (a : Activation) (s : State) (past : List Note) (phase : Phase) → IsFree past → IsAt past phase s.agenda → choice plan s ≡ Some a → TellsTo past outside (cycle plan number a s)
+  cycle_moves number a s past phase free at is =
+      let source = slice_get plan.sources a.source in
+      let code = option_and_then (λ t. t.revalidate) source in
+      let v = validity code a s.board in
+      let there = (chosen_some (rating plan s) plan.floor (pending_of s.agenda) a is).waits in
+      chosen_by_verdict number a (rating plan s a) (with_board s v.1) past phase free at (All-contains IsOne (pending_of s.agenda) a at.known there) source v.0 (early_verdict code a s.board) refl
+
+  -- ---- cycles up to the end
+
+  -- notes after these that end a run
+  pub record Ends (past notes : List Note) (end : Option End) : Type 0 where
+    pub comes : Comes MayStand past notes
+    pub quiet_end : end ≡ Some finishes.Quiescence → phase_after (past ++ notes) ≡ rested
+
+  abbrev pub TellsLast : List Note → Stretch → Type 0
+  TellsLast past p = Ends past (notes_of p) p.end
+
+  ends_none : (past : List Note) (end : Option End) → (end ≡ Some finishes.Quiescence → phase_after past ≡ rested) → Ends past [] end
+  ends_none past end quiet' = record { comes = comes_none MayStand past; quiet_end = λ e. ap phase_after (append-nil past) ∙ quiet' e }
+
+  -- a stretch, and then the next, in which the run ends
+  pub ends_then : (past : List Note) (phase : Phase) (p : Stretch) (next : State → Stretch) (end : Option End) → p.end ≡ end → TellsTo past phase p
+      → (IsAt (past ++ notes_of p) phase p.state.agenda → TellsLast (past ++ notes_of p) (next p.state)) → TellsLast past (and_then_unless end p next)
+  ends_then past phase p next (Some e) is told rest = record { comes = told.comes; quiet_end = λ e. absurd (subst IsEarly e told.early) }
+  ends_then past phase p next None is told rest =
+      let q = next p.state in
+      let later = rest (told.leaves is) in
+      let whole = append_assoc past (notes_of p) (notes_of q) in
+      subst (λ l. Ends past l q.end) (sym (all_of_two p.told q.told)) (record {
+        comes = comes_then MayStand past (notes_of p) (notes_of q) told.comes later.comes;
+        quiet_end = λ e. ap phase_after (sym whole) ∙ later.quiet_end e;
+      })
+
+  -- quiescence in its turn
+  quiet_moves : (s : State) (past : List Note) → choice plan s ≡ None → IsAt past outside s.agenda → TellsTo past rested (quiet plan s)
+  quiet_moves s past none at =
+      let note : Note = Board (happened quiescence) in
+      let r = response plan quiescence s in
+      let may : IsQuiet plan.floor past (happened quiescence) = record { is = refl; phase = at.phase_is; nothing = ap (choice_by s) (sym at.pending) ∙ none } in
+      moves_segment past (note ∷ r.told) rested r.state r.end
+      (moves_more past (note ∷ []) r.told rested r.state r.end (comes_one MayStand past note (inr may)) (responds quiescence s (past ++ note ∷ []) rested (at_next past outside s.agenda s.agenda note at refl at.known)))
+    where
+      choice_by : State → List Activation → Option Activation
+      choice_by s pending = chosen (rating plan s) plan.floor pending
+
+  -- what comes of a choice, by what follows one
+  module _ (follows : Activation → State → Stretch) (lasts : (a : Activation) (t : State) (past : List Note) (phase : Phase) → IsFree past → IsAt past phase t.agenda → choice plan t ≡ Some a → TellsLast past (follows a t)) where
+    -- after quiescence the run is over where nothing can be chosen still
+    after_quiet : (t : State) (past : List Note) (c : Option Activation) → choice plan t ≡ c → IsAt past rested t.agenda → TellsLast past (if_chosen t c (λ a. follows a t))
+    after_quiet t past None is at = ends_none past (Some finishes.Quiescence) (λ e. at.phase_is)
+    after_quiet t past (Some a) is at = lasts a t past rested (inr at.phase_is) at is
+
+    after_wait : (s : State) (past : List Note) (c : Option Activation) → choice plan s ≡ c → IsAt past outside s.agenda → TellsLast past (and_then (wait_for plan s c) (λ t. if_chosen t (choice plan t) (λ a. follows a t)))
+    after_wait s past None is at =
+        let p = quiet plan s in
+        ends_then past rested p (λ t. if_chosen t (choice plan t) (λ a. follows a t)) p.end refl (quiet_moves s past is at)
+        (λ later. after_quiet p.state (past ++ notes_of p) (choice plan p.state) refl later)
+    after_wait s past (Some a) is at =
+        subst (λ c. TellsLast past (after_told [] (if_chosen s c (λ a. follows a s)))) (sym is) (lasts a s past outside (inl at.phase_is) at is)
+
+  pub all_cycles : (made left : ℕ) (past : List Note) (s : State) → IsAt past outside s.agenda → TellsLast past (cycles plan made left s)
+  unfolding cycles
+  all_cycles made zero past s at =
+      after_wait (λ a t. over finishes.Limit t) (λ a t before phase free there is. ends_none before (Some finishes.Limit) (λ e. absurd cc)) s past (choice plan s) refl at
+  all_cycles made (suc left) past s at =
+      after_wait (λ a t. and_then (cycle plan (made + 1) a t) (cycles plan (made + 1) left))
+      (λ a t before phase free there is.
+      let p = cycle plan (made + 1) a t in
+      ends_then before outside p (cycles plan (made + 1) left) p.end refl (cycle_moves (made + 1) a t before phase free there is)
+      (λ later. all_cycles (made + 1) left (before ++ notes_of p) p.state later))
+      s past (choice plan s) refl at

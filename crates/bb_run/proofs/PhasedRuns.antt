@@ -1,0 +1,94 @@
+-- Each run goes by its phases, after what its blackboard had noted.
+use Rattle.std.proofs.Common.{◌≡◌, ◌⊎◌, inl, inr, ℕ, List, [], ◌∷◌, ◌++◌, map, Option, Some, None, refl, sym, ap, ◌∙◌}
+use Rattle.std.proofs.lemmas.List.{append-nil}
+use Rattle.bb_trace.specs.Board.{Board as Blackboard}
+use Rattle.bb_agenda.specs.Agenda.{no_activations}
+use Rattle.bb_trace.specs.declared.end.End.{End}
+use Rattle.bb_trace.specs.declared.end.End.TheVariants as finishes
+use Rattle.bb_trace.specs.declared.note.Note.{Note}
+use Rattle.bb_trace.specs.declared.note.Note.TheVariants.{Board, Chosen, Invalid, Ended, Finished}
+use Rattle.bb_trace.specs.Plan.{Plan}
+use Rattle.bb_run.specs.declared.state.State.{State}
+use Rattle.bb_run.specs.Told.{Response, Stretch, after_told, and_then_unless}
+use Rattle.bb_run.specs.Processing.{events_in, processing_all}
+use Rattle.bb_run.specs.Run.{noted, cycles, finish_segments, unfinished, run}
+use Rattle.bb_run.specs.Order.{At, all_of, notes_of}
+use Rattle.bb_run.specs.Phases.{outside, rested, phase_after, GoesByPhases}
+use Rattle.bb_run.proofs.OrderLemmas.{comes_or_last, same_last}
+use Rattle.bb_run.proofs.OrderlyParts.{all_of_two}
+use Rattle.bb_run.proofs.OrderlyRuns.{run_finishes}
+use Rattle.bb_run.proofs.PhaseLemmas.{MayStand, TellsLast, all_cycles, at_first, ends_then, processes_all}
+
+-- a segment stays the first
+after_first : (notes : List Note) (q : Stretch) (next : State → Stretch) (end : Option End) → and_then_unless end (after_told (notes ∷ []) q) next ≡ after_told (notes ∷ []) (and_then_unless end q next)
+after_first notes q next (Some e) = refl
+after_first notes q next None = refl
+
+same_end : (d e : End) → Finished d ≡ Finished e → e ≡ d
+same_end d e is = cc
+
+module _ (plan : Plan) (board : Blackboard) (limit : ℕ) where
+  -- what is told first
+  abbrev first : Response
+  first = noted (record { board = board; agenda = no_activations }) [] None
+
+  -- its events
+  abbrev processed : Stretch
+  processed = processing_all plan (events_in first.told) first.state
+
+  -- the run after it, up to its finish
+  abbrev later : Stretch
+  later = and_then_unless processed.end processed (cycles plan 0 limit)
+
+  begun : unfinished plan board limit ≡ after_told (first.told ∷ []) later
+  begun = after_first first.told processed (cycles plan 0 limit) processed.end
+
+  ends : TellsLast plan [] later
+  ends =
+      ends_then plan [] outside processed (cycles plan 0 limit) processed.end refl (processes_all plan (events_in first.told) [] outside first.state (at_first plan))
+      (λ at. all_cycles plan 0 limit (notes_of processed) processed.state at)
+
+  abbrev rest : List (List Note)
+  rest = later.told ++ finish_segments later.end
+
+  abbrev end : End
+  end = (run_finishes plan board limit).end
+
+  later_ends : later.end ≡ Some end
+  later_ends = sym (ap (λ u. u.end) begun) ∙ (run_finishes plan board limit).ends
+
+  notes_are : all_of rest ≡ notes_of later ++ Finished end ∷ []
+  notes_are = all_of_two later.told (finish_segments later.end) ∙ ap (λ e. notes_of later ++ all_of (finish_segments e)) later_ends
+
+  -- a note after the first segment may come there, or it is the finish
+  comes_there : (before : List Note) (note : Note) (at : At (all_of rest) before note) → MayStand plan before note ⊎ ((note ≡ Finished end) × (at.0 ≡ []))
+  comes_there before note at = comes_or_last (MayStand plan) [] (notes_of later) (Finished end) before note at.0 ends.comes (sym notes_are ∙ at.1)
+
+  stands : (before : List Note) (note : Note) → At (all_of rest) before note → ((e : End) → note ≡ Finished e → ⊥) → MayStand plan before note
+  stands before note at other =
+      elim (comes_there before note at) [
+        | inl may ↦ may
+        | inr last ↦ absurd (other end last.0)
+      ]
+
+  finish_at : (before : List Note) → At (all_of rest) before (Finished finishes.Quiescence) → phase_after before ≡ rested
+  finish_at before at =
+      elim (comes_there before (Finished finishes.Quiescence) at) [
+        | inl may ↦ absurd may
+        | inr last ↦
+            let same : notes_of later ++ Finished end ∷ [] ≡ before ++ Finished finishes.Quiescence ∷ [] = sym notes_are ∙ at.1 ∙ ap (λ l. before ++ Finished finishes.Quiescence ∷ l) last.1 in
+            let parts = same_last (notes_of later) before (Finished end) (Finished finishes.Quiescence) same in
+            let quiet' : later.end ≡ Some finishes.Quiescence = later_ends ∙ ap (λ e. Some e) (sym (same_end end finishes.Quiescence parts.1)) in
+            ap phase_after (sym parts.0) ∙ ends.quiet_end quiet'
+      ]
+
+  pub run_goes_by_phases : GoesByPhases plan.floor board.world.notes (run plan board limit)
+  run_goes_by_phases = record {
+    rest = rest;
+    begins = ap (λ u. u.told ++ finish_segments u.end) begun ∙ ap (λ l. l ∷ rest) (append-nil (map Board board.world.notes));
+    board = λ before note at. stands before (Board note) at (λ e is. absurd cc);
+    choices = λ before cycle a r at. stands before (Chosen cycle a r) at (λ e is. absurd cc);
+    ends = λ before steps found budget at. stands before (Ended steps found budget) at (λ e is. absurd cc);
+    invalids = λ before number at. stands before (Invalid number) at (λ e is. absurd cc);
+    finish = finish_at;
+  }

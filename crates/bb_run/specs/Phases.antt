@@ -1,0 +1,70 @@
+-- The phases of a run, read off its notes: where a note of the blackboard may stand, and when quiescence comes.
+use Rattle.std.specs.Prelude.{◌≡◌, ◌⊎◌, ℕ, ℤ, None, List, ◌∷◌, map}
+use Rattle.std.specs.List.{fold}
+use Rattle.bb_agenda.specs.declared.activation.Activation.{Activation}
+use Rattle.bb_agenda.specs.Rating as base
+use Rattle.bb_agenda.specs.Chosen.{chosen}
+use Rattle.bb_trace.specs.Event.TheVariants.{Quiescence as quiescence}
+use Rattle.bb_trace.specs.BoardNote.{Note as BoardNote}
+use Rattle.bb_trace.specs.BoardNote.TheVariants.{Event as happened}
+use Rattle.bb_trace.specs.declared.end.End.TheVariants as finishes
+use Rattle.bb_trace.specs.declared.note.Note.{Note}
+use Rattle.bb_trace.specs.declared.note.Note.TheVariants.{Board, Chosen, Invalid, Ended, Finished}
+use Rattle.bb_run.specs.Told.{Stretch}
+use Rattle.bb_run.specs.Order.{At, all_of, pending_after}
+
+-- where a run is
+pub data Phase : Type 0 where
+  -- no cycle is open
+  outside : Phase
+  -- the same, and quiescence has come since the last cycle
+  rested : Phase
+  -- a cycle was begun, and is not over
+  inside : Phase
+
+-- the phase after a note of the blackboard
+abbrev pub after_board_note : Phase → BoardNote → Phase
+after_board_note inside note = inside
+after_board_note rested note = rested
+after_board_note outside (happened quiescence) = rested
+after_board_note outside _ = outside
+
+-- the phase after a note
+abbrev pub after_in : Phase → Note → Phase
+after_in phase (Board note) = after_board_note phase note
+after_in phase (Chosen cycle a r) = inside
+after_in phase (Invalid number) = outside
+after_in phase (Ended steps found budget) = outside
+after_in phase _ = phase
+
+-- the phase after these notes
+abbrev pub phase_after : List Note → Phase
+phase_after notes = fold after_in outside notes
+
+-- quiescence comes in its turn
+pub record IsQuiet (floor : ℤ) (before : List Note) (note : BoardNote) : Type 0 where
+  pub is : note ≡ happened quiescence
+  -- no cycle is open, and quiescence has not come since the last
+  pub phase : phase_after before ≡ outside
+  -- nothing that is pending can be chosen
+  pub nothing : chosen base.rating floor (pending_after before) ≡ None
+
+-- what the blackboard had noted is told first; after that the run goes by its phases
+pub record GoesByPhases (floor : ℤ) (noted : List BoardNote) (run : Stretch) : Type 0 where
+  pub rest : List (List Note)
+  -- the first segment is what had been noted
+  pub begins : run.told ≡ map Board noted ∷ rest
+  -- after it a note of the blackboard comes in a cycle, or is quiescence in its turn
+  pub board : (before : List Note) (note : BoardNote) → At (all_of rest) before (Board note)
+      → (phase_after before ≡ inside) ⊎ IsQuiet floor before note
+  -- a cycle begins where none is open
+  pub choices : (before : List Note) (cycle : ℕ) (a : Activation) (r : ℤ) → At (all_of rest) before (Chosen cycle a r)
+      → (phase_after before ≡ outside) ⊎ (phase_after before ≡ rested)
+  -- what is over was open
+  pub ends : (before : List Note) (steps found budget : ℕ) → At (all_of rest) before (Ended steps found budget)
+      → phase_after before ≡ inside
+  pub invalids : (before : List Note) (number : ℕ) → At (all_of rest) before (Invalid number)
+      → phase_after before ≡ inside
+  -- a run finishes by quiescence only where quiescence came, and nothing was chosen after it
+  pub finish : (before : List Note) → At (all_of rest) before (Finished finishes.Quiescence)
+      → phase_after before ≡ rested

@@ -1,0 +1,25 @@
+-- What is asked about events and activations changes nothing of the blackboard.
+use Rattle.std.specs.Prelude.{◌≡◌, true, Contains}
+use Rattle.bb_agenda.specs.declared.activation.Activation.{Activation}
+use Rattle.bb_machine.specs.Writes.{has_no_writes}
+use Rattle.bb_verify.specs.Accepted.{Checked}
+use Rattle.bb_trace.specs.Board.{Board as Blackboard}
+use Rattle.bb_trace.specs.Event.{Event}
+use Rattle.bb_trace.specs.Source.{Source}
+use Rattle.bb_trace.specs.Plan.{Plan}
+use Rattle.bb_run.specs.declared.state.State.{State}
+use Rattle.bb_run.specs.Causes.{IsAsked}
+use Rattle.bb_run.specs.Processing.{response}
+use Rattle.bb_run.specs.Run.{validity}
+
+-- no code that a source of the plan asks has an op that writes; of a code that was accepted for its part this is so
+abbrev pub AsksByReading : Plan → Type 0
+AsksByReading plan =
+    (source : Source) (code : Checked) → Contains plan.sources source → IsAsked source code
+    → has_no_writes code.code ≡ true
+
+-- then what answers to an event, and what is asked about a choice, leaves the blackboard as it was
+pub record LeavesBoard (plan : Plan) : Type 0 where
+  pub events : (event : Event) (s : State) → (response plan event s).state.board ≡ s.board
+  pub choices : (source : Source) (a : Activation) (board : Blackboard) → Contains plan.sources source
+      → (validity source.revalidate a board).1 ≡ board

@@ -1,0 +1,127 @@
+//! What a source does about its pending activations at an event. Processing (processing.rt) calls it.
+
+ghost use Rattle.std.specs.Prelude.{◌≡◌, IfOk, None};
+ghost use Rattle.bb_agenda.specs.Agenda.{pending_for};
+ghost use Rattle.bb_machine.specs.Answer.TheVariants.{Rated};
+ghost use Rattle.bb_run.specs.Processing.{obviated_by, reacting_to, reacting_to_each, rerated_by};
+ghost use Rattle.bb_run.specs.proving.Telling.{IsResponse};
+
+use crate::asking::{Reply, ask, entry_of};
+use crate::state::State;
+use bb_agenda::{Activation, Agenda};
+use bb_machine::Answer;
+use bb_trace::{End, Event, Note, Reaction};
+use std::alloc::{AllocError, Global};
+
+// What is pending of the source at a place, in order.
+fn waiting_for(alloc: Global, agenda: &Agenda, place: u16) -> Result<Vec<Activation>, AllocError>
+    ensures { IfOk result (λ waiting. waiting.items ≡ pending_for agenda.now place) }
+{
+    let mut waiting = Vec::new(alloc);
+    for number in agenda.pending_for(place) {
+        waiting.push(agenda.activation(*number))?;
+    }
+    Ok(waiting)
+}
+
+// Asks whether a pending activation is needless, and obviates it if so.
+fn obviate_one(
+    reaction: &Reaction,
+    event: Event,
+    activation: Activation,
+    state: &mut State,
+    notes: &mut Vec<Note>,
+) -> Result<Option<End>, AllocError>
+    ensures { IfOk result (IsResponse (reacting_to event obviated_by reaction.now activation state.old)
+        notes.old.items notes.new.items state.new) }
+{
+    let entry = entry_of(activation.unit, Some(event.unit()));
+    match ask(*notes.allocator(), &reaction.code, entry, &mut state.board)? {
+        Reply::Answer(Answer::Yes) => {
+            let number = activation.number;
+            state.agenda.obviate(number)?;
+            notes.push(Note::Obviated { number })?;
+            Ok(None)
+        }
+        Reply::Answer(_) => Ok(None),
+        Reply::Over(end) => Ok(Some(end)),
+    }
+}
+
+// Gives a pending activation another base.
+fn rerate(
+    activation: Activation,
+    base: i64,
+    state: &mut State,
+    notes: &mut Vec<Note>,
+) -> Result<(), AllocError>
+    ensures { IfOk result (λ _. IsResponse (rerated_by activation (Rated base) state.old)
+        notes.old.items notes.new.items state.new None) }
+{
+    let number = activation.number;
+    state.agenda.rerate(number, base)?;
+    notes.push(Note::Retriggered { number, base })?;
+    Ok(())
+}
+
+// Asks whether a pending activation gets another base, and gives it that if so.
+fn retrigger_one(
+    reaction: &Reaction,
+    event: Event,
+    activation: Activation,
+    state: &mut State,
+    notes: &mut Vec<Note>,
+) -> Result<Option<End>, AllocError>
+    ensures { IfOk result (IsResponse (reacting_to event rerated_by reaction.now activation state.old)
+        notes.old.items notes.new.items state.new) }
+{
+    let entry = entry_of(activation.unit, Some(event.unit()));
+    match ask(*notes.allocator(), &reaction.code, entry, &mut state.board)? {
+        Reply::Answer(Answer::Rated(base)) => {
+            rerate(activation, base, state, notes)?;
+            Ok(None)
+        }
+        Reply::Answer(_) => Ok(None),
+        Reply::Over(end) => Ok(Some(end)),
+    }
+}
+
+/// Obviates those pending activations of the source at a place that an event makes needless.
+pub(crate) fn obviate_all(
+    reaction: &Reaction,
+    event: Event,
+    place: u16,
+    state: &mut State,
+    notes: &mut Vec<Note>,
+) -> Result<Option<End>, AllocError>
+    ensures { IfOk result (IsResponse
+        (reacting_to_each event obviated_by reaction.now (pending_for state.old.agenda place) state.old)
+        notes.old.items notes.new.items state.new) }
+{
+    for activation in waiting_for(*notes.allocator(), &state.agenda, place)? {
+        if let Some(end) = obviate_one(reaction, event, activation, state, notes)? {
+            return Ok(Some(end));
+        }
+    }
+    Ok(None)
+}
+
+/// Gives those pending activations of the source at a place another base that an event rates anew.
+pub(crate) fn retrigger_all(
+    reaction: &Reaction,
+    event: Event,
+    place: u16,
+    state: &mut State,
+    notes: &mut Vec<Note>,
+) -> Result<Option<End>, AllocError>
+    ensures { IfOk result (IsResponse
+        (reacting_to_each event rerated_by reaction.now (pending_for state.old.agenda place) state.old)
+        notes.old.items notes.new.items state.new) }
+{
+    for activation in waiting_for(*notes.allocator(), &state.agenda, place)? {
+        if let Some(end) = retrigger_one(reaction, event, activation, state, notes)? {
+            return Ok(Some(end));
+        }
+    }
+    Ok(None)
+}

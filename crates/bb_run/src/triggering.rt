@@ -1,0 +1,73 @@
+//! What an event that triggers a source brings about. Processing (processing.rt) calls it.
+
+ghost use Rattle.std.specs.Prelude.{◌≡◌, IfOk, None};
+ghost use Rattle.bb_run.specs.Asking.{asking, entry_of};
+ghost use Rattle.bb_run.specs.Processing.{activating, required_by};
+ghost use Rattle.bb_trace.specs.Events.{unit_of};
+ghost use Rattle.bb_run.specs.proving.Telling.{IsResponse};
+
+use crate::asking::{Reply, ask, entry_of};
+use crate::state::State;
+use bb_agenda::{Activation, AddFault};
+use bb_machine::Answer;
+use bb_trace::{End, Event, Note};
+use bb_verify::Checked;
+use std::alloc::AllocError;
+
+/// Gives the source at a place an activation for an event, with this base.
+pub(crate) fn activate(
+    event: Event,
+    place: u16,
+    base: i64,
+    state: &mut State,
+    notes: &mut Vec<Note>,
+) -> Result<Option<End>, AllocError>
+    ensures { IfOk result (IsResponse (activating event place base state.old)
+        notes.old.items notes.new.items state.new) }
+{
+    let unit = event.unit();
+    match state.agenda.add(place, unit, base) {
+        Ok(number) => {
+            notes.push(Note::Triggered(Activation {
+                number,
+                source: place,
+                unit,
+                base,
+            }))?;
+            Ok(None)
+        }
+        Err(AddFault::Full) => Ok(Some(End::Full)),
+        Err(AddFault::Memory) => Err(AllocError),
+    }
+}
+
+/// Asks the requirement of the source at a place whether an event gives it an activation.
+pub(crate) fn require(
+    code: &Checked,
+    event: Event,
+    place: u16,
+    state: &mut State,
+    notes: &mut Vec<Note>,
+) -> Result<Option<End>, AllocError>
+    ensures { IfOk result (IsResponse
+        (asking code.now.code (entry_of (unit_of event) None) (required_by event place) state.old)
+        notes.old.items notes.new.items state.new) }
+{
+    let unit = event.unit();
+    match ask(
+        *notes.allocator(),
+        code,
+        entry_of(unit, None),
+        &mut state.board,
+    )? {
+        Reply::Answer(Answer::Rated(base)) => activate(event, place, base, state, notes),
+        Reply::Answer(_) => {
+            notes.push(Note::Declined {
+                source: place,
+                unit,
+            })?;
+            Ok(None)
+        }
+        Reply::Over(end) => Ok(Some(end)),
+    }
+}

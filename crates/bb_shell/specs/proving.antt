@@ -1,0 +1,4 @@
+-- how a shell is stored
+pub mod Codes
+-- what comes of the sources of an input, one after another
+pub mod Gathering

@@ -1,0 +1,45 @@
+-- What comes of the sources of an input where each goes through all steps before the next one. No public clause cites it.
+use Rattle.std.specs.Prelude.{List, [], Result, Ok, Err}
+use Rattle.bb_basis.specs.Results.{◌>>=◌, map_err, try_fold}
+use Rattle.bb_schema.specs.Schema.{Schema}
+use Rattle.bb_verify.specs.Accepted.{Checked}
+use Rattle.bb_code.specs.Code.{Code}
+use Rattle.bb_compile.specs.declared.source_code.SourceDraft.{SourceDraft}
+use Rattle.bb_run.specs.Source.{Source}
+use Rattle.bb_shell.specs.declared.fitting.Unfit.{Unfit}
+use Rattle.bb_shell.specs.declared.input_fault.InputFault.{InputFault}
+use Rattle.bb_shell.specs.declared.sources.Gathered.{Gathered}
+use Rattle.bb_shell.specs.declared.sources.Gathered.TheVariants as gathereds
+use Rattle.bb_shell.specs.Accepting.{accepted_source}
+use Rattle.bb_shell.specs.Fitting.{source_after}
+use Rattle.bb_shell.specs.Sources.{in_input, resolved_source}
+
+-- the sources that run together so far, or the first that does not fit; before both, the first whose names are not found
+abbrev pub Gathering : Type 0
+Gathering = Result (Result (List Source) Unfit) InputFault
+
+abbrev pub gathered_as : Gathered → Gathering
+gathered_as (gathereds.Fit sources) = Ok (Ok sources)
+gathered_as (gathereds.Unfit unfit) = Ok (Err unfit)
+gathered_as (gathereds.Unresolved fault) = Err fault
+
+-- with one source more, whose codes are accepted
+abbrev pub with_draft : Schema → Gathering → SourceDraft Checked → Gathering
+with_draft s g draft = do
+  fit ← g
+  source ← resolved_source s draft
+  Ok (fit >>= λ sources. source_after sources source)
+
+-- the same of one whose codes are still to be accepted
+abbrev pub with_code : Schema → Gathering → SourceDraft Code → Result Gathering InputFault
+with_code s g code = do
+  draft ← accepted_source s code
+  Ok (with_draft s g draft)
+
+-- all of them
+abbrev pub gathering : Schema → List (SourceDraft Code) → Result Gathering InputFault
+gathering s codes = try_fold (with_code s) (Ok (Ok [])) codes
+
+-- what that says in the end
+abbrev pub ended : Gathering → Result (List Source) InputFault
+ended g = g >>= map_err in_input

@@ -1,0 +1,157 @@
+//! The sources that run together. `Shell::new` and `run_texts` have each fit those before it.
+
+ghost use Rattle.std.specs.Prelude.{◌≡◌, ◌≤◌, ◌<◌, ◌∷◌, ◌++◌, [], false, length, vec_len, OnErr, OnOk};
+ghost use Rattle.std.specs.List.{list_any};
+ghost use Rattle.std.specs.Str.{bytes_eq};
+ghost use Rattle.std.specs.Vec.{vec_capacity};
+ghost use Rattle.bb_basis.specs.Results.{Gives};
+ghost use Rattle.bb_shell.specs.declared.fitting.Unfit.TheVariants.{Memory as OutOfMemory};
+ghost use Rattle.bb_shell.specs.Fitting.{fitted, is_native, names_of, source_after};
+
+use bb_basis::{Names, Text};
+use bb_run::{Act, RuleFault, SOURCE_LIMIT, Source};
+use std::alloc::{AllocError, Global};
+use std::marker::Model;
+
+/// Why sources do not run together.
+#[derive(Drop)]
+pub(crate) enum Unfit {
+    /// The source of this name does not fit those before it.
+    Source { name: Text, fault: RuleFault },
+    /// Memory ran out.
+    Memory,
+}
+
+/// Sources that run together, in order: each fits those before it. Contracts see them as their list.
+#[derive(Drop)]
+pub(crate) struct Together {
+    names: Names,
+    sources: Vec<Source>,
+}
+
+impl Model for Together {
+    ghost use Rattle.std.specs.Prelude.{◌≡◌, ◌≤◌, List, length};
+    ghost use Rattle.bb_run.specs.Limits.{SOURCE_LIMIT};
+    ghost use Rattle.bb_run.specs.Source.{Source as Placed};
+    ghost use Rattle.bb_shell.specs.Fitting.{names_of};
+    ghost use Rattle.bb_run.specs.proving.Codes.{sources_code};
+
+    ghost Value = { List Placed };
+
+    ghost coded = { sources_code };
+
+    ghost view = { λ t. t.sources.items };
+
+    ghost invariant = { λ t. (t.names ≡ names_of t.sources.items) × (length t.sources.items ≤ SOURCE_LIMIT) };
+}
+
+fn is_native(act: &Act) -> bool
+    ensures { result ≡ is_native act.now }
+{
+    matches!(act, Act::Native)
+}
+
+// Why a source does not fit, by its name.
+fn refuse(source: Source, fault: RuleFault) -> Unfit
+    ensures { result ≡ Unfit.Source source.name fault }
+{
+    let Source { name, .. } = source;
+    Unfit::Source { name, fault }
+}
+
+// Memory ran out, and the source is given up.
+fn give_up(_source: Source) -> Unfit
+    ensures { result ≡ OutOfMemory }
+{
+    Unfit::Memory
+}
+
+// Makes room for one source more, and adds its name, which no other has. An error changes nothing.
+fn make_room(
+    alloc: Global,
+    names: &mut Names,
+    sources: &mut Vec<Source>,
+    name: &str,
+) -> Result<(), AllocError>
+    requires { list_any (bytes_eq name.now) names.old ≡ false }
+    ensures name { OnOk result (names.new ≡ names.old ++ name.now ∷ []) }
+    ensures room { OnOk result (vec_len sources.new < vec_capacity sources.new) }
+    ensures same { sources.new.items ≡ sources.old.items }
+    ensures err { OnErr result (names.new ≡ names.old) }
+{
+    sources.reserve(1)?;
+    names.insert(alloc, name)?;
+    Ok(())
+}
+
+// Adds a source with its name, if it fits those before it. An error changes nothing.
+fn fit(
+    alloc: Global,
+    names: &mut Names,
+    sources: &mut Vec<Source>,
+    source: Source,
+) -> Result<(), Unfit>
+    requires { names.old ≡ names_of sources.old.items }
+    ensures after { Gives OutOfMemory (λ _. sources.new.items) result (source_after sources.old.items source) }
+    ensures names { OnOk result (names.new ≡ names_of sources.new.items) }
+    ensures few { OnOk result (length sources.new.items ≤ SOURCE_LIMIT) }
+    ensures same_names { OnErr result (names.new ≡ names.old) }
+    ensures same_sources { OnErr result (sources.new.items ≡ sources.old.items) }
+{
+    let place = sources.len() as u64;
+    if names.contains(source.name.as_str()) {
+        return Err(refuse(source, RuleFault::Twice { place }));
+    }
+    if sources.len() >= SOURCE_LIMIT {
+        return Err(refuse(source, RuleFault::Limit { place }));
+    }
+    if is_native(&source.act) {
+        return Err(refuse(source, RuleFault::Native { place }));
+    }
+    match make_room(alloc, names, sources, source.name.as_str()) {
+        Ok(()) => {
+            sources.push_reserved(source);
+            Ok(())
+        }
+        Err(_) => Err(give_up(source)),
+    }
+}
+
+impl Together {
+    /// No sources. It allocates nothing.
+    pub(crate) fn new(alloc: Global) -> Together
+        ensures { result ≡ [] }
+    {
+        Together {
+            names: Names::new(alloc),
+            sources: Vec::new(alloc),
+        }
+    }
+
+    /// Adds a source, which has to fit those before it: no other has its name, they are 256 at most, and it is no native
+    /// source.
+    pub(crate) fn add(&mut self, alloc: Global, source: Source) -> Result<(), Unfit>
+        ensures { Gives OutOfMemory (λ _. self.new) result (source_after self.old source) }
+    {
+        fit(alloc, &mut self.names, &mut self.sources, source)
+    }
+
+    /// The sources.
+    pub(crate) fn into_sources(self) -> Vec<Source>
+        ensures sources { result.items ≡ self }
+        ensures few { length result.items ≤ SOURCE_LIMIT }
+    {
+        self.sources
+    }
+}
+
+/// All sources in order, where each fits those before it.
+pub(crate) fn fit_all(alloc: Global, sources: Vec<Source>) -> Result<Together, Unfit>
+    ensures { Gives OutOfMemory (λ t. t) result (fitted sources.items) }
+{
+    let mut together = Together::new(alloc);
+    for source in sources {
+        together.add(alloc, source)?;
+    }
+    Ok(together)
+}
