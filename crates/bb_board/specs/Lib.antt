@@ -23,6 +23,8 @@ pub use Rattle.bb_world.specs.May
 pub use Rattle.bb_world.specs.Fits
 -- what a change of units leaves of those that were
 pub use Rattle.bb_world.specs.Outlives
+-- what changes leave of a unit that none of their notes names
+pub use Rattle.bb_world.specs.Named
 -- a blackboard: its schema, its state, and whether it still takes changes
 pub mod Board
 -- the numbers of the faults of a document of first units

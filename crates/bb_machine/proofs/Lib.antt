@@ -25,3 +25,5 @@ pub mod NeverWrong
 -- which codes only read, and what crates above use
 pub mod WriteLemmas
 pub mod Laws
+-- what a unit is goes by the unit alone
+pub mod UnitSame

@@ -9,6 +9,7 @@ pub mod proving
 -- of bb_step: the steps of an execution
 pub use Rattle.bb_step.specs.Reading
 pub use Rattle.bb_step.specs.Changing
+pub use Rattle.bb_step.specs.Jumping
 pub use Rattle.bb_step.specs.Step
 pub use Rattle.bb_step.specs.Activation
 pub use Rattle.bb_step.specs.Writes
@@ -20,3 +21,6 @@ pub use Rattle.bb_step.specs.Entry
 pub use Rattle.bb_step.specs.Outcome
 pub use Rattle.bb_step.specs.Stop
 pub use Rattle.bb_step.specs.Stuck
+-- of the blackboard: what changes leave of a unit that none of their notes names, and when no unit can be created
+pub use Rattle.bb_board.specs.Named
+pub use Rattle.bb_units.specs.Units

@@ -2,10 +2,12 @@
 
 ghost use Rattle.std.specs.Prelude.{◌≡◌, ◌≤◌, ◌⊎◌, ℕ, true, List, Some, Err, IfOk};
 ghost use Rattle.bb_basis.specs.Results.{Gives};
+ghost use Rattle.bb_units.specs.Units.{is_full};
 ghost use Rattle.bb_units.specs.declared.units.TheConstants.{UNIT_LIMIT};
+ghost use Rattle.bb_board.specs.Named.{NotesChanges};
 ghost use Rattle.bb_verify.specs.FrameType.{Frame};
 ghost use Rattle.bb_verify.specs.PartType.{Part};
-ghost use Rattle.bb_step.specs.Stop.TheVariants.{Memory as OutOfMemory};
+ghost use Rattle.bb_step.specs.Stop.TheVariants.{Full, Memory as OutOfMemory};
 ghost use Rattle.bb_step.specs.Activation.{activation};
 ghost use Rattle.bb_step.specs.Machine.{entry_state};
 ghost use Rattle.bb_step.specs.Changing.{State};
@@ -21,7 +23,8 @@ use std::alloc::Global;
 /// Executes a code from its first place for an entry, at most `limit` steps, on a blackboard, and returns how it came
 /// out. What it changes is noted there. Each op is tested as it is met, so any code can be executed, and what it
 /// declares of frames and loops is not read. `Memory` may come at any op, after changes of those before it. A code
-/// without an op that writes leaves the blackboard as it was, however it comes out.
+/// without an op that writes leaves the blackboard as it was, however it comes out. But where memory ran out, a unit
+/// that no new note names keeps its class and its values. `Full` comes only where no unit can be created.
 ///
 /// A code that was accepted for a part never goes wrong, where the entry is one of the part (`Begins`): each state that
 /// it passes through suits the frame of its place, it is stuck for the limit of steps alone, its answer is one of the
@@ -38,6 +41,8 @@ pub fn trial(
     ensures few { IfOk result (λ o. o.found ≤ UNIT_LIMIT) }
     ensures board { (result ≡ Err OutOfMemory) ⊎ (board.new ≡ (activation limit code.now entry board.old).1) }
     ensures reads_only { has_no_writes code.now ≡ true → board.new ≡ board.old }
+    ensures named { (result ≡ Err OutOfMemory) ⊎ NotesChanges board.old.world board.new.world }
+    ensures full { (steps found : ℕ) → result ≡ Err (Full steps found) → is_full board.new.world.units ≡ true }
     ensures suits { (part : Part) (frames : List Frame) (n : ℕ) (state : State) →
         Begins part frames code.now entry board.old →
         after n code.now (entry_state code.now entry, board.old) ≡ Some state →

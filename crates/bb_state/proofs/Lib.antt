@@ -1,1 +1,3 @@
+-- what crates above use
+pub mod Laws
 pub mod StackLemmas

@@ -18,6 +18,7 @@ pub use Rattle.bb_board.specs.Fits
 pub use Rattle.bb_board.specs.Said
 pub use Rattle.bb_board.specs.Reason
 pub use Rattle.bb_board.specs.State
+pub use Rattle.bb_board.specs.Named
 -- of bb_units: the units, what their slots can hold, and why one can't be created
 pub use Rattle.bb_units.specs.Units
 pub use Rattle.bb_units.specs.Layout

@@ -3,3 +3,6 @@ pub mod Laws
 pub mod SaidLemmas
 pub mod ExecutionLemmas
 pub mod ReadLemmas
+pub mod NamedLemmas
+pub mod HaltLemmas
+pub mod FullLemmas

@@ -7,3 +7,5 @@ pub use Rattle.bb_world.proofs.DeleteLemmas.{delete_keeps}
 pub use Rattle.bb_world.proofs.FewLemmas.{few_ends, few_pass}
 pub use Rattle.bb_world.proofs.NoteLemmas.{noted_more}
 pub use Rattle.bb_world.proofs.SideLemmas.{inverse_end}
+pub use Rattle.bb_world.proofs.NamedLemmas.{same_named, then_named, create_named, set_named, link_named, unlink_named}
+pub use Rattle.bb_world.proofs.NamedLemmas.{enter_named, leave_named, delete_named, say_named}

@@ -1,4 +1,5 @@
 pub mod OutliveLemmas
+pub mod NamedLemmas
 pub mod NoteLemmas
 pub mod KeepLemmas
 pub mod AllLemmas

@@ -19,5 +19,7 @@ pub mod May
 pub mod Fits
 -- what each change leaves of the units that were
 pub mod Outlives
+-- what changes leave of a unit that none of their notes names
+pub mod Named
 -- what only the invariants of models, the contracts of private functions and proofs speak of
 pub mod proving

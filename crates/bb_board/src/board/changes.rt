@@ -1,4 +1,5 @@
-//! What changes a blackboard: each change is one of its world, unless memory was refused to a change before it.
+//! What changes a blackboard: each change is one of its world, unless memory was refused to a change before it. A unit
+//! that no note of a change names keeps its class and its values (`NotesChanges`).
 
 ghost use Rattle.std.specs.Prelude.{◌≡◌, ◌<◌, Ok, Err, true, false, length, IfErr, IsErr, IsTrue, OnOk, OnErr, if◌then◌else◌};
 ghost use Rattle.std.specs.List.{list_all};
@@ -9,6 +10,7 @@ ghost use Rattle.bb_world.specs.Links.{after_link, after_unlink, after_delete};
 ghost use Rattle.bb_world.specs.May.{may_set, may_link};
 ghost use Rattle.bb_world.specs.Spaces.{may_enter, after_enter, after_leave};
 ghost use Rattle.bb_world.specs.Fits.{is_said_of};
+ghost use Rattle.bb_world.specs.Named.{NotesChanges};
 ghost use Rattle.bb_board.specs.Board.{with_world, when_refused, after_create_fault, after_units_fault, is_fresh};
 ghost use Rattle.bb_board.specs.Load.{loaded};
 ghost use Rattle.bb_board.specs.declared.units_fault.UnitsFault.TheVariants.{Memory as OutOfMemory};
@@ -52,6 +54,7 @@ impl Board {
         ensures created { OnOk result (self.new ≡ with_world self.old (after_create self.old.world class)) }
         ensures err { IfErr result (λ fault. self.new ≡ after_create_fault self.old fault) }
         ensures closed { IsTrue self.old.refused → result ≡ Err CreateFault.Memory }
+        ensures named { NotesChanges self.old.world self.new.world }
     {
         self.guard()?;
         let created = self.world.create(class);
@@ -68,6 +71,7 @@ impl Board {
             with_world self.old (after_set self.old.schema self.old.world unit slot value)) }
         ensures err { OnErr result (self.new ≡ when_refused self.old) }
         ensures closed { IsTrue self.old.refused → IsErr result }
+        ensures named { NotesChanges self.old.world self.new.world }
     {
         self.guard()?;
         let changed = self.world.set(unit, slot, value);
@@ -84,6 +88,7 @@ impl Board {
             with_world self.old (after_link self.old.schema self.old.world unit slot partner)) }
         ensures err { OnErr result (self.new ≡ when_refused self.old) }
         ensures closed { IsTrue self.old.refused → IsErr result }
+        ensures named { NotesChanges self.old.world self.new.world }
     {
         self.guard()?;
         let changed = self.world.link(unit, slot, partner);
@@ -99,6 +104,7 @@ impl Board {
             with_world self.old (after_unlink self.old.schema self.old.world unit slot partner)) }
         ensures err { OnErr result (self.new ≡ when_refused self.old) }
         ensures closed { IsTrue self.old.refused → IsErr result }
+        ensures named { NotesChanges self.old.world self.new.world }
     {
         self.guard()?;
         let changed = self.world.unlink(unit, slot, partner);
@@ -114,6 +120,7 @@ impl Board {
         ensures ok { OnOk result (self.new ≡ with_world self.old (after_delete self.old.schema self.old.world unit)) }
         ensures err { OnErr result (self.new ≡ when_refused self.old) }
         ensures closed { IsTrue self.old.refused → IsErr result }
+        ensures named { NotesChanges self.old.world self.new.world }
     {
         self.guard()?;
         let changed = self.world.delete(unit);
@@ -128,6 +135,7 @@ impl Board {
         ensures ok { OnOk result (self.new ≡ with_world self.old (after_say self.old.world values.items)) }
         ensures err { OnErr result (self.new ≡ when_refused self.old) }
         ensures closed { IsTrue self.old.refused → IsErr result }
+        ensures named { NotesChanges self.old.world self.new.world }
     {
         self.guard()?;
         let changed = self.world.say(values);
@@ -143,6 +151,7 @@ impl Board {
             with_world self.old (after_enter self.old.schema self.old.world unit space)) }
         ensures err { OnErr result (self.new ≡ when_refused self.old) }
         ensures closed { IsTrue self.old.refused → IsErr result }
+        ensures named { NotesChanges self.old.world self.new.world }
     {
         self.guard()?;
         let changed = self.world.enter(unit, space);
@@ -158,6 +167,7 @@ impl Board {
         ensures ok { OnOk result (self.new ≡ with_world self.old (after_leave self.old.world unit space)) }
         ensures err { OnErr result (self.new ≡ when_refused self.old) }
         ensures closed { IsTrue self.old.refused → IsErr result }
+        ensures named { NotesChanges self.old.world self.new.world }
     {
         self.guard()?;
         let changed = self.world.leave(unit, space);

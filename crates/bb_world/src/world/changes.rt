@@ -1,5 +1,6 @@
 //! What changes a world: each change is a step of its state, after which this fits the schema, and is noted. The units
-//! that were outlive it (`Outlives`). A refusal changes nothing.
+//! that were outlive it (`Outlives`), and a unit that no note names keeps its class and its values (`NotesChanges`). A
+//! refusal changes nothing.
 
 ghost use Rattle.std.specs.Prelude.{◌≡◌, ◌<◌, Ok, true, length, IsTrue, OnOk, OnErr};
 ghost use Rattle.std.specs.List.{list_all};
@@ -9,6 +10,7 @@ ghost use Rattle.bb_world.specs.Contents.{with_state};
 ghost use Rattle.bb_world.specs.Fits.{is_said_of};
 ghost use Rattle.bb_world.specs.Links.{after_link, after_unlink, after_delete};
 ghost use Rattle.bb_world.specs.Outlives.{Outlives};
+ghost use Rattle.bb_world.specs.Named.{NotesChanges};
 ghost use Rattle.bb_world.specs.May.{may_set, may_link};
 ghost use Rattle.bb_world.specs.Spaces.{may_enter, after_enter, after_leave};
 ghost use Rattle.bb_world.specs.World.{after_create, after_set, after_say, after_take};
@@ -28,6 +30,7 @@ impl World {
         ensures created { OnOk result (self.new ≡ with_state self.old (after_create self.old.world class)) }
         ensures err { OnErr result (self.new ≡ self.old) }
         ensures outlives { Outlives self.old.world.units self.new.world.units }
+        ensures named { NotesChanges self.old.world self.new.world }
     {
         let unit = self.state.create(class)?;
         self.state.fits();
@@ -41,6 +44,7 @@ impl World {
             with_state self.old (after_set self.old.schema self.old.world unit slot value)) }
         ensures err { OnErr result (self.new ≡ self.old) }
         ensures outlives { Outlives self.old.world.units self.new.world.units }
+        ensures named { NotesChanges self.old.world self.new.world }
     {
         let schema = self.schema.get();
         self.state.set(self.alloc, schema, unit, slot, value)?;
@@ -56,6 +60,7 @@ impl World {
             with_state self.old (after_link self.old.schema self.old.world unit slot partner)) }
         ensures err { OnErr result (self.new ≡ self.old) }
         ensures outlives { Outlives self.old.world.units self.new.world.units }
+        ensures named { NotesChanges self.old.world self.new.world }
     {
         let schema = self.schema.get();
         self.state.link(self.alloc, schema, unit, slot, partner)?;
@@ -70,6 +75,7 @@ impl World {
             with_state self.old (after_unlink self.old.schema self.old.world unit slot partner)) }
         ensures err { OnErr result (self.new ≡ self.old) }
         ensures outlives { Outlives self.old.world.units self.new.world.units }
+        ensures named { NotesChanges self.old.world self.new.world }
     {
         let schema = self.schema.get();
         self.state.unlink(self.alloc, schema, unit, slot, partner)?;
@@ -83,6 +89,7 @@ impl World {
         ensures ok { OnOk result (self.new ≡ with_state self.old (after_delete self.old.schema self.old.world unit)) }
         ensures err { OnErr result (self.new ≡ self.old) }
         ensures outlives { Outlives self.old.world.units self.new.world.units }
+        ensures named { NotesChanges self.old.world self.new.world }
     {
         let schema = self.schema.get();
         self.state.delete(self.alloc, schema, unit)?;
@@ -97,6 +104,7 @@ impl World {
             with_state self.old (after_enter self.old.schema self.old.world unit space)) }
         ensures err { OnErr result (self.new ≡ self.old) }
         ensures outlives { Outlives self.old.world.units self.new.world.units }
+        ensures named { NotesChanges self.old.world self.new.world }
     {
         let schema = self.schema.get();
         self.state.enter(self.alloc, schema, unit, space)?;
@@ -110,6 +118,7 @@ impl World {
         ensures ok { OnOk result (self.new ≡ with_state self.old (after_leave self.old.world unit space)) }
         ensures err { OnErr result (self.new ≡ self.old) }
         ensures outlives { Outlives self.old.world.units self.new.world.units }
+        ensures named { NotesChanges self.old.world self.new.world }
     {
         self.state.leave(unit, space)?;
         Ok(())
@@ -121,6 +130,7 @@ impl World {
         ensures ok { OnOk result (self.new ≡ with_state self.old (after_say self.old.world values.items)) }
         ensures err { OnErr result (self.new ≡ self.old) }
         ensures outlives { Outlives self.old.world.units self.new.world.units }
+        ensures named { NotesChanges self.old.world self.new.world }
     {
         self.state.say(Items::from(values))?;
         Ok(())

@@ -11,6 +11,8 @@ use Rattle.bb_step.specs.Step.{step}
 use Rattle.bb_step.specs.Activation.{Execution, halted}
 use Rattle.bb_step.proofs.ReadLemmas.{no_write_at}
 use Rattle.bb_step.proofs.ExecutionLemmas.{goes_on, ends_outside, ends_at_limit, ends_by_op, gives_halted, leaves_halted}
+use Rattle.bb_step.proofs.NamedLemmas.{named_where}
+use Rattle.bb_step.proofs.FullLemmas.{full_where}
 use Rattle.bb_step.proofs.execution.execute.Goals as goal
 
 pub returns-in_default-clause-outcome : goal.returns-in_default-clause-outcome
@@ -98,3 +100,27 @@ returns-clause-board c =
 
 pub returns-clause-reads_only : goal.returns-clause-reads_only
 returns-clause-reads_only c = c.loop-steps.invariant.reads
+
+pub returns-in_default-clause-named : goal.returns-in_default-clause-named
+returns-in_default-clause-named c =
+    named_where c.halted-in_default.result c.args.limit c.args.code.now c.args.entry c.args.board.now c.loop-steps.board (returns-in_default-clause-board c)
+
+pub returns-in_default-clause-full : goal.returns-in_default-clause-full
+returns-in_default-clause-full c =
+    full_where c.halted-in_default.result c.args.limit c.args.code.now c.args.entry c.args.board.now c.loop-steps.board (returns-in_default-clause-outcome c) (returns-in_default-clause-board c)
+
+pub returns-in-Err-clause-named : goal.returns-in-Err-clause-named
+returns-in-Err-clause-named c =
+    named_where c.halted-in-Err.result c.args.limit c.args.code.now c.args.entry c.args.board.now c.step.new.board (returns-in-Err-clause-board c)
+
+pub returns-in-Err-clause-full : goal.returns-in-Err-clause-full
+returns-in-Err-clause-full c =
+    full_where c.halted-in-Err.result c.args.limit c.args.code.now c.args.entry c.args.board.now c.step.new.board (returns-in-Err-clause-outcome c) (returns-in-Err-clause-board c)
+
+pub returns-clause-named : goal.returns-clause-named
+returns-clause-named c =
+    named_where c.halted-2.result c.args.limit c.args.code.now c.args.entry c.args.board.now c.loop-steps.board (returns-clause-board c)
+
+pub returns-clause-full : goal.returns-clause-full
+returns-clause-full c =
+    full_where c.halted-2.result c.args.limit c.args.code.now c.args.entry c.args.board.now c.loop-steps.board (returns-clause-outcome c) (returns-clause-board c)

@@ -1,5 +1,6 @@
 use Rattle.bb_world.proofs.KeepLemmas.{create_keeps}
 use Rattle.bb_world.proofs.OutliveLemmas.{outlives_same, created_outlives}
+use Rattle.bb_world.proofs.NamedLemmas.{same_named, create_named}
 use Rattle.bb_world.proofs.world.World.create.Goals as goal
 
 pub invariant_of-self-2 : goal.invariant_of-self-2
@@ -13,3 +14,11 @@ returns-in_err-unit-clause-outlives c =
 pub returns-clause-outlives : goal.returns-clause-outlives
 returns-clause-outlives c =
     rw (← c.self.view_is, c.in_ok-unit.ensures.created) (created_outlives c.self.inside.state.units c.args.class)
+
+pub returns-in_err-unit-clause-named : goal.returns-in_err-unit-clause-named
+returns-in_err-unit-clause-named c =
+    rw (← c.self.view_is, c.in_err-unit.ensures.err) (same_named c.self.inside.state)
+
+pub returns-clause-named : goal.returns-clause-named
+returns-clause-named c =
+    rw (← c.self.view_is, c.in_ok-unit.ensures.created) (create_named c.self.inside.state c.args.class)

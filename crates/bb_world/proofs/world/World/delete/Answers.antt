@@ -5,6 +5,7 @@ use Rattle.bb_world.specs.Links.{after_delete}
 use Rattle.bb_world.proofs.DeleteLemmas.{delete_keeps}
 use Rattle.bb_world.proofs.KeepLemmas.{few_spaces, class_there}
 use Rattle.bb_world.proofs.OutliveLemmas.{outlives_same, deleted_outlives}
+use Rattle.bb_world.proofs.NamedLemmas.{same_named, delete_named}
 use Rattle.bb_world.proofs.world.World.delete.Goals as goal
 
 pub delete-requires-clause-class : goal.delete-requires-clause-class
@@ -30,3 +31,11 @@ returns-in_err-delete-clause-outlives c =
 pub returns-clause-outlives : goal.returns-clause-outlives
 returns-clause-outlives c =
     rw (← c.self.view_is, c.in_ok-delete.ensures.ok) (deleted_outlives c.self.inside.state.units c.args.unit)
+
+pub returns-in_err-delete-clause-named : goal.returns-in_err-delete-clause-named
+returns-in_err-delete-clause-named c =
+    rw (← c.self.view_is, c.in_err-delete.ensures.err) (same_named c.self.inside.state)
+
+pub returns-clause-named : goal.returns-clause-named
+returns-clause-named c =
+    rw (← c.self.view_is, c.in_ok-delete.ensures.ok) (delete_named c.get-schema.result.now c.self.inside.state c.args.unit)

@@ -3,6 +3,7 @@ use Rattle.bb_schema.specs.Schema.{Schema}
 use Rattle.bb_world.specs.Spaces.{may_enter, after_enter}
 use Rattle.bb_world.proofs.SpaceLemmas.{may_enter_facts, enter_keeps}
 use Rattle.bb_world.proofs.OutliveLemmas.{outlives_same, enter_outlives}
+use Rattle.bb_world.proofs.NamedLemmas.{same_named, enter_named}
 use Rattle.bb_world.proofs.world.World.enter.Goals as goal
 
 pub invariant_of-self-2 : goal.invariant_of-self-2
@@ -20,3 +21,11 @@ returns-in_err-enter-clause-outlives c =
 pub returns-clause-outlives : goal.returns-clause-outlives
 returns-clause-outlives c =
     rw (← c.self.view_is, c.in_ok-enter.ensures.ok) (enter_outlives c.self.inside.state c.args.unit c.args.space c.get-schema.result.now)
+
+pub returns-in_err-enter-clause-named : goal.returns-in_err-enter-clause-named
+returns-in_err-enter-clause-named c =
+    rw (← c.self.view_is, c.in_err-enter.ensures.err) (same_named c.self.inside.state)
+
+pub returns-clause-named : goal.returns-clause-named
+returns-clause-named c =
+    rw (← c.self.view_is, c.in_ok-enter.ensures.ok) (enter_named c.self.inside.state c.args.unit c.args.space c.get-schema.result.now)

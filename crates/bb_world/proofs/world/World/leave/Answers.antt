@@ -2,6 +2,7 @@ use Rattle.std.proofs.Common.{◌≡◌, true, rules}
 use Rattle.bb_units.specs.Units.{is_live}
 use Rattle.bb_world.proofs.SpaceLemmas.{leave_keeps}
 use Rattle.bb_world.proofs.OutliveLemmas.{outlives_same, leave_outlives}
+use Rattle.bb_world.proofs.NamedLemmas.{same_named, leave_named}
 use Rattle.bb_world.proofs.world.World.leave.Goals as goal
 
 pub invariant_of-self-2 : goal.invariant_of-self-2
@@ -17,3 +18,11 @@ returns-in_err-leave-clause-outlives c =
 pub returns-clause-outlives : goal.returns-clause-outlives
 returns-clause-outlives c =
     rw (← c.self.view_is, c.in_ok-leave.ensures.ok) (leave_outlives c.self.inside.state c.args.unit c.args.space)
+
+pub returns-in_err-leave-clause-named : goal.returns-in_err-leave-clause-named
+returns-in_err-leave-clause-named c =
+    rw (← c.self.view_is, c.in_err-leave.ensures.err) (same_named c.self.inside.state)
+
+pub returns-clause-named : goal.returns-clause-named
+returns-clause-named c =
+    rw (← c.self.view_is, c.in_ok-leave.ensures.ok) (leave_named c.self.inside.state c.args.unit c.args.space)

@@ -4,6 +4,7 @@ use Rattle.bb_world.specs.Links.{after_link}
 use Rattle.bb_world.specs.May.{may_link}
 use Rattle.bb_world.proofs.LinkLemmas.{couple_there, may_link_facts, link_keeps}
 use Rattle.bb_world.proofs.OutliveLemmas.{outlives_same, link_outlives}
+use Rattle.bb_world.proofs.NamedLemmas.{same_named, link_named}
 use Rattle.bb_world.proofs.world.World.link.Goals as goal
 
 pub link-requires-clause-couple : goal.link-requires-clause-couple
@@ -24,3 +25,11 @@ returns-in_err-link-clause-outlives c =
 pub returns-clause-outlives : goal.returns-clause-outlives
 returns-clause-outlives c =
     rw (← c.self.view_is, c.in_ok-link.ensures.ok) (link_outlives c.get-schema.result.now c.self.inside.state c.args.unit c.args.slot c.args.partner)
+
+pub returns-in_err-link-clause-named : goal.returns-in_err-link-clause-named
+returns-in_err-link-clause-named c =
+    rw (← c.self.view_is, c.in_err-link.ensures.err) (same_named c.self.inside.state)
+
+pub returns-clause-named : goal.returns-clause-named
+returns-clause-named c =
+    rw (← c.self.view_is, c.in_ok-link.ensures.ok) (link_named c.get-schema.result.now c.self.inside.state c.args.unit c.args.slot c.args.partner)

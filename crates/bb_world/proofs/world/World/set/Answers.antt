@@ -3,6 +3,7 @@ use Rattle.bb_schema.specs.Schema.{Schema}
 use Rattle.bb_world.specs.World.{after_set}
 use Rattle.bb_world.proofs.KeepLemmas.{few_spaces, set_keeps}
 use Rattle.bb_world.proofs.OutliveLemmas.{outlives_same, set_outlives}
+use Rattle.bb_world.proofs.NamedLemmas.{same_named, set_named}
 use Rattle.bb_world.proofs.world.World.set.Goals as goal
 
 pub set-requires-clause-few : goal.set-requires-clause-few
@@ -21,3 +22,11 @@ returns-in_err-set-clause-outlives c =
 pub returns-clause-outlives : goal.returns-clause-outlives
 returns-clause-outlives c =
     rw (← c.self.view_is, c.in_ok-set.ensures.ok) (set_outlives c.self.inside.state.units c.args.unit c.args.slot c.args.value)
+
+pub returns-in_err-set-clause-named : goal.returns-in_err-set-clause-named
+returns-in_err-set-clause-named c =
+    rw (← c.self.view_is, c.in_err-set.ensures.err) (same_named c.self.inside.state)
+
+pub returns-clause-named : goal.returns-clause-named
+returns-clause-named c =
+    rw (← c.self.view_is, c.in_ok-set.ensures.ok) (set_named c.get-schema.result.now c.self.inside.state c.args.unit c.args.slot c.args.value)

@@ -4,6 +4,7 @@ use Rattle.bb_world.specs.Links.{after_unlink}
 use Rattle.bb_world.specs.May.{may_link}
 use Rattle.bb_world.proofs.LinkLemmas.{couple_there, may_link_facts, unlink_keeps}
 use Rattle.bb_world.proofs.OutliveLemmas.{outlives_same, unlink_outlives}
+use Rattle.bb_world.proofs.NamedLemmas.{same_named, unlink_named}
 use Rattle.bb_world.proofs.world.World.unlink.Goals as goal
 
 pub unlink-requires-clause-couple : goal.unlink-requires-clause-couple
@@ -24,3 +25,11 @@ returns-in_err-unlink-clause-outlives c =
 pub returns-clause-outlives : goal.returns-clause-outlives
 returns-clause-outlives c =
     rw (← c.self.view_is, c.in_ok-unlink.ensures.ok) (unlink_outlives c.get-schema.result.now c.self.inside.state c.args.unit c.args.slot c.args.partner)
+
+pub returns-in_err-unlink-clause-named : goal.returns-in_err-unlink-clause-named
+returns-in_err-unlink-clause-named c =
+    rw (← c.self.view_is, c.in_err-unlink.ensures.err) (same_named c.self.inside.state)
+
+pub returns-clause-named : goal.returns-clause-named
+returns-clause-named c =
+    rw (← c.self.view_is, c.in_ok-unlink.ensures.ok) (unlink_named c.get-schema.result.now c.self.inside.state c.args.unit c.args.slot c.args.partner)
