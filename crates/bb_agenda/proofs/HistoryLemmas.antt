@@ -7,7 +7,7 @@ use Rattle.bb_agenda.specs.declared.activation.Activation.{Activation}
 use Rattle.bb_agenda.specs.declared.status.Status.TheVariants as statuses
 use Rattle.bb_agenda.specs.Agenda.{Agenda, Entry, pending, executed, obviated, if_pending, status_of, entry_of, status}
 use Rattle.bb_agenda.specs.Changes.{new_activation, becoming, based_at}
-use Rattle.bb_agenda.specs.History.{Change, adding, obviating, executing, rerating, refusing, changed, after}
+use Rattle.bb_agenda.specs.History.{Change, adding, obviating, executing, rerating, focusing, unfocusing, refusing, changed, after}
 
 executed_entry : (o : Option Entry) → option_map status_of o ≡ Some statuses.Executed → o ≡ Some executed
 executed_entry None is = absurd cc
@@ -43,6 +43,8 @@ module _ (e : Entry) (over : if_pending e ≡ None) where
   stays_at a (obviating number) i is = becomes a i number (λ _. obviated) is
   stays_at a (executing number) i is = becomes a i number (λ _. executed) is
   stays_at a (rerating number base) i is = becomes a i number (λ x. pending (based_at base x)) is
+  stays_at a (focusing unit focus) i is = is
+  stays_at a (unfocusing unit) i is = is
   stays_at a refusing i is = is
 
   stays : (a : Agenda) (change : Change) (n : ℕ) → entry_of a n ≡ Some e → entry_of (changed a change) n ≡ Some e

@@ -15,6 +15,7 @@ use Rattle.bb_agenda.specs.declared.activation.Activation.{Activation}
 use Rattle.bb_agenda.specs.declared.status.Status.{Status}
 use Rattle.bb_agenda.specs.declared.status.Status.TheVariants as statuses
 use Rattle.bb_agenda.specs.Agenda.{Agenda, Entry, pending, executed, obviated, if_pending, status_of, entry_of, status, is_full, has_number, number_of, pending_at}
+use Rattle.bb_agenda.specs.Foci.{Foci, Setting}
 use Rattle.bb_agenda.specs.Changes.{with_activation, becoming, based_at, other_than, rebased}
 use Rattle.bb_agenda.specs.declared.agenda.TheConstants.{PENDING_LIMIT, NUMBER_LIMIT}
 use Rattle.bb_agenda.specs.Fits.{RisesBy, Fits}
@@ -46,16 +47,16 @@ entries_become given kept left gone went f each = all (range_with_len 1 given)
     all (n ∷ ns) = ap (λ e. e ∷ map (entry_in left went) ns) (each n) ∙ ap (λ es. f (entry_in kept gone n) ∷ es) (all ns)
 
 -- the agenda is full, by what the code keeps
-pub full_kept : (given : ℕ) (kept : List Activation) (gone : List ℕ) (refused : Bool) → IsKept given kept gone
-    → is_full (record { given = entries_of given kept gone; refused = refused }) ≡ (nat_le PENDING_LIMIT (length kept) || nat_le NUMBER_LIMIT given)
-full_kept given kept gone refused k =
+pub full_kept : (given : ℕ) (kept : List Activation) (gone : List ℕ) (foci : Foci) (setting : Setting) (refused : Bool) → IsKept given kept gone
+    → is_full (record { given = entries_of given kept gone; foci = foci; setting = setting; refused = refused }) ≡ (nat_le PENDING_LIMIT (length kept) || nat_le NUMBER_LIMIT given)
+full_kept given kept gone foci setting refused k =
     ap (λ l. nat_le PENDING_LIMIT (length l) || nat_le NUMBER_LIMIT (length (entries_of given kept gone))) k.all
     ∙ ap (λ n. nat_le PENDING_LIMIT (length kept) || nat_le NUMBER_LIMIT n) (given_kept given kept gone)
 
-pub more_numbers : (given : ℕ) (kept : List Activation) (gone : List ℕ) (refused : Bool) → IsKept given kept gone
-    → is_full (record { given = entries_of given kept gone; refused = refused }) ≡ false → given < NUMBER_LIMIT
-more_numbers given kept gone refused k room =
-    leb-false NUMBER_LIMIT given (or_parts (nat_le PENDING_LIMIT (length kept)) (nat_le NUMBER_LIMIT given) (sym (full_kept given kept gone refused k) ∙ room)).1
+pub more_numbers : (given : ℕ) (kept : List Activation) (gone : List ℕ) (foci : Foci) (setting : Setting) (refused : Bool) → IsKept given kept gone
+    → is_full (record { given = entries_of given kept gone; foci = foci; setting = setting; refused = refused }) ≡ false → given < NUMBER_LIMIT
+more_numbers given kept gone foci setting refused k room =
+    leb-false NUMBER_LIMIT given (or_parts (nat_le PENDING_LIMIT (length kept)) (nat_le NUMBER_LIMIT given) (sym (full_kept given kept gone foci setting refused k) ∙ room)).1
 
 -- ---- no activation was given
 
@@ -116,10 +117,10 @@ module _ (given : ℕ) (kept : List Activation) (gone : List ℕ) (k : IsKept gi
     all = ap (filter_map if_pending) entries_more ∙ filter_map-append if_pending (entries_of given kept gone) (pending a ∷ []) ∙ ap (λ l. l ++ a ∷ []) k.all;
   }
 
-  pub added_kept : (refused : Bool) (source unit : ℕ) (base : ℤ) → a ≡ record { number = given + 1; source = source; unit = unit; base = base }
-      → record { given = entries_of (given + 1) (kept ++ a ∷ []) gone; refused = refused } ≡ with_activation (record { given = entries_of given kept gone; refused = refused }) source unit base
-  added_kept refused source unit base new =
-      let of_given : List Entry → Agenda = λ l. record { given = l; refused = refused } in
+  pub added_kept : (foci : Foci) (setting : Setting) (refused : Bool) (source unit : ℕ) (base : ℤ) → a ≡ record { number = given + 1; source = source; unit = unit; base = base }
+      → record { given = entries_of (given + 1) (kept ++ a ∷ []) gone; foci = foci; setting = setting; refused = refused } ≡ with_activation (record { given = entries_of given kept gone; foci = foci; setting = setting; refused = refused }) source unit base
+  added_kept foci setting refused source unit base new =
+      let of_given : List Entry → Agenda = λ l. record { given = l; foci = foci; setting = setting; refused = refused } in
       let of_number : ℕ → Activation = λ n. record { number = n; source = source; unit = unit; base = base } in
       ap of_given (entries_more ∙ ap (λ b. entries_of given kept gone ++ pending b ∷ []) (new ∙ ap (λ n. of_number (n + 1)) (sym (given_kept given kept gone))))
 
@@ -300,24 +301,24 @@ module _ (kept : List Activation) (gone : List ℕ) where
   all_known given k = subst (AllByRecursion (IsKnown gone)) k.all (each_known (range_with_len 1 given) (above_nought 1 given (omega arith)))
 
   -- the entry of a number
-  pub entry_kept : (given : ℕ) (refused : Bool) (i : ℕ) → i < given → entry_of (record { given = entries_of given kept gone; refused = refused }) (suc i) ≡ Some (entry_in kept gone (suc i))
+  pub entry_kept : (given : ℕ) (foci : Foci) (setting : Setting) (refused : Bool) (i : ℕ) → i < given → entry_of (record { given = entries_of given kept gone; foci = foci; setting = setting; refused = refused }) (suc i) ≡ Some (entry_in kept gone (suc i))
   unfolding entries_of
-  entry_kept given refused i lt =
+  entry_kept given foci setting refused i lt =
       let within : i < length (map (entry_in kept gone) (range_with_len 1 given)) = omega (arith, lt, length-map-range_with_len (entry_in kept gone) 1 given) in
       let place : 1 + i ≡ suc i = omega arith in
       slice_get-get_or (map (entry_in kept gone) (range_with_len 1 given)) i executed within ∙ ap (λ e. Some e) (get_or-map-range_with_len (entry_in kept gone) 1 given i (suc i) executed lt place)
 
-  pub entry_past : (given : ℕ) (refused : Bool) (i : ℕ) → given ≤ i → entry_of (record { given = entries_of given kept gone; refused = refused }) (suc i) ≡ None
+  pub entry_past : (given : ℕ) (foci : Foci) (setting : Setting) (refused : Bool) (i : ℕ) → given ≤ i → entry_of (record { given = entries_of given kept gone; foci = foci; setting = setting; refused = refused }) (suc i) ≡ None
   unfolding entries_of
-  entry_past given refused i le =
+  entry_past given foci setting refused i le =
       slice_get_past (map (entry_in kept gone) (range_with_len 1 given)) i (omega (arith, le, length-map-range_with_len (entry_in kept gone) 1 given))
 
 -- ---- what became of an activation
 
-module _ (given : ℕ) (kept : List Activation) (gone : List ℕ) (refused : Bool) where
+module _ (given : ℕ) (kept : List Activation) (gone : List ℕ) (foci : Foci) (setting : Setting) (refused : Bool) where
   -- the agenda that is kept so
   abbrev kept_agenda : Agenda
-  kept_agenda = record { given = entries_of given kept gone; refused = refused }
+  kept_agenda = record { given = entries_of given kept gone; foci = foci; setting = setting; refused = refused }
 
   status_found : (o : Option Activation) (h : Bool) → is_some o ≡ h → status_of (option_map_or pending o executed) ≡ cond h statuses.Pending statuses.Executed
   status_found None true there = absurd cc
@@ -332,10 +333,10 @@ module _ (given : ℕ) (kept : List Activation) (gone : List ℕ) (refused : Boo
 
   pub status_kept : (n i : ℕ) (g h : Bool) → n ≡ suc i → i < given → is_gone gone n ≡ g → is_some (find (has_number n) kept) ≡ h → status kept_agenda n ≡ Some (cond g statuses.Obviated (cond h statuses.Pending statuses.Executed))
   status_kept n i g h is lt gone_is there =
-      subst (λ m. status kept_agenda m ≡ Some (status_of (entry_in kept gone m))) (sym is) (ap (option_map status_of) (entry_kept kept gone given refused i lt)) ∙ ap (λ s. Some s) (status_by n g h gone_is there)
+      subst (λ m. status kept_agenda m ≡ Some (status_of (entry_in kept gone m))) (sym is) (ap (option_map status_of) (entry_kept kept gone given foci setting refused i lt)) ∙ ap (λ s. Some s) (status_by n g h gone_is there)
 
   pub status_past : (n i : ℕ) → n ≡ suc i → given ≤ i → status kept_agenda n ≡ None
-  status_past n i is le = subst (λ m. status kept_agenda m ≡ None) (sym is) (ap (option_map status_of) (entry_past kept gone given refused i le))
+  status_past n i is le = subst (λ m. status kept_agenda m ≡ None) (sym is) (ap (option_map status_of) (entry_past kept gone given foci setting refused i le))
 
   module _ (k : IsKept given kept gone) where
     pub pending_kept : (n : ℕ) → pending_at kept_agenda n ≡ find (has_number n) kept

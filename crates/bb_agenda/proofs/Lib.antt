@@ -1,5 +1,6 @@
 pub mod AgendaLemmas
 pub mod ChosenLemmas
+pub mod EntryLemmas
 pub mod FiledLemmas
 pub mod FoundLemmas
 pub mod HistoryLemmas
@@ -7,3 +8,5 @@ pub mod KeptLemmas
 pub mod Laws
 pub mod Limits
 pub mod RisingLemmas
+pub mod Rows
+pub mod WeightLemmas

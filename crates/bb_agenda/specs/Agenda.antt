@@ -1,10 +1,13 @@
--- The agenda: all activations that were ever given, and which are pending (GBBopen Reference Manual, Agenda Shell).
+-- The agenda: all activations that were ever given, and which are pending (GBBopen Reference Manual, Agenda Shell), and
+-- the foci by which they are rated (of this project).
 use Rattle.std.specs.Prelude.{ℕ, zero, suc, ◌+◌, Bool, false, ◌||◌, ◌==◌, nat_le, List, [], map, filter, find, length, slice_get, Option, Some, None, option_map}
 use Rattle.std.specs.List.{filter_map}
+use Rattle.std.specs.FinMap as fin
 use Rattle.bb_agenda.specs.declared.activation.Activation.{Activation}
 use Rattle.bb_agenda.specs.declared.status.Status.{Status}
 use Rattle.bb_agenda.specs.declared.status.Status.TheVariants as statuses
 use Rattle.bb_agenda.specs.declared.agenda.TheConstants.{PENDING_LIMIT, NUMBER_LIMIT}
+use Rattle.bb_agenda.specs.Foci.{Foci, Setting}
 
 -- what became of an activation: it is pending, or it was executed, or obviated
 pub data Entry : Type 0 where
@@ -27,12 +30,16 @@ status_of obviated = statuses.Obviated
 pub record Agenda : Type 0 where
   -- all that were ever given, in order of their numbers, from 1
   pub given : List Entry
+  -- the foci that are set
+  pub foci : Foci
+  -- what they are matched with
+  pub setting : Setting
   -- whether memory was refused to a change; from then on each change is refused
   pub refused : Bool
 
--- none was given
-abbrev pub no_activations : Agenda
-no_activations = record { given = []; refused = false }
+-- none was given, and no focus is set
+abbrev pub no_activations : Setting → Agenda
+no_activations setting = record { given = []; foci = fin.empty; setting = setting; refused = false }
 
 -- what is pending, in order of the numbers
 abbrev pub pending_of : Agenda → List Activation

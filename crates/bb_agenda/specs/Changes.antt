@@ -1,8 +1,10 @@
--- Each change of an agenda (GBBopen Reference Manual, Agenda Shell).
+-- Each change of an agenda (GBBopen Reference Manual, Agenda Shell; those of foci are of this project).
 use Rattle.std.specs.Prelude.{ℕ, ℤ, Bool, true, not, [], ◌∷◌, ◌++◌, map, Result, Ok, Err, if◌then◌else◌}
+use Rattle.std.specs.FinMap as fin
 use Rattle.bb_agenda.specs.declared.activation.Activation.{Activation}
 use Rattle.bb_agenda.specs.declared.fault.AddFault.{AddFault}
 use Rattle.bb_agenda.specs.declared.fault.AddFault.TheVariants as faults
+use Rattle.bb_agenda.specs.declared.focus.Focus.{Focus}
 use Rattle.bb_agenda.specs.Agenda.{Agenda, Entry, pending, executed, obviated, has_number, next_number, is_full}
 
 -- the activation that is added next
@@ -12,7 +14,7 @@ new_activation a source unit base = record { number = next_number a; source = so
 -- the agenda with one activation more, which is pending
 abbrev pub with_activation : Agenda → ℕ → ℕ → ℤ → Agenda
 with_activation a source unit base =
-    record { given = a.given ++ pending (new_activation a source unit base) ∷ []; refused = a.refused }
+    record a { given = a.given ++ pending (new_activation a source unit base) ∷ [] }
 
 -- the number that a new activation gets, if there can be one
 abbrev pub added_number : Agenda → Result ℕ AddFault
@@ -26,7 +28,7 @@ becoming number new_entry obviated = obviated
 
 -- the agenda where the pending activation of this number gets another entry; if there is none nothing changes
 abbrev pub with_entry : Agenda → ℕ → (Activation → Entry) → Agenda
-with_entry a number new_entry = record { given = map (becoming number new_entry) a.given; refused = a.refused }
+with_entry a number new_entry = record a { given = map (becoming number new_entry) a.given }
 
 -- after it is obviated
 abbrev pub with_obviated : Agenda → ℕ → Agenda
@@ -44,9 +46,17 @@ based_at base a = record { number = a.number; source = a.source; unit = a.unit; 
 abbrev pub with_base : Agenda → ℕ → ℤ → Agenda
 with_base a number base = with_entry a number (λ x. pending (based_at base x))
 
+-- after the focus of a unit is this one
+abbrev pub with_focus : Agenda → ℕ → Focus → Agenda
+with_focus a unit focus = record a { foci = fin.insert a.foci unit focus }
+
+-- after a unit has no focus any more
+abbrev pub without_focus : Agenda → ℕ → Agenda
+without_focus a unit = record a { foci = fin.remove a.foci unit }
+
 -- the same agenda, once memory was refused
 abbrev pub when_refused : Agenda → Agenda
-when_refused a = record { given = a.given; refused = true }
+when_refused a = record a { refused = true }
 
 -- after an activation could not be added
 abbrev pub after_add_fault : Agenda → AddFault → Agenda

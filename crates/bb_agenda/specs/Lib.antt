@@ -1,4 +1,8 @@
--- all activations that were given, and what is pending of them
+-- the foci that are set, and what they are matched with
+pub mod Foci
+-- which activations a focus matches
+pub mod Matching
+-- all activations that were given, what is pending of them, and the foci
 pub mod Agenda
 -- each change of them
 pub mod Changes

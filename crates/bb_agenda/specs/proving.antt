@@ -4,3 +4,7 @@ pub mod Kept
 pub mod Filed
 -- lists of numbers that rise, and one for each source
 pub mod Lists
+-- the foci of the entries that the code keeps
+pub mod Entries
+-- how an agenda is stored
+pub mod Codes

@@ -5,6 +5,7 @@ ghost use Rattle.std.specs.Option.{option_map_or};
 ghost use Rattle.bb_agenda.specs.Rating.{rating};
 ghost use Rattle.bb_agenda.specs.Chosen.{is_before, is_best};
 
+use crate::steering::Steering;
 use bb_schema::UnitId;
 
 /// A source that is to be executed on a unit (GBBopen Reference Manual, KSAs; Hayes-Roth 1985, KSARs).
@@ -20,42 +21,27 @@ pub struct Activation {
     pub base: i64,
 }
 
-impl Activation {
-    /// The rating of the activation.
-    pub fn rating(&self) -> i128
-        ensures { result ≡ rating self.now }
-    {
-        i128::from(self.base)
-    }
-
-    /// Whether it is rated higher than another one, or the same under a lower number.
-    fn is_before(&self, other: &Activation) -> bool
-        ensures { result ≡ is_before rating self.now other.now }
-    {
-        other.rating() < self.rating()
-            || (other.rating() == self.rating() && self.number < other.number)
-    }
-}
-
 /// The best activation of a list that is rated at least `floor`.
-pub(crate) fn best(floor: i64, pending: &[Activation]) -> Option<Activation>
-    ensures { result ≡ find (is_best rating floor pending.now) pending.now }
+pub(crate) fn best(steering: &Steering, floor: i64, pending: &[Activation]) -> Option<Activation>
+    ensures { let s = steering.now in let rate = rating s.setting.schema s.setting.sources s.foci in
+        result ≡ find (is_best rate floor pending.now) pending.now }
 {
     let mut best: Option<Activation> = None;
     for activation in pending {
-        if activation.rating() >= i128::from(floor) {
-            best = Some(better(best, *activation));
+        if steering.rating(activation) >= i128::from(floor) {
+            best = Some(better(steering, best, *activation));
         }
     }
     best
 }
 
 // The better of the best so far, if there is one, and of one that comes after it in the list.
-fn better(best: Option<Activation>, activation: Activation) -> Activation
-    ensures { result ≡ option_map_or (λ b. if is_before rating activation b then activation else b) best activation }
+fn better(steering: &Steering, best: Option<Activation>, activation: Activation) -> Activation
+    ensures { let s = steering.now in let rate = rating s.setting.schema s.setting.sources s.foci in
+        result ≡ option_map_or (λ b. if is_before rate activation b then activation else b) best activation }
 {
     match best {
-        Some(best) if !activation.is_before(&best) => best,
+        Some(best) if !steering.is_before(&activation, &best) => best,
         _ => activation,
     }
 }

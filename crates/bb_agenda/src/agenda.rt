@@ -6,16 +6,19 @@ ghost use Rattle.bb_agenda.specs.Agenda.{no_activations, pending_of, is_full, nu
 ghost use Rattle.bb_agenda.specs.Agenda.{pending_at, pending_for, status};
 ghost use Rattle.bb_agenda.specs.declared.activation.Activation.{Activation};
 ghost use Rattle.bb_agenda.specs.Fits.{Fits};
-ghost use Rattle.bb_agenda.specs.Rating.{rating};
+ghost use Rattle.bb_agenda.specs.Rating.{rating_in};
 ghost use Rattle.bb_agenda.specs.Chosen.{chosen};
 
 mod changes;
 mod steps;
 
 use crate::activation::{Activation, best};
+use crate::foci::Foci;
+use crate::setting::{RatedSource, Setting};
 use crate::status::Status;
+use crate::steering::Steering;
 use crate::waiting::Waiting;
-use bb_schema::UnitId;
+use bb_schema::{SharedSchema, UnitId};
 use std::alloc::Global;
 use std::collections::BTreeSet;
 use std::marker::Model;
@@ -26,39 +29,54 @@ pub const PENDING_LIMIT: usize = 65_536;
 /// The greatest number of an activation.
 pub const NUMBER_LIMIT: u64 = (1 << 63) - 1;
 
-/// All activations that were ever given, each under its number, what is pending of them, and whether memory was refused
-/// to a change (GBBopen Reference Manual, Agenda Shell). From then on each change is refused. Of those that are over it
-/// keeps no more than how many there were, and which of them were obviated.
+/// All activations that were ever given, each under its number, what is pending of them, the foci that are set, and
+/// whether memory was refused to a change (GBBopen Reference Manual, Agenda Shell; foci are of this project). From then
+/// on each change is refused. Of those that are over it keeps no more than how many there were, and which of them were
+/// obviated.
 #[derive(Drop)]
 pub struct Agenda {
     // The number of activations that were given.
     given: u64,
     waiting: Waiting,
     obviated: BTreeSet<u64>,
+    steering: Steering,
     refused: bool,
 }
 
 impl Model for Agenda {
     ghost use Rattle.bb_agenda.specs.Agenda.{Agenda as Given};
+    ghost use Rattle.bb_agenda.specs.proving.Codes.{agenda_code};
 
     ghost Value = { Given };
 
+    ghost coded = { agenda_code };
+
     ghost use Rattle.bb_agenda.specs.proving.Kept.{IsKept, entries_of};
 
-    ghost view = { λ a. record { given = entries_of a.given a.waiting a.obviated.keys; refused = a.refused } };
+    ghost view = { λ a. record {
+      given = entries_of a.given a.waiting a.obviated.keys;
+      foci = a.steering.foci;
+      setting = a.steering.setting;
+      refused = a.refused;
+    } };
 
     ghost invariant = { λ a. IsKept a.given a.waiting a.obviated.keys };
 }
 
 impl Agenda {
-    /// An agenda with nothing on it, whose first activation gets number 1. It allocates nothing.
-    pub fn new(alloc: Global) -> Agenda
-        ensures { result ≡ no_activations }
+    /// An agenda with nothing on it and without foci, whose first activation gets number 1. `sources` has what it knows
+    /// of each source, at that source's index. It allocates nothing.
+    pub fn new(alloc: Global, schema: SharedSchema, sources: Vec<RatedSource>) -> Agenda
+        ensures { result ≡ no_activations (record { schema = schema; sources = sources.items }) }
     {
         Agenda {
             given: 0,
             waiting: Waiting::new(alloc),
             obviated: BTreeSet::new(alloc),
+            steering: Steering {
+                setting: Setting::new(schema, sources),
+                foci: Foci::new(alloc),
+            },
             refused: false,
         }
     }
@@ -112,12 +130,22 @@ impl Agenda {
         self.waiting.get(number).unwrap()
     }
 
-    /// The rating of the pending activation of a number.
+    /// The rating of the pending activation of a number: its base, and the weights of all foci that match it. It goes
+    /// over all foci.
     pub fn rating(&self, number: u64) -> i128
         requires { IsSome (pending_at self.now number) }
-        ensures { option_map rating (pending_at self.now number) ≡ Some result }
+        ensures { option_map (rating_in self.now) (pending_at self.now number) ≡ Some result }
     {
-        self.activation(number).rating()
+        let activation = self.activation(number);
+        self.steering.rating(&activation)
+    }
+
+    /// The rating that an activation has, whatever became of it: its base, and the weights of all foci that match it. It
+    /// goes over all foci.
+    pub fn rating_of(&self, activation: &Activation) -> i128
+        ensures { result ≡ rating_in self.now activation.now }
+    {
+        self.steering.rating(activation)
     }
 
     /// The source of the pending activation of a number.
@@ -137,13 +165,14 @@ impl Agenda {
     }
 
     /// The number of the activation to execute: of those rated at least `floor` the one of the highest rating, of
-    /// equals the one of the lowest number (Hayes-Roth 1985, scheduling).
+    /// equals the one of the lowest number (Hayes-Roth 1985, scheduling). It goes over all foci for each that is
+    /// pending.
     pub fn choose(&self, floor: i64) -> Option<u64>
-        ensures number { result ≡ option_map number_of (chosen rating floor (pending_of self.now)) }
+        ensures number { result ≡ option_map number_of (chosen (rating_in self.now) floor (pending_of self.now)) }
         ensures same { IfSome result (λ number.
-            pending_at self.now number ≡ chosen rating floor (pending_of self.now)) }
+            pending_at self.now number ≡ chosen (rating_in self.now) floor (pending_of self.now)) }
     {
-        let activation = best(floor, self.waiting.activations())?;
+        let activation = best(&self.steering, floor, self.waiting.activations())?;
         Some(activation.number)
     }
 

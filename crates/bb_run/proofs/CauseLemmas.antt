@@ -1,12 +1,11 @@
 -- A run that ends full or stuck has a cause.
-use Rattle.std.proofs.Common.{◌≡◌, ◌<◌, inl, inr, ℕ, zero, suc, ◌+◌, ℤ, List, [], ◌∷◌, length, slice_get, Option, Some, None, Result, Ok, Err, refl, subst, arith}
+use Rattle.std.proofs.Common.{◌≡◌, ◌<◌, true, inl, inr, ℕ, zero, suc, ◌+◌, ℤ, List, [], ◌∷◌, length, slice_get, Option, Some, None, Result, Ok, Err, refl, sym, subst, arith}
 use Rattle.std.specs.Prelude.{Contains, option_and_then}
 use Rattle.std.proofs.lemmas.Option.{get_or_from_slice_get}
 use Rattle.bb_trace.specs.Event.{Event}
 use Rattle.bb_trace.specs.Event.TheVariants.{Quiescence as quiescence}
 use Rattle.bb_trace.specs.Board.{Board as Blackboard}
 use Rattle.bb_agenda.specs.declared.activation.Activation.{Activation}
-use Rattle.bb_agenda.specs.Agenda.{no_activations}
 use Rattle.bb_verify.specs.Accepted.{Checked}
 use Rattle.bb_machine.specs.Answer.{Answer}
 use Rattle.bb_machine.specs.Answer.TheVariants as answers
@@ -27,8 +26,12 @@ use Rattle.bb_run.specs.State.{with_board}
 use Rattle.bb_run.specs.Told.{Response, Told, over, and_then, and_then_unless, segment}
 use Rattle.bb_run.specs.Asking.{attempt, end_by, entry_of, reply_by}
 use Rattle.bb_run.specs.Processing.{events_in, processing, processing_all, reported, response}
-use Rattle.bb_run.specs.Run.{rating, choice, wait, wait_for, noted, answered, execution, acting, verdict_by, verdict_of, validity, chosen_with, if_valid, cycle, if_chosen, cycles, start, run}
-use Rattle.bb_run.specs.Causes.{WasStopped, of_agenda, of_execution, of_native, HasCause}
+use Rattle.bb_run.specs.Run.{rating, choice, wait, wait_for, noted, answered, execution, acting, verdict_by, verdict_of, validity, chosen_with, if_valid, cycle, if_chosen, cycles, first_state, start, run}
+use Rattle.bb_machine.proofs.Laws.{activation_full, activation_no_memory}
+use Rattle.bb_machine.specs.Units.{is_full as no_unit_left}
+use Rattle.bb_verify.specs.Budget.{budget}
+use Rattle.bb_verify.specs.declared.checked.TheConstants.{FOUND_LIMIT}
+use Rattle.bb_run.specs.Causes.{WasStopped, of_agenda, of_units, of_execution, of_native, HasCause}
 use Rattle.bb_run.proofs.ResponseRule.{HoldsOfParts, OfPlan, holds}
 
 -- ---- an item at a place is one of the list
@@ -50,10 +53,19 @@ module _ (plan : Plan) where
   caused_then p next (Some e) is first rest = first
   caused_then p next None is first rest = rest
 
+  -- what an execution that was stopped as full left has no room for a unit more
+  none_left : (b : Blackboard) (steps found : ℕ) → WasStopped plan b (stops.Full steps found) → no_unit_left b.world.units ≡ true
+  none_left b steps found was =
+      let full = activation_full (budget was.code.code FOUND_LIMIT) was.code.code was.entry was.before steps found was.came in
+      elim was.left [
+        | inl same ↦ subst (λ (x : Blackboard). no_unit_left x.world.units ≡ true) (sym same) full
+        | inr same ↦ subst (λ (x : Blackboard). no_unit_left x.world.units ≡ true) (sym same) full
+      ]
+
   by_stop : (s : State) (stop : Stop) → WasStopped plan s.board stop → HasCause plan s (Some (end_by stop))
-  by_stop s (stops.Full steps found) was = of_execution (stops.Full steps found) was
-  by_stop s (stops.Stuck reason steps found) was = of_execution (stops.Stuck reason steps found) was
-  by_stop s stops.Memory was = of_execution stops.Memory was
+  by_stop s (stops.Full steps found) was = of_units steps found was (none_left s.board steps found was)
+  by_stop s (stops.Stuck reason steps found) was = of_execution reason steps found was
+  by_stop s stops.Memory was = absurd (activation_no_memory (budget was.code.code FOUND_LIMIT) was.code.code was.entry was.before was.came)
 
   -- ---- what answers to an event
 
@@ -177,6 +189,6 @@ module _ (plan : Plan) where
 
   pub run_has_cause : (board : Blackboard) (limit : ℕ) → let p = run plan board limit in HasCause plan p.state p.end
   run_has_cause board limit =
-      let first : State = record { board = board; agenda = no_activations } in
+      let first : State = first_state plan board in
       let p = start plan board in
       caused_then p (cycles plan 0 limit) p.end refl (reports (noted first [] None) tt) (cycles_caused 0 limit p.state)

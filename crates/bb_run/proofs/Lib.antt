@@ -26,6 +26,8 @@ pub mod AskedLemmas
 pub mod LimitLemmas
 -- each run does
 pub mod OrderlyRuns
+-- what comes after a choice
+pub mod ExecutedLemmas
 -- what holds of every response
 pub mod ResponseRule
 -- why a run ends full or stuck
@@ -36,5 +38,9 @@ pub mod ReadLemmas
 pub mod PhaseLemmas
 -- each run does
 pub mod PhasedRuns
+-- what the agenda is told of foci
+pub mod FociLemmas
+-- the agenda has the foci of the blackboard
+pub mod WeighLemmas
 -- what is pending of a source, one after another
 pub mod WaitingLemmas

@@ -1,34 +1,53 @@
 -- A longer limit lets a run go on, and changes nothing before.
-use Rattle.std.proofs.Common.{◌≡◌, ◌⊎◌, inl, inr, ℕ, zero, suc, ◌+◌, List, ◌++◌, Option, Some, None, refl, sym, ap, subst, ◌∙◌, append_assoc, arith}
+use Rattle.std.proofs.Common.{◌≡◌, ◌⊎◌, inl, inr, ℕ, zero, suc, ◌+◌, List, [], ◌∷◌, ◌++◌, Option, Some, None, refl, sym, ap, subst, ◌∙◌, append_assoc, arith}
+use Rattle.std.proofs.lemmas.List.{append-nil}
 use Rattle.bb_agenda.specs.declared.activation.Activation.{Activation}
 use Rattle.bb_trace.specs.Board.{Board as Blackboard}
 use Rattle.bb_trace.specs.declared.end.End.{End}
 use Rattle.bb_trace.specs.declared.end.End.TheVariants as finishes
 use Rattle.bb_trace.specs.declared.note.Note.{Note}
+use Rattle.bb_trace.specs.declared.note.Note.TheVariants.{Finished}
 use Rattle.bb_trace.specs.Plan.{Plan}
 use Rattle.bb_run.specs.declared.state.State.{State}
 use Rattle.bb_run.specs.Told.{Stretch, over, after_told, and_then, and_then_unless}
 use Rattle.bb_run.specs.Run.{choice, wait, cycle, if_chosen, cycles, start, finish_segments, with_finish, unfinished, run}
 use Rattle.bb_run.specs.Order.{Extends}
 
--- a stretch is this one, or goes on where this one is over by the limit
-abbrev GoesOn : Stretch → Stretch → Type 0
-GoesOn p q = (q ≡ p) ⊎ ((p.end ≡ Some finishes.Limit) × ((rest : List (List Note)) × (q.told ≡ p.told ++ rest)))
-
-goes_after : (told : List (List Note)) (p q : Stretch) → GoesOn p q → GoesOn (after_told told p) (after_told told q)
-goes_after told p q (inl same) = inl (ap (after_told told) same)
-goes_after told p q (inr more) = inr (more.0, (more.1.0, ap (λ t. told ++ t) more.1.1 ∙ sym (append_assoc told p.told more.1.0)))
-
-goes_then : (end : Option End) (p : Stretch) (next later : State → Stretch) → ((s : State) → GoesOn (next s) (later s)) → GoesOn (and_then_unless end p next) (and_then_unless end p later)
-goes_then (Some e) p next later on = inl refl
-goes_then None p next later on = goes_after p.told (next p.state) (later p.state) (on p.state)
-
--- by what can be chosen
-goes_if : (s : State) (c : Option Activation) (next later : Activation → Stretch) → ((a : Activation) → GoesOn (next a) (later a)) → GoesOn (if_chosen s c next) (if_chosen s c later)
-goes_if s None next later on = inl refl
-goes_if s (Some a) next later on = on a
+-- a stretch and its finish begin a stretch that goes on with it, and its finish
+first_tells : (end : Option End) (p : Stretch) (next : State → Stretch) → p.end ≡ end
+    → (more : List (List Note)) × (let q = and_then_unless end p next in q.told ++ finish_segments q.end ≡ (p.told ++ finish_segments p.end) ++ more)
+first_tells (Some e) p next is = ([], sym (append-nil (p.told ++ finish_segments p.end)))
+first_tells None p next is =
+    let r = next p.state in
+    let first : p.told ≡ p.told ++ finish_segments p.end = sym (append-nil p.told) ∙ ap (λ e. p.told ++ finish_segments e) (sym is) in
+    (r.told ++ finish_segments r.end, append_assoc p.told r.told (finish_segments r.end) ∙ ap (λ l. l ++ (r.told ++ finish_segments r.end)) first)
 
 module _ (plan : Plan) where
+  -- these segments begin with the cycle of what can be chosen in a state, and the finish where the run ends in it
+  pub record BeginsByCycle (number : ℕ) (s : State) (segments : List (List Note)) : Type 0 where
+    pub chosen : Activation
+    pub choice_is : choice plan s ≡ Some chosen
+    pub more : List (List Note)
+    pub begins : let p = cycle plan number chosen s in segments ≡ (p.told ++ finish_segments p.end) ++ more
+
+  -- a stretch is this one, or goes on by a cycle of this number where this one is over by the limit
+  abbrev GoesOn : (number : ℕ) → Stretch → Stretch → Type 0
+  GoesOn number p q =
+      (q ≡ p) ⊎ ((p.end ≡ Some finishes.Limit) × ((rest : List (List Note)) × ((q.told ≡ p.told ++ rest) × BeginsByCycle number p.state (rest ++ finish_segments q.end))))
+
+  goes_after : (number : ℕ) (told : List (List Note)) (p q : Stretch) → GoesOn number p q → GoesOn number (after_told told p) (after_told told q)
+  goes_after number told p q (inl same) = inl (ap (after_told told) same)
+  goes_after number told p q (inr more) = inr (more.0, (more.1.0, (ap (λ t. told ++ t) more.1.1.0 ∙ sym (append_assoc told p.told more.1.0), more.1.1.1)))
+
+  goes_then : (number : ℕ) (end : Option End) (p : Stretch) (next later : State → Stretch) → ((s : State) → GoesOn number (next s) (later s)) → GoesOn number (and_then_unless end p next) (and_then_unless end p later)
+  goes_then number (Some e) p next later on = inl refl
+  goes_then number None p next later on = goes_after number p.told (next p.state) (later p.state) (on p.state)
+
+  -- by what can be chosen
+  goes_if : (number : ℕ) (s : State) (c : Option Activation) (next later : Activation → Stretch) → ((a : Activation) → c ≡ Some a → GoesOn number (next a) (later a)) → GoesOn number (if_chosen s c next) (if_chosen s c later)
+  goes_if number s None next later on = inl refl
+  goes_if number s (Some a) next later on = on a refl
+
   -- what a chosen activation leads to, where so many cycles are left after it
   abbrev cycle_then : (made left : ℕ) → State → Activation → Stretch
   cycle_then made left t a = and_then (cycle plan (made + 1) a t) (cycles plan (made + 1) left)
@@ -40,38 +59,67 @@ module _ (plan : Plan) where
   abbrev ends_at : State → Activation → Stretch
   ends_at t a = over finishes.Limit t
 
-  cycles_go_on : (made left more : ℕ) (s : State) → GoesOn (cycles plan made left s) (cycles plan made (left + more) s)
+  -- a cycle more is made where it was the limit
+  goes_by_cycle : (made more number : ℕ) (t : State) (a : Activation) → made + 1 ≡ number → choice plan t ≡ Some a → GoesOn number (ends_at t a) (cycle_then made more t a)
+  goes_by_cycle made more number t a is chosen =
+      let c = cycle plan (made + 1) a t in
+      let first = first_tells c.end c (cycles plan (made + 1) more) refl in
+      let begins : BeginsByCycle (made + 1) t ((cycle_then made more t a).told ++ finish_segments (cycle_then made more t a).end) =
+      record { chosen = a; choice_is = chosen; more = first.0; begins = first.1 } in
+      inr (refl, ((cycle_then made more t a).told, (refl, subst (λ n. BeginsByCycle n t ((cycle_then made more t a).told ++ finish_segments (cycle_then made more t a).end)) is begins)))
+
+  cycles_go_on : (made left more number : ℕ) (s : State) → number ≡ made + left + 1 → GoesOn number (cycles plan made left s) (cycles plan made (left + more) s)
   unfolding cycles
-  cycles_go_on made zero zero s = inl refl
-  cycles_go_on made zero (suc more) s =
+  cycles_go_on made zero zero number s is = inl refl
+  cycles_go_on made zero (suc more) number s is =
       let p = wait plan s in
-      let is : suc more ≡ 0 + suc more = omega arith in
-      subst (λ n. GoesOn (cycles plan made 0 s) (cycles plan made n s)) is
-      (goes_then p.end p (by_choice ends_at) (by_choice (cycle_then made more)) (λ t. goes_if t (choice plan t) (ends_at t) (cycle_then made more t) (λ a. inr (refl, ((cycle_then made more t a).told, refl)))))
-  cycles_go_on made (suc left) more s =
+      let count : suc more ≡ 0 + suc more = omega arith in
+      let same : made + 1 ≡ number = omega (arith, is) in
+      subst (λ n. GoesOn number (cycles plan made 0 s) (cycles plan made n s)) count
+      (goes_then number p.end p (by_choice ends_at) (by_choice (cycle_then made more)) (λ t. goes_if number t (choice plan t) (ends_at t) (cycle_then made more t) (λ a chosen. goes_by_cycle made more number t a same chosen)))
+  cycles_go_on made (suc left) more number s is =
       let p = wait plan s in
-      let is : suc (left + more) ≡ suc left + more = omega arith in
-      subst (λ n. GoesOn (cycles plan made (suc left) s) (cycles plan made n s)) is
-      (goes_then p.end p (by_choice (cycle_then made left)) (by_choice (cycle_then made (left + more)))
-      (λ t. goes_if t (choice plan t) (cycle_then made left t) (cycle_then made (left + more) t)
-      (λ a. let c = cycle plan (made + 1) a t in goes_then c.end c (cycles plan (made + 1) left) (cycles plan (made + 1) (left + more)) (λ u. cycles_go_on (made + 1) left more u))))
+      let count : suc (left + more) ≡ suc left + more = omega arith in
+      let same : number ≡ (made + 1) + left + 1 = omega (arith, is) in
+      subst (λ n. GoesOn number (cycles plan made (suc left) s) (cycles plan made n s)) count
+      (goes_then number p.end p (by_choice (cycle_then made left)) (by_choice (cycle_then made (left + more)))
+      (λ t. goes_if number t (choice plan t) (cycle_then made left t) (cycle_then made (left + more) t)
+      (λ a chosen. let c = cycle plan (made + 1) a t in goes_then number c.end c (cycles plan (made + 1) left) (cycles plan (made + 1) (left + more)) (λ u. cycles_go_on (made + 1) left more number u same))))
+
+  -- a run with a longer limit is the same, or tells the same up to the finish by the limit, and goes on by a cycle
+  abbrev pub GoesFurther : (number : ℕ) → (run longer : Stretch) → Type 0
+  GoesFurther number run longer =
+      (longer ≡ run) ⊎ ((run.end ≡ Some finishes.Limit) × ((front : List (List Note)) × ((rest : List (List Note)) ×
+      ((run.told ≡ front ++ (Finished finishes.Limit ∷ []) ∷ []) × ((longer.told ≡ front ++ rest) × BeginsByCycle number run.state rest)))))
 
   -- the same with the finish told last
-  finishes_on : (p q : Stretch) → GoesOn p q → Extends (with_finish p) (with_finish q)
-  finishes_on p q (inl same) = inl (ap with_finish same)
-  finishes_on p q (inr more) =
+  finishes_on : (number : ℕ) (p q : Stretch) → GoesOn number p q → GoesFurther number (with_finish p) (with_finish q)
+  finishes_on number p q (inl same) = inl (ap with_finish same)
+  finishes_on number p q (inr more) =
       inr (
         more.0,
         (
           p.told,
           (
             more.1.0 ++ finish_segments q.end,
-            (ap (λ e. p.told ++ finish_segments e) more.0, ap (λ t. t ++ finish_segments q.end) more.1.1 ∙ append_assoc p.told more.1.0 (finish_segments q.end)),
+            (
+              ap (λ e. p.told ++ finish_segments e) more.0,
+              (ap (λ t. t ++ finish_segments q.end) more.1.1.0 ∙ append_assoc p.told more.1.0 (finish_segments q.end), more.1.1.1),
+            ),
           ),
         ),
       )
 
-  pub run_extends : (board : Blackboard) (limit more : ℕ) → Extends (run plan board limit) (run plan board (limit + more))
-  run_extends board limit more =
+  pub run_goes_further : (board : Blackboard) (limit more : ℕ) → GoesFurther (limit + 1) (run plan board limit) (run plan board (limit + more))
+  run_goes_further board limit more =
       let p = start plan board in
-      finishes_on (unfinished plan board limit) (unfinished plan board (limit + more)) (goes_then p.end p (cycles plan 0 limit) (cycles plan 0 (limit + more)) (λ s. cycles_go_on 0 limit more s))
+      let count : limit + 1 ≡ 0 + limit + 1 = omega arith in
+      finishes_on (limit + 1) (unfinished plan board limit) (unfinished plan board (limit + more))
+      (goes_then (limit + 1) p.end p (cycles plan 0 limit) (cycles plan 0 (limit + more)) (λ s. cycles_go_on 0 limit more (limit + 1) s count))
+
+  extends_by : (number : ℕ) (p q : Stretch) → GoesFurther number p q → Extends p q
+  extends_by number p q (inl same) = inl same
+  extends_by number p q (inr more) = inr (more.0, (more.1.0, (more.1.1.0, (more.1.1.1.0, more.1.1.1.1.0))))
+
+  pub run_extends : (board : Blackboard) (limit more : ℕ) → Extends (run plan board limit) (run plan board (limit + more))
+  run_extends board limit more = extends_by (limit + 1) (run plan board limit) (run plan board (limit + more)) (run_goes_further board limit more)

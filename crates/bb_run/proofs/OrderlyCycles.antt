@@ -27,7 +27,7 @@ use Rattle.bb_run.specs.Processing.{reported}
 use Rattle.bb_run.specs.Run.{rating, with_notes_taken, noted, answered, execution, acting, chosen_with, if_valid, cycle, validity}
 use Rattle.bb_run.specs.Order.{notes_of, chosen_in}
 use Rattle.bb_run.proofs.OrderLemmas.{comes_none, comes_one, comes_then}
-use Rattle.bb_run.proofs.PendingLemmas.{IsKnown, stands_silent, stands_executed, stands_invalid}
+use Rattle.bb_run.proofs.PendingLemmas.{IsKnown, stands_silent, stands_told, stands_executed, stands_invalid}
 use Rattle.bb_run.proofs.OrderlyParts.{May, MayChoose, Agrees, Keeps, Tells, keeps_more, Responds, comes_board, agrees_board, reports, IsEarly, early_end, IsEarlyVerdict, early_verdict}
 
 module _ (plan : Plan) (board : Blackboard) where
@@ -41,7 +41,7 @@ module _ (plan : Plan) (board : Blackboard) where
       subst (λ l. Keeps plan board past l made executed (with_notes_taken s) end) (sym (append-nil notes)) (record {
         comes = comes_board plan board past s.board.world.notes;
         cycles = later.cycles;
-        stands = λ none. subst (λ n. Agrees plan board (past ++ notes) made n s.agenda) (same none) later;
+        stands = λ none. stands_told (length plan.sources) (past ++ notes) made executed s.agenda (with_notes_taken s).agenda.foci (subst (λ n. Agrees plan board (past ++ notes) made n s.agenda) (same none) later);
         early = early;
       })
 
@@ -56,7 +56,7 @@ module _ (plan : Plan) (board : Blackboard) where
       record {
         comes = comes_then (May plan board) past notes (note ∷ []) (comes_board plan board past s.board.world.notes) (comes_one (May plan board) (past ++ notes) note (sym (ap (λ n. n + 1) told.executions) ∙ told.cycles));
         cycles = later.cycles;
-        stands = λ none. later;
+        stands = λ none. stands_told (length plan.sources) (past ++ (notes ++ note ∷ [])) (made + 1) (made + 1) s.agenda (with_notes_taken s).agenda.foci later;
         early = tt;
       }
 

@@ -2,9 +2,10 @@
 use Rattle.std.proofs.Common.{◌≡◌, ◌≤◌, inl, inr, ℕ, zero, suc, ℤ, ◌+◌, ◌-◌, List, [], ◌∷◌, ◌++◌, length, Option, Some, None, refl, sym, ap, subst, ◌∙◌, append_assoc, arith}
 use Rattle.std.specs.Prelude.{Contains}
 use Rattle.std.proofs.lemmas.List.{append-nil}
+use Rattle.std.proofs.lemmas.List.Elements.{All-contains}
 use Rattle.bb_trace.specs.Board.{Board as Blackboard}
 use Rattle.bb_agenda.specs.declared.activation.Activation.{Activation}
-use Rattle.bb_agenda.specs.Agenda.{Agenda, pending_of, no_activations}
+use Rattle.bb_agenda.specs.Agenda.{Agenda, next_number, pending_of}
 use Rattle.bb_agenda.proofs.Laws.{chosen_some}
 use Rattle.bb_trace.specs.declared.end.End.{End}
 use Rattle.bb_trace.specs.declared.end.End.TheVariants as finishes
@@ -13,13 +14,14 @@ use Rattle.bb_trace.specs.declared.note.Note.TheVariants.{Triggered, Chosen, Inv
 use Rattle.bb_trace.specs.Plan.{Plan}
 use Rattle.bb_run.specs.declared.state.State.{State}
 use Rattle.bb_run.specs.Told.{Stretch, telling, over, after_told, and_then, and_then_unless}
-use Rattle.bb_run.specs.Run.{rating, choice, wait, noted, cycle, if_chosen, cycles, start, finish_segments, with_finish, unfinished, run}
+use Rattle.bb_run.specs.Run.{rating, choice, wait, noted, cycle, if_chosen, cycles, first_state, start, finish_segments, with_finish, unfinished, run}
+use Rattle.bb_run.specs.Foci.{setting_of}
 use Rattle.bb_run.specs.Order.{all_of, notes_of, At, chosen_in, IsCounted, ActsOnPending, ExecutesInTurn, IsFinished, KeepsLimit, IsChosenAfter}
 use Rattle.bb_run.proofs.OrderLemmas.{Comes, comes_none, comes_then, comes_or_last, same_last}
 use Rattle.bb_run.specs.Processing.{events_in}
 use Rattle.bb_run.specs.Asked.{asked_for, answered_in, IsAnswered, MayOwe}
 use Rattle.bb_run.proofs.AskedLemmas.{GoesOn, MayAsk, goes_then, reports_board, cycles_go}
-use Rattle.bb_run.proofs.PendingLemmas.{chosen_then, is_apart, stands_first}
+use Rattle.bb_run.proofs.PendingLemmas.{IsKnown, chosen_then, is_apart, stands_first}
 use Rattle.bb_run.proofs.OrderlyParts.{all_of_two, IsEarly, MayChoose, May, Agrees, Tells, reports, waits_for}
 use Rattle.bb_run.proofs.OrderlyCycles.{keeps_board, cycles_once}
 
@@ -30,7 +32,7 @@ module _ (plan : Plan) (board : Blackboard) where
   -- ---- the run so far
 
   -- whatever the limit, a run that makes so many cycles begins with these segments
-  abbrev Begins : (told : List (List Note)) (made : ℕ) → State → Type 0
+  abbrev pub Begins : (told : List (List Note)) (made : ℕ) → State → Type 0
   Begins told made s = (left limit : ℕ) → limit ≡ made + left → unfinished plan board limit ≡ after_told told (cycles plan made left s)
 
   -- what comes after the wait before a cycle, where no cycle more can be made, and where one can
@@ -62,7 +64,7 @@ module _ (plan : Plan) (board : Blackboard) where
       ap (λ l. telling l q.state q.end) same
 
   -- with one cycle more the run still begins so
-  begins_next : (told : List (List Note)) (made : ℕ) (s : State) (a : Activation) → Begins told made s → (wait plan s).end ≡ None → choice plan (wait plan s).state ≡ Some a → (cycle plan (made + 1) a (wait plan s).state).end ≡ None
+  pub begins_next : (told : List (List Note)) (made : ℕ) (s : State) (a : Activation) → Begins told made s → (wait plan s).end ≡ None → choice plan (wait plan s).state ≡ Some a → (cycle plan (made + 1) a (wait plan s).state).end ≡ None
       → Begins (told ++ ((wait plan s).told ++ (cycle plan (made + 1) a (wait plan s).state).told)) (made + 1) (cycle plan (made + 1) a (wait plan s).state).state
   begins_next told made s a begins goes chosen on = λ left limit is.
       let p = wait plan s in
@@ -79,12 +81,14 @@ module _ (plan : Plan) (board : Blackboard) where
       → choice plan t ≡ Some a → IsChosenAfter plan (with_finish u) (past ++ all_of segments) a (rating plan t a)
   choice_after u past told segments made t a is before stands chosen =
       let finish : List Note = Finished finishes.Limit ∷ [] in
+      let best = chosen_some (rating plan t) plan.floor (pending_of t.agenda) a chosen in
       subst (λ v. IsChosenAfter plan (with_finish v) (past ++ all_of segments) a (rating plan t a)) (sym is) (record {
         told = all_of_two (told ++ (segments ++ [])) (finish ∷ []) ∙ ap (λ l. l ++ finish) (all_of_two told (segments ++ []) ∙ ap (λ l. all_of told ++ all_of l) (append-nil segments) ∙ ap (λ l. l ++ all_of segments) (sym before));
         agenda = stands.pending;
         choice_is = chosen;
         rated = refl;
-        best = chosen_some (rating plan t) plan.floor (pending_of t.agenda) a chosen;
+        best = best;
+        source_there = (All-contains (IsKnown (next_number t.agenda) (length plan.sources)) (pending_of t.agenda) a stands.known best.waits).source;
       })
 
   -- a cycle may choose what is chosen after the wait
@@ -213,8 +217,8 @@ module _ (plan : Plan) (board : Blackboard) where
 
   starts : Tells plan board [] 0 0 (start plan board)
   starts =
-      let first : State = record { board = board; agenda = no_activations } in
-      reports plan board [] 0 0 (noted first [] None) (keeps_board plan board [] 0 0 0 first None tt (λ none. refl) (stands_first (length plan.sources)))
+      let first : State = first_state plan board in
+      reports plan board [] 0 0 (noted first [] None) (keeps_board plan board [] 0 0 0 first None tt (λ none. refl) (stands_first (length plan.sources) (setting_of plan) first.agenda.foci))
 
   -- the run up to its finish
   ends_all : (limit : ℕ) → TellsLast [] limit (unfinished plan board limit)
@@ -302,7 +306,7 @@ module _ (plan : Plan) (board : Blackboard) where
   -- the run up to its finish answers the events that it tells
   goes_all : (limit : ℕ) → GoesOn plan (unfinished plan board limit)
   goes_all limit =
-      let first : State = record { board = board; agenda = no_activations } in
+      let first : State = first_state plan board in
       let p = start plan board in
       goes_then plan p (cycles plan 0 limit) p.end refl (reports_board plan first) (λ s. cycles_go plan 0 limit s)
 

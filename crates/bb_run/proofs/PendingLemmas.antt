@@ -10,10 +10,12 @@ use Rattle.std.proofs.lemmas.List.Folds.{list_any-append, list_any_none}
 use Rattle.std.proofs.lemmas.List.Sums.{fold-append, sum_by-append}
 use Rattle.bb_agenda.specs.declared.activation.Activation.{Activation}
 use Rattle.bb_agenda.specs.Agenda.{Agenda, no_activations, pending_of, next_number}
+use Rattle.bb_agenda.specs.Foci.{Foci, Setting}
 use Rattle.bb_agenda.specs.Changes.{based_at, new_activation, other_than, rebased, with_activation, with_base, with_executed, with_obviated}
 use Rattle.bb_agenda.proofs.Laws.{pending_added, pending_executed, pending_obviated, pending_rebased, given_added, given_executed, given_obviated, given_rebased}
 use Rattle.bb_trace.specs.declared.note.Note.{Note}
 use Rattle.bb_trace.specs.declared.note.Note.TheVariants.{Triggered, Obviated, Retriggered, Chosen}
+use Rattle.bb_run.specs.Foci.{with_foci}
 use Rattle.bb_run.specs.Order.{triggered_by, chosen_by, gone_by, is_end, triggered_in, chosen_in, gone_in, ends_in, is_among, without, after_note, pending_after}
 
 -- ---- lists
@@ -86,8 +88,8 @@ pub record Stands (sources : ℕ) (past : List Note) (made executed : ℕ) (agen
   pub gone : All (λ n. n < next_number agenda) (gone_in past)
   pub apart : All (IsApart (gone_in past)) (pending_of agenda)
 
-pub stands_first : (sources : ℕ) → Stands sources [] 0 0 no_activations
-stands_first sources = record {
+pub stands_first : (sources : ℕ) (setting : Setting) (foci : Foci) → Stands sources [] 0 0 (with_foci (no_activations setting) foci)
+stands_first sources setting foci = record {
   numbers = refl;
   cycles = refl;
   executions = refl;
@@ -95,6 +97,18 @@ stands_first sources = record {
   known = All-nil (IsKnown 1 sources);
   gone = All-nil (λ n. n < 1);
   apart = All-nil (IsApart []);
+}
+
+-- foci change nothing of that
+pub stands_told : (sources : ℕ) (past : List Note) (made executed : ℕ) (agenda : Agenda) (foci : Foci) → Stands sources past made executed agenda → Stands sources past made executed (with_foci agenda foci)
+stands_told sources past made executed agenda foci s = record {
+  numbers = s.numbers;
+  cycles = s.cycles;
+  executions = s.executions;
+  pending = s.pending;
+  known = s.known;
+  gone = s.gone;
+  apart = s.apart;
 }
 
 -- notes that tell of no activation

@@ -11,6 +11,9 @@ use Rattle.bb_trace.specs.BoardNote.TheVariants.{Event as happened}
 use Rattle.bb_agenda.specs.declared.activation.Activation.{Activation}
 use Rattle.bb_agenda.specs.Agenda.{Agenda, no_activations, pending_of}
 use Rattle.bb_agenda.specs.Chosen.{chosen}
+use Rattle.bb_agenda.specs.Rating.{rating as rated}
+use Rattle.bb_trace.specs.Board.{Board as Blackboard}
+use Rattle.bb_agenda.specs.Foci.{Foci, Setting}
 use Rattle.bb_agenda.specs.Changes.{new_activation, other_than, with_activation, with_base, with_obviated}
 use Rattle.bb_agenda.proofs.Laws.{chosen_some, pending_added, pending_executed, pending_obviated, pending_rebased}
 use Rattle.bb_code.specs.Code.{Code}
@@ -29,18 +32,21 @@ use Rattle.bb_run.specs.declared.execution.Verdict.{Verdict}
 use Rattle.bb_run.specs.declared.execution.Verdict.TheVariants as verdicts
 use Rattle.bb_run.specs.declared.state.State.{State}
 use Rattle.bb_run.specs.State.{with_agenda, with_board}
-use Rattle.bb_run.specs.Told.{Response, Stretch, telling, over, after_told, and_then, and_then_unless, segment}
+use Rattle.bb_run.specs.Told.{Response, Stretch, telling, idle, over, after_told, and_then, and_then_unless, segment}
 use Rattle.bb_run.specs.Asking.{attempt, end_by, entry_of}
 use Rattle.bb_run.specs.Processing.{events_in, processing, processing_all, reported, response}
-use Rattle.bb_run.specs.Run.{rating, choice, wait_for, quiet, with_notes_taken, answered, execution, acting, validity, chosen_with, if_valid, cycle, if_chosen, cycles}
+use Rattle.bb_run.specs.Run.{rating, choice, wait, wait_for, quiet, run, with_notes_taken, answered, execution, acting, validity, chosen_with, if_valid, cycle, if_chosen, cycles}
+use Rattle.bb_run.specs.Foci.{with_foci}
 use Rattle.bb_run.specs.Order.{notes_of, after_note, pending_after, without}
 use Rattle.bb_run.specs.Phases.{Phase, outside, rested, inside, after_in, phase_after, IsQuiet}
 use Rattle.bb_run.proofs.OrderLemmas.{Comes, comes_none, comes_one, comes_then}
 use Rattle.bb_run.proofs.OrderlyParts.{all_of_two, IsEarly, early_end, IsEarlyVerdict, early_verdict}
 use Rattle.bb_run.proofs.PendingLemmas.{All-last, all_rebased}
 use Rattle.bb_run.proofs.ResponseRule.{HoldsOfParts, holds}
+use Rattle.bb_run.proofs.OrderlyRuns.{Begins, begins_next}
+use Rattle.bb_run.proofs.WeighLemmas.{response_foci}
 
-module _ (plan : Plan) where
+module _ (plan : Plan) (board : Blackboard) where
   -- ---- where a run is
 
   abbrev pub IsOne : Activation → Type 0
@@ -52,8 +58,8 @@ module _ (plan : Plan) where
     pub pending : pending_of agenda ≡ pending_after past
     pub known : All IsOne (pending_of agenda)
 
-  pub at_first : IsAt [] outside no_activations
-  at_first = record { phase_is = refl; pending = refl; known = All-nil IsOne }
+  pub at_first : (setting : Setting) (foci : Foci) → IsAt [] outside (with_foci (no_activations setting) foci)
+  at_first setting foci = record { phase_is = refl; pending = refl; known = All-nil IsOne }
 
   -- one note more
   at_next : (past : List Note) (phase : Phase) (before after : Agenda) (note : Note) → IsAt past phase before → pending_of after ≡ after_note (pending_of before) note → All IsOne (pending_of after) → IsAt (past ++ note ∷ []) (after_in phase note) after
@@ -69,7 +75,7 @@ module _ (plan : Plan) where
 
   -- a note may come where the run is
   abbrev pub MayStand : List Note → Note → Type 0
-  MayStand before (Board note) = (phase_after before ≡ inside) ⊎ IsQuiet plan.floor before note
+  MayStand before (Board note) = (phase_after before ≡ inside) ⊎ IsQuiet plan board before note
   MayStand before (Chosen cycle a r) = (phase_after before ≡ outside) ⊎ (phase_after before ≡ rested)
   MayStand before (Ended steps found allowed) = phase_after before ≡ inside
   MayStand before (Invalid number) = phase_after before ≡ inside
@@ -183,7 +189,7 @@ module _ (plan : Plan) where
       let note : Note = Ended o.steps o.found (budget code o.found) in
       let there = board_leaves past notes s.agenda at in
       moves_more past (map Board notes) (note ∷ []) outside (with_notes_taken s) None (board_comes past notes s.agenda at)
-      (moves_one (past ++ map Board notes) note outside (with_notes_taken s) there.phase_is (at_next (past ++ map Board notes) inside s.agenda s.agenda note there refl there.known))
+      (moves_one (past ++ map Board notes) note outside (with_notes_taken s) there.phase_is (at_next (past ++ map Board notes) inside s.agenda (with_notes_taken s).agenda note there refl there.known))
   executes code s (Err stop) past at =
       let notes = map Board s.board.world.notes in
       subst (λ l. Moves past l outside (with_notes_taken s) (Some (end_by stop))) (sym (append-nil notes))
@@ -253,52 +259,102 @@ module _ (plan : Plan) where
 
   -- a stretch, and then the next, in which the run ends
   pub ends_then : (past : List Note) (phase : Phase) (p : Stretch) (next : State → Stretch) (end : Option End) → p.end ≡ end → TellsTo past phase p
-      → (IsAt (past ++ notes_of p) phase p.state.agenda → TellsLast (past ++ notes_of p) (next p.state)) → TellsLast past (and_then_unless end p next)
+      → (p.end ≡ None → IsAt (past ++ notes_of p) phase p.state.agenda → TellsLast (past ++ notes_of p) (next p.state)) → TellsLast past (and_then_unless end p next)
   ends_then past phase p next (Some e) is told rest = record { comes = told.comes; quiet_end = λ e. absurd (subst IsEarly e told.early) }
   ends_then past phase p next None is told rest =
       let q = next p.state in
-      let later = rest (told.leaves is) in
+      let later = rest is (told.leaves is) in
       let whole = append_assoc past (notes_of p) (notes_of q) in
       subst (λ l. Ends past l q.end) (sym (all_of_two p.told q.told)) (record {
         comes = comes_then MayStand past (notes_of p) (notes_of q) told.comes later.comes;
         quiet_end = λ e. ap phase_after (sym whole) ∙ later.quiet_end e;
       })
 
+  -- ---- how activations are rated where a run is over by its limit
+
+  -- by the same foci the same can be chosen
+  same_choice : (s t : State) (pending : List Activation) → t.agenda.foci ≡ s.agenda.foci → t.agenda.setting ≡ s.agenda.setting → chosen (rating plan s) plan.floor pending ≡ None → chosen (rating plan t) plan.floor pending ≡ None
+  same_choice s t pending foci setting none =
+      ap (λ f. chosen (λ a. rated t.agenda.setting.schema t.agenda.setting.sources f a) plan.floor pending) foci
+      ∙ ap (λ (x : Setting). chosen (λ a. rated x.schema x.sources s.agenda.foci a) plan.floor pending) setting
+      ∙ none
+
+  -- a state after another one, with the same foci
+  record SameFoci (s t : State) : Type 0 where
+    foci : t.agenda.foci ≡ s.agenda.foci
+    setting : t.agenda.setting ≡ s.agenda.setting
+
+  waits_same : (s : State) (c : Option Activation) → SameFoci s (wait_for plan s c).state
+  waits_same s None = let same = response_foci plan quiescence s in record { foci = same.0; setting = same.1 }
+  waits_same s (Some a) = record { foci = refl; setting = refl }
+
+  limit_same : (t : State) (c : Option Activation) → (if_chosen t c (λ a. over finishes.Limit t)).state ≡ t
+  limit_same t None = refl
+  limit_same t (Some a) = refl
+
+  last_same : (p : Stretch) (end : Option End) → (and_then_unless end p (λ t. if_chosen t (choice plan t) (λ a. over finishes.Limit t))).state ≡ p.state
+  last_same p (Some e) = refl
+  last_same p None = limit_same p.state (choice plan p.state)
+
+  -- a run that makes no cycle more than were made ends where it can't choose any more, with the same foci
+  limited : (made : ℕ) (s : State) → (cycles plan made zero s).state ≡ (wait plan s).state
+  unfolding cycles
+  limited made s = last_same (wait plan s) (wait plan s).end
+
+  rated_then : (told : List (List Note)) (made : ℕ) (s : State) (past : List Note) → Begins plan board told made s → IsAt past outside s.agenda → choice plan s ≡ None
+      → chosen (rating plan (run plan board made).state) plan.floor (pending_after past) ≡ None
+  rated_then told made s past begins at none =
+      let count : made ≡ made + zero = omega arith in
+      let last : (run plan board made).state ≡ (wait plan s).state = ap (λ (p : Stretch). p.state) (begins zero made count) ∙ limited made s in
+      let same = waits_same s (choice plan s) in
+      ap (λ (t : State). chosen (rating plan t) plan.floor (pending_after past)) last
+      ∙ same_choice s (wait plan s).state (pending_after past) same.foci same.setting (ap (λ l. chosen (rating plan s) plan.floor l) (sym at.pending) ∙ none)
+
   -- quiescence in its turn
-  quiet_moves : (s : State) (past : List Note) → choice plan s ≡ None → IsAt past outside s.agenda → TellsTo past rested (quiet plan s)
-  quiet_moves s past none at =
+  quiet_moves : (made : ℕ) (s : State) (past : List Note) → chosen (rating plan (run plan board made).state) plan.floor (pending_after past) ≡ None → IsAt past outside s.agenda → TellsTo past rested (quiet plan s)
+  quiet_moves made s past none at =
       let note : Note = Board (happened quiescence) in
       let r = response plan quiescence s in
-      let may : IsQuiet plan.floor past (happened quiescence) = record { is = refl; phase = at.phase_is; nothing = ap (choice_by s) (sym at.pending) ∙ none } in
+      let may : IsQuiet plan board past (happened quiescence) = record { is = refl; phase = at.phase_is; made = made; nothing = none } in
       moves_segment past (note ∷ r.told) rested r.state r.end
       (moves_more past (note ∷ []) r.told rested r.state r.end (comes_one MayStand past note (inr may)) (responds quiescence s (past ++ note ∷ []) rested (at_next past outside s.agenda s.agenda note at refl at.known)))
-    where
-      choice_by : State → List Activation → Option Activation
-      choice_by s pending = chosen (rating plan s) plan.floor pending
 
-  -- what comes of a choice, by what follows one
-  module _ (follows : Activation → State → Stretch) (lasts : (a : Activation) (t : State) (past : List Note) (phase : Phase) → IsFree past → IsAt past phase t.agenda → choice plan t ≡ Some a → TellsLast past (follows a t)) where
+  -- what comes of a choice after the wait in a state, by what follows one
+  module _ (made : ℕ) (s : State) (follows : Activation → State → Stretch)
+      (lasts : (a : Activation) (past : List Note) (phase : Phase) → let t = (wait plan s).state in IsFree past → IsAt past phase t.agenda → choice plan t ≡ Some a → (wait plan s).end ≡ None → TellsLast past (follows a t)) where
+    abbrev next : State → Stretch
+    next t = if_chosen t (choice plan t) (λ a. follows a t)
+
     -- after quiescence the run is over where nothing can be chosen still
-    after_quiet : (t : State) (past : List Note) (c : Option Activation) → choice plan t ≡ c → IsAt past rested t.agenda → TellsLast past (if_chosen t c (λ a. follows a t))
-    after_quiet t past None is at = ends_none past (Some finishes.Quiescence) (λ e. at.phase_is)
-    after_quiet t past (Some a) is at = lasts a t past rested (inr at.phase_is) at is
+    after_quiet : (past : List Note) (c : Option Activation) → let t = (wait plan s).state in choice plan t ≡ c → (wait plan s).end ≡ None → IsAt past rested t.agenda → TellsLast past (if_chosen t c (λ a. follows a t))
+    after_quiet past None is goes at = ends_none past (Some finishes.Quiescence) (λ e. at.phase_is)
+    after_quiet past (Some a) is goes at = lasts a past rested (inr at.phase_is) at is goes
 
-    after_wait : (s : State) (past : List Note) (c : Option Activation) → choice plan s ≡ c → IsAt past outside s.agenda → TellsLast past (and_then (wait_for plan s c) (λ t. if_chosen t (choice plan t) (λ a. follows a t)))
-    after_wait s past None is at =
-        let p = quiet plan s in
-        ends_then past rested p (λ t. if_chosen t (choice plan t) (λ a. follows a t)) p.end refl (quiet_moves s past is at)
-        (λ later. after_quiet p.state (past ++ notes_of p) (choice plan p.state) refl later)
-    after_wait s past (Some a) is at =
-        subst (λ c. TellsLast past (after_told [] (if_chosen s c (λ a. follows a s)))) (sym is) (lasts a s past outside (inl at.phase_is) at is)
+    after_wait : (past : List Note) (c : Option Activation) → choice plan s ≡ c → (choice plan s ≡ None → chosen (rating plan (run plan board made).state) plan.floor (pending_after past) ≡ None) → IsAt past outside s.agenda → TellsLast past (and_then (wait plan s) next)
+    after_wait past None is quiet' at =
+        let same : wait plan s ≡ quiet plan s = ap (wait_for plan s) is in
+        let told : TellsTo past rested (wait plan s) = subst (TellsTo past rested) (sym same) (quiet_moves made s past (quiet' is) at) in
+        let p = wait plan s in
+        ends_then past rested p next p.end refl told
+        (λ goes later. after_quiet (past ++ notes_of p) (choice plan p.state) refl goes later)
+    after_wait past (Some a) is quiet' at =
+        let same : wait plan s ≡ idle s = ap (wait_for plan s) is in
+        let there : (wait plan s).state ≡ s = ap (λ (p : Stretch). p.state) same in
+        let goes : (wait plan s).end ≡ None = ap (λ (p : Stretch). p.end) same in
+        let told : TellsTo past outside (wait plan s) = subst (TellsTo past outside) (sym same) (moves_none past outside s None tt at) in
+        let p = wait plan s in
+        ends_then past outside p next p.end refl told
+        (λ ended later. subst (λ c. TellsLast (past ++ notes_of p) (if_chosen p.state c (λ x. follows x p.state))) (sym (ap (choice plan) there ∙ is)) (lasts a (past ++ notes_of p) outside (inl later.phase_is) later (ap (choice plan) there ∙ is) ended))
 
-  pub all_cycles : (made left : ℕ) (past : List Note) (s : State) → IsAt past outside s.agenda → TellsLast past (cycles plan made left s)
+  pub all_cycles : (made left : ℕ) (told : List (List Note)) (past : List Note) (s : State) → Begins plan board told made s → IsAt past outside s.agenda → TellsLast past (cycles plan made left s)
   unfolding cycles
-  all_cycles made zero past s at =
-      after_wait (λ a t. over finishes.Limit t) (λ a t before phase free there is. ends_none before (Some finishes.Limit) (λ e. absurd cc)) s past (choice plan s) refl at
-  all_cycles made (suc left) past s at =
-      after_wait (λ a t. and_then (cycle plan (made + 1) a t) (cycles plan (made + 1) left))
-      (λ a t before phase free there is.
+  all_cycles made zero told past s begins at =
+      after_wait made s (λ a t. over finishes.Limit t) (λ a before phase free there is goes. ends_none before (Some finishes.Limit) (λ e. absurd cc)) past (choice plan s) refl (rated_then told made s past begins at) at
+  all_cycles made (suc left) told past s begins at =
+      after_wait made s (λ a t. and_then (cycle plan (made + 1) a t) (cycles plan (made + 1) left))
+      (λ a before phase free there is goes.
+      let t = (wait plan s).state in
       let p = cycle plan (made + 1) a t in
       ends_then before outside p (cycles plan (made + 1) left) p.end refl (cycle_moves (made + 1) a t before phase free there is)
-      (λ later. all_cycles (made + 1) left (before ++ notes_of p) p.state later))
-      s past (choice plan s) refl at
+      (λ on later. all_cycles (made + 1) left (told ++ ((wait plan s).told ++ p.told)) (before ++ notes_of p) p.state (begins_next plan board told made s a begins goes is on) later))
+      past (choice plan s) refl (rated_then told made s past begins at) at

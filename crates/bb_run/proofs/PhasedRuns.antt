@@ -1,8 +1,7 @@
 -- Each run goes by its phases, after what its blackboard had noted.
-use Rattle.std.proofs.Common.{◌≡◌, ◌⊎◌, inl, inr, ℕ, List, [], ◌∷◌, ◌++◌, map, Option, Some, None, refl, sym, ap, ◌∙◌}
+use Rattle.std.proofs.Common.{◌≡◌, ◌⊎◌, inl, inr, ℕ, ◌+◌, List, [], ◌∷◌, ◌++◌, map, Option, Some, None, refl, sym, ap, ◌∙◌, arith}
 use Rattle.std.proofs.lemmas.List.{append-nil}
 use Rattle.bb_trace.specs.Board.{Board as Blackboard}
-use Rattle.bb_agenda.specs.Agenda.{no_activations}
 use Rattle.bb_trace.specs.declared.end.End.{End}
 use Rattle.bb_trace.specs.declared.end.End.TheVariants as finishes
 use Rattle.bb_trace.specs.declared.note.Note.{Note}
@@ -11,12 +10,13 @@ use Rattle.bb_trace.specs.Plan.{Plan}
 use Rattle.bb_run.specs.declared.state.State.{State}
 use Rattle.bb_run.specs.Told.{Response, Stretch, after_told, and_then_unless}
 use Rattle.bb_run.specs.Processing.{events_in, processing_all}
-use Rattle.bb_run.specs.Run.{noted, cycles, finish_segments, unfinished, run}
+use Rattle.bb_run.specs.Run.{first_state, noted, cycles, finish_segments, unfinished, run}
+use Rattle.bb_run.specs.Foci.{setting_of}
 use Rattle.bb_run.specs.Order.{At, all_of, notes_of}
 use Rattle.bb_run.specs.Phases.{outside, rested, phase_after, GoesByPhases}
 use Rattle.bb_run.proofs.OrderLemmas.{comes_or_last, same_last}
 use Rattle.bb_run.proofs.OrderlyParts.{all_of_two}
-use Rattle.bb_run.proofs.OrderlyRuns.{run_finishes}
+use Rattle.bb_run.proofs.OrderlyRuns.{Begins, run_finishes}
 use Rattle.bb_run.proofs.PhaseLemmas.{MayStand, TellsLast, all_cycles, at_first, ends_then, processes_all}
 
 -- a segment stays the first
@@ -30,7 +30,7 @@ same_end d e is = cc
 module _ (plan : Plan) (board : Blackboard) (limit : ℕ) where
   -- what is told first
   abbrev first : Response
-  first = noted (record { board = board; agenda = no_activations }) [] None
+  first = noted (first_state plan board) [] None
 
   -- its events
   abbrev processed : Stretch
@@ -40,13 +40,21 @@ module _ (plan : Plan) (board : Blackboard) (limit : ℕ) where
   abbrev later : Stretch
   later = and_then_unless processed.end processed (cycles plan 0 limit)
 
+  -- whatever the limit, it begins so
+  begins : processed.end ≡ None → Begins plan board (first.told ∷ processed.told) 0 processed.state
+  begins goes = λ left any is.
+      let same : any ≡ left = omega (arith, is) in
+      after_first first.told processed (cycles plan 0 any) processed.end
+      ∙ ap (λ e. after_told (first.told ∷ []) (and_then_unless e processed (cycles plan 0 any))) goes
+      ∙ ap (λ n. after_told (first.told ∷ processed.told) (cycles plan 0 n processed.state)) same
+
   begun : unfinished plan board limit ≡ after_told (first.told ∷ []) later
   begun = after_first first.told processed (cycles plan 0 limit) processed.end
 
-  ends : TellsLast plan [] later
+  ends : TellsLast plan board [] later
   ends =
-      ends_then plan [] outside processed (cycles plan 0 limit) processed.end refl (processes_all plan (events_in first.told) [] outside first.state (at_first plan))
-      (λ at. all_cycles plan 0 limit (notes_of processed) processed.state at)
+      ends_then plan board [] outside processed (cycles plan 0 limit) processed.end refl (processes_all plan board (events_in first.told) [] outside first.state (at_first plan board (setting_of plan) first.state.agenda.foci))
+      (λ goes at. all_cycles plan board 0 limit (first.told ∷ processed.told) (notes_of processed) processed.state (begins goes) at)
 
   abbrev rest : List (List Note)
   rest = later.told ++ finish_segments later.end
@@ -61,10 +69,10 @@ module _ (plan : Plan) (board : Blackboard) (limit : ℕ) where
   notes_are = all_of_two later.told (finish_segments later.end) ∙ ap (λ e. notes_of later ++ all_of (finish_segments e)) later_ends
 
   -- a note after the first segment may come there, or it is the finish
-  comes_there : (before : List Note) (note : Note) (at : At (all_of rest) before note) → MayStand plan before note ⊎ ((note ≡ Finished end) × (at.0 ≡ []))
-  comes_there before note at = comes_or_last (MayStand plan) [] (notes_of later) (Finished end) before note at.0 ends.comes (sym notes_are ∙ at.1)
+  comes_there : (before : List Note) (note : Note) (at : At (all_of rest) before note) → MayStand plan board before note ⊎ ((note ≡ Finished end) × (at.0 ≡ []))
+  comes_there before note at = comes_or_last (MayStand plan board) [] (notes_of later) (Finished end) before note at.0 ends.comes (sym notes_are ∙ at.1)
 
-  stands : (before : List Note) (note : Note) → At (all_of rest) before note → ((e : End) → note ≡ Finished e → ⊥) → MayStand plan before note
+  stands : (before : List Note) (note : Note) → At (all_of rest) before note → ((e : End) → note ≡ Finished e → ⊥) → MayStand plan board before note
   stands before note at other =
       elim (comes_there before note at) [
         | inl may ↦ may
@@ -82,11 +90,11 @@ module _ (plan : Plan) (board : Blackboard) (limit : ℕ) where
             ap phase_after (sym parts.0) ∙ ends.quiet_end quiet'
       ]
 
-  pub run_goes_by_phases : GoesByPhases plan.floor board.world.notes (run plan board limit)
+  pub run_goes_by_phases : GoesByPhases plan board (run plan board limit)
   run_goes_by_phases = record {
     rest = rest;
     begins = ap (λ u. u.told ++ finish_segments u.end) begun ∙ ap (λ l. l ∷ rest) (append-nil (map Board board.world.notes));
-    board = λ before note at. stands before (Board note) at (λ e is. absurd cc);
+    notes = λ before note at. stands before (Board note) at (λ e is. absurd cc);
     choices = λ before cycle a r at. stands before (Chosen cycle a r) at (λ e is. absurd cc);
     ends = λ before steps found budget at. stands before (Ended steps found budget) at (λ e is. absurd cc);
     invalids = λ before number at. stands before (Invalid number) at (λ e is. absurd cc);

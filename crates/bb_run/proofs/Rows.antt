@@ -1,11 +1,12 @@
 -- Worked runs, computed on the definitions.
-use Rattle.std.proofs.Common.{◌≡◌, [], ◌∷◌, None, Some, refl, codes, true}
-use Rattle.std.specs.Prelude.{pos, ℤ}
+use Rattle.std.proofs.Common.{◌≡◌, ℕ, [], ◌∷◌, Option, None, Some, refl, codes, true, false}
+use Rattle.std.specs.Prelude.{pos, ℤ, List}
 use Rattle.bb_schema.specs.Schema.{Schema}
 use Rattle.bb_classes.specs.Inheritance.{climbs}
 use Rattle.bb_schema.specs.declared.slot.Content.TheVariants.{Default}
 use Rattle.bb_classes.specs.declared.value.Value.TheVariants.{Int, Text, Bool}
-use Rattle.bb_code.specs.Op.TheVariants.{PushText, Say, Done, Decline}
+use Rattle.bb_code.specs.Op.{Op}
+use Rattle.bb_code.specs.Op.TheVariants.{PushText, PushBool, PushInt, Say, Done, Decline, Rate, Answer}
 use Rattle.bb_trace.specs.Change.TheVariants.{Create}
 use Rattle.bb_trace.specs.ChangeKind.TheVariants as kinds
 use Rattle.bb_trace.specs.Event.TheVariants.{Change as happens, Quiescence}
@@ -15,21 +16,24 @@ use Rattle.bb_trace.specs.Board.{Board as Blackboard, new_board, with_world}
 use Rattle.bb_trace.specs.World.{after_create}
 use Rattle.bb_agenda.specs.declared.activation.Activation.{Activation}
 use Rattle.bb_basis.specs.Results.{try_map}
-use Rattle.bb_machine.specs.Machine.{pop_many, push, room}
+use Rattle.bb_machine.specs.Machine.{pop, pop_many, push, room}
 use Rattle.bb_machine.specs.Reading.{push_text}
 use Rattle.bb_machine.specs.Changing.{say}
+use Rattle.bb_machine.specs.Jumping.{answer, rate}
 use Rattle.bb_machine.specs.Step.{step}
 use Rattle.bb_machine.specs.Activation.{steps_from}
 use Rattle.bb_code.specs.CodeParts.{CodeParts}
-use Rattle.bb_verify.specs.PartType.TheVariants.{Do, Require}
+use Rattle.bb_verify.specs.PartType.{Part}
+use Rattle.bb_verify.specs.PartType.TheVariants.{Do, Require, Obviate, Retrigger, Revalidate}
+use Rattle.bb_verify.specs.Accepted.{Checked}
 use Rattle.bb_trace.specs.Clause.TheVariants as clause
 use Rattle.bb_trace.specs.Act.TheVariants.{Code}
+use Rattle.bb_trace.specs.Reaction.{Reaction}
 use Rattle.bb_trace.specs.Source.{Source}
-use Rattle.bb_trace.specs.declared.end.End.TheVariants as ends
-use Rattle.bb_trace.specs.declared.note.Note.TheVariants.{Board, Triggered, Declined, Chosen, Ended, Finished}
+use Rattle.bb_trace.specs.declared.note.Note.TheVariants.{Board, Triggered, Declined, Obviated, Retriggered, Chosen, Invalid, Ended}
 use Rattle.bb_trace.specs.Plan.{Plan}
-use Rattle.bb_run.specs.Processing.{response_by, processing_all}
-use Rattle.bb_run.specs.Run.{run, cycles}
+use Rattle.bb_run.specs.Processing.{reacting_to_each, response_by, processing_all}
+use Rattle.bb_run.specs.Run.{rating, start, cycle}
 
 note_schema : Schema
 note_schema = record {
@@ -65,21 +69,18 @@ one_note = with_world (new_board note_schema) (after_create (new_board note_sche
 waiting : Activation
 waiting = record { number = 1; source = 0; unit = 1; base = pos 100 }
 
-first_run : (run (plan (pos 0)) one_note 100).told ≡
-    (Board (noted.Event (happens 1 1 Create)) ∷ []) ∷ (Triggered waiting ∷ []) ∷ (Chosen 1 waiting (pos 100) ∷ [])
-    ∷ (Board (noted.Said (saids.Value (Text (codes "hello")) ∷ [])) ∷ Ended 3 0 3 ∷ []) ∷ (Board (noted.Event Quiescence) ∷ []) ∷ (Finished ends.Quiescence ∷ []) ∷ []
-unfolding plan hail hello note_schema one_note waiting climbs try_map room push push_text pop_many say step steps_from response_by processing_all cycles
-first_run = refl
+-- what the run of one note begins with
+begun : (start (plan (pos 0)) one_note).told ≡ (Board (noted.Event (happens 1 1 Create)) ∷ []) ∷ (Triggered waiting ∷ []) ∷ []
+unfolding plan hail hello note_schema one_note waiting climbs response_by processing_all
+begun = refl
 
-limit_zero : (run (plan (pos 0)) one_note 0).told ≡
-    (Board (noted.Event (happens 1 1 Create)) ∷ []) ∷ (Triggered waiting ∷ []) ∷ (Finished ends.Limit ∷ []) ∷ []
-unfolding plan hail hello note_schema one_note waiting climbs try_map room push push_text pop_many say step steps_from response_by processing_all cycles
-limit_zero = refl
-
-floor_above : (run (plan (pos 101)) one_note 100).told ≡
-    (Board (noted.Event (happens 1 1 Create)) ∷ []) ∷ (Triggered waiting ∷ []) ∷ (Board (noted.Event Quiescence) ∷ []) ∷ (Finished ends.Quiescence ∷ []) ∷ []
-unfolding plan hail hello note_schema one_note waiting climbs try_map room push push_text pop_many say step steps_from response_by processing_all cycles
-floor_above = refl
+-- its cycle, with the rating that the activation has then
+first_cycle : let s = (start (plan (pos 0)) one_note).state in
+    (cycle (plan (pos 0)) 1 waiting s).told ≡
+    (Chosen 1 waiting (rating (plan (pos 0)) s waiting) ∷ [])
+    ∷ (Board (noted.Said (saids.Value (Text (codes "hello")) ∷ [])) ∷ Ended 3 0 3 ∷ []) ∷ []
+unfolding plan hail hello note_schema one_note waiting climbs try_map room push push_text pop_many say step steps_from response_by processing_all
+first_cycle = refl
 
 -- a source that declines whatever triggers it
 decline : CodeParts
@@ -104,7 +105,68 @@ two_sources = record { schema = note_schema; sources = shy ∷ hail ∷ []; floo
 second : Activation
 second = record { number = 1; source = 1; unit = 1; base = pos 100 }
 
-declined_first : (run two_sources one_note 0).told ≡
-    (Board (noted.Event (happens 1 1 Create)) ∷ []) ∷ (Declined 0 1 ∷ Triggered second ∷ []) ∷ (Finished ends.Limit ∷ []) ∷ []
-unfolding two_sources shy decline hail hello note_schema one_note second climbs try_map room push push_text pop_many say step steps_from response_by processing_all cycles
+declined_first : (start two_sources one_note).told ≡ (Board (noted.Event (happens 1 1 Create)) ∷ []) ∷ (Declined 0 1 ∷ Triggered second ∷ []) ∷ []
+unfolding two_sources shy decline hail hello note_schema one_note second climbs step steps_from response_by processing_all
 declined_first = refl
+
+-- ---- what is asked about activations
+
+-- a code of so many locals without tables, accepted for a part
+asked : ℕ → List Op → Part → Checked
+asked locals ops part = record {
+  code = record { locals = locals; texts = []; queries = []; frames = []; loops = []; ops = ops };
+  part = part;
+  frames = [];
+}
+
+-- a reaction to each new note
+upon_note : List Op → Part → Reaction
+upon_note ops part = record { class = 1; clauses = clause.Change kinds.Create 1 ∷ []; code = asked 2 ops part }
+
+-- the source that hails each new note, with these reactions and this revalidation
+hailing : Option Reaction → Option Reaction → Option Checked → Plan
+hailing obviate retrigger revalidate = record {
+  schema = note_schema;
+  sources = record {
+    name = codes "hail";
+    class = 1;
+    rate = pos 100;
+    triggers = clause.Change kinds.Create 1 ∷ [];
+    require = None;
+    obviate = obviate;
+    retrigger = retrigger;
+    revalidate = revalidate;
+    act = Code (record { code = hello; part = Do 1; frames = [] });
+  } ∷ [];
+  floor = pos 0;
+}
+
+two_notes : Blackboard
+two_notes = with_world one_note (after_create one_note.world 1)
+
+-- the activation of the second note
+later : Activation
+later = record { number = 2; source = 0; unit = 2; base = pos 100 }
+
+-- the second note obviates the activation of the first, before it triggers one
+obviated_by_the_next : (start (hailing (Some (upon_note (PushBool true ∷ Answer ∷ []) (Obviate 1 1))) None None) two_notes).told ≡
+    (Board (noted.Event (happens 1 1 Create)) ∷ Board (noted.Event (happens 2 1 Create)) ∷ []) ∷ (Triggered waiting ∷ [])
+    ∷ (Obviated 1 ∷ Triggered later ∷ []) ∷ []
+unfolding hailing upon_note asked hello note_schema one_note two_notes waiting later climbs room push pop answer step steps_from reacting_to_each response_by processing_all
+obviated_by_the_next = refl
+
+-- the second note gives the activation of the first another base
+retriggered_by_the_next : (start (hailing None (Some (upon_note (PushInt (pos 7) ∷ Rate ∷ []) (Retrigger 1 1))) None) two_notes).told ≡
+    (Board (noted.Event (happens 1 1 Create)) ∷ Board (noted.Event (happens 2 1 Create)) ∷ []) ∷ (Triggered waiting ∷ [])
+    ∷ (Retriggered 1 (pos 7) ∷ Triggered later ∷ []) ∷ []
+unfolding hailing upon_note asked hello note_schema one_note two_notes waiting later climbs room push pop rate step steps_from reacting_to_each response_by processing_all
+retriggered_by_the_next = refl
+
+-- an activation that is of no use any more is not executed
+abbrev revalidated : Plan
+revalidated = hailing None None (Some (asked 1 (PushBool false ∷ Answer ∷ []) (Revalidate 1)))
+
+invalid_when_chosen : let s = (start revalidated one_note).state in
+    (cycle revalidated 1 waiting s).told ≡ (Chosen 1 waiting (rating revalidated s waiting) ∷ Invalid 1 ∷ []) ∷ []
+unfolding hailing asked hello note_schema one_note waiting climbs room push pop answer step steps_from response_by processing_all
+invalid_when_chosen = refl

@@ -7,6 +7,7 @@ use Rattle.bb_run.specs.declared.finish.Finish.{Finish}
 use Rattle.bb_run.specs.declared.finish.Finish.TheVariants as finishes
 use Rattle.bb_trace.specs.declared.halt.Halt.{Halt}
 use Rattle.bb_trace.specs.declared.halt.Halt.TheVariants as halts
+use Rattle.bb_trace.specs.declared.note.Note.{Note}
 use Rattle.bb_trace.specs.declared.note.Note.TheVariants.{Finished}
 use Rattle.bb_trace.specs.Plan.{Plan}
 use Rattle.bb_run.specs.Finish.{WritesFront, end_of, is_write}
@@ -23,6 +24,10 @@ use Rattle.bb_run.proofs.SegmentLemmas.{segment_added, all_written, page_cut, st
 -- nothing was told, and the page is empty
 pub nothing_written : (plan : Plan) (taken : Option (List ℕ)) (page : List ℕ) → page ≡ [] → HasWritten plan taken (at_page taken page) []
 nothing_written plan taken page empty = record { written = []; waiting = []; all = refl; appended = appends_none taken; page_is = empty }
+
+-- where memory runs out before anything is told, nothing is written
+pub none_written : (plan : Plan) (taken : Option (List ℕ)) (segments : List (List Note)) → WroteFirst plan taken taken segments
+none_written plan taken segments = record { first = []; rest = segments; all = refl; appended = appends_none taken }
 
 module _ (plan : Plan) (taken : Option (List ℕ)) (first : List ℕ) (here : Place) (p : Stretch) (end : End) where
   -- the last segment is the finish

@@ -1,10 +1,13 @@
 -- Why a run ends full or stuck.
-use Rattle.std.specs.Prelude.{◌≡◌, ◌⊎◌, ⊤, true, Contains, Option, Some, Err, option_map}
+use Rattle.std.specs.Prelude.{◌≡◌, ◌⊎◌, ℕ, ⊤, true, Contains, Option, Some, Err, option_map}
 use Rattle.bb_agenda.specs.Agenda.{is_full}
 use Rattle.bb_verify.specs.Accepted.{Checked}
 use Rattle.bb_machine.specs.Entry.{Entry}
 use Rattle.bb_machine.specs.Stop.{Stop}
+use Rattle.bb_machine.specs.Stop.TheVariants as stops
+use Rattle.bb_machine.specs.Stuck.{Stuck}
 use Rattle.bb_machine.specs.Stuck.TheVariants.{Missing}
+use Rattle.bb_machine.specs.Units.{is_full as no_unit_left}
 use Rattle.bb_trace.specs.Act.TheVariants as acts
 use Rattle.bb_trace.specs.Board.{Board as Blackboard, with_world}
 use Rattle.bb_trace.specs.World.{after_take}
@@ -14,7 +17,7 @@ use Rattle.bb_trace.specs.declared.end.End.{End}
 use Rattle.bb_trace.specs.declared.end.End.TheVariants as ends
 use Rattle.bb_trace.specs.Plan.{Plan}
 use Rattle.bb_run.specs.declared.state.State.{State}
-use Rattle.bb_run.specs.Asking.{attempt, end_by}
+use Rattle.bb_run.specs.Asking.{attempt}
 
 -- the code of a reaction
 abbrev pub code_of : Reaction → Checked
@@ -51,8 +54,12 @@ LacksNative plan = (source : Source) × Contains plan.sources source × (source.
 pub data Cause (plan : Plan) (s : State) : End → Type 0 where
   -- it is full where its agenda is
   of_agenda : is_full s.agenda ≡ true → Cause plan s ends.Full
-  -- it is full, or stuck, where its last execution was stopped so
-  of_execution : (stop : Stop) → WasStopped plan s.board stop → Cause plan s (end_by stop)
+  -- it is full where no unit can be created, and its last execution was stopped for that
+  of_units : (steps found : ℕ) → WasStopped plan s.board (stops.Full steps found)
+      → no_unit_left s.board.world.units ≡ true → Cause plan s ends.Full
+  -- it is stuck where its last execution was
+  of_execution : (reason : Stuck) (steps found : ℕ) → WasStopped plan s.board (stops.Stuck reason steps found)
+      → Cause plan s (ends.Stuck reason)
   -- it is stuck where there is no code to execute
   of_native : LacksNative plan → Cause plan s (ends.Stuck Missing)
 

@@ -4,6 +4,8 @@ pub mod State
 pub mod Told
 -- what a code of a source answers
 pub mod Asking
+-- the foci of a blackboard, and what the agenda is told of them
+pub mod Foci
 -- what an event brings about
 pub mod Processing
 -- the run
@@ -14,10 +16,14 @@ pub mod Order
 pub mod Asked
 -- the phases of a run
 pub mod Phases
+-- what comes after a choice
+pub mod Executed
 -- why a run ends full or stuck
 pub mod Causes
 -- what leaves the blackboard as it was
 pub mod Reads
+-- the foci that a run rates by
+pub mod Weighed
 -- how a run's answer tells its end, and what was written where it was cut short
 pub mod Finish
 -- for proofs alone

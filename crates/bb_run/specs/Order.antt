@@ -1,5 +1,5 @@
 -- What every run is like. Most of it is read off the notes alone.
-use Rattle.std.specs.Prelude.{◌≡◌, ◌⊎◌, ℕ, ◌+◌, ◌≤◌, ℤ, ◌≤ℤ◌, Bool, true, false, ◌==◌, Some, None}
+use Rattle.std.specs.Prelude.{◌≡◌, ◌⊎◌, ℕ, ◌+◌, ◌≤◌, ◌<◌, ℤ, ◌≤ℤ◌, Bool, true, false, ◌==◌, Some, None}
 use Rattle.std.specs.Prelude.{List, [], ◌∷◌, ◌++◌, length, map, filter, Contains}
 use Rattle.std.specs.List.{count_by, flat_map, fold, list_any}
 use Rattle.bb_agenda.specs.declared.activation.Activation.{Activation}
@@ -158,6 +158,8 @@ pub record IsChosenAfter (plan : Plan) (run : Stretch) (before : List Note) (a :
   pub rated : r ≡ rating plan run.state a
   -- nothing that is pending there is rated higher, and of equals it is the earliest
   pub best : IsChosen (rating plan run.state) plan.floor (pending_of run.state.agenda) a
+  -- its source is one of the plan
+  pub source_there : a.source < length plan.sources
 
 -- ---- how runs of two limits compare
 

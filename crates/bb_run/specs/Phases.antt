@@ -2,15 +2,17 @@
 use Rattle.std.specs.Prelude.{◌≡◌, ◌⊎◌, ℕ, ℤ, None, List, ◌∷◌, map}
 use Rattle.std.specs.List.{fold}
 use Rattle.bb_agenda.specs.declared.activation.Activation.{Activation}
-use Rattle.bb_agenda.specs.Rating as base
 use Rattle.bb_agenda.specs.Chosen.{chosen}
 use Rattle.bb_trace.specs.Event.TheVariants.{Quiescence as quiescence}
+use Rattle.bb_trace.specs.Board.{Board as Blackboard}
 use Rattle.bb_trace.specs.BoardNote.{Note as BoardNote}
 use Rattle.bb_trace.specs.BoardNote.TheVariants.{Event as happened}
 use Rattle.bb_trace.specs.declared.end.End.TheVariants as finishes
 use Rattle.bb_trace.specs.declared.note.Note.{Note}
 use Rattle.bb_trace.specs.declared.note.Note.TheVariants.{Board, Chosen, Invalid, Ended, Finished}
+use Rattle.bb_trace.specs.Plan.{Plan}
 use Rattle.bb_run.specs.Told.{Stretch}
+use Rattle.bb_run.specs.Run.{rating, run as run_of}
 use Rattle.bb_run.specs.Order.{At, all_of, pending_after}
 
 -- where a run is
@@ -42,21 +44,22 @@ abbrev pub phase_after : List Note → Phase
 phase_after notes = fold after_in outside notes
 
 -- quiescence comes in its turn
-pub record IsQuiet (floor : ℤ) (before : List Note) (note : BoardNote) : Type 0 where
+pub record IsQuiet (plan : Plan) (board : Blackboard) (before : List Note) (note : BoardNote) : Type 0 where
   pub is : note ≡ happened quiescence
   -- no cycle is open, and quiescence has not come since the last
   pub phase : phase_after before ≡ outside
-  -- nothing that is pending can be chosen
-  pub nothing : chosen base.rating floor (pending_after before) ≡ None
+  -- nothing that is pending can be chosen, rated as in the last state of the run that makes no more cycles than were made
+  pub made : ℕ
+  pub nothing : chosen (rating plan (run_of plan board made).state) plan.floor (pending_after before) ≡ None
 
 -- what the blackboard had noted is told first; after that the run goes by its phases
-pub record GoesByPhases (floor : ℤ) (noted : List BoardNote) (run : Stretch) : Type 0 where
+pub record GoesByPhases (plan : Plan) (board : Blackboard) (run : Stretch) : Type 0 where
   pub rest : List (List Note)
   -- the first segment is what had been noted
-  pub begins : run.told ≡ map Board noted ∷ rest
+  pub begins : run.told ≡ map Board board.world.notes ∷ rest
   -- after it a note of the blackboard comes in a cycle, or is quiescence in its turn
-  pub board : (before : List Note) (note : BoardNote) → At (all_of rest) before (Board note)
-      → (phase_after before ≡ inside) ⊎ IsQuiet floor before note
+  pub notes : (before : List Note) (note : BoardNote) → At (all_of rest) before (Board note)
+      → (phase_after before ≡ inside) ⊎ IsQuiet plan board before note
   -- a cycle begins where none is open
   pub choices : (before : List Note) (cycle : ℕ) (a : Activation) (r : ℤ) → At (all_of rest) before (Chosen cycle a r)
       → (phase_after before ≡ outside) ⊎ (phase_after before ≡ rested)

@@ -6,9 +6,9 @@ use Rattle.bb_trace.specs.BoardNote.TheVariants.{Event as happened}
 use Rattle.bb_trace.specs.Board.{Board as Blackboard, with_world}
 use Rattle.bb_trace.specs.World.{after_take}
 use Rattle.bb_agenda.specs.declared.activation.Activation.{Activation}
-use Rattle.bb_agenda.specs.Agenda.{no_activations, pending_of}
+use Rattle.bb_agenda.specs.Agenda.{pending_of}
 use Rattle.bb_agenda.specs.Changes.{with_executed, with_obviated}
-use Rattle.bb_agenda.specs.Rating as base
+use Rattle.bb_agenda.specs.Rating.{rating_in}
 use Rattle.bb_agenda.specs.Chosen.{chosen}
 use Rattle.bb_code.specs.Code.{Code}
 use Rattle.bb_verify.specs.Accepted.{Checked}
@@ -32,13 +32,14 @@ use Rattle.bb_run.specs.declared.asking.Reply.TheVariants as replies
 use Rattle.bb_run.specs.declared.execution.Verdict.{Verdict}
 use Rattle.bb_run.specs.declared.execution.Verdict.TheVariants as verdicts
 use Rattle.bb_run.specs.State.{with_board, with_agenda}
+use Rattle.bb_run.specs.Foci.{told_notes, with_foci, first_agenda}
 use Rattle.bb_run.specs.Told.{Response, Stretch, telling, idle, over, after_told, and_then, segment}
 use Rattle.bb_run.specs.Asking.{attempt, end_by, entry_of, reply_by}
 use Rattle.bb_run.specs.Processing.{response, reported}
 
--- the rating of an activation in a state: its base
+-- the rating of an activation in a state: its base, and the weights of the foci that match
 abbrev pub rating : Plan → State → Activation → ℤ
-rating plan s a = base.rating a
+rating plan s a = rating_in s.agenda a
 
 -- the activation that is chosen, if one can be
 abbrev pub choice : Plan → State → Option Activation
@@ -57,9 +58,12 @@ wait_for plan s (Some a) = idle s
 abbrev pub wait : Plan → State → Stretch
 wait plan s = wait_for plan s (choice plan s)
 
--- the blackboard's notes are taken
+-- the blackboard's notes are taken, and the agenda is told of the units that they name
 abbrev pub with_notes_taken : State → State
-with_notes_taken s = with_board s (with_world s.board (after_take s.board.world))
+with_notes_taken s = record {
+  board = with_world s.board (after_take s.board.world);
+  agenda = with_foci s.agenda (told_notes s.board.schema s.board.world.units s.board.world.notes s.agenda.foci);
+}
 
 -- what the blackboard noted is told, and what more there is to tell
 abbrev pub noted : State → List Note → Option End → Response
@@ -133,9 +137,13 @@ cycles plan made (suc left) s =
     and_then (wait plan s) (λ t. if_chosen t (choice plan t)
     (λ a. and_then (cycle plan (made + 1) a t) (cycles plan (made + 1) left)))
 
+-- the state that a run begins with
+abbrev pub first_state : Plan → Blackboard → State
+first_state plan board = record { board = board; agenda = first_agenda plan board }
+
 -- what the first units' creation noted is told, and its events are processed
 abbrev pub start : Plan → Blackboard → Stretch
-start plan board = reported plan (noted (record { board = board; agenda = no_activations }) [] None)
+start plan board = reported plan (noted (first_state plan board) [] None)
 
 -- the segment that tells the end, if there is one
 abbrev pub finish_segments : Option End → List (List Note)

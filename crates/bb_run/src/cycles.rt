@@ -2,7 +2,7 @@
 
 ghost use Rattle.std.specs.Prelude.{◌≡◌, [], Some, IfOk, IfSome, false, option_and_then, option_map, slice_get};
 ghost use Rattle.std.specs.Io.KnownBytes.{Appends};
-ghost use Rattle.bb_agenda.specs.Agenda.{no_activations};
+ghost use Rattle.bb_run.specs.Foci.{first_agenda};
 ghost use Rattle.bb_trace.specs.Page.{stopped_by_write};
 ghost use Rattle.bb_trace.specs.TraceText.{trace_text};
 ghost use Rattle.bb_run.specs.Finish.{WritesFront, end_of, is_write};
@@ -11,12 +11,13 @@ ghost use Rattle.bb_run.specs.proving.Telling.{Finishes, Makes, Same, Waits, Wri
 
 use crate::execution::{Verdict, execute, take_choice, take_noted, validate};
 use crate::finish::Finish;
+use crate::foci::{rated_sources, tell_all};
 use crate::state::State;
 use crate::teller::Teller;
 use bb_agenda::{Activation, Agenda};
 use bb_trace::{Board, End, Halt, Note, Out, Page, Plan, Source};
 use bb_verify::Checked;
-use std::alloc::Global;
+use std::alloc::{AllocError, Global};
 
 /// What comes before a cycle: an activation is chosen, or the run is over.
 #[derive(Clone, Copy, Debug)]
@@ -156,7 +157,7 @@ impl<O: Out> Teller<'_, O> {
     // Tells what the first units' creation noted, and processes its events.
     fn begin(&mut self, plan: &Plan, state: &mut State) -> Result<Option<End>, Halt>
         requires open { O.has_failed self.old.out.now ≡ false }
-        requires new { state.old.agenda ≡ no_activations }
+        requires new { state.old.agenda ≡ first_agenda plan.now state.old.board }
         ensures same { Same self.old self.new }
         ensures made { Makes plan.now (at O.taken self.old) (at O.taken self.new)
             (start plan.now state.old.board) state.new result }
@@ -170,7 +171,7 @@ impl<O: Out> Teller<'_, O> {
     // Makes the whole run but for its last segment.
     fn run_unfinished(&mut self, plan: &Plan, limit: u64, state: &mut State) -> Result<End, Halt>
         requires open { O.has_failed self.old.out.now ≡ false }
-        requires new { state.old.agenda ≡ no_activations }
+        requires new { state.old.agenda ≡ first_agenda plan.now state.old.board }
         ensures same { Same self.old self.new }
         ensures made { Finishes plan.now (at O.taken self.old) (at O.taken self.new)
             (unfinished plan.now state.old.board limit) state.new result }
@@ -185,7 +186,7 @@ impl<O: Out> Teller<'_, O> {
     // Makes the whole run, and writes all of its text.
     fn make_run(&mut self, plan: &Plan, limit: u64, state: &mut State) -> Result<End, Halt>
         requires open { O.has_failed self.old.out.now ≡ false }
-        requires new { state.old.agenda ≡ no_activations }
+        requires new { state.old.agenda ≡ first_agenda plan.now state.old.board }
         requires empty { self.old.page.now ≡ [] }
         ensures same { Same self.old self.new }
         ensures end { IfOk result (λ end. (run plan.now state.old.board limit).end ≡ Some end) }
@@ -198,6 +199,16 @@ impl<O: Out> Teller<'_, O> {
         self.page.flush(self.out)?;
         Ok(end)
     }
+}
+
+// The agenda that a run begins with: nothing is pending, and it was told of the foci that the blackboard has.
+fn first_agenda(alloc: Global, plan: &Plan, board: &Board) -> Result<Agenda, AllocError>
+    ensures { IfOk result (λ agenda. agenda ≡ first_agenda plan.now board.now) }
+{
+    let sources = rated_sources(alloc, plan.sources())?;
+    let mut agenda = Agenda::new(alloc, plan.shared_schema()?, sources);
+    tell_all(&mut agenda, board)?;
+    Ok(agenda)
 }
 
 // Makes the whole run, and writes all of its text.
@@ -214,10 +225,8 @@ fn write_run<O: Out>(
     ensures failed { O.has_failed out.new ≡ stopped_by_write result }
 {
     let mut page = Page::new(alloc);
-    let mut state = State {
-        board,
-        agenda: Agenda::new(alloc),
-    };
+    let agenda = first_agenda(alloc, plan, &board)?;
+    let mut state = State { board, agenda };
     let mut teller = Teller {
         page: &mut page,
         out,

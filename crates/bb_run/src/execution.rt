@@ -2,7 +2,7 @@
 //! (cycles.rt) has the notes told.
 
 ghost use Rattle.std.specs.Prelude.{◌≡◌, ◌++◌, IfOk, Option, map, option_map};
-ghost use Rattle.bb_agenda.specs.Rating as base;
+ghost use Rattle.bb_agenda.specs.Rating.{rating_in};
 ghost use Rattle.bb_trace.specs.Act.TheVariants.{Code};
 ghost use Rattle.bb_trace.specs.declared.end.End.{End};
 ghost use Rattle.bb_trace.specs.declared.note.Note.TheVariants.{Board as BoardNote};
@@ -10,6 +10,7 @@ ghost use Rattle.bb_run.specs.Run.{chosen_with, execution, noted, validity, verd
 ghost use Rattle.bb_run.specs.proving.Telling.{IsResponse, Validates, option_list};
 
 use crate::asking::{Reply, ask, attempt, entry_of};
+use crate::foci::tell_notes;
 use crate::state::State;
 use bb_agenda::Activation;
 use bb_machine::{Answer, Stop, Stuck};
@@ -38,7 +39,8 @@ fn add_board_notes(notes: &mut Vec<Note>, noted: Vec<Noted>) -> Result<(), Alloc
     Ok(())
 }
 
-/// Takes what the blackboard noted: appends it to the notes, and one note more if there is one.
+/// Takes what the blackboard noted: tells the agenda of the units that it names, and appends it to the notes, and one
+/// note more if there is one.
 pub(crate) fn take_noted(
     state: &mut State,
     last: Option<Note>,
@@ -47,7 +49,9 @@ pub(crate) fn take_noted(
     ensures { IfOk result (λ _. (end : Option End) →
         IsResponse (noted state.old (option_list last) end) notes.old.items notes.new.items state.new end) }
 {
-    add_board_notes(notes, state.board.take_notes())?;
+    let noted = state.board.take_notes();
+    tell_notes(&mut state.agenda, &state.board, &noted)?;
+    add_board_notes(notes, noted)?;
     if let Some(note) = last {
         notes.push(note)?;
     }
@@ -94,11 +98,11 @@ pub(crate) fn take_choice(
     notes: &mut Vec<Note>,
 ) -> Result<Option<End>, AllocError>
     ensures { IfOk result (IsResponse
-        (chosen_with cycle activation (base.rating activation) verdict state.old)
+        (chosen_with cycle activation (rating_in state.old.agenda activation) verdict state.old)
         notes.old.items notes.new.items state.new) }
 {
     let number = activation.number;
-    let rating = activation.rating();
+    let rating = state.agenda.rating_of(&activation);
     notes.push(Note::Chosen {
         cycle,
         activation,

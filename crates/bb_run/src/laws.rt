@@ -1,6 +1,6 @@
 //! What holds of every run. No code calls it: it says what the runs are like that `run_texts` tells.
 
-ghost use Rattle.std.specs.Prelude.{ℕ, ◌+◌, ◌-◌, ℤ, List};
+ghost use Rattle.std.specs.Prelude.{◌≡◌, ℕ, ◌+◌, ◌-◌, ℤ, List, ◌∷◌, ◌++◌};
 ghost use Rattle.bb_agenda.specs.declared.activation.Activation.{Activation};
 ghost use Rattle.bb_trace.specs.Board.{Board};
 ghost use Rattle.bb_trace.specs.declared.note.Note.{Note};
@@ -10,9 +10,11 @@ ghost use Rattle.bb_run.specs.Run.{run};
 ghost use Rattle.bb_run.specs.Order.{notes_of, At, IsCounted, ActsOnPending, ExecutesInTurn, IsFinished, KeepsLimit};
 ghost use Rattle.bb_run.specs.Order.{Extends, IsChosenAfter};
 ghost use Rattle.bb_run.specs.Asked.{IsAnswered};
+ghost use Rattle.bb_run.specs.Executed.{IsFollowed};
 ghost use Rattle.bb_run.specs.Phases.{GoesByPhases};
 ghost use Rattle.bb_run.specs.Causes.{HasCause};
 ghost use Rattle.bb_run.specs.Reads.{AsksByReading, LeavesBoard};
+ghost use Rattle.bb_run.specs.Weighed.{KnowsFoci, NumbersGiven};
 
 /// What every run is like, whatever the plan, the first state of the blackboard and the limit.
 ///
@@ -23,8 +25,9 @@ ghost use Rattle.bb_run.specs.Reads.{AsksByReading, LeavesBoard};
 ///   choice and the end of its cycle, or it is quiescence, which comes where nothing can be chosen, and not twice
 ///   without a choice between; and a run that finishes by quiescence has told it, and made no choice after it.
 /// - `finish`: a run has an end, and tells it last and once.
-/// - `causes`: a run is full only where its agenda is full in its last state, or its last execution was stopped for
-///   want of units; it is stuck only where its last execution was, or where a source has a native for its act.
+/// - `causes`: a run is full only where its agenda is full in its last state, or where no unit can be created there and
+///   its last execution was stopped for that; it is stuck only where its last execution was, or where a source has a
+///   native for its act.
 /// - `limit`: a run makes no more cycles than its limit. Where it ends by that it made as many, and something can be
 ///   chosen still; where it ends in quiescence nothing can be chosen.
 /// - `answered`: sources are triggered as the events ask for it. At each choice, and at a finish by quiescence or by
@@ -36,6 +39,11 @@ ghost use Rattle.bb_run.specs.Reads.{AsksByReading, LeavesBoard};
 ///   another.
 /// - `choices`: up to the choice of a cycle a run is the run whose limit is one less, and in the last state of that
 ///   run the activation is chosen: nothing that is pending there is rated higher, and of equals it is the earliest.
+/// - `followed`: right after a choice comes what its source's act tells of the activation's unit, executed on the
+///   blackboard of that last state: what the blackboard notes, and the end of the execution, or the finish. Where the
+///   source's revalidation says no there, it is that the activation is invalid.
+/// - `weighed`: in the last state of a run, and so at each choice, the foci by which activations are rated are those
+///   that the blackboard then has, where no code that a source asks writes.
 pub fn runs_are_orderly()
     ensures counted { (plan : Plan) (board : Board) (limit : ℕ) → IsCounted (notes_of (run plan board limit)) }
     ensures pending { (plan : Plan) (board : Board) (limit : ℕ) →
@@ -43,7 +51,7 @@ pub fn runs_are_orderly()
     ensures executions { (plan : Plan) (board : Board) (limit : ℕ) →
         ExecutesInTurn (notes_of (run plan board limit)) }
     ensures phases { (plan : Plan) (board : Board) (limit : ℕ) →
-        GoesByPhases plan.floor board.world.notes (run plan board limit) }
+        GoesByPhases plan board (run plan board limit) }
     ensures finish { (plan : Plan) (board : Board) (limit : ℕ) → IsFinished (run plan board limit) }
     ensures causes { (plan : Plan) (board : Board) (limit : ℕ) →
         HasCause plan (run plan board limit).state (run plan board limit).end }
@@ -57,4 +65,10 @@ pub fn runs_are_orderly()
         (before : List Note) (cycle : ℕ) (a : Activation) (r : ℤ) →
         At (notes_of (run plan board limit)) before (Chosen cycle a r) →
         IsChosenAfter plan (run plan board (cycle - 1)) before a r }
+    ensures followed { (plan : Plan) (board : Board) (limit : ℕ)
+        (before after : List Note) (cycle : ℕ) (a : Activation) (r : ℤ) →
+        notes_of (run plan board limit) ≡ before ++ Chosen cycle a r ∷ after →
+        IsFollowed plan (run plan board (cycle - 1)).state a after }
+    ensures weighed { (plan : Plan) (board : Board) (limit : ℕ) → AsksByReading plan → NumbersGiven board →
+        KnowsFoci plan (run plan board limit).state }
 {}

@@ -6,6 +6,7 @@ mod asking;
 mod cycles;
 mod execution;
 mod finish;
+mod foci;
 mod laws;
 mod processing;
 mod reacting;

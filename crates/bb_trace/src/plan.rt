@@ -1,8 +1,8 @@
 //! What a run goes by. The meaning of an input (bb_shell) has it, and every part of the run reads it.
 
-ghost use Rattle.std.specs.Prelude.{◌≡◌, ◌≤◌, length};
+ghost use Rattle.std.specs.Prelude.{◌≡◌, ◌≤◌, IfOk, length};
 
-use bb_basis::Items;
+use bb_basis::{Items, Memory};
 use bb_board::SharedSchema;
 use bb_rules::Source;
 use bb_schema::Schema;
@@ -52,6 +52,13 @@ impl Plan {
         ensures { result.now ≡ self.now.schema }
     {
         self.schema.get()
+    }
+
+    /// The schema, for one more owner.
+    pub fn shared_schema(&self) -> Result<SharedSchema, Memory>
+        ensures { IfOk result (λ shared. shared ≡ self.now.schema) }
+    {
+        self.schema.share()
     }
 
     /// The sources in their order, 256 at most.

@@ -3,10 +3,11 @@
 ghost use Rattle.std.specs.Prelude.{◌≡◌, IsErr, IfErr, IsTrue, OnOk, OnErr, Err, true, false, if◌then◌else◌};
 ghost use Rattle.bb_basis.specs.Results.{Gives};
 ghost use Rattle.bb_agenda.specs.Changes.{with_activation, with_executed, with_obviated, with_base, when_refused};
-ghost use Rattle.bb_agenda.specs.Changes.{added_number, after_add_fault};
+ghost use Rattle.bb_agenda.specs.Changes.{with_focus, without_focus, added_number, after_add_fault};
 
 use crate::agenda::Agenda;
 use crate::fault::AddFault;
+use crate::focus::Focus;
 use bb_basis::Memory;
 use bb_schema::UnitId;
 use std::alloc::AllocError;
@@ -80,6 +81,29 @@ impl Agenda {
     {
         self.guard()?;
         self.waiting.rerate(number, base);
+        Ok(())
+    }
+    /// The focus of a unit is now this one, in place of the one that it had. `Memory`: this change was refused, or one
+    /// before it.
+    pub fn focus_set(&mut self, unit: UnitId, focus: Focus) -> Result<(), Memory>
+        ensures ok { OnOk result (self.new ≡ with_focus self.old unit focus) }
+        ensures err { OnErr result (self.new ≡ when_refused self.old) }
+        ensures closed { IsTrue self.old.refused → IsErr result }
+    {
+        self.guard()?;
+        let changed = self.put_focus(unit, focus);
+        self.keep(changed.is_err());
+        changed
+    }
+
+    /// A unit has no focus any more; nothing changes if it had none. `Memory`: a change before this one was refused.
+    pub fn focus_gone(&mut self, unit: UnitId) -> Result<(), Memory>
+        ensures ok { OnOk result (self.new ≡ without_focus self.old unit) }
+        ensures err { OnErr result (self.new ≡ when_refused self.old) }
+        ensures closed { IsTrue self.old.refused → IsErr result }
+    {
+        self.guard()?;
+        self.steering.foci.remove(unit);
         Ok(())
     }
 }

@@ -1,12 +1,13 @@
-//! The two changes of an agenda that can want memory, where it was refused to none before. `changes` calls them.
+//! The three changes of an agenda that can want memory, where it was refused to none before. `changes` calls them.
 
 ghost use Rattle.std.specs.Prelude.{◌≡◌, OnOk, OnErr};
 ghost use Rattle.bb_basis.specs.Results.{Gives};
-ghost use Rattle.bb_agenda.specs.Changes.{added_number, with_activation, with_obviated};
+ghost use Rattle.bb_agenda.specs.Changes.{added_number, with_activation, with_obviated, with_focus};
 
 use crate::activation::Activation;
 use crate::agenda::Agenda;
 use crate::fault::AddFault;
+use crate::focus::Focus;
 use bb_basis::Memory;
 use bb_schema::UnitId;
 
@@ -42,5 +43,12 @@ impl Agenda {
         self.obviated.insert(number)?;
         self.waiting.remove(number);
         Ok(())
+    }
+    /// Sets the focus of a unit. An error changes nothing.
+    pub(crate) fn put_focus(&mut self, unit: UnitId, focus: Focus) -> Result<(), Memory>
+        ensures ok { OnOk result (self.new ≡ with_focus self.old unit focus) }
+        ensures err { OnErr result (self.new ≡ self.old) }
+    {
+        self.steering.foci.set(unit, focus)
     }
 }

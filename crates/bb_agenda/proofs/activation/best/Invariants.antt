@@ -4,4 +4,4 @@ use Rattle.bb_agenda.specs.Rating.{rating}
 use Rattle.bb_agenda.proofs.activation.best.Given as goal
 
 abbrev pub invariant-loop-activation : goal.invariant-loop-activation
-invariant-loop-activation l = BestOf rating l.fn.floor (take l.activation-index l.pending) l.best
+invariant-loop-activation l = BestOf (rating l.steering.setting.schema l.steering.setting.sources l.steering.foci) l.fn.floor (take l.activation-index l.pending) l.best

@@ -12,7 +12,7 @@ invariant_of-self c =
 
 pub returns-clause-ok : goal.returns-clause-ok
 returns-clause-ok c =
-    let of_given : List Entry → Agenda = λ l. record { given = l; refused = c.self.inside.refused } in
+    let of_given : List Entry → Agenda = λ l. record { given = l; foci = c.self.inside.steering.foci; setting = c.self.inside.steering.setting; refused = c.self.inside.refused } in
     ap (λ (l : List Activation). of_given (entries_of c.self.inside.given l c.self.inside.obviated.keys)) c.remove.ensures
     ∙ ap of_given (executed_kept c.self.inside.given c.self.inside.waiting c.self.inside.obviated.keys c.args.number)
     ∙ ap (λ (a : Agenda). with_executed a c.args.number) c.self.view_is

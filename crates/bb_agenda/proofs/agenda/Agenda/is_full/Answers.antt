@@ -10,4 +10,4 @@ pub returns-else-len-ge-PENDING_LIMIT : goal.returns-else-len-ge-PENDING_LIMIT
 returns-else-len-ge-PENDING_LIMIT c =
     let few = lt-leb PENDING_LIMIT (length c.self.inside.waiting) (omega (arith, c.len.ensures, c.if-len-ge-PENDING_LIMIT.false)) in
     ap (λ b. b || nat_le NUMBER_LIMIT c.self.inside.given) (sym few)
-    ∙ sym (full_kept c.self.inside.given c.self.inside.waiting c.self.inside.obviated.keys c.self.inside.refused c.self.invariant) ∙ ap is_full c.self.view_is
+    ∙ sym (full_kept c.self.inside.given c.self.inside.waiting c.self.inside.obviated.keys c.self.inside.steering.foci c.self.inside.steering.setting c.self.inside.refused c.self.invariant) ∙ ap is_full c.self.view_is

@@ -1,7 +1,4 @@
-use Rattle.std.proofs.Common.{rules, Some, ◌≡◌, subst}
-use Rattle.std.specs.Prelude.{Contains}
-use Rattle.bb_agenda.specs.declared.activation.Activation.{Activation}
-use Rattle.bb_agenda.specs.Agenda.{Agenda, pending_at, pending_for}
+use Rattle.std.proofs.Common.{subst}
 use Rattle.bb_agenda.specs.Fits.{Fits}
 use Rattle.bb_agenda.proofs.FoundLemmas.{pending_for_itself}
 use Rattle.bb_agenda.proofs.KeptLemmas.{fits_kept}
@@ -9,5 +6,5 @@ use Rattle.bb_agenda.proofs.agenda.Agenda.pending_for.Goals as goal
 
 pub returns-clause-itself : goal.returns-clause-itself
 returns-clause-itself c =
-    let fits : Fits c.args.self.now = subst Fits c.self.view_is (fits_kept c.self.inside.given c.self.inside.waiting c.self.inside.obviated.keys c.self.inside.refused c.self.invariant c.of_source.ensures.rising) in
+    let fits : Fits c.args.self.now = subst Fits c.self.view_is (fits_kept c.self.inside.given c.self.inside.waiting c.self.inside.obviated.keys c.self.inside.steering.foci c.self.inside.steering.setting c.self.inside.refused c.self.invariant c.of_source.ensures.rising) in
     pending_for_itself c.args.self.now fits c.args.source

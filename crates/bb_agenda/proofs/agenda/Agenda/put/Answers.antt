@@ -10,7 +10,7 @@ use Rattle.bb_agenda.proofs.agenda.Agenda.put.Goals as goal
 
 pub overflow_add-number : goal.overflow_add-number
 overflow_add-number c =
-    let lt = more_numbers c.self.inside.given c.self.inside.waiting c.self.inside.obviated.keys c.self.inside.refused c.self.invariant (ap is_full c.self.view_is ∙ sym c.if-is_full.ensures) in
+    let lt = more_numbers c.self.inside.given c.self.inside.waiting c.self.inside.obviated.keys c.self.inside.steering.foci c.self.inside.steering.setting c.self.inside.refused c.self.invariant (ap is_full c.self.view_is ∙ sym c.if-is_full.ensures) in
     search rules
 
 pub push-requires : goal.push-requires
@@ -32,7 +32,7 @@ pub returns-clause-added : goal.returns-clause-added
 returns-clause-added c =
     let a : Activation = record { number = c.self.inside.given + 1; source = c.args.source; unit = c.args.unit; base = to_z w64 (of_z w64 c.args.base) } in
     let of_base : ℤ → Activation = λ z. record { number = c.self.inside.given + 1; source = c.args.source; unit = c.args.unit; base = z } in
-    let of_waiting : List Activation → Agenda = λ l. record { given = entries_of (c.self.inside.given + 1) l c.self.inside.obviated.keys; refused = c.self.inside.refused } in
+    let of_waiting : List Activation → Agenda = λ l. record { given = entries_of (c.self.inside.given + 1) l c.self.inside.obviated.keys; foci = c.self.inside.steering.foci; setting = c.self.inside.steering.setting; refused = c.self.inside.refused } in
     ap of_waiting c.in_ok-push.ensures.ok
-    ∙ added_kept c.self.inside.given c.self.inside.waiting c.self.inside.obviated.keys c.self.invariant a refl c.self.inside.refused c.args.source c.args.unit c.args.base (ap of_base (to_z-of_z w64 c.args.base c.ranges.base))
+    ∙ added_kept c.self.inside.given c.self.inside.waiting c.self.inside.obviated.keys c.self.invariant a refl c.self.inside.steering.foci c.self.inside.steering.setting c.self.inside.refused c.args.source c.args.unit c.args.base (ap of_base (to_z-of_z w64 c.args.base c.ranges.base))
     ∙ ap (λ (g : Agenda). with_activation g c.args.source c.args.unit c.args.base) c.self.view_is

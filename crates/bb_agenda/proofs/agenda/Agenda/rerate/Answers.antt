@@ -15,7 +15,7 @@ invariant_of-self c =
 pub returns-clause-ok : goal.returns-clause-ok
 returns-clause-ok c =
     let made = c.rerate.ensures ∙ ap (λ (z : ℤ). map (rebased c.args.number z) c.self.inside.waiting) (to_z-of_z w64 c.args.base c.ranges.base) in
-    let of_given : List Entry → Agenda = λ l. record { given = l; refused = c.self.inside.refused } in
+    let of_given : List Entry → Agenda = λ l. record { given = l; foci = c.self.inside.steering.foci; setting = c.self.inside.steering.setting; refused = c.self.inside.refused } in
     ap (λ (l : List Activation). of_given (entries_of c.self.inside.given l c.self.inside.obviated.keys)) made
     ∙ ap of_given (rebased_kept c.self.inside.given c.self.inside.waiting c.self.inside.obviated.keys c.args.number c.args.base)
     ∙ ap (λ (a : Agenda). with_base a c.args.number c.args.base) c.self.view_is

@@ -8,7 +8,7 @@ use Rattle.bb_agenda.proofs.agenda.Agenda.take_off.Goals as goal
 
 pub returns-then-not-has-clause-ok : goal.returns-then-not-has-clause-ok
 returns-then-not-has-clause-ok c =
-    let of_given : List Entry → Agenda = λ l. record { given = l; refused = c.self.inside.refused } in
+    let of_given : List Entry → Agenda = λ l. record { given = l; foci = c.self.inside.steering.foci; setting = c.self.inside.steering.setting; refused = c.self.inside.refused } in
     let absent = is_absent (find (has_number c.args.number) c.self.inside.waiting) (sym c.if-not-has.ensures) in
     sym c.self.view_is ∙ ap of_given (absent_kept c.self.inside.given c.self.inside.waiting c.self.inside.obviated.keys c.args.number (λ _. obviated) absent)
     ∙ ap (λ (a : Agenda). with_obviated a c.args.number) c.self.view_is
@@ -21,7 +21,7 @@ invariant_of-self-2 c =
 
 pub returns-clause-ok : goal.returns-clause-ok
 returns-clause-ok c =
-    let of_given : List Entry → Agenda = λ l. record { given = l; refused = c.self.inside.refused } in
+    let of_given : List Entry → Agenda = λ l. record { given = l; foci = c.self.inside.steering.foci; setting = c.self.inside.steering.setting; refused = c.self.inside.refused } in
     let there = is_there (find (has_number c.args.number) c.self.inside.waiting) (sym c.if-not-has.ensures) in
     ap (λ (l : List Activation). of_given (entries_of c.self.inside.given l c.insert.new.self.keys)) c.remove.ensures
     ∙ ap of_given (obviated_kept c.self.inside.given c.self.inside.waiting c.self.inside.obviated.keys c.insert.new.self.keys c.args.number there.0 there.1 c.in_ok-insert.ensures.updates.0)

@@ -1,0 +1,303 @@
+-- The agenda has the foci of the blackboard, at each choice as at the end.
+use Rattle.std.proofs.Common.{◌≡◌, ◌<◌, ◌≤◌, ◌⊎◌, inl, inr, ℕ, zero, suc, ◌+◌, ℤ, Bool, true, false, cond, List, [], ◌∷◌, ◌++◌, length, slice_get, Option, Some, None, option_map, Result, Ok, Err, refl, sym, ap, subst, ◌∙◌, arith}
+use Rattle.std.specs.Prelude.{◌||◌, Contains, option_and_then, is_some}
+use Rattle.std.specs.List.{fold, list_any, range_with_len}
+use Rattle.std.specs.Option.{option_map_or}
+use Rattle.std.specs.Ordering.{nat_cmp, eq_by_cmp}
+use Rattle.std.specs.Cmp.{nat_cmp_total, nat_cmp_is, Equal-is}
+use Rattle.std.specs.FinMap as fin
+use Rattle.std.specs.FinMap.{get, get-insert, get-remove, get-empty, nat_cmp-IsAntisymmetric}
+use Rattle.std.specs.declared.cmp.Ordering.TheVariants.{Equal}
+use Rattle.std.proofs.Math.Nat.{eq-or-lt_of_le}
+use Rattle.std.proofs.lemmas.Bool.{cases_lt, eqb-true}
+use Rattle.std.proofs.lemmas.Option.{slice_get_within, get_or_from_slice_get}
+use Rattle.bb_schema.specs.Schema.{Schema, descends}
+use Rattle.bb_agenda.specs.declared.activation.Activation.{Activation}
+use Rattle.bb_agenda.specs.declared.focus.Focus.{Focus}
+use Rattle.bb_agenda.specs.Foci.{Foci}
+use Rattle.bb_agenda.specs.Changes.{with_executed, with_obviated}
+use Rattle.bb_code.specs.Code.{Code}
+use Rattle.bb_verify.specs.Accepted.{Checked}
+use Rattle.bb_verify.specs.Budget.{budget}
+use Rattle.bb_verify.specs.declared.checked.TheConstants.{FOUND_LIMIT}
+use Rattle.bb_machine.specs.Outcome.{Outcome}
+use Rattle.bb_machine.specs.Stop.{Stop}
+use Rattle.bb_machine.specs.Named.{names, NotesChanges}
+use Rattle.bb_machine.specs.Units.{Units, is_live, class_of, value_of}
+use Rattle.bb_classes.specs.declared.value.Value.{Value}
+use Rattle.bb_machine.proofs.Laws.{activation_named, activation_schema, no_class, same_class, same_value}
+use Rattle.bb_trace.specs.Event.{Event}
+use Rattle.bb_trace.specs.Event.TheVariants.{Quiescence as quiescence}
+use Rattle.bb_trace.specs.Events.{unit_of}
+use Rattle.bb_trace.specs.Board.{Board as Blackboard}
+use Rattle.bb_trace.specs.BoardNote.{Note as BoardNote}
+use Rattle.bb_trace.specs.BoardNote.TheVariants.{Event as happened, Said as said}
+use Rattle.bb_trace.specs.Act.{Act}
+use Rattle.bb_trace.specs.Act.TheVariants as acts
+use Rattle.bb_trace.specs.Source.{Source}
+use Rattle.bb_trace.specs.declared.end.End.{End}
+use Rattle.bb_trace.specs.declared.note.Note.{Note}
+use Rattle.bb_trace.specs.declared.end.End.TheVariants as finishes
+use Rattle.bb_trace.specs.Plan.{Plan}
+use Rattle.bb_run.specs.declared.execution.Verdict.{Verdict}
+use Rattle.bb_run.specs.declared.execution.Verdict.TheVariants as verdicts
+use Rattle.bb_run.specs.declared.state.State.{State}
+use Rattle.bb_run.specs.State.{with_board}
+use Rattle.bb_run.specs.Told.{Response, Told, over, and_then, and_then_unless, segment}
+use Rattle.bb_run.specs.Asking.{attempt, entry_of}
+use Rattle.bb_run.specs.Foci.{focus_from, text_in, number_in, truth_in, focus_of, told_unit, told_note, told_notes, told_all, first_agenda}
+use Rattle.bb_run.specs.Processing.{events_in, processing, processing_all, reported, response}
+use Rattle.bb_run.specs.Reads.{AsksByReading}
+use Rattle.bb_run.specs.Run.{rating, choice, wait, wait_for, with_notes_taken, noted, answered, execution, acting, validity, chosen_with, if_valid, cycle, if_chosen, cycles, first_state, start, unfinished, run}
+use Rattle.bb_run.specs.Weighed.{KnowsFoci, NumbersGiven}
+use Rattle.bb_run.proofs.FociLemmas.{fold_range}
+use Rattle.bb_run.proofs.ReadLemmas.{run_reads}
+use Rattle.bb_run.proofs.ResponseRule.{HoldsOfParts, holds}
+
+-- ---- what the agenda is told of one unit
+
+same_key : (n : ℕ) → eq_by_cmp nat_cmp n n ≡ true
+same_key n = (Equal-is (nat_cmp n n)).1 (sym (nat_cmp_is n n Equal refl))
+
+module _ (s : Schema) (u : Units) where
+  -- what the foci have of a unit is what the unit is
+  abbrev Right : ℕ → Foci → Type 0
+  Right q foci = get foci q ≡ focus_of s u q
+
+  told_get : (foci : Foci) (n q : ℕ) (o : Option Focus) → get (option_map_or (λ focus. fin.insert foci n focus) o (fin.remove foci n)) q ≡ cond (eq_by_cmp nat_cmp q n) o (get foci q)
+  told_get foci n q None = get-remove nat_cmp_total foci n q
+  told_get foci n q (Some focus) = get-insert nat_cmp_total foci n focus q
+
+  by_key : (foci : Foci) (n q : ℕ) (b : Bool) → eq_by_cmp nat_cmp q n ≡ b → Right q foci → cond b (focus_of s u n) (get foci q) ≡ focus_of s u q
+  by_key foci n q true is right = ap (focus_of s u) (sym (nat_cmp-IsAntisymmetric q n ((Equal-is (nat_cmp q n)).0 is)))
+  by_key foci n q false is right = right
+
+  -- it stays so
+  still_right : (foci : Foci) (n q : ℕ) → Right q foci → Right q (told_unit s u foci n)
+  still_right foci n q right = told_get foci n q (focus_of s u n) ∙ by_key foci n q (eq_by_cmp nat_cmp q n) refl right
+
+  -- it becomes so for the unit itself
+  now_right : (foci : Foci) (n : ℕ) → Right n (told_unit s u foci n)
+  now_right foci n = told_get foci n n (focus_of s u n) ∙ ap (λ b. cond b (focus_of s u n) (get foci n)) (same_key n)
+
+  -- ---- of the units that notes name
+
+  after_note : (q : ℕ) (note : BoardNote) (foci : Foci) (b : Bool) → names q note ≡ b → (b ≡ false → Right q foci) → Right q (told_note s u foci note)
+  after_note q (happened event) foci true is right = subst (λ n. Right n (told_unit s u foci (unit_of event))) (eqb-true (unit_of event) q is) (now_right foci (unit_of event))
+  after_note q (happened event) foci false is right = still_right foci (unit_of event) q (right refl)
+  after_note q (said values) foci b is right = right (sym is)
+
+  none_named : (b c : Bool) → b ≡ false → c ≡ false → (b || c) ≡ false
+  none_named true c p q = absurd cc
+  none_named false c p q = q
+
+  notes_right : (q : ℕ) (notes : List BoardNote) (foci : Foci) → (list_any (names q) notes ≡ false → Right q foci) → Right q (told_notes s u notes foci)
+  notes_right q [] foci right = right refl
+  notes_right q (note ∷ notes) foci right =
+      notes_right q notes (told_note s u foci note)
+      (λ others. after_note q note foci (names q note) refl (λ here. right (none_named (names q note) (list_any (names q) notes) here others)))
+
+  -- ---- of all units
+
+  below_right : (k q : ℕ) (foci : Foci) → q < k → Right q (fold (told_unit s u) foci (range_with_len 0 k))
+  below_right zero q foci lt = absurd (omega (arith, lt))
+  below_right (suc k) q foci lt =
+      let all = fold (told_unit s u) foci (range_with_len 0 k) in
+      let le : q ≤ k = omega (arith, lt) in
+      let count : k + 1 ≡ suc k = omega arith in
+      let told : fold (told_unit s u) foci (range_with_len 0 (suc k)) ≡ told_unit s u all k = ap (λ n. fold (told_unit s u) foci (range_with_len 0 n)) (sym count) ∙ fold_range (told_unit s u) foci k in
+      let right : Right q (told_unit s u all k) = elim (eq-or-lt_of_le le) [
+        | inl same ↦ subst (λ n. Right n (told_unit s u all k)) (sym same) (now_right all k)
+        | inr under ↦ still_right all k q (below_right k q foci under)
+      ] in
+      subst (Right q) (sym told) right
+
+  all_right : (k q : ℕ) (foci : Foci) → Right q foci → Right q (fold (told_unit s u) foci (range_with_len 0 k))
+  all_right zero q foci right = right
+  all_right (suc k) q foci right =
+      let all = fold (told_unit s u) foci (range_with_len 0 k) in
+      let count : k + 1 ≡ suc k = omega arith in
+      let told : fold (told_unit s u) foci (range_with_len 0 (suc k)) ≡ told_unit s u all k = ap (λ n. fold (told_unit s u) foci (range_with_len 0 n)) (sym count) ∙ fold_range (told_unit s u) foci k in
+      subst (Right q) (sym told) (still_right all k q (all_right k q foci right))
+
+-- ---- what a unit is goes by the unit alone
+
+-- by its class and the values of its slots
+abbrev focus_with : Schema → Option ℕ → Option Value → Option Value → Option Value → Option Value → Option Focus
+focus_with s class a b c d = cond (option_map_or (λ x. descends s x 0) class false) (focus_from (text_in a) (text_in b) (number_in c) (truth_in d)) None
+
+module _ (s : Schema) where
+  focus_is : (u : Units) (n : ℕ) → focus_of s u n ≡ focus_with s (class_of u n) (value_of u n 0) (value_of u n 1) (value_of u n 2) (value_of u n 3)
+  unfolding focus_of
+  focus_is u n = refl
+
+  focus_same : (u v : Units) (n : ℕ) → get v.units n ≡ get u.units n → focus_of s u n ≡ focus_of s v n
+  focus_same u v n same =
+      focus_is u n
+      ∙ ap (λ x. focus_with s x (value_of u n 0) (value_of u n 1) (value_of u n 2) (value_of u n 3)) (same_class u v n same)
+      ∙ ap (λ x. focus_with s (class_of v n) x (value_of u n 1) (value_of u n 2) (value_of u n 3)) (same_value u v n 0 same)
+      ∙ ap (λ x. focus_with s (class_of v n) (value_of v n 0) x (value_of u n 2) (value_of u n 3)) (same_value u v n 1 same)
+      ∙ ap (λ x. focus_with s (class_of v n) (value_of v n 0) (value_of v n 1) x (value_of u n 3)) (same_value u v n 2 same)
+      ∙ ap (λ x. focus_with s (class_of v n) (value_of v n 0) (value_of v n 1) (value_of v n 2) x) (same_value u v n 3 same)
+      ∙ sym (focus_is v n)
+
+  -- a number that names no unit is no focus
+  none_there : (u : Units) (n : ℕ) (b : Bool) → is_live u n ≡ b → (is_live u n ≡ true → n < u.next) → u.next ≤ n → focus_of s u n ≡ None
+  none_there u n true is given le = absurd (let lt : n < u.next = given is in omega (arith, lt, le))
+  none_there u n false is given le = focus_is u n ∙ ap (λ x. focus_with s x (value_of u n 0) (value_of u n 1) (value_of u n 2) (value_of u n 3)) (no_class u n is)
+
+-- ---- the agenda knows the foci
+
+-- by what it knew, where blackboard and foci are as they were
+knows_same : (plan : Plan) (s t : State) → t.board ≡ s.board → t.agenda.foci ≡ s.agenda.foci → t.agenda.setting ≡ s.agenda.setting → KnowsFoci plan s → KnowsFoci plan t
+knows_same plan s t board foci setting k = record {
+  taken = ap (λ (b : Blackboard). b.world.notes) board ∙ k.taken;
+  each = λ n. ap (λ f. get f n) foci ∙ k.each n ∙ ap (λ (b : Blackboard). focus_of b.schema b.world.units n) (sym board);
+  setting = setting ∙ k.setting;
+}
+
+-- a blackboard whose notes name what changed is noted, and the agenda is told of it
+knows_noted : (plan : Plan) (s : State) (b : Blackboard) → KnowsFoci plan s → b.schema ≡ s.board.schema → NotesChanges s.board.world b.world → KnowsFoci plan (with_notes_taken (with_board s b))
+knows_noted plan s b k schema changes =
+    let notes : b.world.notes ≡ changes.more = changes.notes ∙ ap (λ l. l ++ changes.more) k.taken in
+    record {
+      taken = refl;
+      each = λ q.
+          notes_right b.schema b.world.units q b.world.notes s.agenda.foci
+          (λ others.
+          k.each q
+          ∙ ap (λ x. focus_of x s.board.world.units q) (sym schema)
+          ∙ focus_same b.schema s.board.world.units b.world.units q (changes.kept q (ap (list_any (names q)) (sym notes) ∙ others)));
+      setting = k.setting;
+    }
+
+-- ---- what answers to an event changes no focus
+
+module _ (plan : Plan) where
+  abbrev SameFoci : State → Response → Type 0
+  SameFoci s r = (r.state.agenda.foci ≡ s.agenda.foci) × (r.state.agenda.setting ≡ s.agenda.setting)
+
+  same_then : (s : State) (r : Response) (next : State → Response) (end : Option End) → SameFoci s r → SameFoci r.state (next r.state) → SameFoci s (and_then_unless end r next)
+  same_then s r next (Some e) first rest = first
+  same_then s r next None first rest = (rest.0 ∙ first.0, rest.1 ∙ first.1)
+
+  response_parts : HoldsOfParts plan SameFoci
+  response_parts = record {
+    nothing = λ s. (refl, refl);
+    full = λ s is. (refl, refl);
+    stopped = λ s code entry stop of came. (refl, refl);
+    went_on = λ s code entry r of same. same;
+    triggered = λ s source unit base under. (refl, refl);
+    declined = λ s source unit. (refl, refl);
+    obviated = λ s number. (refl, refl);
+    rebased = λ s number base. (refl, refl);
+    further = λ s r next first rest. same_then s r next r.end first rest;
+  }
+
+  pub response_foci : (event : Event) (s : State) → SameFoci s (response plan event s)
+  response_foci event s = holds plan SameFoci response_parts event s
+
+module _ (plan : Plan) (reading : AsksByReading plan) where
+  abbrev Knows : State → Type 0
+  Knows = KnowsFoci plan
+
+  knows_then : {X : Type 0} (p : Told X) (next : State → Told X) (end : Option End) → Knows p.state → ((s : State) → Knows s → Knows (next s).state) → Knows (and_then_unless end p next).state
+  knows_then p next (Some e) first rest = first
+  knows_then p next None first rest = rest p.state first
+
+  -- ---- what answers to an event
+
+  responds : (event : Event) (s : State) → Knows s → Knows (response plan event s).state
+  responds event s k =
+      let same = response_foci plan event s in
+      knows_same plan s (response plan event s).state ((run_reads plan reading).events event s) same.0 same.1 k
+
+  processes_all : (events : List Event) (s : State) → Knows s → Knows (processing_all plan events s).state
+  unfolding processing_all
+  processes_all [] s k = k
+  processes_all (event ∷ events) s k = let p = processing plan event s in knows_then p (processing_all plan events) p.end (responds event s k) (processes_all events)
+
+  reports : (r : Response) → Knows r.state → Knows (reported plan r).state
+  reports r k = knows_then (segment r) (processing_all plan (events_in r.told)) r.end k (processes_all (events_in r.told))
+
+  -- ---- a cycle
+
+  answers : (code : Code) (s : State) (b : Blackboard) (r : Result Outcome Stop) → Knows s → b.schema ≡ s.board.schema → NotesChanges s.board.world b.world → Knows (answered code (with_board s b) r).state
+  answers code s b (Ok o) k schema changes = knows_noted plan s b k schema changes
+  answers code s b (Err stop) k schema changes = knows_noted plan s b k schema changes
+
+  executes : (act : Act) (a : Activation) (s : State) → Knows s → Knows (execution act a s).state
+  executes (acts.Code body) a s k =
+      let e = attempt body.code (entry_of a.unit None) s.board in
+      answers body.code s e.1 e.0 k (activation_schema (budget body.code FOUND_LIMIT) body.code (entry_of a.unit None) s.board) (activation_named (budget body.code FOUND_LIMIT) body.code (entry_of a.unit None) s.board)
+  executes acts.Native a s k = k
+
+  acts_at : (source : Option Source) (a : Activation) (s : State) → Knows s → Knows (acting plan source a s).state
+  acts_at None a s k = k
+  acts_at (Some source) a s k = reports (execution source.act a s) (executes source.act a s k)
+
+  chooses : (number : ℕ) (a : Activation) (r : ℤ) (v : Verdict) (s : State) → Knows s → Knows (chosen_with number a r v s).state
+  chooses number a r verdicts.Valid s k = knows_same plan s (chosen_with number a r verdicts.Valid s).state refl refl refl k
+  chooses number a r verdicts.Invalid s k = knows_same plan s (chosen_with number a r verdicts.Invalid s).state refl refl refl k
+  chooses number a r (verdicts.Over end) s k = k
+
+  there_at : (xs : List Source) (i : ℕ) (x : Source) → slice_get xs i ≡ Some x → Contains xs x
+  there_at xs i x is = (i, slice_get_within xs i x is, get_or_from_slice_get xs i x x is)
+
+  -- asking whether it is still of use changes nothing
+  same_board : (source : Option Source) (a : Activation) (b : Blackboard) → slice_get plan.sources a.source ≡ source → (validity (option_and_then (λ t. t.revalidate) source) a b).1 ≡ b
+  same_board None a b is = refl
+  same_board (Some source) a b is = (run_reads plan reading).choices source a b (there_at plan.sources a.source source is)
+
+  cycle_knows : (number : ℕ) (a : Activation) (s : State) → Knows s → Knows (cycle plan number a s).state
+  cycle_knows number a s k =
+      let source = slice_get plan.sources a.source in
+      let v = validity (option_and_then (λ t. t.revalidate) source) a s.board in
+      let t = with_board s v.1 in
+      let p = segment (chosen_with number a (rating plan s a) v.0 t) in
+      knows_then p (acting plan (if_valid v.0 source) a) p.end
+      (chooses number a (rating plan s a) v.0 t (knows_same plan s t (same_board source a s.board refl) refl refl k))
+      (acts_at (if_valid v.0 source) a)
+
+  -- ---- the whole run
+
+  waits : (s : State) (c : Option Activation) → Knows s → Knows (wait_for plan s c).state
+  waits s None k = responds quiescence s k
+  waits s (Some a) k = k
+
+  goes_if : (t : State) (c : Option Activation) (next : Activation → Told (List Note)) → Knows t → ((a : Activation) → Knows (next a).state) → Knows (if_chosen t c next).state
+  goes_if t None next k rest = k
+  goes_if t (Some a) next k rest = rest a
+
+  cycles_know : (made left : ℕ) (s : State) → Knows s → Knows (cycles plan made left s).state
+  unfolding cycles
+  cycles_know made zero s k =
+      let p = wait plan s in
+      knows_then p (λ t. if_chosen t (choice plan t) (λ a. over finishes.Limit t)) p.end (waits s (choice plan s) k)
+      (λ t known. goes_if t (choice plan t) (λ a. over finishes.Limit t) known (λ a. known))
+  cycles_know made (suc left) s k =
+      let p = wait plan s in
+      knows_then p (λ t. if_chosen t (choice plan t) (λ a. and_then (cycle plan (made + 1) a t) (cycles plan (made + 1) left))) p.end (waits s (choice plan s) k)
+      (λ t known.
+      goes_if t (choice plan t) (λ a. and_then (cycle plan (made + 1) a t) (cycles plan (made + 1) left)) known
+      (λ a. let c = cycle plan (made + 1) a t in knows_then c (cycles plan (made + 1) left) c.end (cycle_knows (made + 1) a t known) (cycles_know (made + 1) left)))
+
+  -- the foci of the blackboard that the run begins with
+  first_right : (board : Blackboard) → NumbersGiven board → (q : ℕ) → get (first_agenda plan board).foci q ≡ focus_of board.schema board.world.units q
+  first_right board given q =
+      let u = board.world.units in
+      elim (cases_lt q u.next) [
+        | inl lt ↦ below_right board.schema u u.next q fin.empty lt
+        | inr le ↦ all_right board.schema u u.next q fin.empty (get-empty nat_cmp q ∙ sym (none_there board.schema u q (is_live u q) refl (given q) le))
+      ]
+
+  pub run_knows_foci : (board : Blackboard) (limit : ℕ) → NumbersGiven board → Knows (run plan board limit).state
+  run_knows_foci board limit given =
+      let first = first_state plan board in
+      let p = start plan board in
+      let told : Knows (noted first [] None).state = record {
+        taken = refl;
+        each = λ q. notes_right board.schema board.world.units q board.world.notes first.agenda.foci (λ others. first_right board given q);
+        setting = refl;
+      } in
+      knows_then p (cycles plan 0 limit) p.end (reports (noted first [] None) told) (cycles_know 0 limit)

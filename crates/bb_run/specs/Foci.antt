@@ -1,0 +1,89 @@
+-- The foci that a blackboard has, and how the agenda is told of them (of this project; that control is data on the
+-- blackboard is Hayes-Roth's idea, 1985).
+use Rattle.std.specs.Prelude.{ℕ, ℤ, Bool, false, List, map, Option, Some, None, if◌then◌else◌}
+use Rattle.std.specs.List.{fold, range_with_len}
+use Rattle.std.specs.Option.{option_map_or}
+use Rattle.std.specs.FinMap as fin
+use Rattle.bb_classes.specs.declared.value.Value.{Value}
+use Rattle.bb_classes.specs.declared.value.Value.TheVariants as values
+use Rattle.bb_schema.specs.Schema.{Schema, descends}
+use Rattle.bb_agenda.specs.declared.focus.Focus.{Focus}
+use Rattle.bb_agenda.specs.declared.setting.RatedSource.{RatedSource}
+use Rattle.bb_agenda.specs.Foci.{Foci, Setting}
+use Rattle.bb_agenda.specs.Agenda.{Agenda, no_activations}
+use Rattle.bb_trace.specs.Board.{Board as Blackboard}
+use Rattle.bb_trace.specs.BoardNote.{Note as BoardNote}
+use Rattle.bb_trace.specs.BoardNote.TheVariants.{Event as happened, Said as said}
+use Rattle.bb_trace.specs.Events.{unit_of}
+use Rattle.bb_machine.specs.Units.{Units, class_of, value_of}
+use Rattle.bb_trace.specs.Source.{Source}
+use Rattle.bb_trace.specs.Plan.{Plan}
+
+-- ---- the foci of a blackboard
+
+-- a text, a number, a truth value
+abbrev pub text_in : Option Value → Option (List ℕ)
+text_in (Some (values.Text text)) = Some text
+text_in _ = None
+
+abbrev pub number_in : Option Value → Option ℤ
+number_in (Some (values.Int number)) = Some number
+number_in _ = None
+
+abbrev pub truth_in : Option Value → Option Bool
+truth_in (Some (values.Bool truth)) = Some truth
+truth_in _ = None
+
+-- the focus of these four slots
+abbrev pub focus_from : Option (List ℕ) → Option (List ℕ) → Option ℤ → Option Bool → Option Focus
+focus_from (Some source) (Some area) (Some weight) (Some active) =
+    Some (record { source = source; area = area; weight = weight; active = active })
+focus_from _ _ _ _ = None
+
+-- the unit is live, and its class descends from the built-in class `focus`
+abbrev pub is_focus : Schema → Units → ℕ → Bool
+is_focus s u n = option_map_or (λ class. descends s class 0) (class_of u n) false
+
+-- the focus that a unit is, by its slots from 0 to 3
+unfoldable pub focus_of : Schema → Units → ℕ → Option Focus
+focus_of s u n =
+    if is_focus s u n
+    then focus_from (text_in (value_of u n 0)) (text_in (value_of u n 1)) (number_in (value_of u n 2)) (truth_in (value_of u n 3))
+    else None
+
+-- ---- what the agenda is told
+
+-- the foci of an agenda, after it was told of a unit: that it is this focus, or none
+abbrev pub told_unit : Schema → Units → Foci → ℕ → Foci
+told_unit s u foci n = option_map_or (λ focus. fin.insert foci n focus) (focus_of s u n) (fin.remove foci n)
+
+-- after it was told of the unit that a note names
+abbrev pub told_note : Schema → Units → Foci → BoardNote → Foci
+told_note s u foci (happened event) = told_unit s u foci (unit_of event)
+told_note s u foci (said values) = foci
+
+-- of those that notes name, in order
+abbrev pub told_notes : Schema → Units → List BoardNote → Foci → Foci
+told_notes s u notes foci = fold (told_note s u) foci notes
+
+-- of all numbers that were given out, and of 0, which names no unit
+abbrev pub told_all : Schema → Units → Foci → Foci
+told_all s u foci = fold (told_unit s u) foci (range_with_len 0 u.next)
+
+-- an agenda with these foci
+abbrev pub with_foci : Agenda → Foci → Agenda
+with_foci a foci = record a { foci = foci }
+
+-- ---- the agenda that a run begins with
+
+-- what foci are matched with
+abbrev pub rated_source : Source → RatedSource
+rated_source source = record { name = source.name; class = source.class }
+
+abbrev pub setting_of : Plan → Setting
+setting_of plan = record { schema = plan.schema; sources = map rated_source plan.sources }
+
+-- nothing is pending, and it was told of the foci that the blackboard has
+abbrev pub first_agenda : Plan → Blackboard → Agenda
+first_agenda plan board =
+    with_foci (no_activations (setting_of plan)) (told_all board.schema board.world.units fin.empty)
