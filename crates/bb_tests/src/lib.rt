@@ -1,5 +1,5 @@
-//! Tests that cross crates and that no case can say: the numbers of refusals, whether two schemas are the same, and the
-//! loops of a code by a plain program.
+//! Tests that cross crates and that no case can say: the numbers of refusals, whether two schemas are the same, the
+//! loops of a code by a plain program, and a shell that a host makes of its own board and sources.
 #![tactic(auto)]
 
 #[cfg(test)]
@@ -10,3 +10,5 @@ mod loops;
 mod refusals;
 #[cfg(test)]
 mod schemas;
+#[cfg(test)]
+mod shells;

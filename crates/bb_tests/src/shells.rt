@@ -1,0 +1,125 @@
+//! A shell that a host makes of a blackboard and sources, and runs.
+
+use crate::input::{HAIL, NOTE_SCHEMA, ONE_NOTE};
+use bb_code::Code;
+use bb_compile::{ActDraft, SourceCode, SourceDraft, unbundle};
+use bb_schema::Schema;
+use bb_shell::{Board, Finish, Part, Pipe, RuleFault, Shell, Source};
+use bb_verify::{Checked, verify};
+use std::alloc::Global;
+use std::test::Fail;
+
+const PART: Part = Part::Do { class: 1 };
+
+/// The verified act of a source on notes.
+fn verified(
+    alloc: Global,
+    schema: &Schema,
+    act: ActDraft<Code>,
+) -> Result<ActDraft<Checked>, Fail> {
+    match act {
+        ActDraft::Do(code) => Ok(ActDraft::Do(verify(alloc, schema, PART, code)?)),
+        ActDraft::Native => Ok(ActDraft::Native),
+    }
+}
+
+/// A source on notes that has an act alone, from its code.
+fn source_of(alloc: Global, schema: &Schema, code: SourceCode) -> Result<Source, Fail> {
+    let SourceDraft {
+        name,
+        class,
+        rate,
+        triggers,
+        require: _,
+        obviate: _,
+        retrigger: _,
+        revalidate: _,
+        act,
+    } = code.into_draft();
+    let draft = SourceDraft {
+        name,
+        class,
+        rate,
+        triggers,
+        require: None,
+        obviate: None,
+        retrigger: None,
+        revalidate: None,
+        act: verified(alloc, schema, act)?,
+    };
+    Ok(Source::new(alloc, schema, draft)?)
+}
+
+/// The sources of so many copies of `HAIL`.
+fn hails(alloc: Global, schema: &Schema, count: u8) -> Result<Vec<Source>, Fail> {
+    let mut sources = Vec::new(alloc);
+    for _ in 0..count {
+        for code in unbundle(alloc, HAIL)? {
+            sources.push(source_of(alloc, schema, code)?)?;
+        }
+    }
+    Ok(sources)
+}
+
+/// A blackboard with one note.
+fn one_note(alloc: Global) -> Result<Board, Fail> {
+    let mut board = Board::new(alloc, Schema::read(alloc, NOTE_SCHEMA)?)?;
+    board.load(ONE_NOTE)?;
+    Ok(board)
+}
+
+/// What a run of one note and one source writes, with this floor.
+fn trace(alloc: Global, floor: i64) -> Result<Vec<u8>, Fail> {
+    let board = one_note(alloc)?;
+    let sources = hails(alloc, board.schema(), 1)?;
+    let shell = Shell::new(alloc, board, sources, floor)?;
+    let mut out = Pipe::new(Vec::new(alloc));
+    match shell.run(alloc, 100, &mut out) {
+        Finish::Quiescence => Ok(out.into_inner()),
+        _ => Err(Fail::from("the run ends by quiescence")),
+    }
+}
+
+/// Why a shell of one note and so many sources of one name can't be made.
+fn refusal(alloc: Global, count: u8) -> Result<Option<RuleFault>, Fail> {
+    let board = one_note(alloc)?;
+    let sources = hails(alloc, board.schema(), count)?;
+    match Shell::new(alloc, board, sources, 0) {
+        Ok(_shell) => Ok(None),
+        Err(fault) => Ok(Some(fault)),
+    }
+}
+
+#[test]
+fn shell_of_one_source(rt: HostRuntime) -> Result<(), Fail> {
+    let expected = "create 1 note\n\
+        trigger 1 hail unit 1 rating 100\n\
+        cycle 1 act 1 hail unit 1 rating 100\n\
+        say \"hello\"\n\
+        end steps 3 found 0 budget 3\n\
+        quiescence\n\
+        finish quiescence\n";
+    assert_eq!(rt; trace(rt.alloc(), 0)?.as_slice(), expected.as_bytes());
+    Ok(())
+}
+
+// Nothing is rated as high as the floor, and no cycle is made.
+#[test]
+fn shell_with_a_floor(rt: HostRuntime) -> Result<(), Fail> {
+    let expected = "create 1 note\n\
+        trigger 1 hail unit 1 rating 100\n\
+        quiescence\n\
+        finish quiescence\n";
+    assert_eq!(rt; trace(rt.alloc(), 101)?.as_slice(), expected.as_bytes());
+    Ok(())
+}
+
+#[test]
+fn two_sources_of_one_name(rt: HostRuntime) -> Result<(), Fail> {
+    assert_eq!(rt; refusal(rt.alloc(), 1)?, None);
+    assert_eq!(rt;
+        refusal(rt.alloc(), 2)?,
+        Some(RuleFault::Twice { place: 1 })
+    );
+    Ok(())
+}
