@@ -48,7 +48,7 @@ pub record IsQuiet (plan : Plan) (board : Blackboard) (before : List Note) (note
   pub is : note ≡ happened quiescence
   -- no cycle is open, and quiescence has not come since the last
   pub phase : phase_after before ≡ outside
-  -- nothing that is pending can be chosen, rated as in the last state of the run that makes no more cycles than were made
+  -- nothing that is pending can be chosen, rated as in the last state of the run with this limit
   pub made : ℕ
   pub nothing : chosen (rating plan (run_of plan board made).state) plan.floor (pending_after before) ≡ None
 

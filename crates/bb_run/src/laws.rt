@@ -22,8 +22,9 @@ ghost use Rattle.bb_run.specs.Weighed.{KnowsFoci, NumbersGiven};
 /// - `pending`: a cycle acts on an activation that is pending then, and prints a rating of at least the floor.
 /// - `executions`: the execution of a cycle ends before the next cycle.
 /// - `phases`: a run begins with what its blackboard had noted. After that a note of the blackboard comes between a
-///   choice and the end of its cycle, or it is quiescence, which comes where nothing can be chosen, and not twice
-///   without a choice between; and a run that finishes by quiescence has told it, and made no choice after it.
+///   choice and the end of its cycle, or it is quiescence, which comes where no cycle is open, not twice without a
+///   choice between, and where by the foci at the end of a run with some limit nothing can be chosen; and a run that
+///   finishes by quiescence has told it, and made no choice after it.
 /// - `finish`: a run has an end, and tells it last and once.
 /// - `causes`: a run is full only where its agenda is full in its last state, or where no unit can be created there and
 ///   its last execution was stopped for that; it is stuck only where its last execution was, or where a source has a
