@@ -1,0 +1,228 @@
+// What is known of a step, an activation, a unit or a source.
+
+// ---- a step
+
+function stepPanel(step) {
+  if (step.kind === "gap") return gapPanel();
+  const lines = run.linesOf(step);
+  return [
+    stepHead(step),
+    step.act && choice(step),
+    step.kind === "quiescence" && quiet(step),
+    effects(step, lines),
+    reactions(step, lines),
+    ending(lines),
+    step.missing > 0 && remark(`${plural(step.missing, "line")} more of this step are not kept in the page.`),
+  ];
+}
+
+function stepHead(step) {
+  const title = step.cycle ? `Cycle ${step.cycle}` : step.kind === "start" ? "Start" : "Quiescence";
+  const last = step.first + step.kept + step.missing - 1;
+  return head(title, last > step.first ? `lines ${step.first} to ${last}` : `line ${step.first}`);
+}
+
+function gapPanel() {
+  const cycles = plural(run.totals.dropped, "cycle");
+  return [head("Not shown"), html("p", {}, `${cycles} of this run are left out: it is too long for one page.`)];
+}
+
+function choice(step) {
+  const act = run.actOf.get(step.act);
+  const waited = run.waitingAt(step.first);
+  const others = waited.filter((it) => it !== act);
+  return [
+    chosen(step, act),
+    part("Why did it act now?", null, html("div", { class: "prose" }, whyNow(step, act, waited))),
+    passedOver(step, others),
+  ];
+}
+
+function chosen(step, act) {
+  const weight = run.weightOf(step);
+  const shape = run.isInvalid(step) ? "invalid" : "cycle";
+  return html("div", { class: "chosen" },
+    html("p", {}, icon(shape), sourceHead(act.source.name), " on ", unitTold(act.unit)),
+    html("dl", {},
+      fact("activation", actLink(act.number)),
+      fact("rating", String(step.rating), "strong"),
+      fact("base", String(run.baseAt(act, step.first))),
+      fact("by foci", weight ? signed(weight) : "0", weight ? "weighed" : "")));
+}
+
+function whyNow(step, act, waited) {
+  const weight = run.weightOf(step);
+  const rerated = act.bases.filter(([line]) => line < step.first).length - 1;
+  const before = run.passedOver(act).filter((it) => it.index < step.index).length;
+  const those = run.isAcrossGap(act) ? " of those that are shown" : "";
+  return [
+    html("p", {},
+      waited.length > 1 ? `Of ${waited.length.toLocaleString("en")} that waited it was rated highest, ${step.rating}; `
+        + "of equal ratings the lowest number goes first." : `It alone waited, rated ${step.rating}.`,
+      weight !== 0n && ` Foci weighed its source ${weight > 0n ? "up" : "down"} by ${weight > 0n ? weight : -weight}.`),
+    html("p", {},
+      "It was triggered in ", stepLink(run.stepAt(run.triggerOf(act))), " ", causeTold(run.triggerOf(act)), ".",
+      rerated > 0 && ` It was rated anew ${rerated === 1 ? "once" : `${rerated} times`} since.`,
+      ` ${before ? plural(before, "cycle") : "No cycle"}${those} passed it over before.`),
+    run.isInvalid(step) && html("p", {}, "Its source looked once more (revalidate) and said no: it was not executed."),
+  ];
+}
+
+function passedOver(step, others) {
+  const isTold = others.some((act) => run.isWeighedAlike(step, act));
+  const baseOf = (act) => run.baseAt(act, step.first);
+  const byBase = (one, other) => Number(baseOf(other) - baseOf(one)) || one.number - other.number;
+  const made = (act) => {
+    const why = run.whyPassed(step, act);
+    const rating = run.isWeighedAlike(step, act) ? String(baseOf(act) + run.weightOf(step)) : faint("?");
+    const about = [sourceLink(act.source.name), " ", unitLink(act.unit, "#")];
+    const rated = [String(baseOf(act)), ...(isTold ? [rating] : [])];
+    return row(actLink(act.number), about, ...rated, html("span", { class: why.sort }, why.text));
+  };
+  const heads = ["Act.", "Source, unit", "Base", ...(isTold ? ["Rating"] : []), "Passed over for"];
+  return tabled("What waited, and was passed over?", [...others].sort(byBase), heads, made, "Nothing else waited.",
+    remark("Foci may weigh each source up or down. A trace tells the rating of what is chosen alone, and foci weigh ",
+      "all activations of one source alike: of other sources only the base is known."));
+}
+
+function quiet(step) {
+  const waited = run.waitingAt(step.first);
+  const made = (act) => {
+    const about = [sourceLink(act.source.name), " ", unitLink(act.unit, "#")];
+    return row(actLink(act.number), about, String(run.baseAt(act, step.first)));
+  };
+  const below = "Nothing could be chosen: all that waits is rated below the floor, which is 0 in the program.";
+  return [
+    html("p", {}, waited.length ? below : "Nothing waited.", " The sources answer to quiescence as to any event."),
+    waited.length > 0 && tabled("What waits below the floor", waited, ["Act.", "Source, unit", "Base"], made),
+  ];
+}
+
+function effects(step, lines) {
+  if (step.kind === "quiescence" || run.isInvalid(step)) return null;
+  const did = lines.filter(({ word, text }) => CHANGE.test(text) || word === "say" || word === "refused");
+  const end = lines.find(({ word }) => word === "end");
+  const isCut = step.cycle > 0 && !run.finish && step === run.steps.at(-1);
+  const told = end ? endTold(end.text) : isCut ? remark("It has no end: the trace is cut in it.") : null;
+  if (!step.cycle) return listed("First units", did, lineItem, "There are none.");
+  return listed("What did it change and say?", did, lineItem, "It changed nothing and said nothing.", told);
+}
+
+function endTold(text) {
+  const [steps, found, budget] = text.match(/\d+/g);
+  if (!found) return remark(`A native of the host ended, after ${plural(BigInt(steps), "ask")}.`);
+  const [made, longest] = [plural(BigInt(steps), "step"), plural(BigInt(found), "unit")];
+  return remark(`Ended after ${made}, with a budget of ${budget}; its longest sequence had ${longest}.`);
+}
+
+function reactions(step, lines) {
+  const all = lines.filter((it) => REACTION.test(it.text));
+  if (!all.length && !(step.cycle && lines.some((it) => it.word === "end"))) return null;
+  return listed("What did that bring about?", all, reaction, "No source answered to it.");
+}
+
+function reaction({ number, word, text }) {
+  const words = text.split(" ");
+  const act = word === "decline" ? null : run.actOf.get(Number(words[1]));
+  const source = act ? act.source.name : words[1];
+  const verb = { trigger: "triggered", decline: "declined", obviate: "obviated", retrigger: "rated anew" }[word];
+  const about = {
+    trigger: () => [", activation ", actLink(act.number), " on ", unitTold(act.unit), ", base ", bold(words[6])],
+    decline: () => [", for ", unitTold(Number(words[3]))],
+    obviate: () => [", activation ", actLink(act.number), " on ", unitTold(act.unit)],
+    retrigger: () => [", activation ", actLink(act.number), `, base ${run.baseAt(act, number)} → `, bold(words[2])],
+  }[word]();
+  const shape = word === "retrigger" ? run.turnOf(act, number) : word;
+  return marked(shape, [faint(verb), " ", sourceHead(source), about], [lineLink(number), ", ", causeTold(number)]);
+}
+
+function ending(lines) {
+  const ends = lines.filter(({ word }) => word === "finish" || word === "closed");
+  return ends.length > 0 && part("How the run ended", null, few(ends, lineItem), remark(finishMeaning()));
+}
+
+// ---- an activation
+
+function actPanel(act) {
+  const over = run.passedOver(act).filter((step) => step.act !== act.number);
+  const items = [...act.bases.map((_, at) => baseItem(act, at)), endItem(act)];
+  const heads = ["Cycle", "Chosen instead", "Rating", "Its base", "Because"];
+  return [
+    head(`Activation ${act.number}`, act.fate === "waits" ? "still waits" : act.fate),
+    html("p", {}, sourceHead(act.source.name), " on ", unitTold(act.unit)),
+    part("From its trigger to its end", null, few(items, (it) => it)),
+    tabled("Which cycles passed it over?", over, heads, (step) => overRow(step, act), "None: it waited for no other.",
+      run.isAcrossGap(act) && remark("Of cycles that are not shown nothing is said here.")),
+  ];
+}
+
+function baseItem(act, at) {
+  const [line, base] = act.bases[at];
+  const shape = at ? run.turnOf(act, line) : "trigger";
+  const what = at ? ": rated anew, base " : ": triggered, base ";
+  return marked(shape, [stepLink(run.stepAt(line)), what, bold(base)], causeTold(line));
+}
+
+function endItem(act) {
+  if (!act.ended) {
+    const where = run.finish ? "at the end of the run" : "where the trace is cut";
+    return marked("waits", [stepLink(run.steps.at(-1)), `: it still waits ${where}`]);
+  }
+  const step = run.stepAt(act.ended);
+  if (act.fate === "obviated") return marked("obviate", [stepLink(step), ": obviated"], causeTold(act.ended));
+  if (step.act !== act.number) return marked("cycle", [stepLink(step), ": its end is not shown"]);
+  const weight = run.weightOf(step);
+  const sum = ` (base ${run.baseAt(act, step.first)}, foci ${signed(weight)})`;
+  const rated = ["rated ", bold(step.rating), weight !== 0n && sum];
+  if (act.fate === "invalid") return marked("invalid", [stepLink(step), ": chosen, ", rated, ", and not executed"]);
+  return marked("cycle", [stepLink(step), ": it acted, ", rated]);
+}
+
+function overRow(step, act) {
+  const taken = run.actOf.get(step.act);
+  const why = run.whyPassed(step, act);
+  const instead = [actLink(taken.number), " ", sourceLink(taken.source.name)];
+  const base = String(run.baseAt(act, step.first));
+  const because = html("span", { class: why.sort }, why.text);
+  return row(link(step.id, String(step.cycle)), instead, String(step.rating), base, because);
+}
+
+// ---- a unit, a source
+
+function unitPanel(unit) {
+  const at = (line) => {
+    const step = run.stepAt(line);
+    return [stepLink(step), step.act > 0 && [" by ", sourceLink(run.actOf.get(step.act).source.name)]];
+  };
+  const bySteps = [...Map.groupBy(unit.changes, (line) => run.stepAt(line)).values()];
+  const item = (line) => lineItem({ number: line, text: run.textAt(line) });
+  const group = (lines) => html("li", { class: "group" }, html("p", {}, at(lines[0])), few(lines, item));
+  return [
+    head(`Unit ${unit.number}`, unit.of),
+    html("p", {}, "Created in ", at(unit.created), unit.deleted > 0 && [", deleted in ", at(unit.deleted)], "."),
+    part("When did it change?", unit.changes.length, few(bySteps, group),
+      remark("A trace names the slots that are set, and not their values.")),
+    tabled("Activations for it", unit.acts, actHeads("Source"), (act) => actRow(act, sourceLink(act.source.name)),
+      "No source was triggered for it."),
+  ];
+}
+
+const actHeads = (of) => ["Act.", of, "Triggered in", "Base", "End"];
+
+function actRow(act, about) {
+  const end = act.ended ? [act.fate, " in ", stepLink(run.stepAt(act.ended))] : "still waits";
+  return row(actLink(act.number), about, stepLink(run.stepAt(run.triggerOf(act))), String(act.bases[0][1]), end);
+}
+
+function sourcePanel(source) {
+  const { retrigger, ...others } = source.counts;
+  const all = Object.entries(others).map(([word, count]) => [word, MARK_NAMES[word], count]);
+  all.push(["raised", "rated anew", retrigger]);
+  const marks = ([shape, name, count]) => fact([icon(shape), " ", name], count.toLocaleString("en"));
+  const acts = run.acts.filter((it) => it.source === source);
+  return [
+    head(source.name, "source"),
+    html("dl", { class: "counts" }, all.map(marks)),
+    tabled("Its activations", acts, actHeads("Unit"), (act) => actRow(act, unitLink(act.unit, "#")), "It got none."),
+  ];
+}

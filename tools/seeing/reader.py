@@ -1,0 +1,432 @@
+"""Reads a trace, as docs/formats/trace.md has it: its lines, and what they say of steps, activations and units."""
+
+import re
+from collections import deque
+from collections.abc import Iterable
+from dataclasses import dataclass, field
+
+N = r"(0|[1-9][0-9]{0,38})"
+Z = r"(0|-?[1-9][0-9]{0,38})"
+NAME = r"([a-z][a-z0-9_]{0,30})"
+PLAIN = r'[^"\\\x00-\x1f]*'
+TEXT = rf'"{PLAIN}(?:\\(?:["\\bfnrt]|u00(?:0[0-7bef]|1[0-9a-f])){PLAIN})*"'
+VALUE = rf"(?:{Z}|{NAME}|\[{Z},{Z}\]|\#{N}|{TEXT})"
+
+# The forms of lines, each under its first word.
+FORMS = {
+    "create": rf"create {N} {NAME}",
+    "set": rf"set {N}\.{NAME}",
+    "link": rf"link {N}\.{NAME} {N}",
+    "unlink": rf"unlink {N}\.{NAME} {N}",
+    "enter": rf"enter {N} {NAME}",
+    "leave": rf"leave {N} {NAME}",
+    "delete": rf"delete {N}",
+    "trigger": rf"trigger {N} {NAME} unit {N} rating {Z}",
+    "decline": rf"decline {NAME} unit {N}",
+    "obviate": rf"obviate {N}",
+    "retrigger": rf"retrigger {N} {Z}",
+    "cycle": rf"cycle {N} act {N} {NAME} unit {N} rating {Z}",
+    "invalid": rf"invalid {N}",
+    "say": rf"say(?: {VALUE})*",
+    "refused": rf"refused ask {N} ([1-6])",
+    "end": rf"end (?:steps {N} found {N} budget {N}|native {N})",
+    "quiescence": r"quiescence",
+    "finish": rf"finish (?:(quiescence|limit|full)|stuck {N})",
+    "closed": rf"closed {NAME} {Z}",
+}
+FORMS = {word: re.compile(form) for word, form in FORMS.items()}
+REFUSAL = re.compile(r"refused (?:input|schema|units|bundle|verify|rule)(?: .*)?")
+
+# What a page can bear: so many characters of the first steps, as many of the last ones, of one step, and of one line.
+LINE_COSTS = 40
+ENDS_LIMIT = 6_000_000
+STEP_LIMIT = 1_000_000
+LINE_LIMIT = 2_000
+
+
+class NoTrace(Exception):
+    """A line that can't be in a trace, or not there."""
+
+    def __init__(self, line: int, why: str):
+        super().__init__(f"line {line}: {why}")
+        self.line = line
+
+
+@dataclass(slots=True)
+class Source:
+    """A source, with how often each mark of it stands in the trace."""
+
+    name: str
+    index: int
+    counts: dict[str, int] = field(
+        default_factory=lambda: dict.fromkeys(["trigger", "cycle", "decline", "obviate", "retrigger", "invalid"], 0)
+    )
+
+
+@dataclass(slots=True)
+class Unit:
+    """A unit, with the lines in which it was created and deleted, 0 where it was not."""
+
+    number: int
+    of: str
+    created: int
+    deleted: int = 0
+
+
+@dataclass(slots=True)
+class Activation:
+    """An activation: its bases with the lines that tell them, and the line that ended its waiting, 0 while it waits."""
+
+    number: int
+    source: Source
+    unit: int
+    bases: list[tuple[int, int]]
+    fate: str = "waits"
+    ended: int = 0
+
+
+@dataclass(slots=True)
+class Line:
+    """A line, and the unit or activation that it is about; of a reaction the first and last event it may answer."""
+
+    number: int
+    text: str
+    about: Unit | Activation | None = None
+    causes: tuple[int, int] | None = None
+
+
+@dataclass(slots=True)
+class Step:
+    """The start, a cycle, or a quiescence: its first lines, and how many more there were."""
+
+    kind: str
+    first: int
+    cycle: int = 0
+    chosen: Activation | None = None
+    rating: int = 0
+    waiting: int = 0
+    lines: list[Line] = field(default_factory=list)
+    missing: int = 0
+    costs: int = 0
+
+    def add(self, line: Line) -> None:
+        costs = len(line.text) + LINE_COSTS
+        if self.missing or self.costs + costs > STEP_LIMIT:
+            self.missing += 1
+            return
+        self.costs += costs
+        self.lines.append(line)
+
+
+@dataclass(slots=True)
+class Kept:
+    """The first steps of a run and its last ones: all of a run that is not too long for a page."""
+
+    first: list[Step] = field(default_factory=list)
+    last: deque[Step] = field(default_factory=deque)
+    first_costs: int = 0
+    last_costs: int = 0
+    dropped: list[Step] = field(default_factory=list)
+    dropped_cycles: int = 0
+
+    def add(self, step: Step) -> None:
+        if not self.last and self.first_costs + step.costs <= ENDS_LIMIT:
+            self.first.append(step)
+            self.first_costs += step.costs
+            return
+        self.last.append(step)
+        self.last_costs += step.costs
+        while self.last_costs > ENDS_LIMIT:
+            self.drop(self.last.popleft())
+
+    def drop(self, step: Step) -> None:
+        """Only the first step that is dropped is remembered, without its lines, and how many cycles there were."""
+        self.last_costs -= step.costs
+        self.dropped_cycles += step.kind == "cycle"
+        if not self.dropped:
+            self.dropped.append(Step("gap", step.first))
+
+
+@dataclass(slots=True)
+class Reaction:
+    """A line by which a source answers to an event: its rank in that event, and the first event that it may answer."""
+
+    line: Line
+    source: Source
+    rank: tuple[int, int]
+    unit: int | None
+    event: int
+
+
+@dataclass(slots=True)
+class Run:
+    """What a trace says. `finish` is empty where the trace is cut, and `cut` is a last line that was not ended."""
+
+    kept: Kept = field(default_factory=Kept)
+    sources: dict[str, Source] = field(default_factory=dict)
+    live: dict[int, Unit] = field(default_factory=dict)
+    waiting: dict[int, Activation] = field(default_factory=dict)
+    lines: int = 0
+    cycles: int = 0
+    activations: int = 0
+    units: int = 0
+    longest: int = 0
+    finish: str = ""
+    cut: str = ""
+
+    @property
+    def steps(self) -> list[Step]:
+        """The steps that are kept, in their order, with one of kind `gap` for those that are not."""
+        return [*self.kept.first, *self.kept.dropped, *self.kept.last]
+
+    @property
+    def gap(self) -> range:
+        """The lines of the steps that are not kept."""
+        return range(self.kept.dropped[0].first, self.kept.last[0].first) if self.kept.dropped else range(0)
+
+
+class Reader:
+    """Takes the lines of a trace, one after another, and refuses the first that can't stand where it does."""
+
+    def __init__(self):
+        self.run = Run()
+        self.step = Step("start", 1)
+        # What may come next: changes of the first units, what a code does, reactions, or nothing but `closed`.
+        self.state = "first units"
+        self.idle = False
+        self.events: list[tuple[int, int]] = []
+        self.reactions: list[Reaction] = []
+        self.latest: dict[str, Reaction] = {}
+
+    def take(self, text: str) -> None:
+        """The next line, without its line feed."""
+        self.run.lines += 1
+        word = text.partition(" ")[0]
+        match = FORMS[word].fullmatch(text) if word in FORMS else None
+        if not match:
+            self.refuse(told_refusal(text) if self.run.lines == 1 else told_unknown(text))
+        if self.state == "finished" and word != "closed":
+            self.refuse("a line after `finish`")
+        if len(text) > LINE_LIMIT:
+            text = f"{text[:LINE_LIMIT]}… ({len(text) - LINE_LIMIT} more characters)"
+        line = Line(self.run.lines, text)
+        getattr(self, f"take_{word}")(line, match)
+        self.step.add(line)
+
+    def refuse(self, why: str) -> None:
+        raise NoTrace(self.run.lines, why)
+
+    def begin(self, step: Step, state: str) -> None:
+        """The step before is over."""
+        self.close()
+        self.step = step
+        self.state = state
+        self.events, self.reactions, self.latest = [], [], {}
+
+    def close(self) -> None:
+        self.settle_causes()
+        self.step.waiting = len(self.run.waiting)
+        self.run.longest = max(self.run.longest, self.step.waiting)
+        self.run.kept.add(self.step)
+
+    def end(self) -> Run:
+        """There are no more lines."""
+        self.close()
+        return self.run
+
+    # Changes
+
+    def take_change(self, line: Line, unit: Unit) -> None:
+        self.want(("first units", "code"), "a change outside of the first units and of cycles")
+        line.about = unit
+        self.events.append((line.number, unit.number))
+
+    def live(self, number: str) -> Unit:
+        unit = self.run.live.get(int(number))
+        if not unit:
+            self.refuse(f"unit {number} is not there")
+        return unit
+
+    def take_create(self, line: Line, match: re.Match) -> None:
+        number = int(match[1])
+        if number != self.run.units + 1:
+            self.refuse(f"unit {number} is created where unit {self.run.units + 1} is due")
+        unit = Unit(number, match[2], line.number)
+        self.take_change(line, unit)
+        self.run.units = number
+        self.run.live[number] = unit
+
+    def take_set(self, line: Line, match: re.Match) -> None:
+        self.take_change(line, self.live(match[1]))
+
+    take_enter = take_leave = take_set
+
+    def take_link(self, line: Line, match: re.Match) -> None:
+        self.live(match[3])
+        self.take_change(line, self.live(match[1]))
+
+    take_unlink = take_link
+
+    def take_delete(self, line: Line, match: re.Match) -> None:
+        unit = self.live(match[1])
+        self.take_change(line, unit)
+        unit.deleted = line.number
+        del self.run.live[unit.number]
+
+    # Reactions
+
+    def take_reaction(self, line: Line, source: Source, rank: tuple[int, int], unit: int | None = None) -> None:
+        """A source answers to one of the events, in their order; its answers to one event have rising ranks."""
+        self.want(("first units", "reactions"), "a reaction in a cycle that has no `end` yet")
+        self.state = "reactions"
+        before = self.latest.get(source.name)
+        event = self.reactions[-1].event if self.reactions else 0
+        if before and before.rank >= rank:
+            event = max(event, before.event + 1)
+        while event < len(self.events) and unit not in (None, self.events[event][1]):
+            event += 1
+        if event >= len(self.events):
+            self.refuse("a reaction to no event" if unit is None else f"a reaction to no event of unit {unit}")
+        self.latest[source.name] = Reaction(line, source, rank, unit, event)
+        self.reactions.append(self.latest[source.name])
+        source.counts[line.text.partition(" ")[0]] += 1
+
+    def settle_causes(self) -> None:
+        """Each reaction is given the first and the last event that it can be an answer to."""
+        last = len(self.events) - 1
+        after: dict[str, tuple[tuple[int, int], int]] = {}
+        for it in reversed(self.reactions):
+            rank, event = after.get(it.source.name, ((9, 0), 0))
+            if it.rank >= rank:
+                last = min(last, event - 1)
+            while it.unit not in (None, self.events[last][1]):
+                last -= 1
+            after[it.source.name] = it.rank, last
+            it.line.causes = self.events[it.event][0], self.events[last][0]
+
+    def source(self, name: str) -> Source:
+        return self.run.sources.setdefault(name, Source(name, len(self.run.sources)))
+
+    def waits(self, number: str) -> Activation:
+        activation = self.run.waiting.get(int(number))
+        if not activation:
+            self.refuse(f"activation {number} does not wait")
+        return activation
+
+    def over(self, activation: Activation, fate: str) -> None:
+        activation.fate = fate
+        activation.ended = self.run.lines
+        del self.run.waiting[activation.number]
+
+    def take_trigger(self, line: Line, match: re.Match) -> None:
+        number, unit, base = int(match[1]), int(match[3]), int(match[4])
+        if number != self.run.activations + 1:
+            self.refuse(f"activation {number} where {self.run.activations + 1} is due")
+        source = self.source(match[2])
+        self.take_reaction(line, source, (2, 0), unit)
+        line.about = Activation(number, source, unit, [(line.number, base)])
+        self.run.activations = number
+        self.run.waiting[number] = line.about
+
+    def take_decline(self, line: Line, match: re.Match) -> None:
+        self.take_reaction(line, self.source(match[1]), (2, 0), int(match[2]))
+
+    def take_obviate(self, line: Line, match: re.Match) -> None:
+        line.about = self.waits(match[1])
+        self.take_reaction(line, line.about.source, (0, line.about.number))
+        self.over(line.about, "obviated")
+
+    def take_retrigger(self, line: Line, match: re.Match) -> None:
+        line.about = self.waits(match[1])
+        self.take_reaction(line, line.about.source, (1, line.about.number))
+        line.about.bases.append((line.number, int(match[2])))
+
+    # Cycles
+
+    def want(self, states: tuple[str, ...], otherwise: str) -> None:
+        if self.state == "chosen" and "code" in states:
+            self.state = "code"
+        if self.state not in states:
+            self.refuse(otherwise)
+
+    def take_cycle(self, line: Line, match: re.Match) -> None:
+        self.want(("first units", "reactions"), "a cycle in a cycle that has no `end` yet")
+        cycle, act, name, unit, rating = int(match[1]), *match.group(2, 3, 4), int(match[5])
+        if cycle != self.run.cycles + 1:
+            self.refuse(f"cycle {cycle} where {self.run.cycles + 1} is due")
+        chosen = self.waits(act)
+        if (name, int(unit)) != (chosen.source.name, chosen.unit):
+            self.refuse(f"activation {act} was triggered for {chosen.source.name} and unit {chosen.unit}")
+        self.begin(Step("cycle", line.number, cycle, chosen, rating), "chosen")
+        self.idle = False
+        self.run.cycles = cycle
+        self.over(chosen, "acted")
+        chosen.source.counts["cycle"] += 1
+        line.about = chosen
+
+    def take_invalid(self, line: Line, match: re.Match) -> None:
+        self.want(("chosen",), "`invalid` comes right after its `cycle`")
+        line.about = self.step.chosen
+        if int(match[1]) != line.about.number:
+            self.refuse(f"activation {line.about.number} was chosen, not {match[1]}")
+        line.about.fate = "invalid"
+        line.about.source.counts["invalid"] += 1
+        self.state = "reactions"
+
+    def take_say(self, line: Line, match: re.Match) -> None:
+        self.want(("code",), f"`{line.text.partition(' ')[0]}` outside of a cycle")
+
+    take_refused = take_say
+
+    def take_end(self, line: Line, match: re.Match) -> None:
+        self.take_say(line, match)
+        line.about = self.step.chosen
+        self.state = "reactions"
+
+    # Quiescence, and the end
+
+    def take_quiescence(self, line: Line, match: re.Match) -> None:
+        self.want(("first units", "reactions"), "`quiescence` in a cycle that has no `end` yet")
+        if self.idle:
+            self.refuse("`quiescence` again, with no cycle since")
+        self.begin(Step("quiescence", line.number), "reactions")
+        self.idle = True
+        self.events.append((line.number, 0))
+
+    def take_finish(self, line: Line, match: re.Match) -> None:
+        self.run.finish = line.text.removeprefix("finish ")
+        if match[1] in ("quiescence", "limit"):
+            self.want(("first units", "reactions"), f"`finish {match[1]}` in a cycle that has no `end` yet")
+        if match[1] == "quiescence" and not self.idle:
+            self.refuse("`finish quiescence` without `quiescence`, or with a cycle since")
+        self.state = "finished"
+
+    def take_closed(self, line: Line, match: re.Match) -> None:
+        self.want(("finished",), "`closed` comes after `finish`")
+
+
+def told_unknown(text: str) -> str:
+    """What is said of a line that is none, in one line of ASCII."""
+    return f"no line of a trace: {ascii(text[:60] + '…' * (len(text) > 60))}"
+
+
+def told_refusal(text: str) -> str:
+    """What is said of a first line that is none of a run's."""
+    return (
+        f"the input was refused, so there is no run to see: {text}" if REFUSAL.fullmatch(text) else told_unknown(text)
+    )
+
+
+def read(lines: Iterable[bytes]) -> Run:
+    """The run that a trace tells, whose lines end with their line feeds; a last one that does not is cut."""
+    reader = Reader()
+    for raw in lines:
+        if not raw.endswith(b"\n"):
+            reader.run.cut = raw.decode(errors="replace")[:LINE_LIMIT]
+            break
+        try:
+            text = raw[:-1].decode()
+        except UnicodeDecodeError:
+            raise NoTrace(reader.run.lines + 1, "no UTF-8") from None
+        reader.take(text)
+    return reader.end()
