@@ -39,7 +39,7 @@ const MARK_NAMES = {
   decline: "declined",
   obviate: "obviated",
   raised: "rated anew, higher",
-  lowered: "lower",
+  lowered: "rated anew, lower",
   invalid: "invalid",
   waits: "still waits",
 };
@@ -56,9 +56,9 @@ function icon(shape) {
   return svg("svg", box, mark(shape, 0, 0));
 }
 
-function legend(shapes, names = MARK_NAMES) {
-  return shapes.map((it) => html("span", { class: "key" }, icon(it), names[it] ?? it));
-}
+const key = (shapes, name) => html("span", { class: "key" }, shapes.map(icon), name);
+
+const legend = (shapes) => shapes.map((it) => key([it], MARK_NAMES[it] ?? it));
 
 const plural = (count, one, many = `${one}s`) => `${count.toLocaleString("en")} ${Number(count) === 1 ? one : many}`;
 

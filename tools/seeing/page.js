@@ -42,11 +42,14 @@ function showNotices() {
     `The run is too long for one page: of its ${plural(cycles, "cycle")} the first ${kept(run.steps.slice(0, gap))} `,
     `and the last ${kept(run.steps.slice(gap))} are shown. The counts are those of the whole run.`);
   at(".notices").append(...[cut, long].filter(Boolean));
+  at(".whole span").textContent = dropped > 0 ? "All that is shown" : "Whole run";
 }
 
 function showKeys() {
-  const ofSources = legend(["cycle", "invalid", "trigger", "raised", "lowered", "obviate", "decline"]);
-  at(".sources .keys").append(...ofSources, html("span", { class: "key band" }, "waits"));
+  const waits = html("span", { class: "key band" }, "waits");
+  const rated = key(["raised", "lowered"], "rated anew");
+  const ofSources = [...legend(["cycle", "invalid", "trigger"]), rated, ...legend(["obviate", "decline"]), waits];
+  at(".sources .keys").append(...ofSources);
   at(".activations .keys").append("bars from trigger to end, with each base; after the end the rating");
   at(".units .keys").append(...legend(["create", "set", "link", "unlink", "enter", "leave", "delete"]));
 }

@@ -7,7 +7,7 @@ function stepPanel(step) {
   const lines = run.linesOf(step);
   return [
     stepHead(step),
-    step.act && choice(step),
+    step.act > 0 && choice(step),
     step.kind === "quiescence" && quiet(step),
     effects(step, lines),
     reactions(step, lines),
@@ -52,7 +52,7 @@ function chosen(step, act) {
 
 function whyNow(step, act, waited) {
   const weight = run.weightOf(step);
-  const rerated = act.bases.filter(([line]) => line < step.first).length - 1;
+  const rerated = run.basesBefore(act, step.first) - 1;
   const before = run.passedOver(act).filter((it) => it.index < step.index).length;
   const those = run.isAcrossGap(act) ? " of those that are shown" : "";
   return [

@@ -12,7 +12,7 @@ PLAIN = r'[^"\\\x00-\x1f]*'
 TEXT = rf'"{PLAIN}(?:\\(?:["\\bfnrt]|u00(?:0[0-7bef]|1[0-9a-f])){PLAIN})*"'
 VALUE = rf"(?:{Z}|{NAME}|\[{Z},{Z}\]|\#{N}|{TEXT})"
 
-# The forms of lines, each under its first word.
+# The forms of lines, each under its first word. `refused`, `end native` and `closed` tell of natives of a host.
 FORMS = {
     "create": rf"create {N} {NAME}",
     "set": rf"set {N}\.{NAME}",

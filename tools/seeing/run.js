@@ -82,11 +82,12 @@ class Run {
   }
 
   linesOf(step) {
-    return Array.from({ length: step.kept }, (_, at) => ({
+    step.lines ??= Array.from({ length: step.kept }, (_, at) => ({
       number: step.first + at,
       text: this.lines[step.at + at],
       word: this.lines[step.at + at].split(" ", 1)[0],
     }));
+    return step.lines;
   }
 
   // The changes that a reaction can be an answer to: those of its unit, where it names one.
@@ -120,14 +121,18 @@ class Run {
     return act.bases[0][0];
   }
 
+  // How many of its bases came before a line.
+  basesBefore(act, line) {
+    return firstWhere(act.bases.length, (at) => act.bases[at][0] >= line);
+  }
+
   baseAt(act, line) {
-    return act.bases.findLast(([at]) => at < line)?.[1] ?? act.bases[0][1];
+    return act.bases[Math.max(0, this.basesBefore(act, line) - 1)][1];
   }
 
   // Whether a line that rates an activation anew raised or lowered it.
   turnOf(act, line) {
-    const at = act.bases.findIndex(([it]) => it === line);
-    return at > 0 && act.bases[at][1] < act.bases[at - 1][1] ? "lowered" : "raised";
+    return this.baseAt(act, line + 1) < this.baseAt(act, line) ? "lowered" : "raised";
   }
 
   // What waited when a line came, the activation that it chose too.
@@ -155,7 +160,7 @@ class Run {
       return { sort: "later", text: isAlike ? `rated ${rating} too, later number` : "same base, later number" };
     }
     const by = rating - step.rating + (act.number < step.act ? 1n : 0n);
-    return { sort: "weighed", text: `foci weighed it down by ${by} or more` };
+    return { sort: "weighed", text: `foci took off ${by} or more` };
   }
 
   // The cycles that passed over an activation while it waited.

@@ -346,18 +346,18 @@ class Timeline {
         svg("rect", { x: from, y: middle - 8, width: Math.max(to - from, 2), height: 16, rx: 3 })),
       this.basesOf(act, from, to, middle),
       trigger >= this.first && mark("trigger", from, middle),
-      act.ended && end < this.end && this.endOf(act, to, middle, end),
+      act.ended > 0 && end < this.end && this.endOf(act, to, middle, end),
       !act.ended && mark("waits", to - 6, middle, `activation ${act.number} still waits`),
     ];
   }
 
   // The base at its trigger, and each new one where it came.
   basesOf(act, from, to, middle) {
-    const placed = act.bases.map(([line, base], at) => {
+    const first = Math.max(0, this.run.basesBefore(act, this.lines[0]) - 1);
+    const inWindow = act.bases.slice(first, this.run.basesBefore(act, this.lines[1])).map(([line, base], at) => {
       const step = this.run.stepAt(line).index;
-      return { at, line, base, step, x: step < this.first ? from : this.middle(step) };
+      return { at: first + at, line, base, step, x: step < this.first ? from : this.middle(step) };
     });
-    const inWindow = placed.filter((it) => it.step < this.end && !(placed[it.at + 1]?.step < this.first));
     const seen = inWindow.filter((it, at) => inWindow[at + 1]?.step !== it.step);
     return seen.map((it, at) => {
       const text = String(it.base);
@@ -437,7 +437,7 @@ class Timeline {
     const room = Math.max(1, Math.floor((this.width - 10) / 12));
     const shown = all.slice(0, room);
     const between = (this.width - 10) / shown.length;
-    const isCounted = between >= 24;
+    const isCounted = between >= 21;
     return shown.map(([shape, count], at) => {
       const x = this.left(step.index) + 5 + between * (at + 0.5) - (isCounted && count > 1 ? 4 : 0);
       return [
