@@ -55,13 +55,15 @@ function whyNow(step, act, waited) {
   const rerated = run.basesBefore(act, step.first) - 1;
   const before = run.passedOver(act).filter((it) => it.index < step.index).length;
   const those = run.isAcrossGap(act) ? " of those that are shown" : "";
+  const trigger = run.stepAt(run.triggerOf(act));
+  const where = trigger.kind === "quiescence" ? "" : ["in ", stepLink(trigger), " "];
   return [
     html("p", {},
       waited.length > 1 ? `Of ${waited.length.toLocaleString("en")} that waited it was rated highest, ${step.rating}; `
         + "of equal ratings the lowest number goes first." : `It alone waited, rated ${step.rating}.`,
       weight !== 0n && ` Foci weighed its source ${weight > 0n ? "up" : "down"} by ${weight > 0n ? weight : -weight}.`),
     html("p", {},
-      "It was triggered in ", stepLink(run.stepAt(run.triggerOf(act))), " ", causeTold(run.triggerOf(act)), ".",
+      "It was triggered ", where, causeTold(run.triggerOf(act)), ".",
       rerated > 0 && ` It was rated anew ${rerated === 1 ? "once" : `${rerated} times`} since.`,
       ` ${before ? plural(before, "cycle") : "No cycle"}${those} passed it over before.`),
     run.isInvalid(step) && html("p", {}, "Its source looked once more (revalidate) and said no: it was not executed."),
@@ -75,9 +77,8 @@ function passedOver(step, others) {
   const made = (act) => {
     const why = run.whyPassed(step, act);
     const rating = run.isWeighedAlike(step, act) ? String(baseOf(act) + run.weightOf(step)) : faint("?");
-    const about = [sourceLink(act.source.name), " ", unitLink(act.unit, "#")];
     const rated = [String(baseOf(act)), ...(isTold ? [rating] : [])];
-    return row(actLink(act.number), about, ...rated, html("span", { class: why.sort }, why.text));
+    return row(actLink(act.number), actAbout(act), ...rated, html("span", { class: why.sort }, why.text));
   };
   const heads = ["Act.", "Source, unit", "Base", ...(isTold ? ["Rating"] : []), "Passed over for"];
   return tabled("What waited, and was passed over?", [...others].sort(byBase), heads, made, "Nothing else waited.",
@@ -87,10 +88,7 @@ function passedOver(step, others) {
 
 function quiet(step) {
   const waited = run.waitingAt(step.first);
-  const made = (act) => {
-    const about = [sourceLink(act.source.name), " ", unitLink(act.unit, "#")];
-    return row(actLink(act.number), about, String(run.baseAt(act, step.first)));
-  };
+  const made = (act) => row(actLink(act.number), actAbout(act), String(run.baseAt(act, step.first)));
   const below = "Nothing could be chosen: all that waits is rated below the floor, which is 0 in the program.";
   return [
     html("p", {}, waited.length ? below : "Nothing waited.", " The sources answer to quiescence as to any event."),
@@ -223,6 +221,6 @@ function sourcePanel(source) {
   return [
     head(source.name, "source"),
     html("dl", { class: "counts" }, all.map(marks)),
-    tabled("Its activations", acts, actHeads("Unit"), (act) => actRow(act, unitLink(act.unit, "#")), "It got none."),
+    tabled("Its activations", acts, actHeads("Unit"), (act) => actRow(act, ofUnit(act)), "It got none."),
   ];
 }

@@ -45,6 +45,10 @@ function unitTold(number) {
   return ["unit ", unitLink(number), unit && [" ", faint(unit.of)]];
 }
 
+// What an activation is of: its source and its unit, of which quiescence gives none.
+const ofUnit = (act) => (act.unit ? unitLink(act.unit, "#") : faint("no unit"));
+const actAbout = (act) => [sourceLink(act.source.name), " ", ofUnit(act)];
+
 // ---- lines of the trace
 
 // A line whose units, activations, sources and cycles lead to what is known of them.
