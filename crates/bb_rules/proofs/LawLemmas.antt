@@ -24,7 +24,7 @@ use Rattle.bb_rules.specs.declared.source.Act.TheVariants as acts
 use Rattle.bb_rules.specs.declared.source.Reaction.{Reaction}
 use Rattle.bb_rules.specs.declared.source.Source.{Source}
 use Rattle.bb_rules.specs.Source.{class_of, classes_of, obviate_part, retrigger_part, is_same_part, is_for, is_for_reaction, reaction_code, act_code, parts_fit, class_within, kind_of, clause_of, clauses_of, reaction_of, act_of, source_of}
-use Rattle.bb_rules.specs.Law.{IsWithin, IsPart, Reacts, IsOf}
+use Rattle.bb_rules.specs.Law.{IsWithin, IsPart, Reacts, IsOf, IsAccepted, AreAccepted, IsMade}
 
 -- ---- clauses
 
@@ -136,32 +136,101 @@ fit_parts c draft done h =
     let four = bind_ok valid (λ _. acts) done three.2 in
     record { done = done; require = one.1; obviate = two.1; retrigger = three.1; revalidate = four.1; act = four.2 }
 
-pub source_law : (s : Schema) (draft : SourceDraft Checked) (source : Source) → source_of s draft ≡ Ok source → IsOf s source
+-- the source of these steps
+abbrev pub with_all : SourceDraft Checked → Classes → List Clause → Option Reaction → Option Reaction → Source
+with_all draft c ts o r = record {
+  name = draft.name;
+  class = c.own;
+  rate = draft.rate;
+  triggers = ts;
+  require = draft.require;
+  obviate = o;
+  retrigger = r;
+  revalidate = draft.revalidate;
+  act = act_of draft.act;
+}
+
+-- the steps by which a source was made
+pub record Steps (s : Schema) (draft : SourceDraft Checked) (source : Source) : Type 0 where
+  pub classes : Classes
+  pub done : Unit {0}
+  pub fit : parts_fit classes draft ≡ Ok done
+  pub triggers : List Clause
+  pub triggers_are : clauses_of s classes.own draft.triggers ≡ Ok triggers
+  pub obviate : Option Reaction
+  pub obviate_is : reaction_of s classes.obviated draft.obviate ≡ Ok obviate
+  pub retrigger : Option Reaction
+  pub retrigger_is : reaction_of s classes.retriggered draft.retrigger ≡ Ok retrigger
+  pub made : with_all draft classes triggers obviate retrigger ≡ source
+
+pub steps_of : (s : Schema) (draft : SourceDraft Checked) (source : Source) → source_of s draft ≡ Ok source → Steps s draft source
 unfolding source_of
-source_law s draft source h =
-    let with_all : Classes → List Clause → Option Reaction → Option Reaction → Source = λ c ts o r. record {
-      name = draft.name;
-      class = c.own;
-      rate = draft.rate;
-      triggers = ts;
-      require = draft.require;
-      obviate = o;
-      retrigger = r;
-      revalidate = draft.revalidate;
-      act = act_of draft.act;
-    } in
-    let after : Classes → List Clause → Result Source RuleFault = λ c ts. reaction_of s c.obviated draft.obviate >>= λ o. reaction_of s c.retriggered draft.retrigger >>= λ r. Ok (with_all c ts o r) in
+steps_of s draft source h =
+    let made = with_all draft in
+    let after : Classes → List Clause → Result Source RuleFault = λ c ts. reaction_of s c.obviated draft.obviate >>= λ o. reaction_of s c.retriggered draft.retrigger >>= λ r. Ok (made c ts o r) in
     let c = bind_ok (classes_of s draft) (λ c. parts_fit c draft >>= λ _. clauses_of s c.own draft.triggers >>= λ ts. after c ts) source h in
     let p = bind_ok (parts_fit c.0 draft) (λ _. clauses_of s c.0.own draft.triggers >>= λ ts. after c.0 ts) source c.2 in
     let t = bind_ok (clauses_of s c.0.own draft.triggers) (λ ts. after c.0 ts) source p.2 in
-    let o = bind_ok (reaction_of s c.0.obviated draft.obviate) (λ o. reaction_of s c.0.retriggered draft.retrigger >>= λ r. Ok (with_all c.0 t.0 o r)) source t.2 in
-    let r = bind_ok (reaction_of s c.0.retriggered draft.retrigger) (λ r. Ok (with_all c.0 t.0 o.0 r)) source o.2 in
-    let fit = fit_parts c.0 draft p.0 p.1 in
-    subst (IsOf s) (same_ok (with_all c.0 t.0 o.0 r.0) source r.2) (record {
-      triggers = clauses_within s c.0.own draft.triggers t.0 t.1;
-      require = is_part (parts.Require c.0.own) draft.require fit.done fit.require;
-      obviate = reacts s (parts.Obviate c.0.own) c.0.obviated draft.obviate o.0 fit.done fit.obviate o.1;
-      retrigger = reacts s (parts.Retrigger c.0.own) c.0.retriggered draft.retrigger r.0 fit.done fit.retrigger r.1;
-      revalidate = is_part (parts.Revalidate c.0.own) draft.revalidate fit.done fit.revalidate;
-      act = act_part c.0.own draft.act fit.done fit.act;
+    let o = bind_ok (reaction_of s c.0.obviated draft.obviate) (λ o. reaction_of s c.0.retriggered draft.retrigger >>= λ r. Ok (made c.0 t.0 o r)) source t.2 in
+    let r = bind_ok (reaction_of s c.0.retriggered draft.retrigger) (λ r. Ok (made c.0 t.0 o.0 r)) source o.2 in
+    record {
+      classes = c.0;
+      done = p.0;
+      fit = p.1;
+      triggers = t.0;
+      triggers_are = t.1;
+      obviate = o.0;
+      obviate_is = o.1;
+      retrigger = r.0;
+      retrigger_is = r.1;
+      made = same_ok (made c.0 t.0 o.0 r.0) source r.2;
+    }
+
+pub source_law : (s : Schema) (draft : SourceDraft Checked) (source : Source) → source_of s draft ≡ Ok source → IsOf s source
+source_law s draft source h =
+    let steps = steps_of s draft source h in
+    let c = steps.classes in
+    let fit = fit_parts c draft steps.done steps.fit in
+    subst (IsOf s) steps.made (record {
+      triggers = clauses_within s c.own draft.triggers steps.triggers steps.triggers_are;
+      require = is_part (parts.Require c.own) draft.require fit.done fit.require;
+      obviate = reacts s (parts.Obviate c.own) c.obviated draft.obviate steps.obviate fit.done fit.obviate steps.obviate_is;
+      retrigger = reacts s (parts.Retrigger c.own) c.retriggered draft.retrigger steps.retrigger fit.done fit.retrigger steps.retrigger_is;
+      revalidate = is_part (parts.Revalidate c.own) draft.revalidate fit.done fit.revalidate;
+      act = act_part c.own draft.act fit.done fit.act;
+    })
+
+-- ---- codes that were accepted
+
+reaction_accepted : (s : Schema) (of : Option ℕ) (draft : Option (ReactionDraft Checked)) (made : Option Reaction) → reaction_of s of draft ≡ Ok made → ((d : ReactionDraft Checked) → draft ≡ Some d → IsAccepted s d.code)
+    → (r : Reaction) → made ≡ Some r → IsAccepted s r.code
+reaction_accepted s None draft made h are r is =
+    let none : None ≡ made = same_ok None made h in
+    absurd cc
+reaction_accepted s (Some class) None made h are r is =
+    let none : None ≡ made = same_ok None made h in
+    absurd cc
+reaction_accepted s (Some class) (Some draft) made h are r is =
+    let one = bind_ok (clauses_of s class draft.clauses) (λ found. Ok (Some (record { class = class; clauses = found; code = draft.code }))) made h in
+    let whole : Reaction = record { class = class; clauses = one.0; code = draft.code } in
+    let is_made : Some whole ≡ made = same_ok (Some whole) made one.2 in
+    let same : whole ≡ r = cc in
+    subst (λ t. IsAccepted s t.code) same (are draft refl)
+
+act_accepted : (s : Schema) (draft : ActDraft Checked) → ((c : Checked) → draft ≡ drafts.Do c → IsAccepted s c) → (c : Checked) → act_of draft ≡ acts.Code c → IsAccepted s c
+act_accepted s (drafts.Do code) are c is = let same : code ≡ c = cc in subst (IsAccepted s) same (are code refl)
+act_accepted s drafts.Native are c is = absurd cc
+
+-- a source of codes that were accepted is made of these
+pub source_made_of : (s : Schema) (draft : SourceDraft Checked) (source : Source) → source_of s draft ≡ Ok source → AreAccepted s draft → IsMade s source
+source_made_of s draft source h are =
+    let steps = steps_of s draft source h in
+    let whole = with_all draft steps.classes steps.triggers steps.obviate steps.retrigger in
+    subst (IsMade s) steps.made (record {
+      law = subst (IsOf s) (sym steps.made) (source_law s draft source h);
+      require = are.require;
+      obviate = reaction_accepted s steps.classes.obviated draft.obviate steps.obviate steps.obviate_is are.obviate;
+      retrigger = reaction_accepted s steps.classes.retriggered draft.retrigger steps.retrigger steps.retrigger_is are.retrigger;
+      revalidate = are.revalidate;
+      act = act_accepted s draft.act are.act;
     })

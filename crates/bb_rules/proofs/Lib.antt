@@ -1,3 +1,4 @@
 pub mod IndexLemmas
 pub mod LawLemmas
 pub mod StepLemmas
+pub mod Laws

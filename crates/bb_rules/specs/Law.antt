@@ -1,9 +1,12 @@
 -- What holds of every source that was made under a schema.
-use Rattle.std.specs.Prelude.{◌≡◌, ℕ, true, All, Option, Some}
+use Rattle.std.specs.Prelude.{◌≡◌, ℕ, true, All, Option, Some, Ok}
 use Rattle.bb_schema.specs.Schema.{Schema, descends}
-use Rattle.bb_verify.specs.Accepted.{Checked}
+use Rattle.bb_verify.specs.Accepted.{Checked, checked}
 use Rattle.bb_verify.specs.PartType.{Part}
 use Rattle.bb_verify.specs.PartType.TheVariants as parts
+use Rattle.bb_compile.specs.declared.source_code.ActDraft.TheVariants as drafts
+use Rattle.bb_compile.specs.declared.source_code.ReactionDraft.{ReactionDraft}
+use Rattle.bb_compile.specs.declared.source_code.SourceDraft.{SourceDraft}
 use Rattle.bb_rules.specs.declared.clause.Clause.{Clause}
 use Rattle.bb_rules.specs.declared.clause.Clause.TheVariants as clauses
 use Rattle.bb_rules.specs.declared.source.Act.TheVariants as acts
@@ -33,3 +36,26 @@ pub record IsOf (s : Schema) (source : Source) : Type 0 where
   pub retrigger : Reacts s (parts.Retrigger source.class) source.retrigger
   pub revalidate : IsPart (parts.Revalidate source.class) source.revalidate
   pub act : (c : Checked) → source.act ≡ acts.Code c → c.part ≡ parts.Do source.class
+
+-- ---- codes that were accepted under the schema
+
+-- the verifier accepts the code for its part, with these frames
+abbrev pub IsAccepted : Schema → Checked → Type 0
+IsAccepted s c = checked s c.part c.code ≡ Ok c
+
+-- all codes of a draft were accepted
+pub record AreAccepted (s : Schema) (draft : SourceDraft Checked) : Type 0 where
+  pub require : (c : Checked) → draft.require ≡ Some c → IsAccepted s c
+  pub obviate : (r : ReactionDraft Checked) → draft.obviate ≡ Some r → IsAccepted s r.code
+  pub retrigger : (r : ReactionDraft Checked) → draft.retrigger ≡ Some r → IsAccepted s r.code
+  pub revalidate : (c : Checked) → draft.revalidate ≡ Some c → IsAccepted s c
+  pub act : (c : Checked) → draft.act ≡ drafts.Do c → IsAccepted s c
+
+-- a source that was made of codes that were accepted
+pub record IsMade (s : Schema) (source : Source) : Type 0 where
+  pub law : IsOf s source
+  pub require : (c : Checked) → source.require ≡ Some c → IsAccepted s c
+  pub obviate : (r : Reaction) → source.obviate ≡ Some r → IsAccepted s r.code
+  pub retrigger : (r : Reaction) → source.retrigger ≡ Some r → IsAccepted s r.code
+  pub revalidate : (c : Checked) → source.revalidate ≡ Some c → IsAccepted s c
+  pub act : (c : Checked) → source.act ≡ acts.Code c → IsAccepted s c

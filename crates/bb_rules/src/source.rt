@@ -4,7 +4,7 @@
 ghost use Rattle.std.specs.Prelude.{◌≡◌, IfOk};
 ghost use Rattle.bb_basis.specs.Results.{Gives};
 ghost use Rattle.bb_rules.specs.Source.{act_of, source_of};
-ghost use Rattle.bb_rules.specs.Law.{IsOf};
+ghost use Rattle.bb_rules.specs.Law.{AreAccepted, IsMade, IsOf};
 ghost use Rattle.bb_rules.specs.proving.Steps.{reaction_with, source_with};
 
 use crate::answered::Found;
@@ -68,6 +68,7 @@ impl Source {
     ) -> Result<Source, RuleFault>
         ensures made { Gives RuleFault.Memory (λ s. s) result (source_of schema.now draft) }
         ensures law { IfOk result (λ s. IsOf schema.now s) }
+        ensures accepted { AreAccepted schema.now draft → IfOk result (λ s. IsMade schema.now s) }
     {
         let found = Found::of(alloc, schema, &draft)?;
         Ok(source_with(found, draft))

@@ -24,3 +24,5 @@ pub use Rattle.bb_run.specs.Finish
 pub use Rattle.bb_run.specs.declared.finish.Finish as Finishes
 -- of bb_trace: the text of a trace
 pub use Rattle.bb_run.specs.TraceText
+-- of bb_rules: what sources were made of
+pub use Rattle.bb_run.specs.Law

@@ -1,12 +1,13 @@
 //! The codes of a source, each accepted for its part. What an input means (sources.rt) begins with it.
 
-ghost use Rattle.std.specs.Prelude.{◌≡◌};
+ghost use Rattle.std.specs.Prelude.{◌≡◌, IfOk};
 ghost use Rattle.bb_basis.specs.Results.{Gives, map_err};
 ghost use Rattle.bb_verify.specs.PartType.TheVariants as parts;
 ghost use Rattle.bb_shell.specs.declared.accepting.CodeFault.TheVariants.{Memory as OutOfMemory};
 ghost use Rattle.bb_shell.specs.Accepting.{accepted_act, accepted_code, accepted_codes, accepted_draft};
 ghost use Rattle.bb_shell.specs.Accepting.{accepted_first, accepted_later, accepted_part, accepted_reaction};
-ghost use Rattle.bb_shell.specs.Accepting.{accepted_source, codes_of, draft_of, header_of};
+ghost use Rattle.bb_run.specs.MadeSource.{classes_of};
+ghost use Rattle.bb_shell.specs.Accepting.{accepted_source, codes_of, draft_of, header_of, in_source};
 
 use crate::input_fault::InputFault;
 use bb_basis::{Items, Text};
@@ -66,13 +67,36 @@ pub(crate) fn accept(
 ) -> Result<SourceDraft<Checked>, InputFault>
     ensures { Gives InputFault.Memory (λ d. d) result (accepted_source schema.now draft) }
 {
+    let (name, classes) = look_up(alloc, schema, &draft)?;
+    in_source(name, accept_draft(alloc, schema, classes, draft))
+}
+
+// The name of a source, and the classes that it and its reactions name.
+fn look_up(
+    alloc: Global,
+    schema: &Schema,
+    draft: &SourceDraft<Code>,
+) -> Result<(Text, Classes), InputFault>
+    ensures classes { Gives InputFault.Memory (λ n. n.1) result
+        (map_err (InputFault.Rule draft.now.name) (classes_of schema.now draft.now)) }
+    ensures name { IfOk result (λ n. n.0 ≡ draft.now.name) }
+{
     let name = Text::from_str(alloc, draft.name.as_str())?;
-    let classes = match Classes::find(schema, &draft) {
-        Ok(classes) => classes,
-        Err(fault) => return Err(InputFault::Rule { name, fault }),
-    };
-    match accept_draft(alloc, schema, classes, draft) {
-        Ok(accepted) => Ok(accepted),
+    match Classes::find(schema, draft) {
+        Ok(classes) => Ok((name, classes)),
+        Err(fault) => Err(InputFault::Rule { name, fault }),
+    }
+}
+
+// The same of the source of this name: a fault of its codes is one of the source.
+fn in_source(
+    name: Text,
+    accepted: Result<SourceDraft<Checked>, CodeFault>,
+) -> Result<SourceDraft<Checked>, InputFault>
+    ensures { result ≡ map_err (in_source name) accepted }
+{
+    match accepted {
+        Ok(draft) => Ok(draft),
         Err(CodeFault::Memory) => Err(InputFault::Memory),
         Err(CodeFault::Verify { part, fault }) => Err(InputFault::Verify { name, part, fault }),
     }

@@ -1,8 +1,9 @@
 //! A blackboard with the sources that run on it. Hosts make one and run it, and `run_texts` makes one of an input.
 
-ghost use Rattle.std.specs.Prelude.{◌≡◌, ◌≤◌, false, length, IfOk, IfSome};
+ghost use Rattle.std.specs.Prelude.{◌≡◌, ◌≤◌, false, length, All, IfOk, IfSome};
 ghost use Rattle.std.specs.Io.KnownBytes.{Appends};
 ghost use Rattle.bb_basis.specs.Results.{Gives};
+ghost use Rattle.bb_run.specs.Law.{IsMade};
 ghost use Rattle.bb_run.specs.Finish.{WritesFront, end_of, is_write};
 ghost use Rattle.bb_run.specs.Run.{run};
 ghost use Rattle.bb_run.specs.TraceText.{trace_text};
@@ -33,8 +34,9 @@ impl Model for Shell {
 }
 
 impl Shell {
-    /// A shell of sources that were made under the schema of the blackboard. The fault is the first, source by source:
-    /// `Twice`, `Limit` past 256 sources, `Native`. At a fault blackboard and sources are given up.
+    /// A shell of sources that were made under the schema of the blackboard, of codes that were verified under it. The
+    /// fault is the first, source by source: `Twice`, `Limit` past 256 sources, `Native`. At a fault blackboard and
+    /// sources are given up.
     #[tactic(auto, unfolding(crate::specs::Shell::shell_of))]
     pub fn new(
         alloc: Global,
@@ -42,6 +44,7 @@ impl Shell {
         sources: Vec<Source>,
         floor: i64,
     ) -> Result<Shell, RuleFault>
+        requires made { All (IsMade board.schema) sources.items }
         ensures { Gives RuleFault.Memory (λ s. s) result (shell_of board sources.items floor) }
     {
         let schema = board.shared_schema()?;

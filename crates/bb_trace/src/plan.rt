@@ -1,6 +1,7 @@
 //! What a run goes by. The meaning of an input (bb_shell) has it, and every part of the run reads it.
 
-ghost use Rattle.std.specs.Prelude.{◌≡◌, ◌≤◌, IfOk, length};
+ghost use Rattle.std.specs.Prelude.{◌≡◌, ◌≤◌, All, IfOk, length};
+ghost use Rattle.bb_rules.specs.Law.{IsMade};
 
 use bb_basis::{Items, Memory};
 use bb_board::SharedSchema;
@@ -12,6 +13,7 @@ use std::marker::Model;
 pub const SOURCE_LIMIT: usize = 256;
 
 /// What a run goes by: the schema, the sources in their order, 256 at most, and the least rating that can be chosen.
+/// Each source was made under the schema, of codes that the verifier accepted under it.
 #[derive(Drop)]
 pub struct Plan {
     schema: SharedSchema,
@@ -20,7 +22,8 @@ pub struct Plan {
 }
 
 impl Model for Plan {
-    ghost use Rattle.std.specs.Prelude.{◌≤◌, length};
+    ghost use Rattle.std.specs.Prelude.{◌≤◌, All, length};
+    ghost use Rattle.bb_rules.specs.Law.{IsMade};
     ghost use Rattle.bb_trace.specs.declared.plan.TheConstants.{SOURCE_LIMIT};
     ghost use Rattle.bb_trace.specs.Plan.{Plan as Planned};
     ghost use Rattle.bb_trace.specs.proving.Codes.{plan_code};
@@ -31,13 +34,14 @@ impl Model for Plan {
 
     ghost view = { λ p. record { schema = p.schema; sources = p.sources; floor = p.floor } };
 
-    ghost invariant = { λ p. length p.sources ≤ SOURCE_LIMIT };
+    ghost invariant = { λ p. (length p.sources ≤ SOURCE_LIMIT) × All (IsMade p.schema) p.sources };
 }
 
 impl Plan {
-    /// A plan of these sources in their order, 256 at most.
+    /// A plan of these sources in their order, 256 at most, which were made under the schema.
     pub fn new(schema: SharedSchema, sources: Vec<Source>, floor: i64) -> Plan
-        requires { length sources.items ≤ SOURCE_LIMIT }
+        requires few { length sources.items ≤ SOURCE_LIMIT }
+        requires made { All (IsMade schema) sources.items }
         ensures { result ≡ record { schema = schema; sources = sources.items; floor = floor } }
     {
         Plan {
@@ -61,10 +65,11 @@ impl Plan {
         self.schema.share()
     }
 
-    /// The sources in their order, 256 at most.
+    /// The sources in their order, 256 at most. They were made under the schema.
     pub fn sources(&self) -> &[Source]
         ensures sources { result.now ≡ self.now.sources }
         ensures few { length result.now ≤ SOURCE_LIMIT }
+        ensures made { All (IsMade self.now.schema) self.now.sources }
     {
         self.sources.as_slice()
     }

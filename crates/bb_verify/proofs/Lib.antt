@@ -10,3 +10,5 @@ pub mod KnownFrames
 pub mod FactLemmas
 pub mod NumberedLemmas
 pub mod Limits
+pub mod CheckedLemmas
+pub mod Laws

@@ -1,6 +1,6 @@
 //! The verifier. Whoever makes sources (bb_rules, bb_shell) calls it once for each code.
 
-ghost use Rattle.std.specs.Prelude.{IfOk};
+ghost use Rattle.std.specs.Prelude.{◌≡◌, IfOk, Ok};
 ghost use Rattle.bb_basis.specs.Results.{Gives};
 ghost use Rattle.bb_verify.specs.Accepted.{checked};
 ghost use Rattle.bb_verify.specs.Facts.{Facts};
@@ -23,6 +23,7 @@ pub fn verify(
     code: Code,
 ) -> Result<Checked, VerifyFault>
     ensures gives { Gives out_of_memory (λ c. c) result (checked schema.now part code) }
+    ensures accepted { IfOk result (λ c. checked schema.now c.part c.code ≡ Ok c) }
     ensures facts { IfOk result (λ c. Facts schema.now c.part c.code c.frames) }
 {
     check_tables(schema, part, &code)?;

@@ -9,3 +9,6 @@ returns-in-Err c =
       | inl memory ↦ search rules
       | inr failed ↦ ap (λ n. Err (Rule n c.in-Err.fault)) (c.in_ok-name.ensures ∙ c.as_str.ensures) ∙ sym (ap (map_err (Rule c.args.draft.name)) failed)
     ]
+
+pub returns-in-Ok : goal.returns-in-Ok
+returns-in-Ok c = sym (ap (map_err (Rule c.args.draft.name)) c.in-Ok.ensures.made)

@@ -1,6 +1,10 @@
 use Rattle.std.proofs.lemmas.Result.{err_from_is_err_and}
 use Rattle.std.proofs.lemmas.Int.{to_z-of_z}
-use Rattle.std.proofs.Common.{w64, ◌∙◌}
+use Rattle.std.proofs.Common.{w64, ◌∙◌, subst}
+use Rattle.std.specs.Prelude.{All}
+use Rattle.bb_schema.specs.Schema.{Schema}
+use Rattle.bb_run.specs.Law.{IsMade}
+use Rattle.bb_shell.proofs.MadeLemmas.{sources_made}
 use Rattle.bb_shell.proofs.MeaningLemmas.{schema_fails, units_fail, bundle_fails, sources_fail, means}
 use Rattle.bb_shell.proofs.texts.read_input.Goals as goal
 
@@ -27,3 +31,7 @@ returns-in_err-sources c =
 pub returns : goal.returns
 returns c =
     rw (c.new.ensures, to_z-of_z w64 c.args.floor c.ranges.floor, c.in_ok-shared.ensures.schema) (means c.args.schema.now c.args.units.now c.args.bundle.now c.args.floor c.in_ok-schema.schema c.in_ok-shared.board c.in_ok-codes.codes.items c.in_ok-sources.sources.items c.get.result.now (c.get.ensures ∙ c.in_ok-shared.ensures.schema) c.in_ok-schema.ensures c.in_ok-shared.ensures.means c.in_ok-codes.ensures c.in_ok-sources.ensures.given)
+
+pub new-requires-clause-made : goal.new-requires-clause-made
+new-requires-clause-made c =
+    subst (λ (s : Schema). All (IsMade s) c.in_ok-sources.sources.items) c.get.ensures (sources_made c.get.result.now c.in_ok-codes.codes.items c.in_ok-sources.sources.items c.in_ok-sources.ensures.given)

@@ -1,8 +1,9 @@
-use Rattle.std.proofs.Common.{sym, subst, ◌∙◌, arith}
+use Rattle.std.proofs.Common.{◌≡◌, Ok, sym, subst, ◌∙◌, arith}
 use Rattle.bb_effect.specs.Code.{IsCode}
-use Rattle.bb_verify.specs.Accepted.{Checked}
+use Rattle.bb_verify.specs.Accepted.{Checked, checked}
 use Rattle.bb_verify.specs.Facts.{Facts}
 use Rattle.bb_verify.proofs.BudgetLemmas.{depths_long}
+use Rattle.bb_verify.proofs.CheckedLemmas.{checked_by}
 use Rattle.bb_verify.proofs.FactLemmas.{facts_by}
 use Rattle.bb_verify.proofs.TableLemmas.{tables_fit}
 use Rattle.bb_verify.proofs.WalkLemmas.{frames_long}
@@ -18,6 +19,11 @@ counts_of-places_in-requires c =
 
 pub new-requires-clause-frames : goal.new-requires-clause-frames
 new-requires-clause-frames c = frames_long c.args.schema.now c.args.part c.args.code c.in_ok-frames.frames c.in_ok-frames.ensures
+
+pub returns-clause-accepted : goal.returns-clause-accepted
+returns-clause-accepted c =
+    subst (λ (x : Checked). checked c.args.schema.now x.part x.code ≡ Ok x) (sym c.new.ensures)
+    (checked_by c.args.schema.now c.args.part c.args.code c.in_ok-frames.frames (sym c.in_ok-check_tables.ensures) (sym c.in_ok-check_jumps.ensures) c.in_ok-depths.ensures.fault c.in_ok-frames.ensures)
 
 pub returns-clause-facts : goal.returns-clause-facts
 returns-clause-facts c =

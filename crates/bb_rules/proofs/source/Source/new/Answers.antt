@@ -1,6 +1,6 @@
 use Rattle.std.proofs.lemmas.Result.{err_from_is_err_and}
 use Rattle.bb_rules.specs.proving.Steps.{source_with}
-use Rattle.bb_rules.proofs.LawLemmas.{source_law}
+use Rattle.bb_rules.proofs.LawLemmas.{source_law, source_made_of}
 use Rattle.bb_rules.proofs.StepLemmas.{none_found, source_made}
 use Rattle.bb_rules.proofs.source.Source.new.Goals as goal
 
@@ -15,3 +15,7 @@ returns-clause-made c = rw c.source_with.ensures (source_made c.args.schema.now 
 pub returns-clause-law : goal.returns-clause-law
 returns-clause-law c =
     rw c.source_with.ensures (source_law c.args.schema.now c.args.draft (source_with c.in_ok-found.found c.args.draft) (source_made c.args.schema.now c.args.draft c.in_ok-found.found c.in_ok-found.ensures))
+
+pub returns-clause-accepted : goal.returns-clause-accepted
+returns-clause-accepted c are =
+    rw c.source_with.ensures (source_made_of c.args.schema.now c.args.draft (source_with c.in_ok-found.found c.args.draft) (source_made c.args.schema.now c.args.draft c.in_ok-found.found c.in_ok-found.ensures) are)

@@ -1,0 +1,2 @@
+-- What the crates above use of codes that are accepted.
+pub use Rattle.bb_verify.proofs.CheckedLemmas.{checked_again, checked_facts}
