@@ -34,6 +34,8 @@ pub mod ResponseRule
 pub mod CauseLemmas
 -- what leaves the blackboard as it was
 pub mod ReadLemmas
+-- how many cycles the parts of a run make
+pub mod CountLemmas
 -- each part of a run goes by its phases
 pub mod PhaseLemmas
 -- each run does
@@ -42,5 +44,7 @@ pub mod PhasedRuns
 pub mod FociLemmas
 -- the agenda has the foci of the blackboard
 pub mod WeighLemmas
+-- the code goes on knowing them
+pub mod KnowLemmas
 -- what is pending of a source, one after another
 pub mod WaitingLemmas

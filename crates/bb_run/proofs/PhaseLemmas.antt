@@ -1,5 +1,5 @@
 -- Each part of a run goes by its phases.
-use Rattle.std.proofs.Common.{◌≡◌, ◌<◌, ◌⊎◌, inl, inr, ℕ, zero, suc, ◌+◌, ℤ, List, [], ◌∷◌, ◌++◌, length, map, slice_get, Option, Some, None, Result, Ok, Err, refl, sym, ap, subst, ◌∙◌, append_assoc, arith}
+use Rattle.std.proofs.Common.{◌≡◌, ◌<◌, ◌⊎◌, inl, inr, ℕ, zero, suc, ◌+◌, ℤ, List, [], ◌∷◌, ◌++◌, length, map, slice_get, Option, Some, None, Result, Ok, Err, refl, sym, ap, subst, ◌∙◌, append_assoc, length-append, arith}
 use Rattle.std.specs.Prelude.{⊤, All, option_and_then}
 use Rattle.std.proofs.lemmas.List.{append-nil}
 use Rattle.std.proofs.lemmas.List.Elements.{All-contains, All-filter, All-nil}
@@ -10,8 +10,6 @@ use Rattle.bb_trace.specs.BoardNote.{Note as BoardNote}
 use Rattle.bb_trace.specs.BoardNote.TheVariants.{Event as happened}
 use Rattle.bb_agenda.specs.declared.activation.Activation.{Activation}
 use Rattle.bb_agenda.specs.Agenda.{Agenda, no_activations, pending_of}
-use Rattle.bb_agenda.specs.Chosen.{chosen}
-use Rattle.bb_agenda.specs.Rating.{rating as rated}
 use Rattle.bb_trace.specs.Board.{Board as Blackboard}
 use Rattle.bb_agenda.specs.Foci.{Foci, Setting}
 use Rattle.bb_agenda.specs.Changes.{new_activation, other_than, with_activation, with_base, with_obviated}
@@ -35,16 +33,16 @@ use Rattle.bb_run.specs.State.{with_agenda, with_board}
 use Rattle.bb_run.specs.Told.{Response, Stretch, telling, idle, over, after_told, and_then, and_then_unless, segment}
 use Rattle.bb_run.specs.Asking.{attempt, end_by, entry_of}
 use Rattle.bb_run.specs.Processing.{events_in, processing, processing_all, reported, response}
-use Rattle.bb_run.specs.Run.{rating, choice, wait, wait_for, quiet, run, with_notes_taken, answered, execution, acting, validity, chosen_with, if_valid, cycle, if_chosen, cycles}
+use Rattle.bb_run.specs.Run.{rating, choice, wait, wait_for, quiet, with_notes_taken, answered, execution, acting, validity, chosen_with, if_valid, cycle, if_chosen, cycles}
 use Rattle.bb_run.specs.Foci.{with_foci}
-use Rattle.bb_run.specs.Order.{notes_of, after_note, pending_after, without}
+use Rattle.bb_run.specs.Order.{all_of, notes_of, chosen_in, after_note, pending_after, without}
 use Rattle.bb_run.specs.Phases.{Phase, outside, rested, inside, after_in, phase_after, IsQuiet}
 use Rattle.bb_run.proofs.OrderLemmas.{Comes, comes_none, comes_one, comes_then}
 use Rattle.bb_run.proofs.OrderlyParts.{all_of_two, IsEarly, early_end, IsEarlyVerdict, early_verdict}
-use Rattle.bb_run.proofs.PendingLemmas.{All-last, all_rebased}
+use Rattle.bb_run.proofs.PendingLemmas.{All-last, all_rebased, chosen_then}
 use Rattle.bb_run.proofs.ResponseRule.{HoldsOfParts, holds}
 use Rattle.bb_run.proofs.OrderlyRuns.{Begins, begins_next}
-use Rattle.bb_run.proofs.WeighLemmas.{response_foci}
+use Rattle.bb_run.proofs.CountLemmas.{cycle_chooses, wait_silent}
 
 module _ (plan : Plan) (board : Blackboard) where
   -- ---- where a run is
@@ -270,91 +268,91 @@ module _ (plan : Plan) (board : Blackboard) where
         quiet_end = λ e. ap phase_after (sym whole) ∙ later.quiet_end e;
       })
 
-  -- ---- how activations are rated where a run is over by its limit
+  -- ---- a run so far
 
-  -- by the same foci the same can be chosen
-  same_choice : (s t : State) (pending : List Activation) → t.agenda.foci ≡ s.agenda.foci → t.agenda.setting ≡ s.agenda.setting → chosen (rating plan s) plan.floor pending ≡ None → chosen (rating plan t) plan.floor pending ≡ None
-  same_choice s t pending foci setting none =
-      ap (λ f. chosen (λ a. rated t.agenda.setting.schema t.agenda.setting.sources f a) plan.floor pending) foci
-      ∙ ap (λ (x : Setting). chosen (λ a. rated x.schema x.sources s.agenda.foci a) plan.floor pending) setting
-      ∙ none
+  -- the notes of these segments are what had been noted, and then these notes, which tell so many cycles
+  pub record SoFar (told : List (List Note)) (made : ℕ) (past : List Note) : Type 0 where
+    pub notes : all_of told ≡ map Board board.world.notes ++ past
+    pub count : length (chosen_in past) ≡ made
 
-  -- a state after another one, with the same foci
-  record SameFoci (s t : State) : Type 0 where
-    foci : t.agenda.foci ≡ s.agenda.foci
-    setting : t.agenda.setting ≡ s.agenda.setting
-
-  waits_same : (s : State) (c : Option Activation) → SameFoci s (wait_for plan s c).state
-  waits_same s None = let same = response_foci plan quiescence s in record { foci = same.0; setting = same.1 }
-  waits_same s (Some a) = record { foci = refl; setting = refl }
-
-  limit_same : (t : State) (c : Option Activation) → (if_chosen t c (λ a. over finishes.Limit t)).state ≡ t
-  limit_same t None = refl
-  limit_same t (Some a) = refl
-
-  last_same : (p : Stretch) (end : Option End) → (and_then_unless end p (λ t. if_chosen t (choice plan t) (λ a. over finishes.Limit t))).state ≡ p.state
-  last_same p (Some e) = refl
-  last_same p None = limit_same p.state (choice plan p.state)
-
-  -- a run that makes no cycle more than were made ends where it can't choose any more, with the same foci
-  limited : (made : ℕ) (s : State) → (cycles plan made zero s).state ≡ (wait plan s).state
-  unfolding cycles
-  limited made s = last_same (wait plan s) (wait plan s).end
-
-  rated_then : (told : List (List Note)) (made : ℕ) (s : State) (past : List Note) → Begins plan board told made s → IsAt past outside s.agenda → choice plan s ≡ None
-      → chosen (rating plan (run plan board made).state) plan.floor (pending_after past) ≡ None
-  rated_then told made s past begins at none =
-      let count : made ≡ made + zero = omega arith in
-      let last : (run plan board made).state ≡ (wait plan s).state = ap (λ (p : Stretch). p.state) (begins zero made count) ∙ limited made s in
-      let same = waits_same s (choice plan s) in
-      ap (λ (t : State). chosen (rating plan t) plan.floor (pending_after past)) last
-      ∙ same_choice s (wait plan s).state (pending_after past) same.foci same.setting (ap (λ l. chosen (rating plan s) plan.floor l) (sym at.pending) ∙ none)
+  -- after a wait and a cycle
+  so_far_next : (told : List (List Note)) (made : ℕ) (past : List Note) (a : Activation) (s t : State) → SoFar told made past
+      → SoFar (told ++ ((wait plan s).told ++ (cycle plan (made + 1) a t).told)) (made + 1) ((past ++ notes_of (wait plan s)) ++ notes_of (cycle plan (made + 1) a t))
+  so_far_next told made past a s t far =
+      let noted = map Board board.world.notes in
+      let w = notes_of (wait plan s) in
+      let c = notes_of (cycle plan (made + 1) a t) in
+      let more : chosen_in ((past ++ w) ++ c) ≡ chosen_in past ++ a ∷ [] =
+      chosen_then (past ++ w) c ∙ ap (λ l. chosen_in (past ++ w) ++ l) (cycle_chooses plan (made + 1) a t)
+      ∙ ap (λ l. l ++ a ∷ []) (chosen_then past w ∙ ap (λ l. chosen_in past ++ l) (wait_silent plan s) ∙ append-nil (chosen_in past)) in
+      record {
+        notes =
+            all_of_two told ((wait plan s).told ++ (cycle plan (made + 1) a t).told)
+            ∙ ap (λ l. all_of told ++ l) (all_of_two (wait plan s).told (cycle plan (made + 1) a t).told)
+            ∙ ap (λ l. l ++ (w ++ c)) far.notes
+            ∙ append_assoc noted past (w ++ c)
+            ∙ ap (λ l. noted ++ l) (sym (append_assoc past w c));
+        count = ap (λ l. length l) more ∙ length-append (chosen_in past) (a ∷ []) ∙ ap (λ n. n + 1) far.count;
+      }
 
   -- quiescence in its turn
-  quiet_moves : (made : ℕ) (s : State) (past : List Note) → chosen (rating plan (run plan board made).state) plan.floor (pending_after past) ≡ None → IsAt past outside s.agenda → TellsTo past rested (quiet plan s)
-  quiet_moves made s past none at =
+  quiet_may : (told : List (List Note)) (made : ℕ) (s : State) (past : List Note) → Begins plan board told made s → SoFar told made past → choice plan s ≡ None → IsAt past outside s.agenda → IsQuiet plan board past (happened quiescence)
+  quiet_may told made s past begins far none at = record {
+    is = refl;
+    phase = at.phase_is;
+    told = told;
+    notes = far.notes;
+    state = s;
+    there = λ left.
+        begins left (length (chosen_in past) + left) (ap (λ n. n + left) far.count)
+        ∙ ap (λ n. after_told told (cycles plan n left s)) (sym far.count);
+    pending = at.pending;
+    nothing = none;
+  }
+
+  quiet_moves : (s : State) (past : List Note) → IsQuiet plan board past (happened quiescence) → IsAt past outside s.agenda → TellsTo past rested (quiet plan s)
+  quiet_moves s past may at =
       let note : Note = Board (happened quiescence) in
       let r = response plan quiescence s in
-      let may : IsQuiet plan board past (happened quiescence) = record { is = refl; phase = at.phase_is; made = made; nothing = none } in
       moves_segment past (note ∷ r.told) rested r.state r.end
       (moves_more past (note ∷ []) r.told rested r.state r.end (comes_one MayStand past note (inr may)) (responds quiescence s (past ++ note ∷ []) rested (at_next past outside s.agenda s.agenda note at refl at.known)))
 
   -- what comes of a choice after the wait in a state, by what follows one
-  module _ (made : ℕ) (s : State) (follows : Activation → State → Stretch)
-      (lasts : (a : Activation) (past : List Note) (phase : Phase) → let t = (wait plan s).state in IsFree past → IsAt past phase t.agenda → choice plan t ≡ Some a → (wait plan s).end ≡ None → TellsLast past (follows a t)) where
+  module _ (s : State) (past : List Note) (follows : Activation → State → Stretch)
+      (lasts : (a : Activation) (phase : Phase) → let t = (wait plan s).state in let later = past ++ notes_of (wait plan s) in IsFree later → IsAt later phase t.agenda → choice plan t ≡ Some a → (wait plan s).end ≡ None → TellsLast later (follows a t)) where
     abbrev next : State → Stretch
     next t = if_chosen t (choice plan t) (λ a. follows a t)
 
     -- after quiescence the run is over where nothing can be chosen still
-    after_quiet : (past : List Note) (c : Option Activation) → let t = (wait plan s).state in choice plan t ≡ c → (wait plan s).end ≡ None → IsAt past rested t.agenda → TellsLast past (if_chosen t c (λ a. follows a t))
-    after_quiet past None is goes at = ends_none past (Some finishes.Quiescence) (λ e. at.phase_is)
-    after_quiet past (Some a) is goes at = lasts a past rested (inr at.phase_is) at is goes
+    after_quiet : (c : Option Activation) → let t = (wait plan s).state in let later = past ++ notes_of (wait plan s) in choice plan t ≡ c → (wait plan s).end ≡ None → IsAt later rested t.agenda → TellsLast later (if_chosen t c (λ a. follows a t))
+    after_quiet None is goes at = ends_none (past ++ notes_of (wait plan s)) (Some finishes.Quiescence) (λ e. at.phase_is)
+    after_quiet (Some a) is goes at = lasts a rested (inr at.phase_is) at is goes
 
-    after_wait : (past : List Note) (c : Option Activation) → choice plan s ≡ c → (choice plan s ≡ None → chosen (rating plan (run plan board made).state) plan.floor (pending_after past) ≡ None) → IsAt past outside s.agenda → TellsLast past (and_then (wait plan s) next)
-    after_wait past None is quiet' at =
+    after_wait : (c : Option Activation) → choice plan s ≡ c → (choice plan s ≡ None → IsQuiet plan board past (happened quiescence)) → IsAt past outside s.agenda → TellsLast past (and_then (wait plan s) next)
+    after_wait None is may at =
         let same : wait plan s ≡ quiet plan s = ap (wait_for plan s) is in
-        let told : TellsTo past rested (wait plan s) = subst (TellsTo past rested) (sym same) (quiet_moves made s past (quiet' is) at) in
+        let told : TellsTo past rested (wait plan s) = subst (TellsTo past rested) (sym same) (quiet_moves s past (may is) at) in
         let p = wait plan s in
-        ends_then past rested p next p.end refl told
-        (λ goes later. after_quiet (past ++ notes_of p) (choice plan p.state) refl goes later)
-    after_wait past (Some a) is quiet' at =
+        ends_then past rested p next p.end refl told (λ goes later. after_quiet (choice plan p.state) refl goes later)
+    after_wait (Some a) is may at =
         let same : wait plan s ≡ idle s = ap (wait_for plan s) is in
         let there : (wait plan s).state ≡ s = ap (λ (p : Stretch). p.state) same in
-        let goes : (wait plan s).end ≡ None = ap (λ (p : Stretch). p.end) same in
         let told : TellsTo past outside (wait plan s) = subst (TellsTo past outside) (sym same) (moves_none past outside s None tt at) in
         let p = wait plan s in
         ends_then past outside p next p.end refl told
-        (λ ended later. subst (λ c. TellsLast (past ++ notes_of p) (if_chosen p.state c (λ x. follows x p.state))) (sym (ap (choice plan) there ∙ is)) (lasts a (past ++ notes_of p) outside (inl later.phase_is) later (ap (choice plan) there ∙ is) ended))
+        (λ ended later. subst (λ c. TellsLast (past ++ notes_of p) (if_chosen p.state c (λ x. follows x p.state))) (sym (ap (choice plan) there ∙ is)) (lasts a outside (inl later.phase_is) later (ap (choice plan) there ∙ is) ended))
 
-  pub all_cycles : (made left : ℕ) (told : List (List Note)) (past : List Note) (s : State) → Begins plan board told made s → IsAt past outside s.agenda → TellsLast past (cycles plan made left s)
+  pub all_cycles : (made left : ℕ) (told : List (List Note)) (past : List Note) (s : State) → Begins plan board told made s → SoFar told made past → IsAt past outside s.agenda → TellsLast past (cycles plan made left s)
   unfolding cycles
-  all_cycles made zero told past s begins at =
-      after_wait made s (λ a t. over finishes.Limit t) (λ a before phase free there is goes. ends_none before (Some finishes.Limit) (λ e. absurd cc)) past (choice plan s) refl (rated_then told made s past begins at) at
-  all_cycles made (suc left) told past s begins at =
-      after_wait made s (λ a t. and_then (cycle plan (made + 1) a t) (cycles plan (made + 1) left))
-      (λ a before phase free there is goes.
+  all_cycles made zero told past s begins far at =
+      after_wait s past (λ a t. over finishes.Limit t) (λ a phase free there is goes. ends_none (past ++ notes_of (wait plan s)) (Some finishes.Limit) (λ e. absurd cc))
+      (choice plan s) refl (λ none. quiet_may told made s past begins far none at) at
+  all_cycles made (suc left) told past s begins far at =
       let t = (wait plan s).state in
+      let later = past ++ notes_of (wait plan s) in
+      after_wait s past (λ a t. and_then (cycle plan (made + 1) a t) (cycles plan (made + 1) left))
+      (λ a phase free there is goes.
       let p = cycle plan (made + 1) a t in
-      ends_then before outside p (cycles plan (made + 1) left) p.end refl (cycle_moves (made + 1) a t before phase free there is)
-      (λ on later. all_cycles (made + 1) left (told ++ ((wait plan s).told ++ p.told)) (before ++ notes_of p) p.state (begins_next plan board told made s a begins goes is on) later))
-      past (choice plan s) refl (rated_then told made s past begins at) at
+      ends_then later outside p (cycles plan (made + 1) left) p.end refl (cycle_moves (made + 1) a t later phase free there is)
+      (λ on at'. all_cycles (made + 1) left (told ++ ((wait plan s).told ++ p.told)) (later ++ notes_of p) p.state (begins_next plan board told made s a begins goes is on) (so_far_next told made past a s t far) at'))
+      (choice plan s) refl (λ none. quiet_may told made s past begins far none at) at

@@ -1,5 +1,5 @@
 -- Each run goes by its phases, after what its blackboard had noted.
-use Rattle.std.proofs.Common.{◌≡◌, ◌⊎◌, inl, inr, ℕ, ◌+◌, List, [], ◌∷◌, ◌++◌, map, Option, Some, None, refl, sym, ap, ◌∙◌, arith}
+use Rattle.std.proofs.Common.{◌≡◌, ◌⊎◌, inl, inr, ℕ, ◌+◌, List, [], ◌∷◌, ◌++◌, length, map, Option, Some, None, refl, sym, ap, ◌∙◌, arith}
 use Rattle.std.proofs.lemmas.List.{append-nil}
 use Rattle.bb_trace.specs.Board.{Board as Blackboard}
 use Rattle.bb_trace.specs.declared.end.End.{End}
@@ -17,7 +17,8 @@ use Rattle.bb_run.specs.Phases.{outside, rested, phase_after, GoesByPhases}
 use Rattle.bb_run.proofs.OrderLemmas.{comes_or_last, same_last}
 use Rattle.bb_run.proofs.OrderlyParts.{all_of_two}
 use Rattle.bb_run.proofs.OrderlyRuns.{Begins, run_finishes}
-use Rattle.bb_run.proofs.PhaseLemmas.{MayStand, TellsLast, all_cycles, at_first, ends_then, processes_all}
+use Rattle.bb_run.proofs.PhaseLemmas.{MayStand, SoFar, TellsLast, all_cycles, at_first, ends_then, processes_all}
+use Rattle.bb_run.proofs.CountLemmas.{events_silent}
 
 -- a segment stays the first
 after_first : (notes : List Note) (q : Stretch) (next : State → Stretch) (end : Option End) → and_then_unless end (after_told (notes ∷ []) q) next ≡ after_told (notes ∷ []) (and_then_unless end q next)
@@ -51,10 +52,17 @@ module _ (plan : Plan) (board : Blackboard) (limit : ℕ) where
   begun : unfinished plan board limit ≡ after_told (first.told ∷ []) later
   begun = after_first first.told processed (cycles plan 0 limit) processed.end
 
+  -- it made no cycle
+  so_far : SoFar plan board (first.told ∷ processed.told) 0 (notes_of processed)
+  so_far = record {
+    notes = ap (λ l. l ++ notes_of processed) (append-nil (map Board board.world.notes));
+    count = ap (λ l. length l) (events_silent plan (events_in first.told) first.state);
+  }
+
   ends : TellsLast plan board [] later
   ends =
       ends_then plan board [] outside processed (cycles plan 0 limit) processed.end refl (processes_all plan board (events_in first.told) [] outside first.state (at_first plan board (setting_of plan) first.state.agenda.foci))
-      (λ goes at. all_cycles plan board 0 limit (first.told ∷ processed.told) (notes_of processed) processed.state (begins goes) at)
+      (λ goes at. all_cycles plan board 0 limit (first.told ∷ processed.told) (notes_of processed) processed.state (begins goes) so_far at)
 
   abbrev rest : List (List Note)
   rest = later.told ++ finish_segments later.end

@@ -157,6 +157,10 @@ unfolding processing_all
 events_end plan a b whole notes i s le h =
     last_told plan a b b whole (idle s) s None (subst (HasTold plan a b whole) (ap (λ ns. processing_all plan (events_in ns) s) (drop_all i notes le)) h) (told_nothing plan b) (record { state = refl; end = refl })
 
+-- nothing more is told
+pub idle_told : (plan : Plan) (a b : Place) (whole : Stretch) (s : State) → HasTold plan a b whole (idle s) → Makes plan a b whole s (Ok None)
+idle_told plan a b whole s h = last_told plan a b b whole (idle s) s None h (told_nothing plan b) (record { state = refl; end = refl })
+
 -- ---- a response is reported
 
 module _ (plan : Plan) (a b : Place) (notes : List Note) (s : State) (end : Option End) where

@@ -6,7 +6,7 @@ use Rattle.std.specs.Option.{option_map_or}
 use Rattle.std.specs.Ordering.{nat_cmp, eq_by_cmp}
 use Rattle.std.specs.Cmp.{nat_cmp_total, nat_cmp_is, Equal-is}
 use Rattle.std.specs.FinMap as fin
-use Rattle.std.specs.FinMap.{get, get-insert, get-remove, get-empty, nat_cmp-IsAntisymmetric}
+use Rattle.std.specs.FinMap.{contains_key-keys, get, get-insert, get-remove, get-empty, nat_cmp-IsAntisymmetric, same_map}
 use Rattle.std.specs.declared.cmp.Ordering.TheVariants.{Equal}
 use Rattle.std.proofs.Math.Nat.{eq-or-lt_of_le}
 use Rattle.std.proofs.lemmas.Bool.{cases_lt, eqb-true}
@@ -14,7 +14,10 @@ use Rattle.std.proofs.lemmas.Option.{slice_get_within, get_or_from_slice_get}
 use Rattle.bb_schema.specs.Schema.{Schema, descends}
 use Rattle.bb_agenda.specs.declared.activation.Activation.{Activation}
 use Rattle.bb_agenda.specs.declared.focus.Focus.{Focus}
-use Rattle.bb_agenda.specs.Foci.{Foci}
+use Rattle.bb_agenda.specs.Agenda.{pending_of}
+use Rattle.bb_agenda.specs.Chosen.{chosen}
+use Rattle.bb_agenda.specs.Foci.{Foci, Setting}
+use Rattle.bb_agenda.specs.Rating.{rating as rated, rating_in}
 use Rattle.bb_agenda.specs.Changes.{with_executed, with_obviated}
 use Rattle.bb_code.specs.Code.{Code}
 use Rattle.bb_verify.specs.Accepted.{Checked}
@@ -45,7 +48,7 @@ use Rattle.bb_run.specs.declared.state.State.{State}
 use Rattle.bb_run.specs.State.{with_board}
 use Rattle.bb_run.specs.Told.{Response, Told, over, and_then, and_then_unless, segment}
 use Rattle.bb_run.specs.Asking.{attempt, entry_of}
-use Rattle.bb_run.specs.Foci.{focus_from, text_in, number_in, truth_in, focus_of, told_unit, told_note, told_notes, told_all, first_agenda}
+use Rattle.bb_run.specs.Foci.{focus_from, text_in, number_in, truth_in, focus_of, foci_on, told_unit, told_note, told_notes, told_all, first_agenda}
 use Rattle.bb_run.specs.Processing.{events_in, processing, processing_all, reported, response}
 use Rattle.bb_run.specs.Reads.{AsksByReading}
 use Rattle.bb_run.specs.Run.{rating, choice, wait, wait_for, with_notes_taken, noted, answered, execution, acting, validity, chosen_with, if_valid, cycle, if_chosen, cycles, first_state, start, unfinished, run}
@@ -97,6 +100,24 @@ module _ (s : Schema) (u : Units) where
       notes_right q notes (told_note s u foci note)
       (λ others. after_note q note foci (names q note) refl (λ here. right (none_named (names q note) (list_any (names q) notes) here others)))
 
+  -- ---- of some units, one after another
+
+  stays_right : (q : ℕ) (ns : List ℕ) (foci : Foci) → Right q foci → Right q (fold (told_unit s u) foci ns)
+  stays_right q [] foci right = right
+  stays_right q (n ∷ ns) foci right = stays_right q ns (told_unit s u foci n) (still_right foci n q right)
+
+  right_by : (q n : ℕ) (ns : List ℕ) (foci : Foci) (b : Bool) → eq_by_cmp nat_cmp q n ≡ b → (b || list_any (eq_by_cmp nat_cmp q) ns) ≡ true
+      → (list_any (eq_by_cmp nat_cmp q) ns ≡ true → Right q (fold (told_unit s u) (told_unit s u foci n) ns)) → Right q (fold (told_unit s u) (told_unit s u foci n) ns)
+  right_by q n ns foci true is there later =
+      let same : q ≡ n = nat_cmp-IsAntisymmetric q n ((Equal-is (nat_cmp q n)).0 is) in
+      stays_right q ns (told_unit s u foci n) (subst (λ k. Right k (told_unit s u foci n)) (sym same) (now_right foci n))
+  right_by q n ns foci false is there later = later there
+
+  -- it becomes so of each that is among them
+  becomes_right : (q : ℕ) (ns : List ℕ) (foci : Foci) → list_any (eq_by_cmp nat_cmp q) ns ≡ true → Right q (fold (told_unit s u) foci ns)
+  becomes_right q [] foci there = absurd cc
+  becomes_right q (n ∷ ns) foci there = right_by q n ns foci (eq_by_cmp nat_cmp q n) refl there (becomes_right q ns (told_unit s u foci n))
+
   -- ---- of all units
 
   below_right : (k q : ℕ) (foci : Foci) → q < k → Right q (fold (told_unit s u) foci (range_with_len 0 k))
@@ -142,9 +163,38 @@ module _ (s : Schema) where
       ∙ sym (focus_is v n)
 
   -- a number that names no unit is no focus
+  no_focus : (u : Units) (n : ℕ) → is_live u n ≡ false → focus_of s u n ≡ None
+  no_focus u n is = focus_is u n ∙ ap (λ x. focus_with s x (value_of u n 0) (value_of u n 1) (value_of u n 2) (value_of u n 3)) (no_class u n is)
+
   none_there : (u : Units) (n : ℕ) (b : Bool) → is_live u n ≡ b → (is_live u n ≡ true → n < u.next) → u.next ≤ n → focus_of s u n ≡ None
   none_there u n true is given le = absurd (let lt : n < u.next = given is in omega (arith, lt, le))
-  none_there u n false is given le = focus_is u n ∙ ap (λ x. focus_with s x (value_of u n 0) (value_of u n 1) (value_of u n 2) (value_of u n 3)) (no_class u n is)
+  none_there u n false is given le = no_focus u n is
+
+-- ---- the foci of a blackboard
+
+module _ (board : Blackboard) where
+  on_by : (q : ℕ) (b : Bool) → is_live board.world.units q ≡ b → get (foci_on board) q ≡ focus_of board.schema board.world.units q
+  on_by q true is = becomes_right board.schema board.world.units q (fin.keys board.world.units.units) fin.empty (sym (contains_key-keys board.world.units.units q) ∙ is)
+  on_by q false is = stays_right board.schema board.world.units q (fin.keys board.world.units.units) fin.empty (get-empty nat_cmp q ∙ sym (no_focus board.schema board.world.units q is))
+
+  -- under each number they have what the unit is
+  foci_are : (q : ℕ) → get (foci_on board) q ≡ focus_of board.schema board.world.units q
+  foci_are q = on_by q (is_live board.world.units q) refl
+
+-- an agenda that knows them rates by them
+module _ (plan : Plan) (s : State) (k : KnowsFoci plan s) where
+  same_foci : s.agenda.foci ≡ foci_on s.board
+  same_foci = same_map nat_cmp_total nat_cmp-IsAntisymmetric _ _ (λ q. k.each q ∙ sym (foci_are s.board q))
+
+  pub rating_known : (a : Activation) → rating_in s.agenda a ≡ rating plan s a
+  rating_known a =
+      ap (λ f. rated s.agenda.setting.schema s.agenda.setting.sources f a) same_foci
+      ∙ ap (λ (x : Setting). rated x.schema x.sources (foci_on s.board) a) k.setting
+
+  pub choice_known : chosen (rating_in s.agenda) plan.floor (pending_of s.agenda) ≡ choice plan s
+  choice_known =
+      ap (λ f. chosen (λ a. rated s.agenda.setting.schema s.agenda.setting.sources f a) plan.floor (pending_of s.agenda)) same_foci
+      ∙ ap (λ (x : Setting). chosen (λ a. rated x.schema x.sources (foci_on s.board) a) plan.floor (pending_of s.agenda)) k.setting
 
 -- ---- the agenda knows the foci
 
@@ -207,7 +257,7 @@ module _ (plan : Plan) (reading : AsksByReading plan) where
 
   -- ---- what answers to an event
 
-  responds : (event : Event) (s : State) → Knows s → Knows (response plan event s).state
+  pub responds : (event : Event) (s : State) → Knows s → Knows (response plan event s).state
   responds event s k =
       let same = response_foci plan event s in
       knows_same plan s (response plan event s).state ((run_reads plan reading).events event s) same.0 same.1 k
@@ -249,7 +299,7 @@ module _ (plan : Plan) (reading : AsksByReading plan) where
   same_board None a b is = refl
   same_board (Some source) a b is = (run_reads plan reading).choices source a b (there_at plan.sources a.source source is)
 
-  cycle_knows : (number : ℕ) (a : Activation) (s : State) → Knows s → Knows (cycle plan number a s).state
+  pub cycle_knows : (number : ℕ) (a : Activation) (s : State) → Knows s → Knows (cycle plan number a s).state
   cycle_knows number a s k =
       let source = slice_get plan.sources a.source in
       let v = validity (option_and_then (λ t. t.revalidate) source) a s.board in
@@ -261,7 +311,7 @@ module _ (plan : Plan) (reading : AsksByReading plan) where
 
   -- ---- the whole run
 
-  waits : (s : State) (c : Option Activation) → Knows s → Knows (wait_for plan s c).state
+  pub waits : (s : State) (c : Option Activation) → Knows s → Knows (wait_for plan s c).state
   waits s None k = responds quiescence s k
   waits s (Some a) k = k
 
@@ -291,13 +341,14 @@ module _ (plan : Plan) (reading : AsksByReading plan) where
         | inr le ↦ all_right board.schema u u.next q fin.empty (get-empty nat_cmp q ∙ sym (none_there board.schema u q (is_live u q) refl (given q) le))
       ]
 
-  pub run_knows_foci : (board : Blackboard) (limit : ℕ) → NumbersGiven board → Knows (run plan board limit).state
-  run_knows_foci board limit given =
+  pub start_knows : (board : Blackboard) → NumbersGiven board → Knows (start plan board).state
+  start_knows board given =
       let first = first_state plan board in
-      let p = start plan board in
-      let told : Knows (noted first [] None).state = record {
+      reports (noted first [] None) (record {
         taken = refl;
         each = λ q. notes_right board.schema board.world.units q board.world.notes first.agenda.foci (λ others. first_right board given q);
         setting = refl;
-      } in
-      knows_then p (cycles plan 0 limit) p.end (reports (noted first [] None) told) (cycles_know 0 limit)
+      })
+
+  pub run_knows_foci : (board : Blackboard) (limit : ℕ) → NumbersGiven board → Knows (run plan board limit).state
+  run_knows_foci board limit given = let p = start plan board in knows_then p (cycles plan 0 limit) p.end (start_knows board given) (cycles_know 0 limit)

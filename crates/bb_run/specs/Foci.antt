@@ -51,13 +51,17 @@ focus_of s u n =
     then focus_from (text_in (value_of u n 0)) (text_in (value_of u n 1)) (number_in (value_of u n 2)) (truth_in (value_of u n 3))
     else None
 
--- ---- what the agenda is told
-
--- the foci of an agenda, after it was told of a unit: that it is this focus, or none
+-- foci with what a unit is: this focus under its number, or none
 abbrev pub told_unit : Schema → Units → Foci → ℕ → Foci
 told_unit s u foci n = option_map_or (λ focus. fin.insert foci n focus) (focus_of s u n) (fin.remove foci n)
 
--- after it was told of the unit that a note names
+-- all foci of a blackboard: of each live unit what it is
+abbrev pub foci_on : Blackboard → Foci
+foci_on board = fold (told_unit board.schema board.world.units) fin.empty (fin.keys board.world.units.units)
+
+-- ---- what the agenda is told
+
+-- of a unit that a note names
 abbrev pub told_note : Schema → Units → Foci → BoardNote → Foci
 told_note s u foci (happened event) = told_unit s u foci (unit_of event)
 told_note s u foci (said values) = foci

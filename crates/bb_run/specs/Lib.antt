@@ -40,6 +40,7 @@ pub use Rattle.bb_trace.specs.Load
 pub use Rattle.bb_trace.specs.UnitsFaults
 -- of bb_rules: sources, and how they are made
 pub use Rattle.bb_trace.specs.Classes
+pub use Rattle.bb_trace.specs.Law
 pub use Rattle.bb_trace.specs.MadeSource
 pub use Rattle.bb_trace.specs.RuleFault
 pub use Rattle.bb_trace.specs.RuleFaults

@@ -1,8 +1,8 @@
 -- The phases of a run, read off its notes: where a note of the blackboard may stand, and when quiescence comes.
-use Rattle.std.specs.Prelude.{◌≡◌, ◌⊎◌, ℕ, ℤ, None, List, ◌∷◌, map}
+use Rattle.std.specs.Prelude.{◌≡◌, ◌⊎◌, ℕ, ◌+◌, ℤ, None, List, ◌∷◌, ◌++◌, length, map}
 use Rattle.std.specs.List.{fold}
 use Rattle.bb_agenda.specs.declared.activation.Activation.{Activation}
-use Rattle.bb_agenda.specs.Chosen.{chosen}
+use Rattle.bb_agenda.specs.Agenda.{pending_of}
 use Rattle.bb_trace.specs.Event.TheVariants.{Quiescence as quiescence}
 use Rattle.bb_trace.specs.Board.{Board as Blackboard}
 use Rattle.bb_trace.specs.BoardNote.{Note as BoardNote}
@@ -11,9 +11,10 @@ use Rattle.bb_trace.specs.declared.end.End.TheVariants as finishes
 use Rattle.bb_trace.specs.declared.note.Note.{Note}
 use Rattle.bb_trace.specs.declared.note.Note.TheVariants.{Board, Chosen, Invalid, Ended, Finished}
 use Rattle.bb_trace.specs.Plan.{Plan}
-use Rattle.bb_run.specs.Told.{Stretch}
-use Rattle.bb_run.specs.Run.{rating, run as run_of}
-use Rattle.bb_run.specs.Order.{At, all_of, pending_after}
+use Rattle.bb_run.specs.declared.state.State.{State}
+use Rattle.bb_run.specs.Told.{Stretch, after_told}
+use Rattle.bb_run.specs.Run.{choice, cycles, unfinished}
+use Rattle.bb_run.specs.Order.{At, all_of, chosen_in, pending_after}
 
 -- where a run is
 pub data Phase : Type 0 where
@@ -43,14 +44,24 @@ after_in phase _ = phase
 abbrev pub phase_after : List Note → Phase
 phase_after notes = fold after_in outside notes
 
+-- every run that makes so many cycles or more tells these segments first, and goes on from this state
+abbrev pub Reaches : Plan → Blackboard → (told : List (List Note)) → (made : ℕ) → State → Type 0
+Reaches plan board told made s =
+    (left : ℕ) → unfinished plan board (made + left) ≡ after_told told (cycles plan made left s)
+
 -- quiescence comes in its turn
 pub record IsQuiet (plan : Plan) (board : Blackboard) (before : List Note) (note : BoardNote) : Type 0 where
   pub is : note ≡ happened quiescence
   -- no cycle is open, and quiescence has not come since the last
   pub phase : phase_after before ≡ outside
-  -- nothing that is pending can be chosen, rated as in the last state of the run with this limit
-  pub made : ℕ
-  pub nothing : chosen (rating plan (run_of plan board made).state) plan.floor (pending_after before) ≡ None
+  -- after what had been noted and these notes, with as many cycles as they tell, a run is in this state
+  pub told : List (List Note)
+  pub notes : all_of told ≡ map Board board.world.notes ++ before
+  pub state : State
+  pub there : Reaches plan board told (length (chosen_in before)) state
+  -- what is pending in it is what is pending by the notes, and none of that can be chosen
+  pub pending : pending_of state.agenda ≡ pending_after before
+  pub nothing : choice plan state ≡ None
 
 -- what the blackboard had noted is told first; after that the run goes by its phases
 pub record GoesByPhases (plan : Plan) (board : Blackboard) (run : Stretch) : Type 0 where

@@ -8,7 +8,7 @@ use Rattle.bb_trace.specs.World.{after_take}
 use Rattle.bb_agenda.specs.declared.activation.Activation.{Activation}
 use Rattle.bb_agenda.specs.Agenda.{pending_of}
 use Rattle.bb_agenda.specs.Changes.{with_executed, with_obviated}
-use Rattle.bb_agenda.specs.Rating.{rating_in}
+use Rattle.bb_agenda.specs.Rating.{rating as rated}
 use Rattle.bb_agenda.specs.Chosen.{chosen}
 use Rattle.bb_code.specs.Code.{Code}
 use Rattle.bb_verify.specs.Accepted.{Checked}
@@ -32,14 +32,14 @@ use Rattle.bb_run.specs.declared.asking.Reply.TheVariants as replies
 use Rattle.bb_run.specs.declared.execution.Verdict.{Verdict}
 use Rattle.bb_run.specs.declared.execution.Verdict.TheVariants as verdicts
 use Rattle.bb_run.specs.State.{with_board, with_agenda}
-use Rattle.bb_run.specs.Foci.{told_notes, with_foci, first_agenda}
+use Rattle.bb_run.specs.Foci.{foci_on, told_notes, with_foci, rated_source, first_agenda}
 use Rattle.bb_run.specs.Told.{Response, Stretch, telling, idle, over, after_told, and_then, segment}
 use Rattle.bb_run.specs.Asking.{attempt, end_by, entry_of, reply_by}
 use Rattle.bb_run.specs.Processing.{response, reported}
 
--- the rating of an activation in a state: its base, and the weights of the foci that match
+-- the rating of an activation in a state: its base, and the weights of all foci of the blackboard that match
 abbrev pub rating : Plan → State → Activation → ℤ
-rating plan s a = rating_in s.agenda a
+rating plan s a = rated plan.schema (map rated_source plan.sources) (foci_on s.board) a
 
 -- the activation that is chosen, if one can be
 abbrev pub choice : Plan → State → Option Activation
@@ -58,7 +58,7 @@ wait_for plan s (Some a) = idle s
 abbrev pub wait : Plan → State → Stretch
 wait plan s = wait_for plan s (choice plan s)
 
--- the blackboard's notes are taken, and the agenda is told of the units that they name
+-- the blackboard's notes are taken, and the agenda is told of the units that they name; no rating here goes by that
 abbrev pub with_notes_taken : State → State
 with_notes_taken s = record {
   board = with_world s.board (after_take s.board.world);

@@ -1,4 +1,4 @@
--- The foci that a run rates by are those of its blackboard.
+-- The foci that the agenda was told of are those of the blackboard, so it rates by these.
 use Rattle.std.specs.Prelude.{◌≡◌, ◌<◌, ℕ, true, []}
 use Rattle.std.specs.FinMap.{get}
 use Rattle.bb_machine.specs.Units.{is_live}

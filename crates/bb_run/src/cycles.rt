@@ -7,6 +7,7 @@ ghost use Rattle.bb_trace.specs.Page.{stopped_by_write};
 ghost use Rattle.bb_trace.specs.TraceText.{trace_text};
 ghost use Rattle.bb_run.specs.Finish.{WritesFront, end_of, is_write};
 ghost use Rattle.bb_run.specs.Run.{acting, choice, cycle, cycles, if_valid, run, start, unfinished};
+ghost use Rattle.bb_run.specs.proving.Knowing.{Knows, MayKnow};
 ghost use Rattle.bb_run.specs.proving.Telling.{Finishes, Makes, Same, Waits, Writes, at};
 
 use crate::execution::{Verdict, execute, take_choice, take_noted, validate};
@@ -26,7 +27,9 @@ pub(crate) enum Decision {
     Over(End),
 }
 
+// The agenda rates by the foci that it was told of, and these are the blackboard's.
 fn choose(plan: &Plan, state: &State) -> Option<Activation>
+    requires knows { Knows plan.now state.now }
     ensures { result ≡ choice plan.now state.now }
 {
     let number = state.agenda.choose(plan.floor())?;
@@ -62,6 +65,7 @@ impl<O: Out> Teller<'_, O> {
     // chosen after it either.
     fn decide(&mut self, plan: &Plan, state: &mut State) -> Result<Decision, Halt>
         requires open { O.has_failed self.old.out.now ≡ false }
+        requires knows { Knows plan.now state.old }
         ensures same { Same self.old self.new }
         ensures waited { Waits plan.now (at O.taken self.old) (at O.taken self.new) state.old state.new result }
         ensures failed { O.has_failed self.new.out.now ≡ stopped_by_write result }
@@ -107,6 +111,7 @@ impl<O: Out> Teller<'_, O> {
         state: &mut State,
     ) -> Result<Option<End>, Halt>
         requires open { O.has_failed self.old.out.now ≡ false }
+        requires knows { Knows plan.now state.old }
         ensures same { Same self.old self.new }
         ensures made { Makes plan.now (at O.taken self.old) (at O.taken self.new)
             (cycle plan.now number activation state.old) state.new result }
@@ -134,6 +139,7 @@ impl<O: Out> Teller<'_, O> {
     // Makes cycles up to the limit, and returns the end of the run.
     fn make_cycles(&mut self, plan: &Plan, limit: u64, state: &mut State) -> Result<End, Halt>
         requires open { O.has_failed self.old.out.now ≡ false }
+        requires knows { Knows plan.now state.old }
         ensures same { Same self.old self.new }
         ensures made { Finishes plan.now (at O.taken self.old) (at O.taken self.new)
             (cycles plan.now 0 limit state.old) state.new result }
@@ -172,6 +178,7 @@ impl<O: Out> Teller<'_, O> {
     fn run_unfinished(&mut self, plan: &Plan, limit: u64, state: &mut State) -> Result<End, Halt>
         requires open { O.has_failed self.old.out.now ≡ false }
         requires new { state.old.agenda ≡ first_agenda plan.now state.old.board }
+        requires may { MayKnow plan.now state.old.board }
         ensures same { Same self.old self.new }
         ensures made { Finishes plan.now (at O.taken self.old) (at O.taken self.new)
             (unfinished plan.now state.old.board limit) state.new result }
@@ -187,6 +194,7 @@ impl<O: Out> Teller<'_, O> {
     fn make_run(&mut self, plan: &Plan, limit: u64, state: &mut State) -> Result<End, Halt>
         requires open { O.has_failed self.old.out.now ≡ false }
         requires new { state.old.agenda ≡ first_agenda plan.now state.old.board }
+        requires may { MayKnow plan.now state.old.board }
         requires empty { self.old.page.now ≡ [] }
         ensures same { Same self.old self.new }
         ensures end { IfOk result (λ end. (run plan.now state.old.board limit).end ≡ Some end) }
@@ -203,8 +211,11 @@ impl<O: Out> Teller<'_, O> {
 
 // The agenda that a run begins with: nothing is pending, and it was told of the foci that the blackboard has.
 fn first_agenda(alloc: Global, plan: &Plan, board: &Board) -> Result<Agenda, AllocError>
-    ensures { IfOk result (λ agenda. agenda ≡ first_agenda plan.now board.now) }
+    ensures agenda { IfOk result (λ agenda. agenda ≡ first_agenda plan.now board.now) }
+    ensures may { IfOk result (λ _. MayKnow plan.now board.now) }
 {
+    // The numbers of the live units were given out.
+    board.fits();
     let sources = rated_sources(alloc, plan.sources())?;
     let mut agenda = Agenda::new(alloc, plan.shared_schema()?, sources);
     tell_all(&mut agenda, board)?;

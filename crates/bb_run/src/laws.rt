@@ -1,10 +1,11 @@
 //! What holds of every run. No code calls it: it says what the runs are like that `run_texts` tells.
 
-ghost use Rattle.std.specs.Prelude.{◌≡◌, ℕ, ◌+◌, ◌-◌, ℤ, List, ◌∷◌, ◌++◌};
+ghost use Rattle.std.specs.Prelude.{◌≡◌, ℕ, ◌+◌, ◌-◌, ℤ, All, List, ◌∷◌, ◌++◌};
 ghost use Rattle.bb_agenda.specs.declared.activation.Activation.{Activation};
 ghost use Rattle.bb_trace.specs.Board.{Board};
 ghost use Rattle.bb_trace.specs.declared.note.Note.{Note};
 ghost use Rattle.bb_trace.specs.declared.note.Note.TheVariants.{Chosen};
+ghost use Rattle.bb_trace.specs.Law.{IsMade};
 ghost use Rattle.bb_trace.specs.Plan.{Plan};
 ghost use Rattle.bb_run.specs.Run.{run};
 ghost use Rattle.bb_run.specs.Order.{notes_of, At, IsCounted, ActsOnPending, ExecutesInTurn, IsFinished, KeepsLimit};
@@ -23,8 +24,9 @@ ghost use Rattle.bb_run.specs.Weighed.{KnowsFoci, NumbersGiven};
 /// - `executions`: the execution of a cycle ends before the next cycle.
 /// - `phases`: a run begins with what its blackboard had noted. After that a note of the blackboard comes between a
 ///   choice and the end of its cycle, or it is quiescence, which comes where no cycle is open, not twice without a
-///   choice between, and where by the foci at the end of a run with some limit nothing can be chosen; and a run that
-///   finishes by quiescence has told it, and made no choice after it.
+///   choice between, and in a state in which nothing that is pending by the notes can be chosen: the one that every run
+///   from this blackboard is in after these notes. A run that finishes by quiescence has told it, and made no choice
+///   after it.
 /// - `finish`: a run has an end, and tells it last and once.
 /// - `causes`: a run is full only where its agenda is full in its last state, or where no unit can be created there and
 ///   its last execution was stopped for that; it is stuck only where its last execution was, or where a source has a
@@ -35,7 +37,8 @@ ghost use Rattle.bb_run.specs.Weighed.{KnowsFoci, NumbersGiven};
 ///   the limit, all that the events before it ask for has come, in their order, source by source; at another finish
 ///   the first of it.
 /// - `reads`: what answers to an event changes the agenda alone, and what is asked about a choice changes nothing, where
-///   no code that a source asks writes; the codes that are accepted for those parts are so.
+///   no code that a source asks writes.
+/// - `asked`: no such code writes where the sources were made of codes that the verifier accepted.
 /// - `longer`: a longer limit changes nothing before the finish of a run that ends by its limit, and nothing at all of
 ///   another.
 /// - `choices`: up to the choice of a cycle a run is the run whose limit is one less, and in the last state of that
@@ -43,8 +46,8 @@ ghost use Rattle.bb_run.specs.Weighed.{KnowsFoci, NumbersGiven};
 /// - `followed`: right after a choice comes what its source's act tells of the activation's unit, executed on the
 ///   blackboard of that last state: what the blackboard notes, and the end of the execution, or the finish. Where the
 ///   source's revalidation says no there, it is that the activation is invalid.
-/// - `weighed`: in the last state of a run, and so at each choice, the foci by which activations are rated are those
-///   that the blackboard then has, where no code that a source asks writes.
+/// - `weighed`: in the last state of a run, and so at each choice, the agenda was told of the foci that the blackboard
+///   then has, by which activations are rated, where no code that a source asks writes.
 pub fn runs_are_orderly()
     ensures counted { (plan : Plan) (board : Board) (limit : ℕ) → IsCounted (notes_of (run plan board limit)) }
     ensures pending { (plan : Plan) (board : Board) (limit : ℕ) →
@@ -60,6 +63,7 @@ pub fn runs_are_orderly()
     ensures answered { (plan : Plan) (board : Board) (limit : ℕ) →
         IsAnswered plan (notes_of (run plan board limit)) }
     ensures reads { (plan : Plan) → AsksByReading plan → LeavesBoard plan }
+    ensures asked { (plan : Plan) → All (IsMade plan.schema) plan.sources → AsksByReading plan }
     ensures longer { (plan : Plan) (board : Board) (limit more : ℕ) →
         Extends (run plan board limit) (run plan board (limit + more)) }
     ensures choices { (plan : Plan) (board : Board) (limit : ℕ)

@@ -3,7 +3,7 @@ use Rattle.bb_run.proofs.LimitLemmas.{run_extends}
 use Rattle.bb_run.proofs.ExecutedLemmas.{run_is_followed}
 use Rattle.bb_run.proofs.PhasedRuns.{run_goes_by_phases}
 use Rattle.bb_run.proofs.CauseLemmas.{run_has_cause}
-use Rattle.bb_run.proofs.ReadLemmas.{run_reads}
+use Rattle.bb_run.proofs.ReadLemmas.{plan_reads, run_reads}
 use Rattle.bb_run.proofs.WeighLemmas.{run_knows_foci}
 use Rattle.bb_run.proofs.laws.runs_are_orderly.Goals as goal
 
@@ -18,6 +18,7 @@ returns c = record {
   limit = run_keeps_limit;
   answered = run_is_answered;
   reads = run_reads;
+  asked = plan_reads;
   longer = λ plan board limit more. run_extends plan board limit more;
   choices = run_chooses;
   followed = run_is_followed;

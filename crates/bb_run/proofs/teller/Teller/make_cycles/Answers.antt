@@ -4,6 +4,7 @@ use Rattle.bb_trace.specs.declared.end.End.TheVariants.{Limit}
 use Rattle.bb_run.specs.Run.{cycle, cycles}
 use Rattle.bb_run.specs.Told.{over}
 use Rattle.bb_run.specs.proving.Telling.{at}
+use Rattle.bb_run.proofs.KnowLemmas.{cycle_known, wait_known}
 use Rattle.bb_run.proofs.TellLemmas.{cycle_then, HasTold, at_cycle, at_limit, nothing_told, over_limit, part_cut, part_made, part_over, decision_acts, decision_cut, decision_over, same_then}
 use Rattle.bb_run.proofs.teller.Teller.make_cycles.Goals as goal
 
@@ -16,6 +17,7 @@ loop-made-init g c =
       told = subst (λ n. HasTold c.args.plan.now here here whole (cycles c.args.plan.now 0 n c.args.state.now)) (sym same) (nothing_told c.args.plan.now here whole);
       still_open = c.requires.open;
       same = (refl, refl);
+      knows = c.requires.knows;
     }
 
 pub returns-in_err-activation-clause-made : goal.returns-in_err-activation-clause-made
@@ -72,6 +74,10 @@ loop-made-preserved g c =
           c.in_ok-end.ensures.made c.in_default.is;
       still_open = c.in_ok-end.ensures.failed;
       same = same_then c.args.self.now c.decide.new.self c.make_cycle.new.self (same_then c.args.self.now c.loop-made.self c.decide.new.self c.loop-made.invariant.same c.in_ok-activation.ensures.same) c.in_ok-end.ensures.same;
+      knows =
+          cycle_known c.args.plan.now decided (at g.O.Out.taken c.make_cycle.new.self) c.decide.new.state c.make_cycle.new.state (c.loop-made.made + 1) c.in-Act.activation c.in_ok-end.field-0
+          (wait_known c.args.plan.now now decided c.loop-made.state c.decide.new.state c.in_ok-activation.field-0 c.loop-made.invariant.knows c.in_ok-activation.ensures.waited)
+          c.in_ok-end.ensures.made;
     }
 
 pub returns-in_err-decide-clause-made : goal.returns-in_err-decide-clause-made
@@ -100,3 +106,7 @@ returns-in-Over-2-clause-made g c =
     let now = at g.O.Out.taken c.loop-made.self in
     decision_over c.args.plan.now first now (at g.O.Out.taken c.decide-2.new.self) whole c.loop-made.state c.decide-2.new.state (λ u a. over Limit u) c.in_ok-decide.field-0 c.in-Over-2.end
     (at_limit c.args.plan.now first now whole c.args.limit c.loop-made.made c.loop-made.state c.loop-made-test.false c.loop-made.invariant.told) c.in_ok-decide.ensures.waited c.in-Over-2.is
+
+pub make_cycle-requires-clause-knows : goal.make_cycle-requires-clause-knows
+make_cycle-requires-clause-knows g c =
+    wait_known c.args.plan.now (at g.O.Out.taken c.loop-made.self) (at g.O.Out.taken c.decide.new.self) c.loop-made.state c.decide.new.state c.in_ok-activation.field-0 c.loop-made.invariant.knows c.in_ok-activation.ensures.waited

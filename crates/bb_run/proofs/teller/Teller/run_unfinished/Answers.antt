@@ -2,6 +2,7 @@ use Rattle.std.proofs.Common.{Some}
 use Rattle.std.proofs.lemmas.Result.{err_from_is_err_and}
 use Rattle.bb_run.specs.Run.{cycles, start, unfinished}
 use Rattle.bb_run.specs.proving.Telling.{at}
+use Rattle.bb_run.proofs.KnowLemmas.{start_known}
 use Rattle.bb_run.proofs.TellLemmas.{nothing_told, makes_last, part_cut, part_made, part_over}
 use Rattle.bb_run.proofs.teller.Teller.run_unfinished.Goals as goal
 
@@ -28,3 +29,7 @@ returns-clause-made g c =
     makes_last (λ e. Some e) c.args.plan.now first begun (at g.O.Out.taken c.make_cycles.new.self) whole (cycles c.args.plan.now 0 c.args.limit c.begin.new.state) c.make_cycles.new.state c.make_cycles.result
     (part_made c.args.plan.now first first begun whole (start c.args.plan.now c.args.state.now.board) (cycles c.args.plan.now 0 c.args.limit) c.begin.new.state c.in_ok-end.field-0 (nothing_told c.args.plan.now first whole) c.in_ok-end.ensures.made c.in_default.is)
     c.make_cycles.ensures.made
+
+pub make_cycles-requires-clause-knows : goal.make_cycles-requires-clause-knows
+make_cycles-requires-clause-knows g c =
+    start_known c.args.plan.now (at g.O.Out.taken c.args.self.now) (at g.O.Out.taken c.begin.new.self) c.args.state.now.board c.begin.new.state c.in_ok-end.field-0 c.requires.may c.in_ok-end.ensures.made

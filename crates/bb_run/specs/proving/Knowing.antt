@@ -1,0 +1,16 @@
+-- What the code of a run needs to rate by the foci of the blackboard. No public contract cites it.
+use Rattle.bb_trace.specs.Board.{Board as Blackboard}
+use Rattle.bb_trace.specs.Plan.{Plan}
+use Rattle.bb_run.specs.declared.state.State.{State}
+use Rattle.bb_run.specs.Reads.{AsksByReading}
+use Rattle.bb_run.specs.Weighed.{KnowsFoci, NumbersGiven}
+
+-- the agenda knows the foci, and since what sources ask only reads it will
+pub record Knows (plan : Plan) (s : State) : Type 0 where
+  pub reading : AsksByReading plan
+  pub foci : KnowsFoci plan s
+
+-- it will once it was told of all units of this blackboard
+pub record MayKnow (plan : Plan) (board : Blackboard) : Type 0 where
+  pub reading : AsksByReading plan
+  pub given : NumbersGiven board
