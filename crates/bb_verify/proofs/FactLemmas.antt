@@ -14,7 +14,7 @@ use Rattle.bb_verify.specs.Accepted.{accepted}
 use Rattle.bb_verify.specs.Facts.{Facts}
 use Rattle.bb_verify.proofs.TableLemmas.{tables_fit}
 use Rattle.bb_verify.proofs.WalkLemmas.{walked}
-use Rattle.bb_verify.proofs.PhaseLemmas.{table_passed, jump_passed, loop_passed}
+use Rattle.bb_verify.proofs.PhaseLemmas.{table_passed, jump_passed, loop_passed, heads_passed}
 use Rattle.bb_verify.proofs.StandLemmas.{entry_stands, op_leaves}
 use Rattle.bb_verify.proofs.KnownFrames.{frames_known}
 
@@ -30,6 +30,7 @@ facts_by s part code frames some one two three four =
       tables = λ place op is. table_passed s part code place op is one;
       jumps = λ place op is. jump_passed s part code place op is two;
       loops = λ place op is. loop_passed s part code place op is three;
+      heads = heads_passed code three;
       leaves = op_leaves s part code frames w;
       known = frames_known s part code frames one w;
     }

@@ -40,3 +40,7 @@ module _ (s : Schema) (part : Part) (code : Code) (place : ℕ) (op : Op) (is : 
       let one = bind_ok (each (loop_at code) (places code)) (λ _. none_outside (lowest_outside (length code.ops) None code.loops)) tt h in
       let passed : loop_at code place ≡ Ok tt = range_at (loop_at code) (length code.ops) place inside one.1 in
       ap (place_due code place) (sym is) ∙ no_fault (fault_at place) (place_due code place (slice_get code.ops place)) tt passed
+
+pub heads_passed : (code : Code) → loops code ≡ Ok tt → none_outside (lowest_outside (length code.ops) None code.loops) ≡ Ok tt
+unfolding loops
+heads_passed code h = (bind_ok (each (loop_at code) (places code)) (λ _. none_outside (lowest_outside (length code.ops) None code.loops)) tt h).2

@@ -1,5 +1,5 @@
 -- What holds at each place of a code that is accepted (of this project).
-use Rattle.std.specs.Prelude.{◌≡◌, ◌⊎◌, ◌≤◌, ℕ, ◌+◌, Bool, true, false, List, length, All, slice_get, Option, Some, Result, Ok}
+use Rattle.std.specs.Prelude.{◌≡◌, ◌⊎◌, ◌≤◌, ℕ, ◌+◌, Bool, true, false, List, length, All, slice_get, Option, Some, None, Result, Ok}
 use Rattle.bb_basis.specs.Results.{◌>>=◌}
 use Rattle.bb_effect.specs.Schema.{Schema}
 use Rattle.bb_effect.specs.Code.{Code}
@@ -14,7 +14,7 @@ use Rattle.bb_effect.specs.Kinds.{frame_weakens}
 use Rattle.bb_effect.specs.Effect.{effect}
 use Rattle.bb_verify.specs.Tables.{in_tables}
 use Rattle.bb_loops.specs.Jumps.{target_of, check_target}
-use Rattle.bb_loops.specs.Loops.{place_due}
+use Rattle.bb_loops.specs.Loops.{place_due, lowest_outside, none_outside}
 use Rattle.bb_verify.specs.Places.{entry_frame}
 
 -- the frames that an op leaves for the next place, and for the place that it goes to
@@ -49,6 +49,8 @@ pub record Facts (s : Schema) (part : Part) (code : Code) (frames : List Frame) 
   pub tables : (place : ℕ) (op : Op) → slice_get code.ops place ≡ Some op → in_tables s code op ≡ Ok tt
   pub jumps : (place : ℕ) (op : Op) → slice_get code.ops place ≡ Some op → check_target (length code.ops) place op ≡ Ok tt
   pub loops : (place : ℕ) (op : Op) → slice_get code.ops place ≡ Some op → place_due code place (Some op) ≡ Ok tt
+  -- no loop has its head outside the code
+  pub heads : none_outside (lowest_outside (length code.ops) None code.loops) ≡ Ok tt
   -- each op has an effect on the frame of its place, and what it leaves may stand where it leads
   pub leaves : (place : ℕ) (op : Op) (f : Frame) → slice_get code.ops place ≡ Some op → slice_get frames place ≡ Some f
       → Leaves s part code frames place op f
