@@ -17,10 +17,11 @@ pub mod FrameLocals
 pub mod AheadLemmas
 pub mod SafeSteps
 pub mod StandLemmas
-pub mod BudgetLemmas
 pub mod RunLemmas
 pub mod EntryLemmas
 pub mod AnswerLemmas
+-- how many steps can still be made
+pub mod rounds
 pub mod NeverWrong
 -- which codes only read, and what crates above use
 pub mod WriteLemmas

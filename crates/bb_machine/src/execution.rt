@@ -1,19 +1,21 @@
 //! The execution of a code. The run calls it for each activation that is chosen (bb_run).
 
-ghost use Rattle.std.specs.Prelude.{◌≡◌, ◌≤◌, ◌⊎◌, ℕ, true, List, Some, Err, IfOk};
+ghost use Rattle.std.specs.Prelude.{◌≡◌, ◌≤◌, ◌⊎◌, ◌+◌, ℕ, true, List, Some, Err, IfOk};
 ghost use Rattle.bb_basis.specs.Results.{Gives};
 ghost use Rattle.bb_units.specs.Units.{is_full};
 ghost use Rattle.bb_units.specs.declared.units.TheConstants.{UNIT_LIMIT};
 ghost use Rattle.bb_board.specs.Named.{NotesChanges};
+ghost use Rattle.bb_verify.specs.Budget.{budget};
+ghost use Rattle.bb_verify.specs.declared.checked.TheConstants.{FOUND_LIMIT};
 ghost use Rattle.bb_verify.specs.FrameType.{Frame};
 ghost use Rattle.bb_verify.specs.PartType.{Part};
 ghost use Rattle.bb_step.specs.Stop.TheVariants.{Full, Memory as OutOfMemory};
-ghost use Rattle.bb_step.specs.Activation.{activation};
+ghost use Rattle.bb_step.specs.Activation.{activation, steps_from};
 ghost use Rattle.bb_step.specs.Machine.{entry_state};
 ghost use Rattle.bb_step.specs.Changing.{State};
 ghost use Rattle.bb_step.specs.Writes.{has_no_writes};
-ghost use Rattle.bb_machine.specs.NeverWrong.{Begins, HasTurns, after, Stands, StuckByTurns, AnswersAs};
-ghost use Rattle.bb_machine.specs.NeverWrong.{NeverStuck, KeepsBudget, only_reads};
+ghost use Rattle.bb_machine.specs.NeverWrong.{Begins, after, Stands, StuckByTurns, AnswersAs};
+ghost use Rattle.bb_machine.specs.NeverWrong.{NeverStuck, KeepsBudget, StuckBelow, FoundFew, only_reads};
 
 use bb_board::Board;
 use bb_code::Code;
@@ -27,9 +29,10 @@ use std::alloc::Global;
 /// that no new note names keeps its class and its values. `Full` comes only where no unit can be created.
 ///
 /// A code that was accepted for a part never goes wrong, where the entry is one of the part (`Begins`): each state that
-/// it passes through suits the frame of its place, it is stuck for the limit of steps alone, its answer is one of the
-/// part, and the blackboard stays as it was unless the part is `do`. Where it has no loops and the limit is at least
-/// its budget (`HasTurns`), it is never stuck, and makes no more steps than its budget.
+/// it passes through suits the frame of its place, its answer is one of the part, and the blackboard stays as it was
+/// unless the part is `do`. It makes no more steps than its budget for the longest sequence that it found, which has no
+/// more elements than there can be units. So it is stuck for a limit of steps below its budget alone, and never where
+/// the limit is at least its budget for sequences of that many elements.
 pub fn trial(
     alloc: Global,
     code: &Code,
@@ -54,9 +57,17 @@ pub fn trial(
     ensures parts_read { (part : Part) (frames : List Frame) →
         Begins part frames code.now entry board.old → only_reads part ≡ true → board.new ≡ board.old }
     ensures never_stuck { (part : Part) (frames : List Frame) →
-        Begins part frames code.now entry board.old → HasTurns code.now limit → NeverStuck result }
+        Begins part frames code.now entry board.old → budget code.now FOUND_LIMIT ≤ limit → NeverStuck result }
     ensures within_budget { (part : Part) (frames : List Frame) →
-        Begins part frames code.now entry board.old → HasTurns code.now limit → KeepsBudget code.now result }
+        Begins part frames code.now entry board.old → KeepsBudget code.now result }
+    ensures turns_low { (part : Part) (frames : List Frame) →
+        Begins part frames code.now entry board.old → StuckBelow code.now limit result }
+    ensures all_few { (part : Part) (frames : List Frame) →
+        Begins part frames code.now entry board.old → FoundFew result }
+    ensures goes_on { (part : Part) (frames : List Frame) (k n : ℕ) (state : State) →
+        Begins part frames code.now entry board.old →
+        after k code.now (entry_state code.now entry, board.old) ≡ Some state →
+        activation (k + n) code.now entry board.old ≡ steps_from n k code.now state }
 {
     // What holds of any code, schema and blackboard.
     let _ = code.ops();

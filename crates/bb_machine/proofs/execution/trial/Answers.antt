@@ -1,6 +1,6 @@
 use Rattle.std.proofs.Common.{subst}
 use Rattle.bb_schema.specs.Fits as schemas
-use Rattle.bb_machine.proofs.NeverWrong.{each_stands, stuck_by_turns, answers, never_stuck, within_budget}
+use Rattle.bb_machine.proofs.NeverWrong.{each_stands, stuck_by_turns, answers, never_stuck, within_budget, stuck_below, found_few, goes_on}
 use Rattle.bb_machine.proofs.WriteLemmas.{only_part_reads}
 use Rattle.bb_machine.proofs.execution.trial.Goals as goal
 
@@ -21,9 +21,21 @@ returns-clause-parts_read c = λ part frames begins only.
     c.execute.ensures.reads_only (only_part_reads c.args.board.now.schema part c.args.code.now frames only begins.accepted)
 
 pub returns-clause-never_stuck : goal.returns-clause-never_stuck
-returns-clause-never_stuck c = λ part frames begins has.
-    never_stuck part frames c.args.code.now c.args.entry c.args.board.now c.args.limit c.ops.ensures.fits (subst schemas.Fits c.schema.ensures c.fits.ensures) c.fits-2.ensures begins has c.execute.result c.execute.ensures.outcome
+returns-clause-never_stuck c = λ part frames begins enough.
+    never_stuck part frames c.args.code.now c.args.entry c.args.board.now c.args.limit c.ops.ensures.fits (subst schemas.Fits c.schema.ensures c.fits.ensures) c.fits-2.ensures begins c.execute.result c.execute.ensures.outcome enough
 
 pub returns-clause-within_budget : goal.returns-clause-within_budget
-returns-clause-within_budget c = λ part frames begins has.
-    within_budget part frames c.args.code.now c.args.entry c.args.board.now c.args.limit c.ops.ensures.fits (subst schemas.Fits c.schema.ensures c.fits.ensures) c.fits-2.ensures begins has c.execute.result c.execute.ensures.outcome
+returns-clause-within_budget c = λ part frames begins.
+    within_budget part frames c.args.code.now c.args.entry c.args.board.now c.args.limit c.ops.ensures.fits (subst schemas.Fits c.schema.ensures c.fits.ensures) c.fits-2.ensures begins c.execute.result c.execute.ensures.outcome
+
+pub returns-clause-turns_low : goal.returns-clause-turns_low
+returns-clause-turns_low c = λ part frames begins.
+    stuck_below part frames c.args.code.now c.args.entry c.args.board.now c.args.limit c.ops.ensures.fits (subst schemas.Fits c.schema.ensures c.fits.ensures) c.fits-2.ensures begins c.execute.result c.execute.ensures.outcome
+
+pub returns-clause-all_few : goal.returns-clause-all_few
+returns-clause-all_few c = λ part frames begins.
+    found_few part frames c.args.code.now c.args.entry c.args.board.now c.args.limit c.ops.ensures.fits (subst schemas.Fits c.schema.ensures c.fits.ensures) c.fits-2.ensures begins c.execute.result c.execute.ensures.outcome
+
+pub returns-clause-goes_on : goal.returns-clause-goes_on
+returns-clause-goes_on c = λ part frames k n state begins.
+    goes_on part frames c.args.code.now c.args.entry c.args.board.now c.args.limit c.ops.ensures.fits (subst schemas.Fits c.schema.ensures c.fits.ensures) c.fits-2.ensures begins k n state
