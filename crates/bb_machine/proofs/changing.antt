@@ -9,3 +9,4 @@ pub mod SayLemmas
 pub mod ChangeSteps
 pub mod EnterSteps
 pub mod WriteSteps
+pub mod OutlivedSteps

@@ -5,6 +5,7 @@ ghost use Rattle.bb_basis.specs.Results.{Gives};
 ghost use Rattle.bb_units.specs.Units.{is_full};
 ghost use Rattle.bb_units.specs.declared.units.TheConstants.{UNIT_LIMIT};
 ghost use Rattle.bb_board.specs.Named.{NotesChanges};
+ghost use Rattle.bb_board.specs.Outlives.{Outlives};
 ghost use Rattle.bb_verify.specs.Budget.{budget};
 ghost use Rattle.bb_verify.specs.declared.checked.TheConstants.{FOUND_LIMIT};
 ghost use Rattle.bb_verify.specs.FrameType.{Frame};
@@ -26,7 +27,8 @@ use std::alloc::Global;
 /// out. What it changes is noted there. Each op is tested as it is met, so any code can be executed, and what it
 /// declares of frames and loops is not read. `Memory` may come at any op, after changes of those before it. A code
 /// without an op that writes leaves the blackboard as it was, however it comes out. But where memory ran out, a unit
-/// that no new note names keeps its class and its values. `Full` comes only where no unit can be created.
+/// that no new note names keeps its class and its values, the schema stays, and no number that was given out is given
+/// to another unit. `Full` comes only where no unit can be created.
 ///
 /// A code that was accepted for a part never goes wrong, where the entry is one of the part (`Begins`): each state that
 /// it passes through suits the frame of its place, its answer is one of the part, and the blackboard stays as it was
@@ -45,6 +47,8 @@ pub fn trial(
     ensures board { (result ≡ Err OutOfMemory) ⊎ (board.new ≡ (activation limit code.now entry board.old).1) }
     ensures reads_only { has_no_writes code.now ≡ true → board.new ≡ board.old }
     ensures named { (result ≡ Err OutOfMemory) ⊎ NotesChanges board.old.world board.new.world }
+    ensures schema { (result ≡ Err OutOfMemory) ⊎ (board.new.schema ≡ board.old.schema) }
+    ensures outlives { (result ≡ Err OutOfMemory) ⊎ Outlives board.old.world.units board.new.world.units }
     ensures full { (steps found : ℕ) → result ≡ Err (Full steps found) → is_full board.new.world.units ≡ true }
     ensures suits { (part : Part) (frames : List Frame) (n : ℕ) (state : State) →
         Begins part frames code.now entry board.old →

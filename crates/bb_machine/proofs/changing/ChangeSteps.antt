@@ -43,7 +43,7 @@ same_outlives u v is = subst (λ (x : Units). Outlives u x) (sym is) (record { n
 pub same_persists : (u v : Units) → v ≡ u → Persists u v
 same_persists u v is = subst (λ (x : Units). Persists u x) (sym is) (λ n c at. at)
 
-left_units : (w : World) (n space : ℕ) (b : Bool) → not (is_member w.spaces space n) ≡ b → (after_leave w n space).units ≡ w.units
+pub left_units : (w : World) (n space : ℕ) (b : Bool) → not (is_member w.spaces space n) ≡ b → (after_leave w n space).units ≡ w.units
 left_units w n space true is = rw is refl
 left_units w n space false is = rw is refl
 

@@ -49,7 +49,7 @@ any_up s own class fits up (d ∷ ds) h =
     or_weaker (descends s class d) (list_any (λ c. descends s class c) ds) (descends s own d) (list_any (λ c. descends s own c) ds)
     (descends_on s own class d fits up) (any_up s own class fits up ds) h
 
-entered_units : (s : Schema) (w : World) (n space : ℕ) (b : Bool) → is_member w.spaces space n ≡ b → (after_enter s w n space).units ≡ w.units
+pub entered_units : (s : Schema) (w : World) (n space : ℕ) (b : Bool) → is_member w.spaces space n ≡ b → (after_enter s w n space).units ≡ w.units
 entered_units s w n space true is = rw is refl
 entered_units s w n space false is = rw is refl
 

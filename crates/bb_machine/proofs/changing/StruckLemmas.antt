@@ -30,7 +30,7 @@ left_by : (n k c : ℕ) (b : Bool) (old : Option OneUnit) → option_map (λ x. 
 left_by n k c true old is = absurd (let no : (let none : Option ℕ = None in none) ≡ Some c = is in cc)
 left_by n k c false old is = is
 
-deleted_outlives : (u : Units) (n : ℕ) → Outlives u (without_unit u n)
+pub deleted_outlives : (u : Units) (n : ℕ) → Outlives u (without_unit u n)
 deleted_outlives u n = record {
   next = omega arith;
   classes = λ k c lt is. left_by n k c (eq_by_cmp nat_cmp k n) (get u.units k) (sym (ap (option_map (λ x. x.class)) (get-remove nat_cmp_total u.units n k)) ∙ is);
