@@ -1,0 +1,4 @@
+pub mod ScanLemmas
+pub mod ScopeLemmas
+pub mod WordLemmas
+pub mod LiteralLemmas
