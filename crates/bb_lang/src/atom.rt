@@ -1,0 +1,100 @@
+//! What expressions and patterns are made of, apart from their parts.
+
+use bb_basis::Text;
+
+/// A unit by its name.
+#[derive(Debug, Drop)]
+pub enum Variable {
+    /// `it`: the unit that the source works on.
+    It,
+    /// `ev`: the unit of the event.
+    Ev,
+    /// A name that was declared.
+    Named(Text),
+}
+
+/// An expression without parts.
+#[derive(Debug, Drop)]
+pub enum Atom {
+    /// A whole number.
+    Int(i64),
+    /// A text, without its quotes and with what its escapes stand for.
+    Text(Text),
+    /// `true` or `false`.
+    Bool(bool),
+    /// `set: label`.
+    Label { set: Text, label: Text },
+    /// The unit or the value of a name.
+    Variable(Variable),
+    /// `unit.slot`: the value that a unit has in a slot.
+    Slot { unit: Variable, slot: Text },
+}
+
+/// What one operand becomes.
+#[derive(Clone, Copy, Debug, PartialEq, Eq)]
+pub enum Unary {
+    /// `not(..)`
+    Not,
+    /// `low(..)`
+    Low,
+    /// `high(..)`
+    High,
+}
+
+/// What two operands become.
+#[derive(Clone, Copy, Debug, PartialEq, Eq)]
+pub enum Binary {
+    /// `.. < ..`
+    Less,
+    /// `.. <= ..`
+    AtMost,
+    /// `.. = ..`
+    Equal,
+    /// `min(.., ..)`
+    Min,
+    /// `max(.., ..)`
+    Max,
+    /// `[.., ..]`
+    Interval,
+}
+
+/// What stands between the operands of a chain.
+#[derive(Clone, Copy, Debug, PartialEq, Eq)]
+pub enum Operator {
+    /// `or`
+    Or,
+    /// `and`
+    And,
+    /// `+`
+    Plus,
+    /// `-`
+    Minus,
+    /// `*`
+    Times,
+}
+
+/// A division by a fixed number.
+#[derive(Clone, Copy, Debug, PartialEq, Eq)]
+pub enum Division {
+    /// `/`
+    Quotient,
+    /// `%`
+    Remainder,
+}
+
+/// What a test says of a unit's value on a dimension and an operand.
+#[derive(Clone, Copy, Debug, PartialEq, Eq)]
+pub enum Relation {
+    /// `within`
+    Within,
+    /// `covers`
+    Covers,
+    /// `overlaps`
+    Overlaps,
+    /// `less`
+    Less,
+    /// `more`
+    More,
+    /// `is`
+    Is,
+}

@@ -1,0 +1,229 @@
+//! Sources, as they are read: a function for each production. Whoever has a text of sources calls `parse`.
+
+ghost use Rattle.std.specs.Prelude.{◌≡◌, ◌<◌, codes};
+ghost use Rattle.bb_basis.specs.Results.{Gives};
+ghost use Rattle.bb_token.specs.declared.fault.LangFault.TheVariants.{Memory as OutOfMemory};
+ghost use Rattle.bb_lang.specs.Repeats.{as_many};
+ghost use Rattle.bb_lang.specs.Sources.{part, part_if, reaction, reaction_if, parts, act, source_word, source_name};
+ghost use Rattle.bb_lang.specs.Sources.{header, rating, source, next_source, sources_of};
+
+use crate::clauses::read_clauses;
+use crate::source_text::{ActText, HeaderText, PartText, PartTexts, ReactionText, SourceText};
+use crate::statements::read_block;
+use bb_basis::{Items, Text};
+use bb_token::{LangFault, Parser};
+use std::alloc::Global;
+
+/// The greatest number of sources.
+pub const SOURCE_LIMIT: usize = 256;
+
+/// How many brackets may be open at once.
+pub const NESTING_LIMIT: usize = 64;
+
+/// How many may still be opened in the bracket of a source.
+pub(crate) const BLOCK_NESTING: usize = 63;
+
+/// A part that is a block, at its word.
+#[tactic(auto, unfolding(crate::specs::Sources::part))]
+fn read_part(alloc: Global, parser: &mut Parser<'_>) -> Result<PartText, LangFault>
+    ensures { Gives OutOfMemory (λ p. (p, parser.new)) result (part parser.old) }
+{
+    let place = parser.place();
+    parser.advance()?;
+    let block = read_block(alloc, parser, BLOCK_NESTING)?;
+    Ok(PartText { place, block })
+}
+
+/// A part that is a block, if it comes.
+#[tactic(auto, unfolding(crate::specs::Sources::part_if))]
+fn read_part_if(
+    alloc: Global,
+    parser: &mut Parser<'_>,
+    word: &str,
+) -> Result<Option<PartText>, LangFault>
+    ensures { Gives OutOfMemory (λ p. (p, parser.new)) result (part_if word.now parser.old) }
+{
+    if !parser.at(word) {
+        return Ok(None);
+    }
+    Ok(Some(read_part(alloc, parser)?))
+}
+
+/// A reaction, at its word.
+#[tactic(auto, unfolding(crate::specs::Sources::reaction))]
+fn read_reaction(alloc: Global, parser: &mut Parser<'_>) -> Result<ReactionText, LangFault>
+    ensures { Gives OutOfMemory (λ r. (r, parser.new)) result (reaction parser.old) }
+{
+    let place = parser.place();
+    parser.advance()?;
+    let on = parser.place();
+    parser.skip("on")?;
+    let class = parser.read_name(alloc)?;
+    let clauses = read_clauses(alloc, parser)?;
+    let block = read_block(alloc, parser, BLOCK_NESTING)?;
+    Ok(ReactionText {
+        place,
+        on,
+        class,
+        clauses: Items::from(clauses),
+        block,
+    })
+}
+
+/// A reaction, if it comes.
+#[tactic(auto, unfolding(crate::specs::Sources::reaction_if))]
+fn read_reaction_if(
+    alloc: Global,
+    parser: &mut Parser<'_>,
+    word: &str,
+) -> Result<Option<ReactionText>, LangFault>
+    ensures { Gives OutOfMemory (λ r. (r, parser.new)) result (reaction_if word.now parser.old) }
+{
+    if !parser.at(word) {
+        return Ok(None);
+    }
+    Ok(Some(read_reaction(alloc, parser)?))
+}
+
+/// The parts besides the act.
+#[tactic(auto, unfolding(crate::specs::Sources::parts))]
+fn read_parts(alloc: Global, parser: &mut Parser<'_>) -> Result<PartTexts, LangFault>
+    ensures { Gives OutOfMemory (λ p. (p, parser.new)) result (parts parser.old) }
+{
+    let require = read_part_if(alloc, parser, "require")?;
+    let obviate = read_reaction_if(alloc, parser, "obviate")?;
+    let retrigger = read_reaction_if(alloc, parser, "retrigger")?;
+    let revalidate = read_part_if(alloc, parser, "revalidate")?;
+    Ok(PartTexts {
+        require,
+        obviate,
+        retrigger,
+        revalidate,
+    })
+}
+
+/// What an activation does.
+#[tactic(auto, unfolding(crate::specs::Sources::act))]
+fn read_act(alloc: Global, parser: &mut Parser<'_>) -> Result<ActText, LangFault>
+    ensures { Gives OutOfMemory (λ a. (a, parser.new)) result (act parser.old) }
+{
+    if parser.at("do") {
+        return Ok(ActText::Do(read_part(alloc, parser)?));
+    }
+    parser.skip("native")?;
+    parser.skip(";")?;
+    Ok(ActText::Native)
+}
+
+/// The word `source`.
+#[tactic(auto, unfolding(crate::specs::Sources::source_word))]
+fn read_source_word(parser: &mut Parser<'_>) -> Result<(), LangFault>
+    ensures { Gives OutOfMemory (λ _. parser.new) result (source_word parser.old) }
+{
+    let place = parser.place();
+    if !parser.at("source") {
+        return Err(LangFault::Token { place });
+    }
+    if parser.source_count() >= SOURCE_LIMIT {
+        return Err(LangFault::Limit { place });
+    }
+    parser.advance()
+}
+
+/// The name of a source.
+#[tactic(auto, unfolding(crate::specs::Sources::source_name))]
+fn read_source_name(alloc: Global, parser: &mut Parser<'_>) -> Result<Text, LangFault>
+    ensures { Gives OutOfMemory (λ t. (t, parser.new)) result (source_name parser.old) }
+{
+    let name = parser.name_at(alloc)?;
+    if parser.has_source(name.as_str()) {
+        return Err(LangFault::Twice {
+            place: parser.place(),
+        });
+    }
+    parser.add_source(alloc, name.as_str())?;
+    parser.advance()?;
+    Ok(name)
+}
+
+/// The name and the class of a source.
+#[tactic(auto, unfolding(crate::specs::Sources::header))]
+fn read_header(alloc: Global, parser: &mut Parser<'_>) -> Result<HeaderText, LangFault>
+    ensures { Gives OutOfMemory (λ h. (h, parser.new)) result (header parser.old) }
+{
+    read_source_word(parser)?;
+    let name = read_source_name(alloc, parser)?;
+    let on = parser.place();
+    parser.skip("on")?;
+    let class = parser.read_name(alloc)?;
+    Ok(HeaderText { name, on, class })
+}
+
+/// The base rating.
+#[tactic(auto, unfolding(crate::specs::Sources::rating))]
+fn read_rating(parser: &mut Parser<'_>) -> Result<i64, LangFault>
+    ensures { Gives OutOfMemory (λ n. (n, parser.new)) result (rating parser.old) }
+{
+    parser.skip("rate")?;
+    let rate = parser.read_int()?;
+    parser.skip(";")?;
+    Ok(rate)
+}
+
+/// A source.
+#[tactic(auto, unfolding(crate::specs::Sources::source))]
+fn read_source(alloc: Global, parser: &mut Parser<'_>) -> Result<SourceText, LangFault>
+    ensures { Gives OutOfMemory (λ s. (s, parser.new)) result (source parser.old) }
+{
+    let header = read_header(alloc, parser)?;
+    parser.skip("{")?;
+    let clauses = read_clauses(alloc, parser)?;
+    let rate = read_rating(parser)?;
+    let parts = read_parts(alloc, parser)?;
+    let act = read_act(alloc, parser)?;
+    parser.skip("}")?;
+    Ok(SourceText {
+        header,
+        clauses: Items::from(clauses),
+        rate,
+        parts,
+        act,
+    })
+}
+
+/// One more source, if the text does not end.
+#[tactic(auto, unfolding(crate::specs::Sources::next_source))]
+fn read_next_source(alloc: Global, parser: &mut Parser<'_>) -> Result<Option<SourceText>, LangFault>
+    ensures { Gives OutOfMemory (λ o. (o, parser.new)) result (next_source parser.old) }
+{
+    if parser.kind().is_end() {
+        return Ok(None);
+    }
+    Ok(Some(read_source(alloc, parser)?))
+}
+
+/// As many sources as come.
+#[tactic(auto, unfolding(crate::specs::Repeats::as_many))]
+fn read_sources(alloc: Global, parser: &mut Parser<'_>) -> Result<Vec<SourceText>, LangFault>
+    ensures { Gives OutOfMemory (λ v. (v.items, parser.new)) result (as_many next_source parser.old) }
+{
+    let mut sources = Vec::new(alloc);
+    for _turn in 0..parser.left() {
+        let Some(source) = read_next_source(alloc, parser)? else {
+            return Ok(sources);
+        };
+        sources.push(source)?;
+    }
+    Ok(sources)
+}
+
+/// Returns the sources of a text in its order, or the first fault: that of the lowest place, at one place that of the
+/// lowest number. `Memory` may come at any point.
+#[tactic(auto, unfolding(crate::specs::Sources::sources_of))]
+pub fn parse(alloc: Global, text: &str) -> Result<Vec<SourceText>, LangFault>
+    ensures { Gives OutOfMemory (λ v. v.items) result (sources_of text.now) }
+{
+    let mut parser = Parser::new(alloc, text.as_bytes());
+    parser.advance()?;
+    read_sources(alloc, &mut parser)
+}
