@@ -4,3 +4,4 @@ pub mod NestingLemmas
 pub mod ChainLemmas
 pub mod BlockLemmas
 pub mod ClauseLemmas
+pub mod Limits

@@ -21,7 +21,7 @@ pub const SOURCE_LIMIT: usize = 256;
 pub const NESTING_LIMIT: usize = 64;
 
 /// How many may still be opened in the bracket of a source.
-pub(crate) const BLOCK_NESTING: usize = 63;
+pub(crate) const BLOCK_NESTING: usize = NESTING_LIMIT - 1;
 
 /// A part that is a block, at its word.
 #[tactic(auto, unfolding(crate::specs::Sources::part))]

@@ -2,3 +2,4 @@ pub mod ScanLemmas
 pub mod ScopeLemmas
 pub mod WordLemmas
 pub mod LiteralLemmas
+pub mod Limits

@@ -1,0 +1,14 @@
+//! Tests of faults: their numbers.
+
+use super::*;
+
+#[test]
+fn numbers(rt: HostRuntime) {
+    let place = Place { line: 1, column: 2 };
+    assert_eq!(rt; LangFault::Character { place }.number(), 1);
+    assert_eq!(rt; LangFault::Token { place }.number(), 2);
+    assert_eq!(rt; LangFault::Nesting { place }.number(), 3);
+    assert_eq!(rt; LangFault::Twice { place }.number(), 4);
+    assert_eq!(rt; LangFault::Limit { place }.number(), 5);
+    assert_eq!(rt; LangFault::Memory.number(), 6);
+}
