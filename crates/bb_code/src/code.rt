@@ -1,4 +1,4 @@
-//! A code in memory. Whoever makes or executes codes (bb_compile, bb_verify) calls it.
+//! A code in memory. Whoever makes or executes codes (bb_bundle, bb_verify) calls it.
 
 ghost use Rattle.std.specs.Prelude.{◌≡◌, ◌↔◌, IsSome, IfSome, slice_get};
 ghost use Rattle.bb_op.specs.Code.{IsCode};

@@ -1,4 +1,4 @@
-//! A code from bytes. Whoever reads bundles (bb_compile) calls `decode`.
+//! A code from bytes. Whoever reads bundles (bb_bundle) calls `decode`.
 //!
 //! Each function reads a field at the front, and returns its value and the bytes after it.
 

@@ -1,4 +1,4 @@
-//! A code as bytes. Whoever writes bundles (bb_compile) calls `encode`.
+//! A code as bytes. Whoever writes bundles (bb_bundle) calls `encode`.
 
 ghost use Rattle.std.specs.Prelude.{◌≡◌, ◌∷◌, ◌++◌, ◌<◌, ◌^◌, length, All, OnOk, IfOk};
 ghost use Rattle.std.specs.List.{flat_map};

@@ -1,4 +1,4 @@
-//! The code that sources execute, and the bytes that spell it. bb_compile decodes it, bb_verify checks it and the
+//! The code that sources execute, and the bytes that spell it. bb_bundle decodes it, bb_verify checks it and the
 //! machine executes it. Crates above take what it is made of from here, the schema too.
 #![tactic(auto)]
 

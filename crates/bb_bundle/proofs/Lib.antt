@@ -1,0 +1,11 @@
+pub mod LineLemmas
+pub mod RateLemmas
+pub mod PartialLemmas
+pub mod ParserLemmas
+pub mod WordLemmas
+pub mod LinesLemmas
+pub mod WrittenLemmas
+pub mod CodeLemmas
+pub mod LeadLemmas
+pub mod EventLemmas
+pub mod AgainLemmas

@@ -1,0 +1,40 @@
+-- What a line of a bundle says by itself.
+use Rattle.std.specs.Prelude.{ℕ, ◌&&◌, ◌==◌, nat_le, List, [], ◌∷◌, length, take, Option, Some, None, option_map, codes}
+use Rattle.std.specs.Prelude.{if◌then◌else◌}
+use Rattle.std.specs.List.{slice_split}
+use Rattle.std.specs.Str.{bytes_eq}
+use Rattle.bb_basis.specs.Names.{is_name}
+use Rattle.bb_bundle.specs.declared.line.TheConstants.{WORD_LIMIT}
+use Rattle.bb_bundle.specs.declared.partial.PartialSource.{PartialSource}
+use Rattle.bb_bundle.specs.Rate.{rate_of}
+
+-- the first words of a line: a space separates each two
+abbrev pub words_of : List ℕ → List (List ℕ)
+words_of line = take WORD_LIMIT (slice_split (λ b. b == 32) line)
+
+-- `source NAME CLASS RATE`: what is read of a source at first
+unfoldable pub header_of : List (List ℕ) → Option PartialSource
+header_of (keyword ∷ name ∷ class ∷ rate ∷ []) =
+    if bytes_eq keyword (codes "source") && is_name name && is_name class
+    then option_map (λ r. record {
+      name = name;
+      class = class;
+      rate = r;
+      triggers = [];
+      require = None;
+      obviate = None;
+      retrigger = None;
+      revalidate = None;
+    }) (rate_of rate) else None
+header_of _ = None
+
+-- `HEX`: its digits, of which there is one or more
+unfoldable pub digits_of : List (List ℕ) → Option (List ℕ)
+digits_of (digits ∷ []) = if nat_le 1 (length digits) then Some digits else None
+digits_of _ = None
+
+-- `CLASS HEX`: a name, and digits, of which there is one or more
+unfoldable pub class_and_digits_of : List (List ℕ) → Option (List ℕ × List ℕ)
+class_and_digits_of (class ∷ digits ∷ []) =
+    if is_name class && nat_le 1 (length digits) then Some (class, digits) else None
+class_and_digits_of _ = None

@@ -1,0 +1,82 @@
+-- The text that is written for sources: one line for each part, and the parts in order.
+use Rattle.std.specs.Prelude.{ℕ, List, [], ◌∷◌, ◌++◌, map, Option, Some, None, codes}
+use Rattle.std.specs.List.{flat_map, join_with_byte}
+use Rattle.std.specs.Fmt.{signed_decimal}
+use Rattle.hex.specs.Hex.{encode_lower}
+use Rattle.bb_code.specs.Code.{Code}
+use Rattle.bb_code.specs.Spelling.{spelling}
+use Rattle.bb_bundle.specs.declared.source_code.ActDraft.{ActDraft}
+use Rattle.bb_bundle.specs.declared.source_code.ActDraft.TheVariants.{Do, Native}
+use Rattle.bb_bundle.specs.declared.source_code.ChangeText.{ChangeText}
+use Rattle.bb_bundle.specs.declared.source_code.ChangeText.TheVariants.{Create, Delete, Update, Link, Unlink}
+use Rattle.bb_bundle.specs.declared.source_code.ChangeText.TheVariants.{Enter, Leave}
+use Rattle.bb_bundle.specs.declared.source_code.ClauseText.{ClauseText}
+use Rattle.bb_bundle.specs.declared.source_code.ClauseText.TheVariants.{Change, Quiescence}
+use Rattle.bb_bundle.specs.declared.source_code.ReactionDraft.{ReactionDraft}
+use Rattle.bb_bundle.specs.declared.source_code.SourceDraft.{SourceDraft}
+
+-- the words of a line, of which there are four at most
+abbrev pub Words : Type 0
+Words = List (List ℕ)
+
+-- a line: its words with a space between each two, and a line feed
+abbrev pub line_text : Words → List ℕ
+line_text ws = join_with_byte 32 ws ++ 10 ∷ []
+
+-- a class and one of its slots, with a dot between
+abbrev pub dotted : (class slot : List ℕ) → List ℕ
+dotted class slot = class ++ codes "." ++ slot
+
+-- a change of units of a class
+abbrev pub change_words : ChangeText → (class : List ℕ) → Words
+change_words Create class = codes "create" ∷ class ∷ []
+change_words Delete class = codes "delete" ∷ class ∷ []
+change_words (Update slot) class = codes "update" ∷ dotted class slot ∷ []
+change_words (Link slot) class = codes "link" ∷ dotted class slot ∷ []
+change_words (Unlink slot) class = codes "unlink" ∷ dotted class slot ∷ []
+change_words (Enter space) class = codes "enter" ∷ class ∷ space ∷ []
+change_words (Leave space) class = codes "leave" ∷ class ∷ space ∷ []
+
+-- a clause
+abbrev pub clause_words : ClauseText → Words
+clause_words (Change kind class) = codes "when" ∷ change_words kind class
+clause_words Quiescence = codes "when" ∷ codes "quiescence" ∷ []
+
+-- a code: the hex digits of its bytes, letters in lower case
+abbrev pub code_digits : Code → List ℕ
+code_digits code = encode_lower (spelling code)
+
+-- a part that is a code alone, where it is there
+abbrev pub code_lines : (keyword : List ℕ) → Option Code → List Words
+code_lines keyword None = []
+code_lines keyword (Some code) = (keyword ∷ code_digits code ∷ []) ∷ []
+
+-- a reaction with its clauses, where it is there
+abbrev pub reaction_lines : (keyword : List ℕ) → Option (ReactionDraft Code) → List Words
+reaction_lines keyword None = []
+reaction_lines keyword (Some reaction) =
+    (keyword ∷ reaction.class ∷ code_digits reaction.code ∷ []) ∷ map clause_words reaction.clauses
+
+-- the act
+abbrev pub act_words : ActDraft Code → Words
+act_words (Do code) = codes "do" ∷ code_digits code ∷ []
+act_words Native = codes "native" ∷ []
+
+-- the first line of a source
+abbrev pub header_words : SourceDraft Code → Words
+header_words s = codes "source" ∷ s.name ∷ s.class ∷ signed_decimal s.rate ∷ []
+
+-- the lines of a source
+abbrev pub source_lines : SourceDraft Code → List Words
+source_lines s =
+    (header_words s ∷ []) ++ (map clause_words s.triggers ++ (code_lines (codes "require") s.require
+    ++ (reaction_lines (codes "obviate") s.obviate ++ (reaction_lines (codes "retrigger") s.retrigger
+    ++ (code_lines (codes "revalidate") s.revalidate ++ act_words s.act ∷ [])))))
+
+-- the text of lines
+unfoldable pub text_of : List Words → List ℕ
+text_of lines = flat_map line_text lines
+
+-- the text of sources
+unfoldable pub bundle_text : List (SourceDraft Code) → List ℕ
+bundle_text sources = flat_map (λ s. text_of (source_lines s)) sources

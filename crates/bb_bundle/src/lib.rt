@@ -1,0 +1,21 @@
+//! Sources from the text of a bundle, and back: who reads or writes a bundle (bb_shell) calls it, and bb_rules looks up
+//! the names.
+#![tactic(auto)]
+
+mod clause;
+mod fault;
+mod keyword;
+mod line;
+mod parser;
+mod partial;
+mod rate;
+mod source_code;
+mod spelled;
+#[cfg(test)]
+mod tests;
+mod writer;
+
+pub use fault::BundleFault;
+pub use parser::unbundle;
+pub use source_code::{ActDraft, ChangeText, ClauseText, ReactionDraft, SourceCode, SourceDraft};
+pub use writer::bundle;
