@@ -1,20 +1,22 @@
 -- What holds of every source that was made under a schema.
 use Rattle.std.proofs.Common.{◌≡◌, ℕ, Bool, true, false, ◌==◌, cond, List, [], ◌∷◌, Option, Some, None, Result, Ok, Err, refl, sym, ap, subst, ◌∙◌, eqb-true}
-use Rattle.std.specs.Prelude.{All, option_map}
+use Rattle.std.specs.Prelude.{All, IfSome, option_map}
 use Rattle.std.proofs.lemmas.Bool.{and_parts}
 use Rattle.std.proofs.lemmas.List.Elements.{All-nil, All-cons}
 use Rattle.bb_basis.specs.Results.{◌>>=◌}
 use Rattle.bb_basis.proofs.ResultLemmas.{bind_ok, same_ok, All-try_map}
 use Rattle.bb_schema.specs.Schema.{Schema, descends}
 use Rattle.bb_verify.specs.Accepted.{Checked}
+use Rattle.bb_verify.specs.Flaw.TheVariants as flaws
+use Rattle.bb_verify.specs.Part.{writes}
 use Rattle.bb_verify.specs.PartType.{Part}
 use Rattle.bb_verify.specs.PartType.TheVariants as parts
-use Rattle.bb_compile.specs.declared.source_code.ClauseText.{ClauseText}
-use Rattle.bb_compile.specs.declared.source_code.ClauseText.TheVariants as texts
-use Rattle.bb_compile.specs.declared.source_code.ReactionDraft.{ReactionDraft}
-use Rattle.bb_compile.specs.declared.source_code.ActDraft.{ActDraft}
-use Rattle.bb_compile.specs.declared.source_code.ActDraft.TheVariants as drafts
-use Rattle.bb_compile.specs.declared.source_code.SourceDraft.{SourceDraft}
+use Rattle.bb_bundle.specs.declared.source_code.ClauseText.{ClauseText}
+use Rattle.bb_bundle.specs.declared.source_code.ClauseText.TheVariants as texts
+use Rattle.bb_bundle.specs.declared.source_code.ReactionDraft.{ReactionDraft}
+use Rattle.bb_bundle.specs.declared.source_code.ActDraft.{ActDraft}
+use Rattle.bb_bundle.specs.declared.source_code.ActDraft.TheVariants as drafts
+use Rattle.bb_bundle.specs.declared.source_code.SourceDraft.{SourceDraft}
 use Rattle.bb_rules.specs.declared.clause.Clause.{Clause}
 use Rattle.bb_rules.specs.declared.clause.Clause.TheVariants as clauses
 use Rattle.bb_rules.specs.declared.fault.RuleFault.{RuleFault}
@@ -135,6 +137,36 @@ fit_parts c draft done h =
     let three = bind_ok retriggered (λ _. valid >>= λ _. acts) done two.2 in
     let four = bind_ok valid (λ _. acts) done three.2 in
     record { done = done; require = one.1; obviate = two.1; retrigger = three.1; revalidate = four.1; act = four.2 }
+
+-- what is asked may not write
+abbrev reads_only : Checked → Type 0
+reads_only c = writes c.part ≡ Err flaws.Effect
+
+code_reads : (part : Part) (code : Option Checked) (done : Unit {0}) → writes part ≡ Err flaws.Effect → is_for part code ≡ Ok done → IfSome code reads_only
+code_reads part None done may_not fit = tt
+code_reads part (Some c) done may_not fit = ap writes (is_part part (Some c) done fit c refl) ∙ may_not
+
+reaction_reads : (part : ℕ → Part) (of : Option ℕ) (draft : Option (ReactionDraft Checked)) (done : Unit {0}) → ((class : ℕ) → writes (part class) ≡ Err flaws.Effect) → is_for_reaction (option_map part of) (reaction_code draft) ≡ Ok done
+    → IfSome of (λ _. IfSome draft (λ d. reads_only d.code))
+reaction_reads part None draft done may_not fit = tt
+reaction_reads part (Some class) None done may_not fit = tt
+reaction_reads part (Some class) (Some draft) done may_not fit = code_reads (part class) (Some draft.code) done (may_not class) fit
+
+module _ (c : Classes) (draft : SourceDraft Checked) (h : parts_fit c draft ≡ Ok tt) where
+  all_parts : FitParts c draft
+  all_parts = fit_parts c draft tt h
+
+  pub require_reads : IfSome draft.require (λ d. writes d.part ≡ Err flaws.Effect)
+  require_reads = code_reads (parts.Require c.own) draft.require all_parts.done refl all_parts.require
+
+  pub revalidate_reads : IfSome draft.revalidate (λ d. writes d.part ≡ Err flaws.Effect)
+  revalidate_reads = code_reads (parts.Revalidate c.own) draft.revalidate all_parts.done refl all_parts.revalidate
+
+  pub obviate_reads : IfSome c.obviated (λ _. IfSome draft.obviate (λ d. writes d.code.part ≡ Err flaws.Effect))
+  obviate_reads = reaction_reads (parts.Obviate c.own) c.obviated draft.obviate all_parts.done (λ _. refl) all_parts.obviate
+
+  pub retrigger_reads : IfSome c.retriggered (λ _. IfSome draft.retrigger (λ d. writes d.code.part ≡ Err flaws.Effect))
+  retrigger_reads = reaction_reads (parts.Retrigger c.own) c.retriggered draft.retrigger all_parts.done (λ _. refl) all_parts.retrigger
 
 -- the source of these steps
 abbrev pub with_all : SourceDraft Checked → Classes → List Clause → Option Reaction → Option Reaction → Source

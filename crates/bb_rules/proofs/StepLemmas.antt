@@ -1,11 +1,12 @@
 -- The steps by which the code makes a source give what `source_of` says.
-use Rattle.std.proofs.Common.{◌≡◌, ◌⊎◌, inl, inr, ℕ, List, Option, Some, None, Result, Ok, Err, refl, sym, ap, ◌∙◌}
+use Rattle.std.proofs.Common.{◌≡◌, ◌⊎◌, inl, inr, ℕ, List, Option, Some, None, Result, Ok, Err, refl, sym, ap, subst, ◌∙◌}
 use Rattle.bb_basis.specs.Results.{◌>>=◌}
+use Rattle.bb_basis.proofs.ResultLemmas.{bind_ok, same_ok}
 use Rattle.bb_schema.specs.Schema.{Schema}
 use Rattle.bb_verify.specs.Accepted.{Checked}
-use Rattle.bb_compile.specs.declared.source_code.ClauseText.{ClauseText}
-use Rattle.bb_compile.specs.declared.source_code.ReactionDraft.{ReactionDraft}
-use Rattle.bb_compile.specs.declared.source_code.SourceDraft.{SourceDraft}
+use Rattle.bb_bundle.specs.declared.source_code.ClauseText.{ClauseText}
+use Rattle.bb_bundle.specs.declared.source_code.ReactionDraft.{ReactionDraft}
+use Rattle.bb_bundle.specs.declared.source_code.SourceDraft.{SourceDraft}
 use Rattle.bb_rules.specs.declared.answered.Answered.{Answered}
 use Rattle.bb_rules.specs.declared.answered.Found.{Found}
 use Rattle.bb_rules.specs.declared.clause.Clause.{Clause}
@@ -120,3 +121,14 @@ module _ (s : Schema) (draft : SourceDraft Checked) where
 
   pub source_made : (f : Found) → found s draft ≡ Ok f → source_of s draft ≡ Ok (source_with f draft)
   source_made f all = source_is ∙ ap (λ r. r >>= λ g. Ok (source_with g draft)) all
+
+-- where all is found, each code is for its part
+pub found_fits : (s : Schema) (draft : SourceDraft Checked) (f : Found) → found s draft ≡ Ok f → parts_fit f.classes draft ≡ Ok tt
+unfolding found
+found_fits s draft f h =
+    let with_answers : Classes → Result Found RuleFault = λ c. answered s c draft >>= λ a. Ok (record { classes = c; answered = a }) in
+    let one = bind_ok (classes_of s draft) (λ c. parts_fit c draft >>= λ _. with_answers c) f h in
+    let two = bind_ok (parts_fit one.0 draft) (λ _. with_answers one.0) f one.2 in
+    let three = bind_ok (answered s one.0 draft) (λ a. Ok (record { classes = one.0; answered = a })) f two.2 in
+    let whole : Found = record { classes = one.0; answered = three.0 } in
+    subst (λ (g : Found). parts_fit g.classes draft ≡ Ok tt) (same_ok whole f three.2) two.1

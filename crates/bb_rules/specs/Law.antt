@@ -1,17 +1,18 @@
--- What holds of every source that was made under a schema.
+-- What holds of every source, and of every one that was made under a schema.
 use Rattle.std.specs.Prelude.{◌≡◌, ℕ, true, All, Option, Some, Ok}
 use Rattle.bb_schema.specs.Schema.{Schema, descends}
-use Rattle.bb_verify.specs.Accepted.{Checked, checked}
+use Rattle.bb_verify.specs.Accepted.{Checked, IsSound, checked}
 use Rattle.bb_verify.specs.PartType.{Part}
 use Rattle.bb_verify.specs.PartType.TheVariants as parts
-use Rattle.bb_compile.specs.declared.source_code.ActDraft.TheVariants as drafts
-use Rattle.bb_compile.specs.declared.source_code.ReactionDraft.{ReactionDraft}
-use Rattle.bb_compile.specs.declared.source_code.SourceDraft.{SourceDraft}
+use Rattle.bb_bundle.specs.declared.source_code.ActDraft.TheVariants as drafts
+use Rattle.bb_bundle.specs.declared.source_code.ReactionDraft.{ReactionDraft}
+use Rattle.bb_bundle.specs.declared.source_code.SourceDraft.{SourceDraft}
 use Rattle.bb_rules.specs.declared.clause.Clause.{Clause}
 use Rattle.bb_rules.specs.declared.clause.Clause.TheVariants as clauses
 use Rattle.bb_rules.specs.declared.source.Act.TheVariants as acts
 use Rattle.bb_rules.specs.declared.source.Reaction.{Reaction}
 use Rattle.bb_rules.specs.declared.source.Source.{Source}
+use Rattle.bb_rules.specs.Questions.{IsQuestion}
 
 -- the class of a clause descends from this one
 abbrev pub IsWithin : Schema → ℕ → Clause → Type 0
@@ -36,6 +37,16 @@ pub record IsOf (s : Schema) (source : Source) : Type 0 where
   pub retrigger : Reacts s (parts.Retrigger source.class) source.retrigger
   pub revalidate : IsPart (parts.Revalidate source.class) source.revalidate
   pub act : (c : Checked) → source.act ≡ acts.Code c → c.part ≡ parts.Do source.class
+
+-- ---- whatever the schema
+
+-- each code of a source was accepted, and what it asks may not write
+pub record HasSoundCodes (source : Source) : Type 0 where
+  pub require : (c : Checked) → source.require ≡ Some c → IsQuestion c
+  pub obviate : (r : Reaction) → source.obviate ≡ Some r → IsQuestion r.code
+  pub retrigger : (r : Reaction) → source.retrigger ≡ Some r → IsQuestion r.code
+  pub revalidate : (c : Checked) → source.revalidate ≡ Some c → IsQuestion c
+  pub act : (c : Checked) → source.act ≡ acts.Code c → IsSound c
 
 -- ---- codes that were accepted under the schema
 

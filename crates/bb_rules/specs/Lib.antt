@@ -4,6 +4,8 @@ pub mod Faults
 pub mod Match
 -- the source that a draft makes under a schema
 pub mod Source
+-- which codes a source may ask
+pub mod Questions
 -- what holds of every source
 pub mod Law
 -- for proofs alone

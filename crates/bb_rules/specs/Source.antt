@@ -4,14 +4,14 @@ use Rattle.std.specs.Prelude.{Result, Ok, Err, if◌then◌else◌}
 use Rattle.bb_basis.specs.Results.{◌>>=◌, ok_or, try_map}
 use Rattle.bb_board.specs.ChangeKind.{ChangeKind}
 use Rattle.bb_board.specs.ChangeKind.TheVariants as kinds
-use Rattle.bb_compile.specs.declared.source_code.ChangeText.{ChangeText}
-use Rattle.bb_compile.specs.declared.source_code.ChangeText.TheVariants as changes
-use Rattle.bb_compile.specs.declared.source_code.ClauseText.{ClauseText}
-use Rattle.bb_compile.specs.declared.source_code.ClauseText.TheVariants as texts
-use Rattle.bb_compile.specs.declared.source_code.ReactionDraft.{ReactionDraft}
-use Rattle.bb_compile.specs.declared.source_code.ActDraft.{ActDraft}
-use Rattle.bb_compile.specs.declared.source_code.ActDraft.TheVariants as drafts
-use Rattle.bb_compile.specs.declared.source_code.SourceDraft.{SourceDraft}
+use Rattle.bb_bundle.specs.declared.source_code.ChangeText.{ChangeText}
+use Rattle.bb_bundle.specs.declared.source_code.ChangeText.TheVariants as changes
+use Rattle.bb_bundle.specs.declared.source_code.ClauseText.{ClauseText}
+use Rattle.bb_bundle.specs.declared.source_code.ClauseText.TheVariants as texts
+use Rattle.bb_bundle.specs.declared.source_code.ReactionDraft.{ReactionDraft}
+use Rattle.bb_bundle.specs.declared.source_code.ActDraft.{ActDraft}
+use Rattle.bb_bundle.specs.declared.source_code.ActDraft.TheVariants as drafts
+use Rattle.bb_bundle.specs.declared.source_code.SourceDraft.{SourceDraft}
 use Rattle.bb_schema.specs.Schema.{Schema, class_named, default_of, descends, link_of, slot_named, space_named}
 use Rattle.bb_verify.specs.Accepted.{Checked}
 use Rattle.bb_verify.specs.PartType.{Part}

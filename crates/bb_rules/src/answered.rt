@@ -7,7 +7,7 @@ use crate::clauses::Clauses;
 use crate::fault::RuleFault;
 use crate::parts::parts_fit;
 use crate::resolve::{Classes, clauses_of, reaction_clauses};
-use bb_compile::SourceDraft;
+use bb_bundle::SourceDraft;
 use bb_schema::Schema;
 use bb_verify::Checked;
 use std::alloc::Global;

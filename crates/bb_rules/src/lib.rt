@@ -9,6 +9,7 @@ mod clauses;
 mod fault;
 mod index;
 mod parts;
+mod question;
 mod resolve;
 mod source;
 #[cfg(test)]
@@ -17,5 +18,6 @@ mod tests;
 pub use clause::Clause;
 pub use clauses::Clauses;
 pub use fault::RuleFault;
+pub use question::Question;
 pub use resolve::Classes;
 pub use source::{Act, Reaction, Source};

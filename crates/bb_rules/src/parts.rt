@@ -5,7 +5,7 @@ ghost use Rattle.bb_rules.specs.Source.{act_code, is_for, is_for_reaction, is_sa
 
 use crate::fault::RuleFault;
 use crate::resolve::Classes;
-use bb_compile::{ActDraft, ReactionDraft, SourceDraft};
+use bb_bundle::{ActDraft, ReactionDraft, SourceDraft};
 use bb_verify::{Checked, Part};
 
 fn is_same_part(part: Part, other: Part) -> bool

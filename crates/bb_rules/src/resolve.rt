@@ -11,7 +11,7 @@ use crate::clause::Clause;
 use crate::clauses::Clauses;
 use crate::fault::RuleFault;
 use bb_board::ChangeKind;
-use bb_compile::{ChangeText, ClauseText, ReactionDraft, SourceDraft};
+use bb_bundle::{ChangeText, ClauseText, ReactionDraft, SourceDraft};
 use bb_schema::{ClassId, Schema, SlotId, SpaceId};
 use bb_verify::Part;
 use std::alloc::Global;

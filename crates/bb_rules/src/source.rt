@@ -1,17 +1,22 @@
 //! A source. bb_shell makes it of what a bundle spells, and the run (bb_run) asks which events it answers and executes
 //! its codes.
 
-ghost use Rattle.std.specs.Prelude.{◌≡◌, IfOk};
+ghost use Rattle.std.specs.Prelude.{◌≡◌, Err, IfOk, IfSome, Ok, Some};
 ghost use Rattle.bb_basis.specs.Results.{Gives};
-ghost use Rattle.bb_rules.specs.Source.{act_of, source_of};
-ghost use Rattle.bb_rules.specs.Law.{AreAccepted, IsMade, IsOf};
+ghost use Rattle.bb_verify.specs.Accepted.{Checked as Accepted, IsSound};
+ghost use Rattle.bb_verify.specs.Flaw.TheVariants.{Effect};
+ghost use Rattle.bb_verify.specs.Part.{writes};
+ghost use Rattle.bb_rules.specs.Source.{act_of, parts_fit, source_of};
+ghost use Rattle.bb_rules.specs.Law.{AreAccepted, HasSoundCodes, IsMade, IsOf};
+ghost use Rattle.bb_rules.specs.Questions.{IsQuestion};
 ghost use Rattle.bb_rules.specs.proving.Steps.{reaction_with, source_with};
 
 use crate::answered::Found;
 use crate::clauses::Clauses;
 use crate::fault::RuleFault;
+use crate::question::Question;
 use bb_basis::Text;
-use bb_compile::{ActDraft, ReactionDraft, SourceDraft};
+use bb_bundle::{ActDraft, ReactionDraft, SourceDraft};
 use bb_schema::{ClassId, Schema};
 use bb_verify::Checked;
 use std::alloc::Global;
@@ -32,7 +37,8 @@ pub struct Reaction {
     pub class: ClassId,
     /// Which events these are.
     pub clauses: Clauses,
-    pub code: Checked,
+    /// What it asks about each.
+    pub code: Question,
 }
 
 /// A source whose names are looked up and whose codes are accepted (GBBopen Reference Manual, knowledge sources).
@@ -46,13 +52,13 @@ pub struct Source {
     /// Which events trigger it.
     pub triggers: Clauses,
     /// Whether a trigger makes an activation, and with which base rating.
-    pub require: Option<Checked>,
+    pub require: Option<Question>,
     /// Which events make its pending activations needless.
     pub obviate: Option<Reaction>,
     /// Which events give its pending activations another base rating.
     pub retrigger: Option<Reaction>,
     /// Whether a chosen activation is still of use.
-    pub revalidate: Option<Checked>,
+    pub revalidate: Option<Question>,
     /// What its activations do.
     pub act: Act,
 }
@@ -73,10 +79,46 @@ impl Source {
         let found = Found::of(alloc, schema, &draft)?;
         Ok(source_with(found, draft))
     }
+
+    /// What holds of every source: each code was accepted under some schema, and those that it asks may not write.
+    pub fn fits(&self)
+        ensures { HasSoundCodes self.now }
+    {
+        question_fits(&self.require);
+        reaction_fits(&self.obviate);
+        reaction_fits(&self.retrigger);
+        question_fits(&self.revalidate);
+        act_fits(&self.act);
+    }
+}
+
+fn question_fits(question: &Option<Question>)
+    ensures { (c : Accepted) → question.now ≡ Some c → IsQuestion c }
+{
+    if let Some(question) = question {
+        question.fits();
+    }
+}
+
+fn reaction_fits(reaction: &Option<Reaction>)
+    ensures { (r : Reaction) → reaction.now ≡ Some r → IsQuestion r.code }
+{
+    if let Some(reaction) = reaction {
+        reaction.code.fits();
+    }
+}
+
+fn act_fits(act: &Act)
+    ensures { (c : Accepted) → act.now ≡ Act.Code c → IsSound c }
+{
+    if let Act::Code(code) = act {
+        code.fits();
+    }
 }
 
 // The source of a draft, once its names are looked up.
 fn source_with(found: Found, draft: SourceDraft<Checked>) -> Source
+    requires { parts_fit found.classes draft ≡ Ok tt }
     ensures { result ≡ source_with found draft }
 {
     let Found { classes, answered } = found;
@@ -85,12 +127,19 @@ fn source_with(found: Found, draft: SourceDraft<Checked>) -> Source
         class: classes.own,
         rate: draft.rate,
         triggers: answered.triggers,
-        require: draft.require,
+        require: question_of(draft.require),
         obviate: reaction_with(classes.obviated, answered.obviating, draft.obviate),
         retrigger: reaction_with(classes.retriggered, answered.retriggering, draft.retrigger),
-        revalidate: draft.revalidate,
+        revalidate: question_of(draft.revalidate),
         act: act_of(draft.act),
     }
+}
+
+fn question_of(code: Option<Checked>) -> Option<Question>
+    requires { IfSome code (λ c. writes c.part ≡ Err Effect) }
+    ensures { result ≡ code }
+{
+    Some(Question::new(code?))
 }
 
 fn reaction_with(
@@ -98,12 +147,13 @@ fn reaction_with(
     clauses: Option<Clauses>,
     draft: Option<ReactionDraft<Checked>>,
 ) -> Option<Reaction>
+    requires { IfSome class (λ _. IfSome draft (λ d. writes d.code.part ≡ Err Effect)) }
     ensures { result ≡ reaction_with class clauses draft }
 {
     Some(Reaction {
         class: class?,
         clauses: clauses?,
-        code: draft?.code,
+        code: Question::new(draft?.code),
     })
 }
 

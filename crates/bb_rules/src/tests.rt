@@ -3,7 +3,7 @@
 
 use super::*;
 use bb_board::{Change, ChangeKind, Event};
-use bb_compile::{ActDraft, SourceDraft, unbundle};
+use bb_bundle::{ActDraft, SourceDraft, unbundle};
 use bb_schema::{ClassId, Schema};
 use bb_verify::{Checked, Part, verify};
 use std::alloc::Global;

@@ -20,6 +20,7 @@ pub use Rattle.bb_board.specs.Said
 -- of bb_rules: sources, how they are made, and which events trigger them
 pub use Rattle.bb_rules.specs.Match
 pub use Rattle.bb_rules.specs.Law
+pub use Rattle.bb_rules.specs.Questions
 pub use Rattle.bb_rules.specs.Source as MadeSource
 pub use Rattle.bb_rules.specs.Faults as RuleFaults
 pub use Rattle.bb_rules.specs.declared.clause.Clause

@@ -11,7 +11,7 @@ mod page;
 mod plan;
 
 pub use bb_board::{Board, Event, Note as BoardNote, SharedSchema, UnitsFault};
-pub use bb_rules::{Act, Classes, Clauses, Reaction, RuleFault, Source};
+pub use bb_rules::{Act, Classes, Clauses, Question, Reaction, RuleFault, Source};
 pub use bb_state::Stuck;
 pub use end::End;
 pub use halt::Halt;

@@ -1,7 +1,7 @@
 //! What a run goes by. The meaning of an input (bb_shell) has it, and every part of the run reads it.
 
 ghost use Rattle.std.specs.Prelude.{◌≡◌, ◌≤◌, All, IfOk, length};
-ghost use Rattle.bb_rules.specs.Law.{IsMade};
+ghost use Rattle.bb_rules.specs.Law.{HasSoundCodes};
 
 use bb_basis::{Items, Memory};
 use bb_board::SharedSchema;
@@ -13,7 +13,7 @@ use std::marker::Model;
 pub const SOURCE_LIMIT: usize = 256;
 
 /// What a run goes by: the schema, the sources in their order, 256 at most, and the least rating that can be chosen.
-/// Each source was made under the schema, of codes that the verifier accepted under it.
+/// Each code of a source was accepted under some schema, and those that a source asks may not write.
 #[derive(Drop)]
 pub struct Plan {
     schema: SharedSchema,
@@ -23,7 +23,7 @@ pub struct Plan {
 
 impl Model for Plan {
     ghost use Rattle.std.specs.Prelude.{◌≤◌, All, length};
-    ghost use Rattle.bb_rules.specs.Law.{IsMade};
+    ghost use Rattle.bb_rules.specs.Law.{HasSoundCodes};
     ghost use Rattle.bb_trace.specs.declared.plan.TheConstants.{SOURCE_LIMIT};
     ghost use Rattle.bb_trace.specs.Plan.{Plan as Planned};
     ghost use Rattle.bb_trace.specs.proving.Codes.{plan_code};
@@ -34,16 +34,16 @@ impl Model for Plan {
 
     ghost view = { λ p. record { schema = p.schema; sources = p.sources; floor = p.floor } };
 
-    ghost invariant = { λ p. (length p.sources ≤ SOURCE_LIMIT) × All (IsMade p.schema) p.sources };
+    ghost invariant = { λ p. (length p.sources ≤ SOURCE_LIMIT) × All HasSoundCodes p.sources };
 }
 
 impl Plan {
-    /// A plan of these sources in their order, 256 at most, which were made under the schema.
+    /// A plan of these sources in their order, 256 at most.
     pub fn new(schema: SharedSchema, sources: Vec<Source>, floor: i64) -> Plan
-        requires few { length sources.items ≤ SOURCE_LIMIT }
-        requires made { All (IsMade schema) sources.items }
+        requires { length sources.items ≤ SOURCE_LIMIT }
         ensures { result ≡ record { schema = schema; sources = sources.items; floor = floor } }
     {
+        all_fit(sources.as_slice());
         Plan {
             schema,
             sources: Items::from(sources),
@@ -65,11 +65,11 @@ impl Plan {
         self.schema.share()
     }
 
-    /// The sources in their order, 256 at most. They were made under the schema.
+    /// The sources in their order, 256 at most, with what holds of each.
     pub fn sources(&self) -> &[Source]
         ensures sources { result.now ≡ self.now.sources }
         ensures few { length result.now ≤ SOURCE_LIMIT }
-        ensures made { All (IsMade self.now.schema) self.now.sources }
+        ensures sound { All HasSoundCodes self.now.sources }
     {
         self.sources.as_slice()
     }
@@ -79,5 +79,14 @@ impl Plan {
         ensures { result ≡ self.now.floor }
     {
         self.floor
+    }
+}
+
+// What holds of each source holds of all.
+fn all_fit(sources: &[Source])
+    ensures { All HasSoundCodes sources.now }
+{
+    for source in sources {
+        source.fits();
     }
 }

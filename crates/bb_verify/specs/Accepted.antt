@@ -1,8 +1,8 @@
 -- Which codes are accepted for a part of a source (of this project).
-use Rattle.std.specs.Prelude.{List, Result, Ok}
+use Rattle.std.specs.Prelude.{◌≡◌, List, Result, Ok}
 use Rattle.bb_basis.specs.Results.{◌>>=◌}
 use Rattle.bb_effect.specs.Schema.{Schema}
-use Rattle.bb_effect.specs.Code.{Code}
+use Rattle.bb_effect.specs.Code.{Code, IsCode}
 use Rattle.bb_effect.specs.VerifyFault.{VerifyFault}
 use Rattle.bb_effect.specs.FrameType.{Frame}
 use Rattle.bb_effect.specs.PartType.{Part}
@@ -30,3 +30,9 @@ unfoldable pub checked : Schema → Part → Code → Result Checked VerifyFault
 checked s part code = do
   frames ← accepted s part code
   Ok (record { code = code; part = part; frames = frames })
+
+-- the code is within its limits, and the verifier accepts it under some schema
+pub record IsSound (c : Checked) : Type 0 where
+  pub code : IsCode c.code
+  pub schema : Schema
+  pub accepted : checked schema c.part c.code ≡ Ok c

@@ -1,8 +1,8 @@
 -- The steps by which the code makes a source of its draft. No public clause cites them.
 use Rattle.std.specs.Prelude.{ℕ, List, Option, Some, None, Result, Ok}
 use Rattle.bb_basis.specs.Results.{◌>>=◌}
-use Rattle.bb_compile.specs.declared.source_code.ReactionDraft.{ReactionDraft}
-use Rattle.bb_compile.specs.declared.source_code.SourceDraft.{SourceDraft}
+use Rattle.bb_bundle.specs.declared.source_code.ReactionDraft.{ReactionDraft}
+use Rattle.bb_bundle.specs.declared.source_code.SourceDraft.{SourceDraft}
 use Rattle.bb_schema.specs.Schema.{Schema}
 use Rattle.bb_verify.specs.Accepted.{Checked}
 use Rattle.bb_rules.specs.declared.answered.Answered.{Answered}

@@ -20,6 +20,13 @@ counts_of-places_in-requires c =
 pub new-requires-clause-frames : goal.new-requires-clause-frames
 new-requires-clause-frames c = frames_long c.args.schema.now c.args.part c.args.code c.in_ok-frames.frames c.in_ok-frames.ensures
 
+pub new-requires-clause-sound : goal.new-requires-clause-sound
+new-requires-clause-sound c = record {
+  code = subst IsCode c.code.view_is c.code.invariant;
+  schema = c.args.schema.now;
+  accepted = checked_by c.args.schema.now c.args.part c.args.code c.in_ok-frames.frames (sym c.in_ok-check_tables.ensures) (sym c.in_ok-check_jumps.ensures) c.in_ok-depths.ensures.fault c.in_ok-frames.ensures;
+}
+
 pub returns-clause-accepted : goal.returns-clause-accepted
 returns-clause-accepted c =
     subst (λ (x : Checked). checked c.args.schema.now x.part x.code ≡ Ok x) (sym c.new.ensures)
