@@ -23,6 +23,7 @@ pub mod AnswerLemmas
 -- how many steps can still be made
 pub mod rounds
 pub mod NeverWrong
+pub mod LeftBehind
 -- which codes only read, and what crates above use
 pub mod WriteLemmas
 pub mod Laws

@@ -21,6 +21,8 @@ pub use Rattle.bb_step.specs.Entry
 pub use Rattle.bb_step.specs.Outcome
 pub use Rattle.bb_step.specs.Stop
 pub use Rattle.bb_step.specs.Stuck
--- of the blackboard: what changes leave of a unit that none of their notes names, and when no unit can be created
+-- of the blackboard: what holds of it at any time, what changes leave of a unit that none of their notes names, and when
+-- no unit can be created
+pub use Rattle.bb_board.specs.Fits
 pub use Rattle.bb_board.specs.Named
 pub use Rattle.bb_units.specs.Units

@@ -48,3 +48,9 @@ pub mod WeighLemmas
 pub mod KnowLemmas
 -- what is pending of a source, one after another
 pub mod WaitingLemmas
+-- what an execution begins with
+pub mod EntryLemmas
+-- what answers to an event is not stuck
+pub mod UnstuckParts
+-- no run is
+pub mod UnstuckRuns

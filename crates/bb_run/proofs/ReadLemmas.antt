@@ -1,25 +1,21 @@
--- What is asked leaves the blackboard as it was, where no code that is asked writes; and of sources that were made of
--- accepted codes none does.
-use Rattle.std.proofs.Common.{◌≡◌, inl, inr, true, List, [], ◌∷◌, length, Option, Some, None, option_map, Err, refl, ap, subst, ◌∙◌, arith}
+-- What is asked leaves the blackboard as it was, where no code that is asked writes; and none does where the codes of
+-- the sources are sound.
+use Rattle.std.proofs.Common.{◌≡◌, inl, inr, true, List, [], ◌∷◌, length, Option, Some, None, option_map, refl, ap, subst, ◌∙◌, arith}
 use Rattle.std.specs.Prelude.{All, Contains, not}
 use Rattle.std.specs.List.{list_all}
 use Rattle.std.proofs.lemmas.List.Elements.{All-contains}
 use Rattle.bb_agenda.specs.declared.activation.Activation.{Activation}
 use Rattle.bb_machine.proofs.Laws.{activation_reads, part_reads}
 use Rattle.bb_machine.specs.Writes.{has_no_writes, is_write}
-use Rattle.bb_schema.specs.Schema.{Schema}
-use Rattle.bb_verify.specs.Flaw.TheVariants as flaws
 use Rattle.bb_code.specs.Op.{Op}
 use Rattle.bb_verify.specs.Accepted.{Checked}
-use Rattle.bb_verify.specs.Part.{writes}
-use Rattle.bb_verify.specs.PartType.{Part}
-use Rattle.bb_verify.specs.PartType.TheVariants as parts
 use Rattle.bb_verify.proofs.Laws.{checked_facts}
 use Rattle.bb_verify.specs.Budget.{budget}
 use Rattle.bb_verify.specs.declared.checked.TheConstants.{FOUND_LIMIT}
 use Rattle.bb_machine.specs.Entry.{Entry}
 use Rattle.bb_trace.specs.Board.{Board as Blackboard}
-use Rattle.bb_trace.specs.Law.{IsAccepted, IsMade}
+use Rattle.bb_trace.specs.Law.{HasSoundCodes}
+use Rattle.bb_trace.specs.Questions.{IsQuestion}
 use Rattle.bb_trace.specs.Reaction.{Reaction}
 use Rattle.bb_trace.specs.Source.{Source}
 use Rattle.bb_trace.specs.declared.end.End.{End}
@@ -67,31 +63,25 @@ module _ (plan : Plan) (reading : AsksByReading plan) where
     choices = λ source a board there. validity_leaves source source.revalidate a board there refl;
   }
 
--- ---- sources that were made of accepted codes
+-- ---- sources whose codes are sound
 
-module _ (s : Schema) where
-  reads_by : (c : Checked) (ops : List Op) → c.code.ops ≡ ops → writes c.part ≡ Err flaws.Effect → IsAccepted s c → has_no_writes c.code ≡ true
-  unfolding has_no_writes
-  reads_by c [] none may_not is = ap (list_all (λ op. not (is_write op))) none
-  reads_by c (op ∷ ops) some may_not is =
-      let count : length c.code.ops ≡ length (op ∷ ops) = ap (λ l. length l) some in
-      part_reads s c.part c.code c.frames may_not (checked_facts s c.part c.code c is (omega (arith, count)))
+reads_by : (c : Checked) (ops : List Op) → c.code.ops ≡ ops → IsQuestion c → has_no_writes c.code ≡ true
+unfolding has_no_writes
+reads_by c [] none is = ap (list_all (λ op. not (is_write op))) none
+reads_by c (op ∷ ops) some is =
+    let s = is.sound.schema in
+    let count : length c.code.ops ≡ length (op ∷ ops) = ap (λ l. length l) some in
+    part_reads s c.part c.code c.frames is.reads (checked_facts s c.part c.code c is.sound.accepted (omega (arith, count)))
 
-  -- a code that was accepted for a part which may not write
-  accepted_reads : (part : Part) (c : Checked) → c.part ≡ part → writes part ≡ Err flaws.Effect → IsAccepted s c → has_no_writes c.code ≡ true
-  accepted_reads part c same may_not is = reads_by c c.code.ops refl (ap writes same ∙ may_not) is
+reaction_reads : (reaction : Option Reaction) (code : Checked) → option_map code_of reaction ≡ Some code → ((r : Reaction) → reaction ≡ Some r → IsQuestion r.code) → has_no_writes code.code ≡ true
+reaction_reads None code is each = absurd cc
+reaction_reads (Some r) code is each = let same : r.code ≡ code = cc in subst (λ (c : Checked). has_no_writes c.code ≡ true) same (reads_by r.code r.code.code.ops refl (each r refl))
 
-  reaction_reads : (reaction : Option Reaction) (code : Checked) → option_map code_of reaction ≡ Some code → ((r : Reaction) → reaction ≡ Some r → has_no_writes r.code.code ≡ true) → has_no_writes code.code ≡ true
-  reaction_reads None code is each = absurd cc
-  reaction_reads (Some r) code is each = let same : r.code ≡ code = cc in subst (λ (c : Checked). has_no_writes c.code ≡ true) same (each r refl)
+sound_reads : (source : Source) (code : Checked) → HasSoundCodes source → IsAsked source code → has_no_writes code.code ≡ true
+sound_reads source code sound (inl is) = reads_by code code.code.ops refl (sound.require code is)
+sound_reads source code sound (inr (inl is)) = reads_by code code.code.ops refl (sound.revalidate code is)
+sound_reads source code sound (inr (inr (inl is))) = reaction_reads source.obviate code is sound.obviate
+sound_reads source code sound (inr (inr (inr is))) = reaction_reads source.retrigger code is sound.retrigger
 
-  made_reads : (source : Source) (code : Checked) → IsMade s source → IsAsked source code → has_no_writes code.code ≡ true
-  made_reads source code made (inl is) = accepted_reads (parts.Require source.class) code (made.law.require code is) refl (made.require code is)
-  made_reads source code made (inr (inl is)) = accepted_reads (parts.Revalidate source.class) code (made.law.revalidate code is) refl (made.revalidate code is)
-  made_reads source code made (inr (inr (inl is))) =
-      reaction_reads source.obviate code is (λ r there. accepted_reads (parts.Obviate source.class r.class) r.code (made.law.obviate.code r there) refl (made.obviate r there))
-  made_reads source code made (inr (inr (inr is))) =
-      reaction_reads source.retrigger code is (λ r there. accepted_reads (parts.Retrigger source.class r.class) r.code (made.law.retrigger.code r there) refl (made.retrigger r there))
-
-pub plan_reads : (plan : Plan) → All (IsMade plan.schema) plan.sources → AsksByReading plan
-plan_reads plan made source code there asked = made_reads plan.schema source code (All-contains (IsMade plan.schema) plan.sources source made there) asked
+pub plan_reads : (plan : Plan) → All HasSoundCodes plan.sources → AsksByReading plan
+plan_reads plan sound source code there asked = sound_reads source code (All-contains HasSoundCodes plan.sources source sound there) asked

@@ -20,6 +20,8 @@ pub mod Phases
 pub mod Executed
 -- why a run ends full or stuck
 pub mod Causes
+-- why no run is stuck
+pub mod Unstuck
 -- what leaves the blackboard as it was
 pub mod Reads
 -- the foci that a run rates by

@@ -8,7 +8,7 @@ ghost use Rattle.bb_run.specs.proving.Telling.{Attempts, Replies};
 
 use bb_machine::{Answer, Entry, Outcome, Stop, trial};
 use bb_schema::UnitId;
-use bb_trace::{Board, End};
+use bb_trace::{Board, End, Question};
 use bb_verify::{Checked, FOUND_LIMIT};
 use std::alloc::{AllocError, Global};
 
@@ -41,16 +41,16 @@ pub(crate) fn attempt(
     trial(alloc, code.code(), board, entry, limit)
 }
 
-/// Asks a code.
+/// Asks a question.
 pub(crate) fn ask(
     alloc: Global,
-    code: &Checked,
+    code: &Question,
     entry: Entry,
     board: &mut Board,
 ) -> Result<Reply, AllocError>
     ensures { IfOk result (λ reply. Replies (attempt code.now.code entry board.old) reply board.new) }
 {
-    match attempt(alloc, code, entry, board) {
+    match attempt(alloc, code.checked(), entry, board) {
         Ok(outcome) => Ok(Reply::Answer(outcome.answer)),
         Err(Stop::Full { .. }) => Ok(Reply::Over(End::Full)),
         Err(Stop::Stuck { reason, .. }) => Ok(Reply::Over(End::Stuck(reason))),

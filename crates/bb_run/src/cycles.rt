@@ -1,12 +1,15 @@
 //! The run of the blackboard machine, in parts as its definition is. `run_texts` calls `run`.
 
-ghost use Rattle.std.specs.Prelude.{◌≡◌, [], Some, IfOk, IfSome, false, option_and_then, option_map, slice_get};
+ghost use Rattle.std.specs.Prelude.{◌≡◌, [], All, Some, IfOk, IfSome, false, option_and_then, option_map, slice_get};
 ghost use Rattle.std.specs.Io.KnownBytes.{Appends};
 ghost use Rattle.bb_run.specs.Foci.{first_agenda};
+ghost use Rattle.bb_trace.specs.Law.{IsMade};
 ghost use Rattle.bb_trace.specs.Page.{stopped_by_write};
 ghost use Rattle.bb_trace.specs.TraceText.{trace_text};
+ghost use Rattle.bb_run.specs.Causes.{LacksNative};
 ghost use Rattle.bb_run.specs.Finish.{WritesFront, end_of, is_write};
 ghost use Rattle.bb_run.specs.Run.{acting, choice, cycle, cycles, if_valid, run, start, unfinished};
+ghost use Rattle.bb_run.specs.Unstuck.{NotStuck};
 ghost use Rattle.bb_run.specs.proving.Knowing.{Knows, MayKnow};
 ghost use Rattle.bb_run.specs.proving.Telling.{Finishes, Makes, Same, Waits, Writes, at};
 
@@ -16,8 +19,7 @@ use crate::foci::{rated_sources, tell_all};
 use crate::state::State;
 use crate::teller::Teller;
 use bb_agenda::{Activation, Agenda};
-use bb_trace::{Board, End, Halt, Note, Out, Page, Plan, Source};
-use bb_verify::Checked;
+use bb_trace::{Board, End, Halt, Note, Out, Page, Plan, Question, Source};
 use std::alloc::{AllocError, Global};
 
 /// What comes before a cycle: an activation is chosen, or the run is over.
@@ -43,7 +45,7 @@ fn source_at(sources: &[Source], place: u16) -> Option<&Source>
 }
 
 // The code by which a source revalidates, if it has one.
-fn revalidation(source: Option<&Source>) -> Option<&Checked>
+fn revalidation(source: Option<&Source>) -> Option<&Question>
     ensures { option_map (λ c. c.now) result
         ≡ option_and_then (λ t. t.revalidate) (option_map (λ s. s.now) source.entry) }
 {
@@ -246,7 +248,8 @@ fn write_run<O: Out>(
 }
 
 /// Runs a blackboard from its first state, at most `limit` cycles, and writes the trace. `Memory`: memory ran out.
-/// `Write`: the output failed.
+/// `Write`: the output failed. A run is not stuck where its sources were made under the plan's schema, of codes that the
+/// verifier accepted under it, each has a code for its act, and the blackboard is one of that schema.
 pub fn run<O: Out>(alloc: Global, plan: &Plan, board: Board, limit: u32, out: &mut O) -> Finish
     requires open { O.has_failed out.old ≡ false }
     ensures finish { IfSome (end_of result) (λ end. (run plan.now board limit).end ≡ Some end) }
@@ -254,7 +257,13 @@ pub fn run<O: Out>(alloc: Global, plan: &Plan, board: Board, limit: u32, out: &m
         (trace_text plan.now (run plan.now board limit).told)) }
     ensures front { WritesFront plan.now (run plan.now board limit) result (O.taken out.old) (O.taken out.new) }
     ensures failed { O.has_failed out.new ≡ is_write result }
+    ensures unstuck { All (IsMade plan.now.schema) plan.now.sources → ¬ LacksNative plan.now →
+        board.schema ≡ plan.now.schema → NotStuck (end_of result) }
 {
+    // What holds of any schema, plan and blackboard.
+    plan.schema().fits();
+    let _ = plan.sources();
+    board.fits();
     match write_run(alloc, plan, board, u64::from(limit), out) {
         Ok(end) => Finish::from(end),
         Err(Halt::Memory) => Finish::Memory,

@@ -14,7 +14,7 @@ use crate::foci::tell_notes;
 use crate::state::State;
 use bb_agenda::Activation;
 use bb_machine::{Answer, Stop, Stuck};
-use bb_trace::{Act, Board, BoardNote as Noted, End, Note};
+use bb_trace::{Act, Board, BoardNote as Noted, End, Note, Question};
 use bb_verify::Checked;
 use std::alloc::{AllocError, Global};
 
@@ -72,7 +72,7 @@ fn verdict_by(reply: Reply) -> Verdict
 /// Asks the revalidation of a source about an activation, if there is one.
 pub(crate) fn validate(
     alloc: Global,
-    code: Option<&Checked>,
+    code: Option<&Question>,
     activation: Activation,
     board: &mut Board,
 ) -> Result<Verdict, AllocError>

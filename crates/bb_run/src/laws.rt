@@ -3,10 +3,12 @@
 ghost use Rattle.std.specs.Prelude.{◌≡◌, ℕ, ◌+◌, ◌-◌, ℤ, All, List, ◌∷◌, ◌++◌};
 ghost use Rattle.bb_agenda.specs.declared.activation.Activation.{Activation};
 ghost use Rattle.bb_trace.specs.Board.{Board};
+ghost use Rattle.bb_trace.specs.Event.{Event};
 ghost use Rattle.bb_trace.specs.declared.note.Note.{Note};
 ghost use Rattle.bb_trace.specs.declared.note.Note.TheVariants.{Chosen};
-ghost use Rattle.bb_trace.specs.Law.{IsMade};
+ghost use Rattle.bb_trace.specs.Law.{HasSoundCodes};
 ghost use Rattle.bb_trace.specs.Plan.{Plan};
+ghost use Rattle.bb_run.specs.declared.state.State.{State};
 ghost use Rattle.bb_run.specs.Run.{run};
 ghost use Rattle.bb_run.specs.Order.{notes_of, At, IsCounted, ActsOnPending, ExecutesInTurn, IsFinished, KeepsLimit};
 ghost use Rattle.bb_run.specs.Order.{Extends, IsChosenAfter};
@@ -16,6 +18,8 @@ ghost use Rattle.bb_run.specs.Phases.{GoesByPhases};
 ghost use Rattle.bb_run.specs.Causes.{HasCause};
 ghost use Rattle.bb_run.specs.Reads.{AsksByReading, LeavesBoard};
 ghost use Rattle.bb_run.specs.Weighed.{KnowsFoci, NumbersGiven};
+ghost use Rattle.bb_run.specs.Unstuck.{AsksFor, BeginsFor, FitsPlan, IsEventOf, IsReady, IsWellMade};
+ghost use Rattle.bb_run.specs.Unstuck.{KeepsBudget, NotStuck};
 
 /// What every run is like, whatever the plan, the first state of the blackboard and the limit.
 ///
@@ -38,7 +42,7 @@ ghost use Rattle.bb_run.specs.Weighed.{KnowsFoci, NumbersGiven};
 ///   the first of it.
 /// - `reads`: what answers to an event changes the agenda alone, and what is asked about a choice changes nothing, where
 ///   no code that a source asks writes.
-/// - `asked`: no such code writes where the sources were made of codes that the verifier accepted.
+/// - `asked`: no such code writes where the codes of the sources are sound, as those of every plan are.
 /// - `longer`: a longer limit changes nothing before the finish of a run that ends by its limit, and nothing at all of
 ///   another.
 /// - `choices`: up to the choice of a cycle a run is the run whose limit is one less, and in the last state of that
@@ -48,6 +52,18 @@ ghost use Rattle.bb_run.specs.Weighed.{KnowsFoci, NumbersGiven};
 ///   source's revalidation says no there, it is that the activation is invalid.
 /// - `weighed`: in the last state of a run, and so at each choice, the agenda was told of the foci that the blackboard
 ///   then has, by which activations are rated, where no code that a source asks writes.
+///
+/// Of a plan that is well made, and a blackboard that fits it, more holds: the sources were made under the schema, of
+/// codes that the verifier accepted under it, and each has a code for its act.
+///
+/// - `unstuck`: no run is stuck, whatever the reason.
+/// - `budgets`: no execution makes more steps than the budget that its line tells.
+/// - `ready`: in the last state of a run, and so at each choice, the blackboard still fits, and the unit of each pending
+///   activation was created as one of its source's class, or it is that of quiescence.
+/// - `begins`: so what is executed for a chosen activation, its source's act and the revalidation, begins with a unit
+///   that fits its part.
+/// - `asks`: in a state that is ready, what sources ask about an event of its blackboard begins with units that fit the
+///   part too, and what answers to the event leaves a state that is ready.
 pub fn runs_are_orderly()
     ensures counted { (plan : Plan) (board : Board) (limit : ℕ) → IsCounted (notes_of (run plan board limit)) }
     ensures pending { (plan : Plan) (board : Board) (limit : ℕ) →
@@ -63,7 +79,7 @@ pub fn runs_are_orderly()
     ensures answered { (plan : Plan) (board : Board) (limit : ℕ) →
         IsAnswered plan (notes_of (run plan board limit)) }
     ensures reads { (plan : Plan) → AsksByReading plan → LeavesBoard plan }
-    ensures asked { (plan : Plan) → All (IsMade plan.schema) plan.sources → AsksByReading plan }
+    ensures asked { (plan : Plan) → All HasSoundCodes plan.sources → AsksByReading plan }
     ensures longer { (plan : Plan) (board : Board) (limit more : ℕ) →
         Extends (run plan board limit) (run plan board (limit + more)) }
     ensures choices { (plan : Plan) (board : Board) (limit : ℕ)
@@ -76,4 +92,16 @@ pub fn runs_are_orderly()
         IsFollowed plan (run plan board (cycle - 1)).state a after }
     ensures weighed { (plan : Plan) (board : Board) (limit : ℕ) → AsksByReading plan → NumbersGiven board →
         KnowsFoci plan (run plan board limit).state }
+    ensures unstuck { (plan : Plan) (board : Board) (limit : ℕ) → IsWellMade plan → FitsPlan plan board →
+        NotStuck (run plan board limit).end }
+    ensures budgets { (plan : Plan) (board : Board) (limit : ℕ) → IsWellMade plan → FitsPlan plan board →
+        All KeepsBudget (notes_of (run plan board limit)) }
+    ensures ready { (plan : Plan) (board : Board) (limit : ℕ) → IsWellMade plan → FitsPlan plan board →
+        IsReady plan (run plan board limit).state }
+    ensures begins { (plan : Plan) (board : Board) (limit : ℕ)
+        (before : List Note) (cycle : ℕ) (a : Activation) (r : ℤ) → IsWellMade plan → FitsPlan plan board →
+        At (notes_of (run plan board limit)) before (Chosen cycle a r) →
+        BeginsFor plan (run plan board (cycle - 1)).state a }
+    ensures asks { (plan : Plan) (s : State) (event : Event) → IsWellMade plan → IsReady plan s →
+        IsEventOf plan.schema s.board event → AsksFor plan s event }
 {}

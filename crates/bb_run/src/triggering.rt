@@ -10,8 +10,7 @@ use crate::asking::{Reply, ask, entry_of};
 use crate::state::State;
 use bb_agenda::{Activation, AddFault};
 use bb_machine::Answer;
-use bb_trace::{End, Event, Note};
-use bb_verify::Checked;
+use bb_trace::{End, Event, Note, Question};
 use std::alloc::AllocError;
 
 /// Gives the source at a place an activation for an event, with this base.
@@ -43,7 +42,7 @@ pub(crate) fn activate(
 
 /// Asks the requirement of the source at a place whether an event gives it an activation.
 pub(crate) fn require(
-    code: &Checked,
+    code: &Question,
     event: Event,
     place: u16,
     state: &mut State,

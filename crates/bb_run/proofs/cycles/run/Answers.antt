@@ -1,8 +1,19 @@
-use Rattle.std.proofs.Common.{subst}
+use Rattle.std.proofs.Common.{subst, sym}
+use Rattle.bb_schema.specs.Fits as schemas
+use Rattle.bb_machine.specs.Fits.{Fits}
 use Rattle.bb_run.specs.Run.{run}
+use Rattle.bb_run.specs.Unstuck.{NotStuck}
 use Rattle.bb_run.specs.proving.Telling.{WroteFirst, WroteFront, WroteUntil}
 use Rattle.bb_run.proofs.WholeLemmas.{wrote_first, wrote_front}
+use Rattle.bb_run.proofs.UnstuckRuns.{finish_not_stuck}
 use Rattle.bb_run.proofs.cycles.run.Goals as goal
+
+pub returns-in-Ok-clause-unstuck : goal.returns-in-Ok-clause-unstuck
+returns-in-Ok-clause-unstuck g c = λ made acts same.
+    let sound : schemas.Fits c.args.plan.now.schema = subst schemas.Fits c.schema.ensures c.fits.ensures in
+    let fits : Fits c.args.board.schema c.args.board.world = c.fits-2.ensures in
+    subst NotStuck (sym c.from-in-Ok.ensures)
+    (finish_not_stuck c.args.plan.now c.args.board c.from.result c.in-Ok.end (record { schema = sound; made = made; codes = c.sources.ensures.sound; acts = acts }) same fits c.in-Ok.ensures.end)
 
 pub returns-in-Err-Memory-clause-front : goal.returns-in-Err-Memory-clause-front
 returns-in-Err-Memory-clause-front g c =

@@ -1,0 +1,92 @@
+-- Why no run is stuck: each execution begins with units that fit its part.
+use Rattle.std.specs.Prelude.{◌≡◌, ◌⊎◌, ◌≤◌, ⊤, ℕ, true, All, Contains, List, slice_get, Option, Some, None}
+use Rattle.bb_schema.specs.Schema.{Schema}
+use Rattle.bb_schema.specs.Fits as schemas
+use Rattle.bb_verify.specs.Accepted.{Checked}
+use Rattle.bb_machine.specs.Fits.{Fits, is_event_of}
+use Rattle.bb_machine.specs.Kinds.{WasOf}
+use Rattle.bb_machine.specs.NeverWrong.{Begins}
+use Rattle.bb_agenda.specs.declared.activation.Activation.{Activation}
+use Rattle.bb_agenda.specs.Agenda.{pending_of}
+use Rattle.bb_trace.specs.Act.TheVariants as acts
+use Rattle.bb_trace.specs.Board.{Board as Blackboard}
+use Rattle.bb_trace.specs.Event.{Event}
+use Rattle.bb_trace.specs.Events.{unit_of}
+use Rattle.bb_trace.specs.Law.{HasSoundCodes, IsMade}
+use Rattle.bb_trace.specs.Match.{any_match}
+use Rattle.bb_trace.specs.Reaction.{Reaction}
+use Rattle.bb_trace.specs.Source.{Source}
+use Rattle.bb_trace.specs.declared.end.End.{End}
+use Rattle.bb_trace.specs.declared.end.End.TheVariants as ends
+use Rattle.bb_trace.specs.declared.note.Note.{Note}
+use Rattle.bb_trace.specs.declared.note.Note.TheVariants.{Ended}
+use Rattle.bb_trace.specs.Plan.{Plan}
+use Rattle.bb_run.specs.declared.state.State.{State}
+use Rattle.bb_run.specs.Asking.{entry_of}
+use Rattle.bb_run.specs.Causes.{LacksNative}
+use Rattle.bb_run.specs.Processing.{response}
+
+-- ---- what a run needs
+
+-- the sources of a plan were made under its schema, of sound codes, and each has a code for its act
+pub record IsWellMade (plan : Plan) : Type 0 where
+  pub schema : schemas.Fits plan.schema
+  pub made : All (IsMade plan.schema) plan.sources
+  pub codes : All HasSoundCodes plan.sources
+  pub acts : ¬ LacksNative plan
+
+-- a blackboard is one of the plan's schema, and fits it
+pub record FitsPlan (plan : Plan) (board : Blackboard) : Type 0 where
+  pub schema : board.schema ≡ plan.schema
+  pub world : Fits plan.schema board.world
+
+-- ---- what holds throughout
+
+-- the activation's unit was created as one of its source's class, or it is that of quiescence
+abbrev pub SuitsSource : Plan → Blackboard → Activation → Type 0
+SuitsSource plan board a =
+    (source : Source) → slice_get plan.sources a.source ≡ Some source
+    → WasOf plan.schema board.world source.class a.unit
+
+-- the blackboard fits, and each pending activation's unit suits its source
+pub record IsReady (plan : Plan) (s : State) : Type 0 where
+  pub board : FitsPlan plan s.board
+  pub waiting : All (SuitsSource plan s.board) (pending_of s.agenda)
+
+-- what is executed for a chosen activation begins with what fits its part: its source's act, and the revalidation
+abbrev pub BeginsFor : Plan → State → Activation → Type 0
+BeginsFor plan s a =
+    (source : Source) (code : Checked) → slice_get plan.sources a.source ≡ Some source
+    → (source.act ≡ acts.Code code) ⊎ (source.revalidate ≡ Some code)
+    → Begins code.part code.frames code.code (entry_of a.unit None) s.board
+
+-- an event is one of a blackboard: its unit was created, and is of its class if it is live; or it is quiescence
+abbrev pub IsEventOf : Schema → Blackboard → Event → Type 0
+IsEventOf s board event = is_event_of s board.world.units event ≡ true
+
+-- what sources ask about an event begins with what fits its part
+pub record AsksFor (plan : Plan) (s : State) (event : Event) : Type 0 where
+  -- the requirement of a source that the event triggers
+  pub require : (source : Source) (code : Checked) → Contains plan.sources source → source.require ≡ Some code
+      → any_match plan.schema source.triggers event ≡ true
+      → Begins code.part code.frames code.code (entry_of (unit_of event) None) s.board
+  -- a reaction of a source to the event, about each of its pending activations
+  pub react : (source : Source) (reaction : Reaction) (a : Activation) → Contains (pending_of s.agenda) a
+      → slice_get plan.sources a.source ≡ Some source
+      → (source.obviate ≡ Some reaction) ⊎ (source.retrigger ≡ Some reaction)
+      → any_match plan.schema reaction.clauses event ≡ true
+      → Begins reaction.code.part reaction.code.frames reaction.code.code (entry_of a.unit (Some (unit_of event))) s.board
+  -- what answers to it leaves a state that is ready
+  pub leaves : IsReady plan (response plan event s).state
+
+-- ---- what comes of it
+
+-- a run does not end stuck
+abbrev pub NotStuck : Option End → Type 0
+NotStuck (Some (ends.Stuck reason)) = ⊥
+NotStuck _ = ⊤
+
+-- an execution made no more steps than the budget that its line tells
+abbrev pub KeepsBudget : Note → Type 0
+KeepsBudget (Ended steps found budget) = steps ≤ budget
+KeepsBudget _ = ⊤
