@@ -164,13 +164,13 @@ module _ {X : Type 0} (low : X → Bool) (before : X → X → Bool) (ranks : Ra
       }
 
 -- a rating and a number that come before others
-Precedes : (r : ℤ) (m : ℕ) (s : ℤ) (n : ℕ) → Type 0
+unfoldable pub Precedes : (r : ℤ) (m : ℕ) (s : ℤ) (n : ℕ) → Type 0
 Precedes r m s n = (s <ℤ r) ⊎ ((s ≡ r) × (m < n))
 
-lt_decides : (x y : ℤ) → Decides (int_lt x y) (x <ℤ y)
+pub lt_decides : (x y : ℤ) → Decides (int_lt x y) (x <ℤ y)
 lt_decides x y = (λ e. omega (arith, ints), λ h. grind (arith, ints))
 
-precedes_decides : (r : ℤ) (m : ℕ) (s : ℤ) (n : ℕ) → Decides (int_lt s r || (int_eq s r && nat_lt m n)) (Precedes r m s n)
+pub precedes_decides : (r : ℤ) (m : ℕ) (s : ℤ) (n : ℕ) → Decides (int_lt s r || (int_eq s r && nat_lt m n)) (Precedes r m s n)
 unfolding Precedes
 precedes_decides r m s n = Decides-or (int_lt s r) (int_eq s r && nat_lt m n) (lt_decides s r) (Decides-and (int_eq s r) (nat_lt m n) (Decides-int_eq s r) (Decides-ltb m n))
 
@@ -182,7 +182,7 @@ unfolding Precedes
 not_itself r m (inl h) = omega (arith, ints)
 not_itself r m (inr h) = omega (arith, h.1)
 
-precedes_further : (r : ℤ) (k : ℕ) (s : ℤ) (m : ℕ) (t : ℤ) (n : ℕ) → Precedes r k s m → Precedes s m t n → Precedes r k t n
+pub precedes_further : (r : ℤ) (k : ℕ) (s : ℤ) (m : ℕ) (t : ℤ) (n : ℕ) → Precedes r k s m → Precedes s m t n → Precedes r k t n
 unfolding Precedes
 precedes_further r k s m t n (inl h) (inl g) = inl (omega (arith, ints))
 precedes_further r k s m t n (inl h) (inr g) = inl (subst (λ x. x <ℤ r) (sym g.0) h)
@@ -195,7 +195,7 @@ unfolding Precedes
 past_at r k s m t n is lt apart le same (inl h) = absurd (apart (inr (same, h)))
 past_at r k s m t n is lt apart le same (inr h) = inr (sym same ∙ is, omega arith)
 
-precedes_past : (r : ℤ) (k : ℕ) (s : ℤ) (m : ℕ) (t : ℤ) (n : ℕ) → Precedes r k s m → (Precedes t n s m → ⊥) → Precedes r k t n
+pub precedes_past : (r : ℤ) (k : ℕ) (s : ℤ) (m : ℕ) (t : ℤ) (n : ℕ) → Precedes r k s m → (Precedes t n s m → ⊥) → Precedes r k t n
 unfolding Precedes
 precedes_past r k s m t n (inl h) apart =
     by_lt_z t r (λ lt. inl lt) (λ le. absurd (apart (inl (omega (arith, ints)))))
@@ -237,26 +237,6 @@ compared : (rate : Activation → ℤ) (a : Activation) (r : Option Activation) 
 compared rate a None = (true, λ b e. absurd cc)
 compared rate a (Some c) = (is_before rate a c, λ b e. let same : c ≡ b = cc in ap (is_before rate a) (sym same))
 
--- a turn of the loop: one that is rated at least the floor
-pub best_more : (rate : Activation → ℤ) (floor : ℤ) (xs : List Activation) (i : ℕ) (d b : Activation) (rated : ℤ) (r s : Option Activation) → i < length xs → rated ≡ rate (get_or xs i d) → floor ≤ℤ rated → b ≡ better rate r (get_or xs i d) → s ≡ Some b → BestOf rate floor (take i xs) r → BestOf rate floor (take (i + 1) xs) s
-best_more rate floor xs i d b rated r s lt is over made new first =
-    let a = get_or xs i d in
-    let t = compared rate a r in
-    let above : floor ≤ℤ rate a = subst (λ x. floor ≤ℤ x) is over in
-    let now = one_more rate floor (take i xs) a r t.0 first (false_from_ne_true (int_lt (rate a) floor) (λ e. let u = (lt_decides (rate a) floor).0 e in omega (arith, ints))) t.1 in
-    rw (add-one, take-suc xs i d lt, new, made) now
-
--- a turn of the loop: one that is not
-pub best_same : (rate : Activation → ℤ) (floor : ℤ) (xs : List Activation) (i : ℕ) (d : Activation) (rated : ℤ) (r s : Option Activation) → i < length xs → rated ≡ rate (get_or xs i d) → rated <ℤ floor → s ≡ r → BestOf rate floor (take i xs) r → BestOf rate floor (take (i + 1) xs) s
-best_same rate floor xs i d rated r s lt is under new first =
-    let a = get_or xs i d in
-    let beneath : rate a <ℤ floor = subst (λ x. x <ℤ floor) is under in
-    rw (add-one, take-suc xs i d lt, new) (below (λ a. int_lt (rate a) floor) (is_before rate) (ranked rate floor) (take i xs) a r first ((lt_decides (rate a) floor).1 beneath))
-
--- the end of the loop
-pub best_all : (rate : Activation → ℤ) (floor f : ℤ) (xs : List Activation) (i : ℕ) (r : Option Activation) → f ≡ floor → length xs ≤ i → BestOf rate f (take i xs) r → r ≡ find (is_best rate floor xs) xs
-best_all rate floor f xs i r same le first = subst (λ g. r ≡ find (is_best rate g xs) xs) same (subst (λ ys. r ≡ find (is_best rate f ys) ys) (take_all i xs le) first.found)
-
 -- what the whole of a list brings
 whole : (rate : Activation → ℤ) (floor : ℤ) (xs ys : List Activation) (r : Option Activation) → BestOf rate floor xs r → (s : Option Activation) × BestOf rate floor (xs ++ ys) s
 whole rate floor xs [] r first = (r, subst (λ l. BestOf rate floor l r) (sym (append-nil xs)) first)
@@ -276,7 +256,7 @@ all_low rate floor xs none =
 
 module _ {X : Type 0} where
   -- what passes for the whole list passes for one of it
-  contained_passes : (p : X → Bool) (xs : List X) (b : X) → list_all p xs ≡ true → Contains xs b → p b ≡ true
+  pub contained_passes : (p : X → Bool) (xs : List X) (b : X) → list_all p xs ≡ true → Contains xs b → p b ≡ true
   contained_passes p [] b all (k, lt, is) = absurd (omega arith)
   contained_passes p (x ∷ xs) b all (zero, lt, is) = subst (λ y. p y ≡ true) is (and_parts (p x) (list_all p xs) all).0
   contained_passes p (x ∷ xs) b all (suc k, lt, is) = contained_passes p xs b (and_parts (p x) (list_all p xs) all).1 (k, omega arith, is)
@@ -289,16 +269,16 @@ module _ {X : Type 0} where
   contained_later : (x : X) (xs : List X) (b : X) → Contains xs b → Contains (x ∷ xs) b
   contained_later x xs b (k, lt, is) = (suc k, omega arith, is)
 
-  found_contained : (p : X → Bool) (xs : List X) (b : X) → find p xs ≡ Some b → Contains xs b
-  found_contained p [] b h = absurd cc
-  found_contained p (x ∷ xs) b h = by (p x) h (found_contained p xs b)
+  pub found_in : (p : X → Bool) (xs : List X) (b : X) → find p xs ≡ Some b → Contains xs b
+  found_in p [] b h = absurd cc
+  found_in p (x ∷ xs) b h = by (p x) h (found_in p xs b)
     where
       by : (t : Bool) → cond t (Some x) (find p xs) ≡ Some b → (find p xs ≡ Some b → Contains xs b) → Contains (x ∷ xs) b
       by true h further = let same : x ≡ b = cc in (0, omega arith, same)
       by false h further = contained_later x xs b (further h)
 
 -- where b does not come before a
-not_before : (rate : Activation → ℤ) (b a : Activation) → is_before rate b a ≡ false → (rate b ≤ℤ rate a) × (rate b ≡ rate a → a.number ≤ b.number)
+pub not_before : (rate : Activation → ℤ) (b a : Activation) → is_before rate b a ≡ false → (rate b ≤ℤ rate a) × (rate b ≡ rate a → a.number ≤ b.number)
 not_before rate b a apart =
     let parts = or_parts (int_lt (rate a) (rate b)) (int_eq (rate a) (rate b) && nat_lt b.number a.number) apart in
     (by_lt_z (rate a) (rate b) (λ lt. absurd (let e : int_lt (rate a) (rate b) ≡ true = grind (arith, ints) in let f = parts.0 in cc)) (λ le. le), later (and_cases (int_eq (rate a) (rate b)) (nat_lt b.number a.number) parts.1))
@@ -317,7 +297,7 @@ chosen_some rate floor pending a is =
     let best = and_parts (not (int_lt (rate a) floor)) (list_all (λ b. not (is_before rate b a)) pending) (found_passes (is_best rate floor pending) pending a is) in
     let after : (b : Activation) → Contains pending b → is_before rate b a ≡ false = λ b there. not-true (is_before rate b a) (contained_passes (λ c. not (is_before rate c a)) pending b best.1 there) in
     record {
-      waits = found_contained (is_best rate floor pending) pending a is;
+      waits = found_in (is_best rate floor pending) pending a is;
       enough = by_lt_z (rate a) floor (λ lt. absurd (let e : int_lt (rate a) floor ≡ true = grind (arith, ints) in let f = not-true (int_lt (rate a) floor) best.0 in cc)) (λ le. le);
       highest = λ b there. (not_before rate b a (after b there)).0;
       earliest = λ b there. (not_before rate b a (after b there)).1;

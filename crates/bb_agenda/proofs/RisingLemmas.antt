@@ -29,7 +29,7 @@ module _ {X : Type 0} (P : X → Type 0) where
       at true later = (all.0, later)
       at false later = later
 
-each_map : {X Y : Type 0} (P : Y → Type 0) (f : X → Y) (xs : List X) → AllByRecursion (λ x. P (f x)) xs → AllByRecursion P (map f xs)
+pub each_map : {X Y : Type 0} (P : Y → Type 0) (f : X → Y) (xs : List X) → AllByRecursion (λ x. P (f x)) xs → AllByRecursion P (map f xs)
 each_map P f [] all = tt
 each_map P f (x ∷ xs) all = (all.0, each_map P f xs all.1)
 

@@ -4,7 +4,18 @@ use mir.Val.{SFits}
 use Rattle.std.specs.Int.{w128}
 use Rattle.std.proofs.lemmas.Int.{ints, to_z-of_z}
 use Rattle.bb_agenda.specs.declared.focus.Focus.{Focus}
-use Rattle.bb_agenda.specs.Rating.{total_weight}
+use Rattle.bb_schema.specs.Schema.{Schema}
+use Rattle.bb_agenda.specs.declared.activation.Activation.{Activation}
+use Rattle.bb_agenda.specs.declared.setting.RatedSource.{RatedSource}
+use Rattle.bb_agenda.specs.Foci.{Foci}
+use Rattle.bb_agenda.specs.Matching.{matches}
+use Rattle.bb_agenda.specs.Rating.{total_weight, rating}
+use Rattle.bb_agenda.specs.proving.Weights.{rating_at}
+
+-- a rating goes by the source and the base alone
+pub rating_is : (s : Schema) (sources : List RatedSource) (foci : Foci) (a : Activation) → rating_at s sources foci a.source a.base ≡ rating s sources foci a
+unfolding rating matches
+rating_is s sources foci a = refl
 
 -- the sum so far, and what those that are left will add
 abbrev pub sum_with : (Focus → Bool) → ℤ → List Focus → ℤ

@@ -1,9 +1,15 @@
 -- how the code keeps an agenda
 pub mod Kept
+-- in which order those of a source are executed
+pub mod Ranks
 -- how it finds what is pending
 pub mod Filed
 -- lists of numbers that rise, and one for each source
 pub mod Lists
+-- what all activations of a source have in common
+pub mod Weights
+-- the best of all that are pending
+pub mod Best
 -- the foci of the entries that the code keeps
 pub mod Entries
 -- how an agenda is stored

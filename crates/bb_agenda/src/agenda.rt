@@ -12,7 +12,7 @@ ghost use Rattle.bb_agenda.specs.Chosen.{chosen};
 mod changes;
 mod steps;
 
-use crate::activation::{Activation, best};
+use crate::activation::Activation;
 use crate::foci::Foci;
 use crate::setting::{RatedSource, Setting};
 use crate::status::Status;
@@ -165,15 +165,13 @@ impl Agenda {
     }
 
     /// The number of the activation to execute: of those rated at least `floor` the one of the highest rating, of
-    /// equals the one of the lowest number (Hayes-Roth 1985, scheduling). It goes over all foci for each that is
-    /// pending.
+    /// equals the one of the lowest number (Hayes-Roth 1985, scheduling). It compares the first of each source.
     pub fn choose(&self, floor: i64) -> Option<u64>
         ensures number { result ≡ option_map number_of (chosen (rating_in self.now) floor (pending_of self.now)) }
         ensures same { IfSome result (λ number.
             pending_at self.now number ≡ chosen (rating_in self.now) floor (pending_of self.now)) }
     {
-        let activation = best(&self.steering, floor, self.waiting.activations())?;
-        Some(activation.number)
+        self.waiting.choose(&self.steering, floor)
     }
 
     /// Does nothing, and says what holds of the agenda at any time: the numbers of what is pending rise, and an
@@ -181,6 +179,6 @@ impl Agenda {
     pub fn fits(&self)
         ensures { Fits self.now }
     {
-        let _activations = self.waiting.activations();
+        let _numbers = self.waiting.numbers();
     }
 }

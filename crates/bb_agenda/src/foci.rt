@@ -2,10 +2,9 @@
 
 ghost use Rattle.std.specs.Prelude.{◌≡◌, OnOk, OnErr};
 ghost use Rattle.std.specs.FinMap as fin;
-ghost use Rattle.bb_agenda.specs.Rating.{rating};
+ghost use Rattle.bb_agenda.specs.proving.Weights.{rating_at};
 ghost use Rattle.bb_agenda.specs.proving.Entries.{foci_of};
 
-use crate::activation::Activation;
 use crate::focus::Focus;
 use crate::setting::Setting;
 use bb_basis::Memory;
@@ -32,13 +31,13 @@ impl Model for Foci {
     ghost view = { λ f. foci_of f.foci.entries };
 }
 
-/// The base of an activation, and the weights of all foci that match it.
-fn weighed(foci: &BTreeMap<UnitId, Focus>, setting: &Setting, activation: &Activation) -> i128
-    ensures { result ≡ rating setting.now.schema setting.now.sources (foci_of foci.now.entries) activation.now }
+/// A base, and the weights of all foci that match the source at a place.
+fn weighed(foci: &BTreeMap<UnitId, Focus>, setting: &Setting, place: usize, base: i64) -> i128
+    ensures { result ≡ rating_at setting.now.schema setting.now.sources (foci_of foci.now.entries) place base }
 {
-    let mut sum = i128::from(activation.base);
+    let mut sum = i128::from(base);
     for focus in foci.values() {
-        if !focus.matches(setting, activation) {
+        if !focus.matches(setting, place) {
             continue;
         }
         sum += i128::from(focus.weight);
@@ -56,11 +55,11 @@ impl Foci {
         }
     }
 
-    /// The rating of an activation.
-    pub(crate) fn rating(&self, setting: &Setting, activation: &Activation) -> i128
-        ensures { result ≡ rating setting.now.schema setting.now.sources self.now activation.now }
+    /// The rating of an activation of the source at a place.
+    pub(crate) fn rating(&self, setting: &Setting, place: usize, base: i64) -> i128
+        ensures { result ≡ rating_at setting.now.schema setting.now.sources self.now place base }
     {
-        weighed(&self.foci, setting, activation)
+        weighed(&self.foci, setting, place, base)
     }
 
     /// The focus of a unit is now this one. An error changes nothing.

@@ -1,9 +1,8 @@
 //! A focus: what weighs pending activations up or down. The run (bb_run) tells the agenda of each unit that is one.
 
 ghost use Rattle.std.specs.Prelude.{◌≡◌};
-ghost use Rattle.bb_agenda.specs.Matching.{matches};
+ghost use Rattle.bb_agenda.specs.proving.Weights.{matches_at};
 
-use crate::activation::Activation;
 use crate::setting::Setting;
 use bb_basis::Text;
 
@@ -23,15 +22,15 @@ pub struct Focus {
 }
 
 impl Focus {
-    /// Whether it matches an activation. One of a place without a source it matches only if both texts are empty.
+    /// Whether it matches the activations of the source at a place. At a place without a source it matches only if both
+    /// texts are empty.
     #[tactic(auto, unfolding(crate::specs::Matching::matches))]
-    pub(crate) fn matches(&self, setting: &Setting, activation: &Activation) -> bool
-        ensures { result ≡ matches setting.now.schema setting.now.sources activation.now self.now }
+    pub(crate) fn matches(&self, setting: &Setting, place: usize) -> bool
+        ensures { result ≡ matches_at setting.now.schema setting.now.sources place self.now }
     {
         if !self.active {
             return false;
         }
-        setting.has_source(activation.source, &self.source)
-            && setting.has_area(activation.source, &self.area)
+        setting.has_source(place, &self.source) && setting.has_area(place, &self.area)
     }
 }

@@ -4,11 +4,15 @@
 mod activation;
 mod agenda;
 mod choice;
+mod choosing;
 mod fault;
 mod foci;
 mod focus;
 mod history;
 mod lists;
+mod order;
+mod rank;
+mod row;
 mod setting;
 mod status;
 mod steering;

@@ -1,47 +1,29 @@
-//! Lists of numbers that rise, and such a list for each source. waiting.rt keeps the numbers of what is pending so.
+//! A list of numbers that rise for each source. waiting.rt keeps the numbers of what is pending so.
 
-ghost use Rattle.std.specs.Prelude.{◌≡◌, ℕ, OnOk, OnErr, IfSome, IfNone, IsSome, false};
+ghost use Rattle.std.specs.Prelude.{◌≡◌, ℕ, OnOk, OnErr, IsSome};
 ghost use Rattle.std.specs.Ordering.{nat_cmp};
 ghost use Rattle.std.specs.BTreeMap.{get};
-ghost use Rattle.bb_agenda.specs.proving.Lists.{Rising, IsAt, is_in, without, listed, one_more, one_less};
+ghost use Rattle.bb_agenda.specs.proving.Lists.{Rising, listed, one_more, one_less};
 
+use crate::row::Row;
 use bb_basis::Memory;
 use std::alloc::Global;
 use std::collections::BTreeMap;
 
-/// The place of a number in a list that rises.
-pub(crate) fn place_of(numbers: &[u64], number: u64) -> Option<usize>
-    requires { Rising numbers.now }
-    ensures found { IfSome result (λ place. IsAt numbers.now place number) }
-    ensures none { IfNone result (is_in numbers.now number ≡ false) }
-{
-    numbers.binary_search(&number).ok()
-}
-
-/// Takes a number out of a list that rises.
-fn remove_number(numbers: &mut Vec<u64>, number: u64)
-    requires { Rising numbers.old.items }
-    ensures { numbers.new.items ≡ without number numbers.old.items }
-{
-    if let Some(place) = place_of(numbers, number) {
-        numbers.remove(place);
-    }
-}
-
 /// The list of a source.
-pub(crate) fn list_of(lists: &BTreeMap<u16, Vec<u64>>, source: u16) -> &[u64]
+pub(crate) fn list_of(lists: &BTreeMap<u16, Row>, source: u16) -> &[u64]
     ensures { result.now ≡ listed lists.now source }
 {
     match lists.get(&source) {
         None => &[],
-        Some(list) => list,
+        Some(list) => list.as_slice(),
     }
 }
 
 /// Gives a source one more number, the last. An error changes nothing.
 pub(crate) fn add_to(
     alloc: Global,
-    lists: &mut BTreeMap<u16, Vec<u64>>,
+    lists: &mut BTreeMap<u16, Row>,
     source: u16,
     number: u64,
 ) -> Result<(), Memory>
@@ -51,14 +33,14 @@ pub(crate) fn add_to(
     if lists.contains_key(&source) {
         return push_at(lists, source, number);
     }
-    let mut list = Vec::new(alloc);
+    let mut list = Row::new(alloc);
     list.push(number)?;
     lists.insert(source, list)?;
     Ok(())
 }
 
 /// Appends a number to the list of a source that has one.
-fn push_at(lists: &mut BTreeMap<u16, Vec<u64>>, source: u16, number: u64) -> Result<(), Memory>
+fn push_at(lists: &mut BTreeMap<u16, Row>, source: u16, number: u64) -> Result<(), Memory>
     requires { IsSome (get nat_cmp lists.old source) }
     ensures ok { OnOk result ((s : ℕ) → listed lists.new s ≡ one_more lists.old source number s) }
     ensures err { OnErr result ((s : ℕ) → listed lists.new s ≡ listed lists.old s) }
@@ -73,12 +55,12 @@ fn push_at(lists: &mut BTreeMap<u16, Vec<u64>>, source: u16, number: u64) -> Res
 }
 
 /// Takes a number out of the list of a source, which rises.
-pub(crate) fn remove_from(lists: &mut BTreeMap<u16, Vec<u64>>, source: u16, number: u64)
+pub(crate) fn remove_from(lists: &mut BTreeMap<u16, Row>, source: u16, number: u64)
     requires { Rising (listed lists.old source) }
     ensures { (s : ℕ) → listed lists.new s ≡ one_less lists.old source number s }
 {
     match lists.get_mut(&source) {
         None => (),
-        Some(list) => remove_number(list, number),
+        Some(list) => list.remove(number),
     }
 }

@@ -46,10 +46,10 @@ fn is_ancestor(schema: &Schema, class: ClassId, name: &str) -> bool
 
 /// Whether a name is that of the source at a place.
 #[tactic(auto, unfolding(crate::specs::Matching::is_source))]
-fn is_source(sources: &[RatedSource], place: u16, name: &str) -> bool
+fn is_source(sources: &[RatedSource], place: usize, name: &str) -> bool
     ensures { result ≡ is_source sources.now place name.now }
 {
-    match sources.get(place as usize) {
+    match sources.get(place) {
         None => false,
         Some(source) => name == source.name.as_str(),
     }
@@ -57,10 +57,10 @@ fn is_source(sources: &[RatedSource], place: u16, name: &str) -> bool
 
 /// Whether a name is that of the class of the source at a place, or of an ancestor of that class.
 #[tactic(auto, unfolding(crate::specs::Matching::is_area))]
-fn is_area(schema: &Schema, sources: &[RatedSource], place: u16, name: &str) -> bool
+fn is_area(schema: &Schema, sources: &[RatedSource], place: usize, name: &str) -> bool
     ensures { result ≡ is_area schema.now sources.now place name.now }
 {
-    match sources.get(place as usize) {
+    match sources.get(place) {
         None => false,
         Some(source) => is_ancestor(schema, source.class, name),
     }
@@ -78,7 +78,7 @@ impl Setting {
     }
 
     /// Whether a text is empty, or the name of the source at a place.
-    pub(crate) fn has_source(&self, place: u16, name: &Text) -> bool
+    pub(crate) fn has_source(&self, place: usize, name: &Text) -> bool
         ensures { result ≡ (is_empty name.now || is_source self.now.sources place name.now) }
     {
         if name.is_empty() {
@@ -88,7 +88,7 @@ impl Setting {
     }
 
     /// Whether a text is empty, or the name of the class of the source at a place, or of an ancestor of that class.
-    pub(crate) fn has_area(&self, place: u16, name: &Text) -> bool
+    pub(crate) fn has_area(&self, place: usize, name: &Text) -> bool
         ensures { result ≡ (is_empty name.now || is_area self.now.schema self.now.sources place name.now) }
     {
         if name.is_empty() {

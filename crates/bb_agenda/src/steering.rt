@@ -2,7 +2,7 @@
 
 ghost use Rattle.std.specs.Prelude.{◌≡◌};
 ghost use Rattle.bb_agenda.specs.Rating.{rating};
-ghost use Rattle.bb_agenda.specs.Chosen.{is_before};
+ghost use Rattle.bb_agenda.specs.proving.Weights.{rating_at};
 
 use crate::activation::Activation;
 use crate::foci::Foci;
@@ -16,20 +16,17 @@ pub(crate) struct Steering {
 }
 
 impl Steering {
-    /// The rating of an activation, summed afresh: it goes over all foci.
+    /// The rating of an activation of the source at a place.
+    pub(crate) fn rating_at(&self, place: usize, base: i64) -> i128
+        ensures { let s = self.now in result ≡ rating_at s.setting.schema s.setting.sources s.foci place base }
+    {
+        self.foci.rating(&self.setting, place, base)
+    }
+
+    /// The rating of an activation.
     pub(crate) fn rating(&self, activation: &Activation) -> i128
         ensures { result ≡ rating self.now.setting.schema self.now.setting.sources self.now.foci activation.now }
     {
-        self.foci.rating(&self.setting, activation)
-    }
-
-    /// Whether an activation is rated higher than another one, or the same under a lower number.
-    pub(crate) fn is_before(&self, activation: &Activation, other: &Activation) -> bool
-        ensures { let s = self.now in result ≡
-            is_before (rating s.setting.schema s.setting.sources s.foci) activation.now other.now }
-    {
-        let rating = self.rating(activation);
-        let other_rating = self.rating(other);
-        other_rating < rating || (other_rating == rating && activation.number < other.number)
+        self.rating_at(activation.source as usize, activation.base)
     }
 }

@@ -1,8 +1,9 @@
-//! Tests of the agenda with memory: each call that can want it, and what becomes of each activation.
+//! Tests of the agenda with memory: each call that can want it, what becomes of each activation, and an agenda against
+//! plain lists.
 
 use super::*;
 use bb_basis::Text;
-use bb_schema::{ClassId, Schema, SharedSchema};
+use bb_schema::{ClassId, Schema, SharedSchema, UnitId};
 use std::alloc::Global;
 use std::test::Fail;
 
@@ -66,5 +67,171 @@ fn foci_on_the_agenda(rt: HostRuntime) -> Result<(), Fail> {
     assert_eq!(rt; agenda.choose(130), Some(2));
     assert_eq!(rt; agenda.focus_gone(9), Ok(()));
     assert_eq!(rt; agenda.choose(0), Some(1));
+    Ok(())
+}
+
+/// An agenda as plain lists, which are walked for each answer.
+#[derive(Drop)]
+struct Plain {
+    pending: Vec<Activation>,
+    // The unit of a focus, the source that it is on, if on one, and its weight.
+    foci: Vec<(UnitId, Option<u16>, i64)>,
+}
+
+impl Plain {
+    fn rating(&self, activation: &Activation) -> i128 {
+        let mut sum = i128::from(activation.base);
+        for focus in &self.foci {
+            let matches = match focus.1 {
+                None => true,
+                Some(source) => source == activation.source,
+            };
+            if matches {
+                sum = sum.wrapping_add(i128::from(focus.2));
+            }
+        }
+        sum
+    }
+
+    fn choose(&self, floor: i64) -> Option<u64> {
+        let mut best: Option<(i128, u64)> = None;
+        for activation in &self.pending {
+            let rating = self.rating(activation);
+            let behind = match best {
+                None => rating < i128::from(floor),
+                Some((highest, _)) => rating <= highest,
+            };
+            if !behind {
+                best = Some((rating, activation.number));
+            }
+        }
+        let (_, number) = best?;
+        Some(number)
+    }
+
+    fn take(&mut self, number: u64) {
+        self.pending
+            .retain(|activation| activation.number != number);
+    }
+
+    fn rerate(&mut self, number: u64, base: i64) {
+        for activation in self.pending.iter_mut() {
+            if activation.number == number {
+                activation.base = base;
+            }
+        }
+    }
+
+    fn focus_gone(&mut self, unit: UnitId) {
+        self.foci.retain(|focus| focus.0 != unit);
+    }
+
+    /// Whether an agenda answers the same.
+    fn agrees(&self, agenda: &Agenda) -> bool {
+        let numbers = agenda.pending();
+        if numbers.len() != self.pending.len() {
+            return false;
+        }
+        for (number, activation) in numbers.iter().zip(self.pending.iter()) {
+            if *number != activation.number
+                || agenda.rating_of(activation) != self.rating(activation)
+            {
+                return false;
+            }
+        }
+        agenda.choose(12) == self.choose(12)
+    }
+}
+
+/// A focus on `hail`, on `echo` or on all sources, with the source's index.
+fn some_focus(alloc: Global, pick: u64, weight: i64) -> Result<(Focus, Option<u16>), Fail> {
+    let (name, source) = match pick {
+        0 => ("hail", Some(0)),
+        1 => ("echo", Some(1)),
+        _ => ("", None),
+    };
+    let focus = Focus {
+        source: Text::from_str(alloc, name)?,
+        area: Text::from_str(alloc, "")?,
+        weight,
+        active: true,
+    };
+    Ok((focus, source))
+}
+
+/// One change of both, by a number.
+fn change(alloc: Global, agenda: &mut Agenda, plain: &mut Plain, seed: u64) -> Result<(), Fail> {
+    let (source, base) = (((seed >> 40) % 2) as u16, ((seed >> 42) % 8) as i64);
+    let unit = (seed >> 46) % 3;
+    let number = match plain.pending.get(((seed >> 20) % 16) as usize) {
+        None => 0,
+        Some(activation) => activation.number,
+    };
+    match (seed >> 60) % 16 {
+        0..=2 => {
+            agenda.obviate(number)?;
+            plain.take(number);
+        }
+        3 | 4 => {
+            agenda.rerate(number, base)?;
+            plain.rerate(number, base);
+        }
+        5 => {
+            agenda.focus_gone(unit)?;
+            plain.focus_gone(unit);
+        }
+        6 | 7 => {
+            let (focus, on) = some_focus(alloc, (seed >> 50) % 3, base)?;
+            agenda.focus_set(unit, focus)?;
+            plain.focus_gone(unit);
+            plain.foci.push((unit, on, base))?;
+        }
+        8..=10 => {
+            if let Some(number) = agenda.choose(0) {
+                agenda.executed(number)?;
+                plain.take(number);
+            }
+        }
+        _ => {
+            if let Ok(number) = agenda.add(source, 1, base) {
+                let activation = Activation {
+                    number,
+                    source,
+                    unit: 1,
+                    base,
+                };
+                plain.pending.push(activation)?;
+            }
+        }
+    }
+    Ok(())
+}
+
+/// Whether an agenda and plain lists choose the same after each of so many changes, and now and then agree in all.
+fn agree(alloc: Global, times: u64) -> Result<bool, Fail> {
+    let mut agenda = agenda(alloc)?;
+    let mut plain = Plain {
+        pending: Vec::new(alloc),
+        foci: Vec::new(alloc),
+    };
+    let mut seed: u64 = 1;
+    for turn in 0..times {
+        seed = seed
+            .wrapping_mul(6_364_136_223_846_793_005)
+            .wrapping_add(1_442_695_040_888_963_407);
+        change(alloc, &mut agenda, &mut plain, seed)?;
+        if agenda.choose(0) != plain.choose(0) {
+            return Ok(false);
+        }
+        if turn % 32 == 0 && !plain.agrees(&agenda) {
+            return Ok(false);
+        }
+    }
+    Ok(true)
+}
+
+#[test]
+fn as_plain_lists(rt: HostRuntime) -> Result<(), Fail> {
+    assert!(rt; agree(rt.alloc(), 2_000)?);
     Ok(())
 }

@@ -1,40 +1,58 @@
-//! What is pending on an agenda, found by its number or its source without a walk over all of it. agenda.rt keeps it.
+//! What is pending on an agenda, found by its number or its source, and in the order in which those of a source are
+//! executed, without a walk over all of it. agenda.rt keeps it.
 
 ghost use Rattle.std.specs.Prelude.{◌≡◌, ◌<◌, [], ◌∷◌, ◌++◌, map, filter, find, length, is_some, OnOk, OnErr};
+ghost use Rattle.std.specs.Prelude.{IfSome, option_map};
 ghost use Rattle.std.specs.List.{AllByRecursion};
+ghost use Rattle.std.specs.Map.{lookup};
+ghost use Rattle.std.specs.Ordering.{nat_cmp};
+ghost use Rattle.std.specs.BTreeMap.{is_at};
 ghost use Rattle.bb_agenda.specs.Agenda.{number_of, has_number, is_of};
 ghost use Rattle.bb_agenda.specs.Changes.{other_than, rebased};
+ghost use Rattle.bb_agenda.specs.Chosen.{chosen};
 ghost use Rattle.bb_agenda.specs.Fits.{RisesBy};
+ghost use Rattle.bb_agenda.specs.Rating.{rating};
+
+mod filing;
 
 use crate::activation::Activation;
-use crate::lists::{add_to, list_of, place_of, remove_from};
+use crate::choosing::best_of;
+use crate::lists::{list_of, remove_from};
+use crate::order::rank_out;
+use crate::rank::Rank;
+use crate::row::Row;
+use crate::steering::Steering;
 use bb_basis::Memory;
+use filing::{rebase, rerank, store};
 use std::alloc::Global;
-use std::collections::BTreeMap;
+use std::collections::{BTreeMap, BTreeSet};
 use std::marker::Model;
 
 /// Activations whose numbers rise. Contracts see them as their list.
 #[derive(Drop)]
 pub(crate) struct Waiting {
     alloc: Global,
-    activations: Vec<Activation>,
+    activations: BTreeMap<u64, Activation>,
     // Their numbers.
-    numbers: Vec<u64>,
+    numbers: Row,
     // The numbers of those of each source.
-    by_source: BTreeMap<u16, Vec<u64>>,
+    by_source: BTreeMap<u16, Row>,
+    // The ranks of those of each source, at its index.
+    orders: Vec<BTreeSet<Rank>>,
 }
 
 impl Model for Waiting {
     ghost use Rattle.std.specs.Prelude.{List};
+    ghost use Rattle.std.specs.Map.{values_of};
     ghost use Rattle.bb_agenda.specs.declared.activation.Activation.{Activation as Given};
 
     ghost Value = { List Given };
 
-    ghost view = { λ w. w.activations.items };
+    ghost view = { λ w. values_of w.activations.entries };
 
-    ghost use Rattle.bb_agenda.specs.proving.Filed.{AreFiled};
+    ghost use Rattle.bb_agenda.specs.proving.Filed.{AreWaiting};
 
-    ghost invariant = { λ w. AreFiled w.activations.items w.numbers.items w.by_source };
+    ghost invariant = { λ w. AreWaiting w.activations.entries w.numbers w.by_source w.orders.items };
 }
 
 impl Waiting {
@@ -44,9 +62,10 @@ impl Waiting {
     {
         Waiting {
             alloc,
-            activations: Vec::new(alloc),
-            numbers: Vec::new(alloc),
+            activations: BTreeMap::new(alloc),
+            numbers: Row::new(alloc),
             by_source: BTreeMap::new(alloc),
+            orders: Vec::new(alloc),
         }
     }
 
@@ -54,22 +73,15 @@ impl Waiting {
     pub(crate) fn len(&self) -> usize
         ensures { result ≡ length self.now }
     {
-        self.activations.len()
-    }
-
-    /// The activations.
-    pub(crate) fn activations(&self) -> &[Activation]
-        ensures value { result.now ≡ self.now }
-        ensures rising { RisesBy number_of self.now }
-    {
-        &self.activations
+        self.numbers.as_slice().len()
     }
 
     /// Their numbers.
     pub(crate) fn numbers(&self) -> &[u64]
-        ensures { result.now ≡ map number_of self.now }
+        ensures value { result.now ≡ map number_of self.now }
+        ensures rising { RisesBy number_of self.now }
     {
-        &self.numbers
+        self.numbers.as_slice()
     }
 
     /// The numbers of those of a source.
@@ -84,8 +96,7 @@ impl Waiting {
     pub(crate) fn get(&self, number: u64) -> Option<Activation>
         ensures { result ≡ find (has_number number) self.now }
     {
-        let place = place_of(&self.numbers, number)?;
-        Some(self.activations[place])
+        self.activations.get(&number).copied()
     }
 
     /// Whether an activation has this number.
@@ -95,42 +106,66 @@ impl Waiting {
         self.get(number).is_some()
     }
 
+    /// The number of the one to execute, of those rated at least `floor`. The first of each source is compared.
+    pub(crate) fn choose(&self, steering: &Steering, floor: i64) -> Option<u64>
+        ensures number { let s = steering.now in let rate = rating s.setting.schema s.setting.sources s.foci in
+            result ≡ option_map number_of (chosen rate floor self.now) }
+        ensures same { let s = steering.now in let rate = rating s.setting.schema s.setting.sources s.foci in
+            IfSome result (λ number. find (has_number number) self.now ≡ chosen rate floor self.now) }
+    {
+        let best = best_of(&self.orders, steering)?;
+        if best.rating < i128::from(floor) {
+            return None;
+        }
+        Some(best.number)
+    }
+
     /// Appends an activation, whose number is above all others. An error changes nothing.
     pub(crate) fn push(&mut self, activation: Activation) -> Result<(), Memory>
         requires { AllByRecursion (λ a. a.number < activation.number) self.old }
         ensures ok { OnOk result (self.new ≡ self.old ++ activation ∷ []) }
         ensures err { OnErr result (self.new ≡ self.old) }
     {
-        self.activations.reserve(1)?;
-        self.numbers.reserve(1)?;
-        add_to(
+        self.numbers.push(activation.number)?;
+        match store(
             self.alloc,
+            &mut self.activations,
             &mut self.by_source,
-            activation.source,
-            activation.number,
-        )?;
-        self.activations.push_reserved(activation);
-        self.numbers.push_reserved(activation.number);
-        Ok(())
+            &mut self.orders,
+            &activation,
+        ) {
+            Ok(()) => Ok(()),
+            Err(refused) => {
+                self.numbers.remove(activation.number);
+                Err(refused)
+            }
+        }
     }
 
     /// Takes the activation of a number away.
     pub(crate) fn remove(&mut self, number: u64)
         ensures { self.new ≡ filter (other_than number) self.old }
     {
-        if let Some(place) = place_of(&self.numbers, number) {
-            let activation = self.activations.remove(place);
-            self.numbers.remove(place);
+        if let Some(activation) = self.activations.remove(&number) {
+            self.numbers.remove(number);
             remove_from(&mut self.by_source, activation.source, number);
+            rank_out(&mut self.orders, activation.source, Rank::of(&activation));
         }
     }
 
-    /// Gives the activation of a number another base.
-    pub(crate) fn rerate(&mut self, number: u64, base: i64)
-        ensures { self.new ≡ map (rebased number base) self.old }
+    /// Gives the activation of a number another base. An error changes nothing.
+    pub(crate) fn rerate(&mut self, number: u64, base: i64) -> Result<(), Memory>
+        ensures ok { OnOk result (self.new ≡ map (rebased number base) self.old) }
+        ensures err { OnErr result (self.new ≡ self.old) }
     {
-        if let Some(place) = place_of(&self.numbers, number) {
-            self.activations[place].base = base;
+        let Some(activation) = self.activations.get(&number).copied() else {
+            return Ok(());
+        };
+        if activation.base == base {
+            return Ok(());
         }
+        rerank(self.alloc, &mut self.orders, &activation, base)?;
+        rebase(&mut self.activations, number, base);
+        Ok(())
     }
 }

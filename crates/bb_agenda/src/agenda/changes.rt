@@ -73,16 +73,18 @@ impl Agenda {
     }
 
     /// The pending activation of a number gets another base; a number of no pending activation changes nothing.
-    /// `Memory`: a change before this one was refused.
+    /// `Memory`: this change was refused, or one before it.
     pub fn rerate(&mut self, number: u64, base: i64) -> Result<(), Memory>
         ensures ok { OnOk result (self.new ≡ with_base self.old number base) }
         ensures err { OnErr result (self.new ≡ when_refused self.old) }
         ensures closed { IsTrue self.old.refused → IsErr result }
     {
         self.guard()?;
-        self.waiting.rerate(number, base);
-        Ok(())
+        let changed = self.put_base(number, base);
+        self.keep(changed.is_err());
+        changed
     }
+
     /// The focus of a unit is now this one, in place of the one that it had. `Memory`: this change was refused, or one
     /// before it.
     pub fn focus_set(&mut self, unit: UnitId, focus: Focus) -> Result<(), Memory>

@@ -1,8 +1,8 @@
-//! The three changes of an agenda that can want memory, where it was refused to none before. `changes` calls them.
+//! The four changes of an agenda that can want memory, where it was refused to none before. `changes` calls them.
 
 ghost use Rattle.std.specs.Prelude.{◌≡◌, OnOk, OnErr};
 ghost use Rattle.bb_basis.specs.Results.{Gives};
-ghost use Rattle.bb_agenda.specs.Changes.{added_number, with_activation, with_obviated, with_focus};
+ghost use Rattle.bb_agenda.specs.Changes.{added_number, with_activation, with_obviated, with_base, with_focus};
 
 use crate::activation::Activation;
 use crate::agenda::Agenda;
@@ -44,6 +44,16 @@ impl Agenda {
         self.waiting.remove(number);
         Ok(())
     }
+
+    /// Gives the pending activation of a number another base. An error changes nothing.
+    pub(crate) fn put_base(&mut self, number: u64, base: i64) -> Result<(), Memory>
+        ensures ok { OnOk result (self.new ≡ with_base self.old number base) }
+        ensures err { OnErr result (self.new ≡ self.old) }
+    {
+        self.waiting.rerate(number, base)?;
+        Ok(())
+    }
+
     /// Sets the focus of a unit. An error changes nothing.
     pub(crate) fn put_focus(&mut self, unit: UnitId, focus: Focus) -> Result<(), Memory>
         ensures ok { OnOk result (self.new ≡ with_focus self.old unit focus) }

@@ -1,10 +1,13 @@
 use Rattle.std.proofs.Common.{◌≡◌, ◌+◌, ◌≤◌, ◌^◌, ◌∙◌, ◌++◌, [], ◌∷◌, length, List, sym, ap, subst, rules, arith, length-append, filter, ◌+ℤ◌, w64, to_z}
 use mir.Val.{SFits}
 use Rattle.std.specs.Int.{w128}
+use Rattle.std.specs.BTreeMap.{values}
 use Rattle.std.specs.Map.Iter.{deref}
+use Rattle.std.proofs.lemmas.Int.{to_z-of_z}
 use Rattle.std.proofs.lemmas.Map.Iter.{rest_more, rest_all}
 use Rattle.bb_agenda.specs.declared.focus.Focus.{Focus}
 use Rattle.bb_agenda.specs.Matching.{matches}
+use Rattle.bb_agenda.specs.proving.Weights.{matches_at}
 use Rattle.bb_agenda.specs.Rating.{rating, total_weight}
 use Rattle.bb_agenda.proofs.EntryLemmas.{values_are}
 use Rattle.bb_agenda.proofs.WeightLemmas.{sum_with, sum_more, sum_all, IsNear, near_more, added}
@@ -12,7 +15,7 @@ use Rattle.bb_agenda.proofs.foci.weighed.Goals as goal
 
 pub loop-focus-preserved : goal.loop-focus-preserved
 loop-focus-preserved c =
-    let p = matches c.args.setting.now.schema c.args.setting.now.sources c.args.activation.now in
+    let p = matches_at c.args.setting.now.schema c.args.setting.now.sources c.args.place in
     let sum = to_z w128 c.loop-focus.sum-bits in
     let focus = c.in-Some.focus.now in
     let left = c.next.new.self in
@@ -31,10 +34,10 @@ loop-focus-preserved c =
     }
 
 pub returns : goal.returns
-unfolding rating
+unfolding rating matches
 returns c =
-    let a = c.args.activation.now in
-    let p = matches c.args.setting.now.schema c.args.setting.now.sources a in
+    let p = matches_at c.args.setting.now.schema c.args.setting.now.sources c.args.place in
     let none = rest_all deref c.loop-focus.focus-iterator c.next.new.self c.next.result c.in-None.is c.next.ensures.steps in
     sum_all p (to_z w128 c.loop-focus.sum-bits) c.loop-focus.focus-iterator none ∙ c.loop-focus.invariant.so_far
-    ∙ ap (λ (l : List Focus). a.base +ℤ total_weight (filter p l)) (sym (values_are c.args.foci.now.entries c.values-focus-items.ensures.ordered))
+    ∙ ap (λ z. sum_with p z (values c.args.foci.now)) (to_z-of_z w64 c.args.base c.ranges.base)
+    ∙ ap (λ (l : List Focus). c.args.base +ℤ total_weight (filter p l)) (sym (values_are c.args.foci.now.entries c.values-focus-items.ensures.ordered))

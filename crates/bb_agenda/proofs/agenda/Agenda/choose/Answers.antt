@@ -1,22 +1,22 @@
-use Rattle.std.proofs.Common.{◌≡◌, ◌∙◌, Some, find, ap, sym, w64, to_z, of_z}
+use Rattle.std.proofs.Common.{◌≡◌, ◌∙◌, ap, find, subst, sym, w64}
 use Rattle.std.proofs.lemmas.Int.{to_z-of_z}
-use Rattle.bb_agenda.specs.Agenda.{Agenda, number_of, pending_at, pending_of}
-use Rattle.bb_agenda.specs.Chosen.{chosen, is_best}
-use Rattle.bb_agenda.specs.Rating.{rating, rating_in}
-use Rattle.bb_agenda.proofs.KeptLemmas.{pending_kept}
-use Rattle.bb_agenda.proofs.RisingLemmas.{found_again}
+use Rattle.std.specs.Prelude.{IfSome, option_map}
+use Rattle.bb_agenda.specs.Agenda.{Agenda, number_of, has_number, pending_at, pending_of}
+use Rattle.bb_agenda.specs.Chosen.{chosen}
+use Rattle.bb_agenda.specs.Rating.{rating_in}
+use Rattle.bb_agenda.specs.proving.Kept.{entries_of}
+use Rattle.bb_agenda.proofs.ChoiceLemmas.{same_choice}
 use Rattle.bb_agenda.proofs.agenda.Agenda.choose.Goals as goal
 
-pub returns-clause-same : goal.returns-clause-same
-returns-clause-same c =
-    let a = c.in_ok-activation.activation in
-    let kept = c.self.inside.waiting in
-    let steering = c.self.inside.steering in
-    let rate = rating steering.setting.schema steering.setting.sources steering.foci in
-    let floor = to_z w64 (of_z w64 c.args.floor) in
-    let found : find (is_best rate floor kept) kept ≡ Some a = ap (chosen rate floor) (sym c.activations.ensures.value) ∙ sym c.in_ok-activation.ensures in
-    ap (λ (g : Agenda). pending_at g a.number) (sym c.self.view_is)
-    ∙ pending_kept c.self.inside.given kept c.self.inside.obviated.keys steering.foci steering.setting c.self.inside.refused c.self.invariant a.number
-    ∙ found_again number_of (is_best rate floor kept) kept a c.activations.ensures.rising found ∙ sym found
-    ∙ ap (chosen rate floor) (sym c.self.invariant.all) ∙ ap (λ (g : Agenda). chosen (rating_in g) floor (pending_of g)) c.self.view_is
-    ∙ ap (λ z. chosen (rating_in c.args.self.now) z (pending_of c.args.self.now)) (to_z-of_z w64 c.args.floor c.ranges.floor)
+pub returns : goal.returns
+returns c =
+    let old = c.self.inside in
+    let seen : Agenda = record { given = entries_of old.given old.waiting old.obviated.keys; foci = old.steering.foci; setting = old.steering.setting; refused = old.refused } in
+    record {
+      number = c.choose.ensures.number ∙ ap (λ z. option_map number_of (chosen (rating_in seen) z old.waiting)) (to_z-of_z w64 c.args.floor c.ranges.floor)
+          ∙ ap (λ xs. option_map number_of (chosen (rating_in seen) c.args.floor xs)) (sym c.self.invariant.all)
+          ∙ ap (λ (g : Agenda). option_map number_of (chosen (rating_in g) c.args.floor (pending_of g))) c.self.view_is;
+      same = subst (λ (g : Agenda). IfSome c.choose.result (λ n. pending_at g n ≡ chosen (rating_in g) c.args.floor (pending_of g))) c.self.view_is
+          (same_choice (rating_in seen) c.args.floor c.choose.result old.waiting (pending_of seen) (sym c.self.invariant.all)
+          (subst (λ z. IfSome c.choose.result (λ n. find (has_number n) old.waiting ≡ chosen (rating_in seen) z old.waiting)) (to_z-of_z w64 c.args.floor c.ranges.floor) c.choose.ensures.same));
+    }

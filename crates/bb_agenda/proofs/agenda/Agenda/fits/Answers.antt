@@ -5,4 +5,4 @@ use Rattle.bb_agenda.proofs.agenda.Agenda.fits.Goals as goal
 
 pub returns : goal.returns
 returns c =
-    subst Fits c.self.view_is (fits_kept c.self.inside.given c.self.inside.waiting c.self.inside.obviated.keys c.self.inside.steering.foci c.self.inside.steering.setting c.self.inside.refused c.self.invariant c.activations-activations.ensures.rising)
+    subst Fits c.self.view_is (fits_kept c.self.inside.given c.self.inside.waiting c.self.inside.obviated.keys c.self.inside.steering.foci c.self.inside.steering.setting c.self.inside.refused c.self.invariant c.numbers-numbers.ensures.rising)

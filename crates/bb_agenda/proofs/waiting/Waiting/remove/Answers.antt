@@ -1,31 +1,42 @@
-use Rattle.std.proofs.Common.{◌∙◌, List, ℕ, filter, ap, subst, sym}
+use Rattle.std.proofs.Common.{◌≡◌, ◌∙◌, List, ℕ, Some, None, filter, find, ap, subst, sym}
+use Rattle.std.specs.Map.{values_of}
 use Rattle.bb_agenda.specs.declared.activation.Activation.{Activation}
+use Rattle.bb_agenda.specs.Agenda.{has_number}
 use Rattle.bb_agenda.specs.Changes.{other_than}
-use Rattle.bb_agenda.specs.proving.Lists.{Rising, IsAt, is_in, one_less}
-use Rattle.bb_agenda.proofs.FiledLemmas.{numbers_rise, sources_rise, nothing_less, one_less_is, filed_less}
+use Rattle.bb_agenda.specs.proving.Lists.{without}
+use Rattle.bb_agenda.specs.proving.Filed.{AreFiled, AreKeyed}
+use Rattle.bb_agenda.specs.proving.Ranks.{AreRanked, ranked_less, rank_of}
+use Rattle.bb_agenda.proofs.FiledLemmas.{numbers_rise, sources_rise, filed_less}
+use Rattle.bb_agenda.proofs.KeyedLemmas.{found, values_less, keyed_less}
+use Rattle.bb_agenda.proofs.RankLemmas.{ranked_gone}
 use Rattle.bb_agenda.proofs.waiting.Waiting.remove.Goals as goal
 
-pub place_of-requires : goal.place_of-requires
-place_of-requires c =
-    subst Rising (sym c.deref.ensures.value) (numbers_rise c.self.inside.activations.items c.self.inside.numbers.items c.self.inside.by_source c.self.invariant)
+pub remove-requires-in-Some : goal.remove-requires-in-Some
+remove-requires-in-Some c = numbers_rise (values_of c.self.inside.activations.entries) c.self.inside.numbers c.self.inside.by_source c.self.invariant.filed
 
 pub remove_from-requires : goal.remove_from-requires
-remove_from-requires c =
-    sources_rise c.self.inside.activations.items c.self.inside.numbers.items c.self.inside.by_source c.self.invariant c.remove-activation.result.source
+remove_from-requires c = sources_rise (values_of c.self.inside.activations.entries) c.self.inside.numbers c.self.inside.by_source c.self.invariant.filed c.in-Some.activation.source
 
 pub invariant_of-self : goal.invariant_of-self
 invariant_of-self c =
-    let at = subst (λ (ns : List ℕ). IsAt ns c.in-Some.place c.args.number) c.deref.ensures.value c.in-Some.ensures.found in
-    rw (c.remove-activation.ensures.items, c.remove.ensures.items) (filed_less c.self.inside.activations.items c.self.inside.numbers.items c.self.inside.by_source c.self.invariant c.args.number c.in-Some.place at c.remove-activation.result c.remove_from.new.lists
-    (λ s. c.remove_from.ensures s ∙ ap (λ (x : Activation). one_less c.self.inside.by_source x.source c.args.number s) c.remove-activation.ensures.value))
+    let old = c.self.inside in
+    let n = c.args.number in
+    let a = c.in-Some.activation in
+    let es = old.activations.entries in
+    let is : find (has_number n) (values_of es) ≡ Some a = sym (found n es c.self.invariant.keyed) ∙ sym c.remove.ensures.value ∙ c.in-Some.is in
+    let values : values_of c.remove.new.self.entries ≡ filter (other_than n) (values_of es) = ap values_of c.remove.ensures.entries ∙ values_less n es c.self.invariant.keyed c.self.invariant.filed.rising in
+    record {
+      keyed = subst AreKeyed (sym c.remove.ensures.entries) (keyed_less n es c.self.invariant.keyed);
+      filed = subst (λ (ns : List ℕ). AreFiled (values_of c.remove.new.self.entries) ns c.remove_from.new.lists) (sym c.remove-in-Some.ensures)
+          (subst (λ (xs : List Activation). AreFiled xs (without n old.numbers) c.remove_from.new.lists) (sym values) (filed_less (values_of es) old.numbers old.by_source c.self.invariant.filed n a is c.remove_from.new.lists c.remove_from.ensures));
+      ranked = subst (λ (xs : List Activation). AreRanked xs c.rank_out.new.orders.items) (sym values)
+          (ranked_gone (values_of es) old.orders.items c.self.invariant.ranked n a is c.rank_out.new.orders.items (λ s r. c.rank_out.ensures s r ∙ ap (λ k. ranked_less old.orders.items a.source k s r) c.of.ensures));
+    }
 
 pub returns-in-Some : goal.returns-in-Some
 returns-in-Some c =
-    let at = subst (λ (ns : List ℕ). IsAt ns c.in-Some.place c.args.number) c.deref.ensures.value c.in-Some.ensures.found in
-    c.remove-activation.ensures.items ∙ one_less_is c.self.inside.activations.items c.self.inside.numbers.items c.self.inside.by_source c.self.invariant c.args.number c.in-Some.place at c.remove-activation.result
-    ∙ ap (filter (other_than c.args.number)) c.self.view_is
+    ap values_of c.remove.ensures.entries ∙ values_less c.args.number c.self.inside.activations.entries c.self.invariant.keyed c.self.invariant.filed.rising ∙ ap (filter (other_than c.args.number)) c.self.view_is
 
 pub returns-in_default : goal.returns-in_default
 returns-in_default c =
-    let none = ap (λ (ns : List ℕ). is_in ns c.args.number) (sym c.deref.ensures.value) ∙ c.in_default.ensures.none in
-    sym c.self.view_is ∙ sym (nothing_less c.self.inside.activations.items c.self.inside.numbers.items c.self.inside.by_source c.self.invariant c.args.number none) ∙ ap (filter (other_than c.args.number)) c.self.view_is
+    ap values_of c.remove.ensures.entries ∙ values_less c.args.number c.self.inside.activations.entries c.self.invariant.keyed c.self.invariant.filed.rising ∙ ap (filter (other_than c.args.number)) c.self.view_is

@@ -1,34 +1,58 @@
-use Rattle.std.proofs.Common.{◌∙◌, List, ℕ, map, set, ap, subst, sym, w64, to_z, of_z}
+use Rattle.std.proofs.Common.{rules, ◌≡◌, ◌∙◌, w64, List, ℕ, ℤ, Some, None, map, find, ap, subst, sym}
+use Rattle.std.specs.Map.{values_of, set_value}
+use Rattle.std.specs.Ordering.{nat_cmp}
+use Rattle.std.specs.BTreeMap.{is_at}
 use Rattle.std.proofs.lemmas.Int.{to_z-of_z}
 use Rattle.bb_agenda.specs.declared.activation.Activation.{Activation}
+use Rattle.bb_agenda.specs.Agenda.{has_number}
 use Rattle.bb_agenda.specs.Changes.{based_at, rebased}
-use Rattle.bb_agenda.specs.proving.Filed.{AreFiled}
-use Rattle.bb_agenda.specs.proving.Lists.{Rising, IsAt, is_in}
-use Rattle.bb_agenda.proofs.FiledLemmas.{numbers_rise, nothing_rebased, rebased_is, filed_rebased}
+use Rattle.bb_agenda.specs.proving.Filed.{AreFiled, AreKeyed}
+use Rattle.bb_agenda.specs.proving.Ranks.{AreRanked, reranked}
+use Rattle.bb_agenda.proofs.FiledLemmas.{filed_rebased}
+use Rattle.bb_agenda.proofs.KeyedLemmas.{found, values_rebased, keyed_rebased, nothing_rebased, same_base}
+use Rattle.bb_agenda.proofs.RankLemmas.{ranked_rebased}
 use Rattle.bb_agenda.proofs.waiting.Waiting.rerate.Goals as goal
 
-pub place_of-requires : goal.place_of-requires
-place_of-requires c =
-    subst Rising (sym c.deref.ensures.value) (numbers_rise c.self.inside.activations.items c.self.inside.numbers.items c.self.inside.by_source c.self.invariant)
+pub returns-in_default-clause-ok : goal.returns-in_default-clause-ok
+returns-in_default-clause-ok c =
+    let n = c.args.number in
+    let es = c.self.inside.activations.entries in
+    let none : find (has_number n) (values_of es) ≡ None = sym (found n es c.self.invariant.keyed) ∙ sym c.get.ensures.value ∙ sym c.copied.ensures ∙ c.in_default.is in
+    sym (ap (map (rebased n c.args.base)) (sym c.self.view_is) ∙ nothing_rebased n c.args.base (values_of es) none ∙ c.self.view_is)
 
-pub invariant_of-self : goal.invariant_of-self
-invariant_of-self c =
-    let at = subst (λ (ns : List ℕ). IsAt ns c.in-Some.place c.args.number) c.deref.ensures.value c.in-Some.ensures.found in
-    let xs = c.self.inside.activations.items in
-    let base = to_z w64 (of_z w64 c.args.base) in
-    subst (λ (x : Activation). AreFiled (set xs c.in-Some.place (based_at base x)) c.self.inside.numbers.items c.self.inside.by_source) (sym c.index_mut.ensures.value)
-    (filed_rebased xs c.self.inside.numbers.items c.self.inside.by_source c.self.invariant c.args.number c.in-Some.place at c.index_mut.result.now base)
+pub returns-then-activation-base-clause-ok : goal.returns-then-activation-base-clause-ok
+returns-then-activation-base-clause-ok c =
+    let n = c.args.number in
+    let a = c.in-Some.activation in
+    let es = c.self.inside.activations.entries in
+    let is : find (has_number n) (values_of es) ≡ Some a = sym (found n es c.self.invariant.keyed) ∙ sym c.get.ensures.value ∙ sym c.copied.ensures ∙ c.in-Some.is in
+    let same : a.base ≡ c.args.base = search rules in
+    sym (ap (map (rebased n c.args.base)) (sym c.self.view_is) ∙ ap (λ z. map (rebased n z) (values_of es)) (sym same) ∙ same_base n (values_of es) a c.self.invariant.filed.rising is ∙ c.self.view_is)
 
-pub returns-in-Some : goal.returns-in-Some
-returns-in-Some c =
-    let at = subst (λ (ns : List ℕ). IsAt ns c.in-Some.place c.args.number) c.deref.ensures.value c.in-Some.ensures.found in
-    let xs = c.self.inside.activations.items in
-    let base = to_z w64 (of_z w64 c.args.base) in
-    ap (λ (x : Activation). set xs c.in-Some.place (based_at base x)) c.index_mut.ensures.value
-    ∙ rebased_is xs c.self.inside.numbers.items c.self.inside.by_source c.self.invariant c.args.number c.in-Some.place at c.index_mut.result.now base
-    ∙ ap (λ z. map (rebased c.args.number z) xs) (to_z-of_z w64 c.args.base c.ranges.base) ∙ ap (map (rebased c.args.number c.args.base)) c.self.view_is
+pub invariant_of-self-2 : goal.invariant_of-self-2
+invariant_of-self-2 c =
+    let n = c.args.number in
+    let a = c.in-Some.activation in
+    let old = c.self.inside in
+    let es = old.activations.entries in
+    let is : find (has_number n) (values_of es) ≡ Some a = sym (found n es c.self.invariant.keyed) ∙ sym c.get.ensures.value ∙ sym c.copied.ensures ∙ c.in-Some.is in
+    let other : a.base ≡ c.args.base → ⊥ = search rules in
+    let made : c.rebase.new.activations.entries ≡ set_value (is_at (nat_cmp n)) es (based_at c.args.base a) =
+    c.rebase.ensures a (sym c.get.ensures.value ∙ sym c.copied.ensures ∙ c.in-Some.is) ∙ ap (λ z. set_value (is_at (nat_cmp n)) es (based_at z a)) (to_z-of_z w64 c.args.base c.ranges.base) in
+    let values : values_of c.rebase.new.activations.entries ≡ map (rebased n c.args.base) (values_of es) = ap values_of made ∙ values_rebased n c.args.base a es c.self.invariant.keyed c.self.invariant.filed.rising is in
+    record {
+      keyed = subst AreKeyed (sym made) (keyed_rebased n c.args.base a es c.self.invariant.keyed is);
+      filed = subst (λ (xs : List Activation). AreFiled xs old.numbers old.by_source) (sym values) (filed_rebased (values_of es) old.numbers old.by_source c.self.invariant.filed n c.args.base);
+      ranked = subst (λ (xs : List Activation). AreRanked xs c.rerank.new.orders.items) (sym values)
+          (ranked_rebased (values_of es) old.orders.items c.self.invariant.ranked n a is c.args.base c.rerank.new.orders.items other
+          (λ s r. c.in_ok-rerank.ensures.ok s r ∙ ap (λ z. reranked old.orders.items a z s r) (to_z-of_z w64 c.args.base c.ranges.base)));
+    }
 
-pub returns-in_default : goal.returns-in_default
-returns-in_default c =
-    let none = ap (λ (ns : List ℕ). is_in ns c.args.number) (sym c.deref.ensures.value) ∙ c.in_default.ensures.none in
-    sym c.self.view_is ∙ sym (nothing_rebased c.self.inside.activations.items c.self.inside.numbers.items c.self.inside.by_source c.self.invariant c.args.number c.args.base none) ∙ ap (map (rebased c.args.number c.args.base)) c.self.view_is
+pub returns-clause-ok : goal.returns-clause-ok
+returns-clause-ok c =
+    let n = c.args.number in
+    let a = c.in-Some.activation in
+    let es = c.self.inside.activations.entries in
+    let is : find (has_number n) (values_of es) ≡ Some a = sym (found n es c.self.invariant.keyed) ∙ sym c.get.ensures.value ∙ sym c.copied.ensures ∙ c.in-Some.is in
+    ap values_of (c.rebase.ensures a (sym c.get.ensures.value ∙ sym c.copied.ensures ∙ c.in-Some.is)) ∙ ap (λ z. values_of (set_value (is_at (nat_cmp n)) es (based_at z a))) (to_z-of_z w64 c.args.base c.ranges.base)
+    ∙ values_rebased n c.args.base a es c.self.invariant.keyed c.self.invariant.filed.rising is ∙ ap (map (rebased n c.args.base)) c.self.view_is

@@ -2,7 +2,7 @@ use Rattle.std.proofs.Common.{◌≡◌, Option, ℕ, false, subst, sym}
 use Rattle.std.specs.Prelude.{IfNone}
 use Rattle.bb_agenda.specs.proving.Lists.{is_in}
 use Rattle.bb_agenda.proofs.RisingLemmas.{place_none}
-use Rattle.bb_agenda.proofs.lists.place_of.Goals as goal
+use Rattle.bb_agenda.proofs.row.place_of.Goals as goal
 
 pub returns-clause-none : goal.returns-clause-none
 returns-clause-none c =

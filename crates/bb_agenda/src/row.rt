@@ -1,0 +1,94 @@
+//! Numbers that rise, lent as one slice. What is pending is listed so (waiting.rt, lists.rt).
+
+ghost use Rattle.std.specs.Prelude.{◌≡◌, [], ◌∷◌, ◌++◌, OnOk, OnErr, IfSome, IfNone, false};
+ghost use Rattle.std.specs.Prelude.{◌≤◌, length, drop};
+ghost use Rattle.bb_agenda.specs.proving.Lists.{Rising, IsAt, is_in, without};
+
+use bb_basis::Memory;
+use std::alloc::Global;
+use std::marker::Model;
+
+/// Numbers that rise. The first goes without a walk; one that goes from the middle moves those behind it, at one go.
+#[derive(Drop)]
+pub(crate) struct Row {
+    // Behind those that went from the front.
+    items: Vec<u64>,
+    start: usize,
+}
+
+impl Model for Row {
+    ghost use Rattle.std.specs.Prelude.{List, ℕ, ◌≤◌, length, drop};
+
+    ghost Value = { List ℕ };
+
+    ghost view = { λ r. drop r.start r.items.items };
+
+    ghost invariant = { λ r. r.start ≤ length r.items.items };
+}
+
+/// The place of a number in a list that rises.
+fn place_of(numbers: &[u64], number: u64) -> Option<usize>
+    requires { Rising numbers.now }
+    ensures found { IfSome result (λ place. IsAt numbers.now place number) }
+    ensures none { IfNone result (is_in numbers.now number ≡ false) }
+{
+    numbers.binary_search(&number).ok()
+}
+
+/// Takes away what went from the front, once it is more than half.
+fn shed(items: &mut Vec<u64>, start: usize) -> usize
+    requires { start ≤ length items.old.items }
+    ensures within { result ≤ length items.new.items }
+    ensures same { drop result items.new.items ≡ drop start items.old.items }
+{
+    if start <= items.len() / 2 {
+        return start;
+    }
+    let left = items.len() - start;
+    items.rotate_left(start);
+    items.truncate(left);
+    0
+}
+
+impl Row {
+    /// No numbers. It allocates nothing.
+    pub(crate) fn new(alloc: Global) -> Row
+        ensures { result ≡ [] }
+    {
+        Row {
+            items: Vec::new(alloc),
+            start: 0,
+        }
+    }
+
+    /// The numbers.
+    pub(crate) fn as_slice(&self) -> &[u64]
+        ensures { result.now ≡ self.now }
+    {
+        &self.items[self.start..]
+    }
+
+    /// Appends a number. An error changes nothing.
+    pub(crate) fn push(&mut self, number: u64) -> Result<(), Memory>
+        ensures ok { OnOk result (self.new ≡ self.old ++ number ∷ []) }
+        ensures err { OnErr result (self.new ≡ self.old) }
+    {
+        self.items.push(number)?;
+        Ok(())
+    }
+
+    /// Takes a number away.
+    pub(crate) fn remove(&mut self, number: u64)
+        requires { Rising self.old }
+        ensures { self.new ≡ without number self.old }
+    {
+        let Some(place) = place_of(self.as_slice(), number) else {
+            return;
+        };
+        if place == 0 {
+            self.start = shed(&mut self.items, self.start + 1);
+            return;
+        }
+        self.items.remove(self.start + place);
+    }
+}
