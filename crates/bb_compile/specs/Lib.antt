@@ -1,20 +1,2 @@
--- the number of each fault of a bundle
-pub mod Faults
--- which sources a bundle can spell
-pub mod Spelled
--- which digits write a rate
-pub mod Rate
--- the clause that a `when` line spells
-pub mod Clauses
--- what a further line of a source begins with
-pub mod Keywords
--- what a line says by itself
-pub mod Line
--- what was read so far of a source
-pub mod Partial
--- the sources of a bundle
-pub mod Bundle
--- the text that is written for sources
-pub mod Written
--- for models and private contracts alone
-pub mod proving
+-- the source of a tree, with its codes
+pub mod Compiled

@@ -1,21 +1,17 @@
-//! Sources from the text of a bundle, and back: who reads or writes a bundle (bb_shell) calls it, and bb_rules looks up
-//! the names.
+//! The compiler: from a tree of the source language to the source that a bundle can spell, with its codes. bb_shell
+//! calls
+//! `compile` for each source of a text.
 #![tactic(auto)]
 
-mod clause;
-mod fault;
-mod keyword;
-mod line;
-mod parser;
-mod partial;
-mod rate;
-mod source_code;
-mod spelled;
+mod clauses;
+mod part_codes;
+mod source;
 #[cfg(test)]
 mod tests;
-mod writer;
 
-pub use fault::BundleFault;
-pub use parser::unbundle;
-pub use source_code::{ActDraft, ChangeText, ClauseText, ReactionDraft, SourceCode, SourceDraft};
-pub use writer::bundle;
+pub use bb_bundle::{
+    ActDraft, BundleFault, ReactionDraft, SourceCode, SourceDraft, bundle, unbundle,
+};
+pub use bb_judge::{CompileFault, Flaw, Place};
+pub use bb_lang::{LangFault, SourceText, parse};
+pub use source::compile;

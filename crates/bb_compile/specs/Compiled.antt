@@ -1,0 +1,148 @@
+-- The source of a tree, with a code for each of its parts that is a block, or the first flaw: from the front to the back of
+-- the text.
+use Rattle.std.specs.Prelude.{ℕ, map, List, Option, Some, None, Result, Ok, Err, if◌then◌else◌}
+use Rattle.bb_basis.specs.Results.{◌>>=◌, ok_or}
+use Rattle.bb_op.specs.Code.{Code}
+use Rattle.bb_frame.specs.declared.part.Part.{Part}
+use Rattle.bb_frame.specs.declared.part.Part.TheVariants.{Require, Obviate, Retrigger, Revalidate, Do}
+use Rattle.bb_frame.specs.Schema.{Schema, class_named}
+use Rattle.bb_lang.specs.declared.source_text.ActText.{ActText}
+use Rattle.bb_lang.specs.declared.source_text.ActText.TheVariants as acts
+use Rattle.bb_lang.specs.declared.source_text.ChangeText.{ChangeText}
+use Rattle.bb_lang.specs.declared.source_text.ChangeText.TheVariants as told
+use Rattle.bb_lang.specs.declared.source_text.ClauseText.{ClauseText}
+use Rattle.bb_lang.specs.declared.source_text.ClauseText.TheVariants as clauses
+use Rattle.bb_lang.specs.declared.source_text.PartText.{PartText}
+use Rattle.bb_lang.specs.declared.source_text.PartTexts.{PartTexts}
+use Rattle.bb_lang.specs.declared.source_text.ReactionText.{ReactionText}
+use Rattle.bb_lang.specs.declared.source_text.SourceText.{SourceText}
+use Rattle.bb_judge.specs.Place.{Place}
+use Rattle.bb_judge.specs.declared.fault.Flaw.TheVariants.{Unknown, NoEnd}
+use Rattle.bb_judge.specs.declared.fault.CompileFault.{CompileFault}
+use Rattle.bb_judge.specs.declared.fault.CompileFault.TheVariants.{At}
+use Rattle.bb_judge.specs.Ending.{block_ends}
+use Rattle.bb_emit.specs.Parts.{part_code}
+use Rattle.bb_bundle.specs.declared.source_code.ActDraft.{ActDraft}
+use Rattle.bb_bundle.specs.declared.source_code.ActDraft.TheVariants as drafts
+use Rattle.bb_bundle.specs.declared.source_code.ChangeText.{ChangeText as Change}
+use Rattle.bb_bundle.specs.declared.source_code.ChangeText.TheVariants as changes
+use Rattle.bb_bundle.specs.declared.source_code.ClauseText.{ClauseText as Clause}
+use Rattle.bb_bundle.specs.declared.source_code.ClauseText.TheVariants as named
+use Rattle.bb_bundle.specs.declared.source_code.ReactionDraft.{ReactionDraft}
+use Rattle.bb_bundle.specs.declared.source_code.SourceDraft.{SourceDraft}
+use Rattle.bb_bundle.specs.Spelled.{if_spelled}
+use Rattle.bb_compile.specs.declared.part_codes.PartCodes.{PartCodes}
+use Rattle.bb_compile.specs.declared.source.Head.{Head}
+
+-- ---- clauses stay what they are
+
+abbrev pub same_change : ChangeText → Change
+same_change told.Create = changes.Create
+same_change told.Delete = changes.Delete
+same_change (told.Update slot) = changes.Update slot
+same_change (told.Link slot) = changes.Link slot
+same_change (told.Unlink slot) = changes.Unlink slot
+same_change (told.Enter space) = changes.Enter space
+same_change (told.Leave space) = changes.Leave space
+
+abbrev pub same_clause : ClauseText → Clause
+same_clause (clauses.Change kind class) = named.Change (same_change kind) class
+same_clause clauses.Quiescence = named.Quiescence
+
+abbrev pub same_clauses : List ClauseText → List Clause
+same_clauses cs = map same_clause cs
+
+-- ---- parts
+
+-- the class of a name behind `on`, which stands at a place
+abbrev pub class_on : Schema → (name : List ℕ) → Place → Result ℕ CompileFault
+class_on schema name on = ok_or (class_named schema name) (At Unknown on)
+
+-- the class of a reaction's events; a reaction with a way past its end is refused first, where it begins
+abbrev pub class_of_events : Schema → ReactionText → Result ℕ CompileFault
+class_of_events schema text =
+    if block_ends text.block then class_on schema text.class text.on else Err (At NoEnd text.place)
+
+-- a part that the source may have
+abbrev pub part_of : Schema → Part → Option PartText → Result (Option Code) CompileFault
+part_of schema part None = Ok None
+part_of schema part (Some text) = part_code schema part text.place text.block >>= λ code. Ok (Some code)
+
+-- a reaction to events
+unfoldable pub reaction_of : Schema → Part → ReactionText → Result (ReactionDraft Code) CompileFault
+reaction_of schema part text = do
+  code ← part_code schema part text.place text.block
+  Ok (record { class = text.class; clauses = same_clauses text.clauses; code = code })
+
+-- a reaction that the source may have, for events of a class
+abbrev pub reaction_if : Schema → ((of : ℕ) → Part) → Option ReactionText → Result (Option (ReactionDraft Code)) CompileFault
+reaction_if schema part None = Ok None
+reaction_if schema part (Some text) = do
+  of ← class_of_events schema text
+  reaction ← reaction_of schema (part of) text
+  Ok (Some reaction)
+
+-- the act
+abbrev pub act_of : Schema → (class : ℕ) → ActText → Result (ActDraft Code) CompileFault
+act_of schema class acts.Native = Ok drafts.Native
+act_of schema class (acts.Do text) = part_code schema (Do class) text.place text.block >>= λ code. Ok (drafts.Do code)
+
+-- ---- the parts besides the act, one after another
+
+abbrev pub no_codes : PartCodes
+no_codes = record { require = None; obviate = None; retrigger = None; revalidate = None }
+
+abbrev pub with_require : Schema → (class : ℕ) → Option PartText → PartCodes → Result PartCodes CompileFault
+with_require schema class text codes = part_of schema (Require class) text >>= λ code. Ok (record codes { require = code })
+
+abbrev pub with_obviate : Schema → (class : ℕ) → Option ReactionText → PartCodes → Result PartCodes CompileFault
+with_obviate schema class text codes = reaction_if schema (Obviate class) text >>= λ r. Ok (record codes { obviate = r })
+
+abbrev pub with_retrigger : Schema → (class : ℕ) → Option ReactionText → PartCodes → Result PartCodes CompileFault
+with_retrigger schema class text codes = reaction_if schema (Retrigger class) text >>= λ r. Ok (record codes { retrigger = r })
+
+abbrev pub with_revalidate : Schema → (class : ℕ) → Option PartText → PartCodes → Result PartCodes CompileFault
+with_revalidate schema class text codes = part_of schema (Revalidate class) text >>= λ code. Ok (record codes { revalidate = code })
+
+unfoldable pub codes_of : Schema → (class : ℕ) → PartTexts → Result PartCodes CompileFault
+codes_of schema class parts = do
+  a ← with_require schema class parts.require no_codes
+  b ← with_obviate schema class parts.obviate a
+  c ← with_retrigger schema class parts.retrigger b
+  with_revalidate schema class parts.revalidate c
+
+-- ---- the source: its name, class, rate and clauses are those of the tree, and so is which parts it has
+
+abbrev pub head_of : SourceText → Head
+head_of text = record {
+  name = text.header.name;
+  class = text.header.class;
+  rate = text.rate;
+  triggers = same_clauses text.clauses;
+}
+
+abbrev pub assembled : Head → PartCodes → ActDraft Code → SourceDraft Code
+assembled head codes act = record {
+  name = head.name;
+  class = head.class;
+  rate = head.rate;
+  triggers = head.triggers;
+  require = codes.require;
+  obviate = codes.obviate;
+  retrigger = codes.retrigger;
+  revalidate = codes.revalidate;
+  act = act;
+}
+
+unfoldable pub draft_of : Schema → SourceText → Result (SourceDraft Code) CompileFault
+draft_of schema text = do
+  class ← class_on schema text.header.class text.header.on
+  codes ← codes_of schema class text.parts
+  act ← act_of schema class text.act
+  Ok (assembled (head_of text) codes act)
+
+-- where all of its names are names, and it has clauses
+unfoldable pub compiled : Schema → SourceText → Result (SourceDraft Code) CompileFault
+compiled schema text = do
+  draft ← draft_of schema text
+  ok_or (if_spelled draft) (At Unknown text.header.on)

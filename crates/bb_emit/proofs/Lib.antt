@@ -1,0 +1,4 @@
+-- loops over steps, patterns and statements
+pub mod LoopLemmas
+-- parts are smaller than their wholes
+pub mod SizeLemmas

@@ -1,0 +1,3 @@
+-- What only measures and proofs speak of.
+-- how large statements are
+pub mod Sizes

@@ -1,0 +1,2 @@
+-- which codes are within their limits
+pub mod WithinLemmas

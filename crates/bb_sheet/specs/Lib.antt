@@ -1,0 +1,10 @@
+-- what is laid out so far of a code
+pub mod Sheets
+-- what operands become
+pub mod Operations
+-- expressions without parts
+pub mod Atoms
+-- which codes are within the limits of codes
+pub mod Within
+-- an empty sheet, and the code of one that is laid out whole
+pub mod Finish

@@ -1,0 +1,82 @@
+//! The texts of a code that is being laid out. The sheet keeps them.
+
+ghost use Rattle.std.specs.Prelude.{◌≡◌, ◌<◌, ◌≤◌, [], ◌∷◌, ◌++◌, length, position, None, IfSome, OnOk};
+ghost use Rattle.std.specs.Str.{bytes_eq};
+ghost use Rattle.bb_code.specs.Limits.{TEXT_COUNT_LIMIT};
+
+use bb_basis::{Items, Names, Text};
+use bb_code::TEXT_COUNT_LIMIT;
+use std::alloc::{AllocError, Global};
+use std::marker::Model;
+
+/// At most `TEXT_COUNT_LIMIT` different texts in the order of their first use, each found without a scan. Contracts see
+/// them as their list.
+pub struct Texts {
+    texts: Vec<Text>,
+    names: Names,
+}
+
+// By hand, so that a proof meets one call where texts are dropped, and not the parts of an index.
+impl Drop for Texts {
+    fn drop(self) {
+        let Texts { texts: _, names: _ } = self;
+    }
+}
+
+impl Model for Texts {
+    ghost use Rattle.std.specs.Prelude.{◌≡◌, ◌≤◌, List, ℕ, length};
+
+    ghost Value = { List (List ℕ) };
+
+    ghost view = { λ t. t.texts.items };
+
+    ghost invariant = { λ t. (t.names ≡ t.texts.items) × (length t.texts.items ≤ 1024) };
+}
+
+impl Texts {
+    /// No text. It allocates nothing.
+    pub fn new(alloc: Global) -> Texts
+        ensures { result ≡ [] }
+    {
+        Texts {
+            texts: Vec::new(alloc),
+            names: Names::new(alloc),
+        }
+    }
+
+    /// The number of texts.
+    pub fn len(&self) -> u16
+        ensures { result ≡ length self.now }
+    {
+        self.texts.len() as u16
+    }
+
+    /// The index of a text, if it is there.
+    pub fn index_of(&self, text: &str) -> Option<u16>
+        ensures { result ≡ position (bytes_eq text.now) self.now }
+    {
+        let index = self.names.index_of(text)?;
+        Some(index as u16)
+    }
+
+    /// Appends a text that is not there yet, where there is room.
+    pub fn push(&mut self, alloc: Global, text: &str) -> Result<(), AllocError>
+        requires room { length self.old < TEXT_COUNT_LIMIT }
+        requires fresh { position (bytes_eq text.now) self.old ≡ None }
+        ensures { OnOk result (self.new ≡ self.old ++ text.now ∷ []) }
+    {
+        let copy = Text::from_str(alloc, text)?;
+        self.texts.reserve(1)?;
+        self.names.insert(alloc, text)?;
+        self.texts.push_reserved(copy);
+        Ok(())
+    }
+
+    /// The texts.
+    pub fn into_items(self) -> Items<Text>
+        ensures { result ≡ self }
+    {
+        let Texts { texts, names: _ } = self;
+        Items::from(texts)
+    }
+}
