@@ -1,0 +1,15 @@
+//! What the words of the command line ask for: a mode, a limit of cycles and a floor. The program reads its words by
+//! `options`.
+#![tactic(auto)]
+
+mod choice;
+mod command;
+mod fault;
+mod reading;
+#[cfg(test)]
+mod tests;
+
+pub use choice::{CYCLE_LIMIT, FLOOR, Mode, Options};
+pub use command::VERSION;
+pub use fault::OptionsFault;
+pub use reading::options;
