@@ -1,0 +1,8 @@
+-- what a native sees
+pub mod Sight
+-- what a native means
+pub mod Native
+-- what a roster of natives means, and what calls and closings make of it
+pub mod Roster
+-- what only models speak of
+pub mod proving

@@ -1,0 +1,13 @@
+-- What a native sees of a blackboard: its schema and its state, without what was noted.
+use Rattle.bb_schema.specs.Schema.{Schema}
+use Rattle.bb_board.specs.State.{World}
+use Rattle.bb_board.specs.World.{after_take}
+use Rattle.bb_board.specs.Board.{Board}
+
+pub record Sight : Type 0 where
+  pub schema : Schema
+  pub world : World
+
+-- what is seen of a blackboard
+abbrev pub sight_of : Board → Sight
+sight_of b = record { schema = b.schema; world = after_take b.world }

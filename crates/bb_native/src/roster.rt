@@ -1,0 +1,141 @@
+//! The natives that a host hands in. Whoever runs sources places each native source in it, has it act, and closes it.
+
+ghost use Rattle.std.specs.Prelude.{◌≡◌, ◌<◌, true, length, map, position, IfSome, IfOk, OnOk, OnErr};
+ghost use Rattle.std.specs.Str.{bytes_eq};
+ghost use Rattle.bb_native.specs.Native.{asks_of, after_act, closing_of};
+ghost use Rattle.bb_native.specs.Roster.{all_open, unclosed, place_of as place_among, asks_at, after_act_at, closings_of};
+
+use crate::ask::Ask;
+use crate::closing::Closing;
+use crate::native_source::NativeSource;
+use crate::view::View;
+use bb_basis::{Items, Memory, Text};
+use bb_schema::UnitId;
+use std::alloc::Global;
+
+/// What the natives of a roster said at their close, in the order in which they were handed in.
+pub type Closed = Items<Closing>;
+
+/// Natives in the order in which they were handed in, all open. Contracts see them as the list of what they mean,
+/// `map N.meaning roster.natives.items`. A roster can't be dropped: `close_all` alone spends it, so no native is dropped
+/// open, or called after its close.
+pub struct Roster<N: NativeSource> {
+    natives: Vec<N>,
+    closings: Vec<Closing>,
+    ghost opened: { all_open (map N.meaning natives.items) ≡ true },
+    ghost named: { closings.items ≡ map unclosed (map N.meaning natives.items) },
+}
+
+impl<N: NativeSource> Roster<N> {
+    /// A roster of open natives. An error closes each of them, in order.
+    pub fn new(alloc: Global, natives: Vec<N>) -> Result<Roster<N>, Memory>
+        requires { all_open (map N.meaning natives.items) ≡ true }
+        ensures { IfOk result (λ roster. map N.meaning roster.natives.items ≡ map N.meaning natives.items) }
+    {
+        match unclosed_all(alloc, &natives) {
+            Ok(closings) => Ok(Roster { natives, closings }),
+            Err(refused) => {
+                close_each(natives);
+                Err(refused)
+            }
+        }
+    }
+
+    /// The place of the first native of a name.
+    pub fn place(&self, name: &str) -> Option<usize>
+        ensures place { result ≡ place_among (map N.meaning self.now.natives.items) name.now }
+        ensures within { IfSome result (λ place. place < length (map N.meaning self.now.natives.items)) }
+    {
+        place_of(&self.closings, name)
+    }
+
+    /// What the native at a place asks for a unit, with what it sees of the blackboard, in order. It then holds its next
+    /// list. An error changes nothing.
+    pub fn act(
+        &mut self,
+        alloc: Global,
+        place: usize,
+        unit: UnitId,
+        view: &View<'_>,
+    ) -> Result<Vec<Ask>, Memory>
+        requires { place < length (map N.meaning self.old.natives.items) }
+        ensures asks { IfOk result (λ asks.
+            asks.items ≡ asks_at (map N.meaning self.old.natives.items) place unit view.now) }
+        ensures ok { OnOk result
+            (map N.meaning self.new.natives.items ≡ after_act_at (map N.meaning self.old.natives.items) place unit view.now) }
+        ensures err { OnErr result (map N.meaning self.new.natives.items ≡ map N.meaning self.old.natives.items) }
+    {
+        self.natives[place].act(alloc, unit, view)
+    }
+
+    /// Closes each native once, in order, drops it, and answers what each said. It takes no memory.
+    pub fn close_all(self) -> Closed
+        ensures { result ≡ closings_of (map N.meaning self.natives.items) }
+    {
+        let Roster { natives, closings } = self;
+        Items::from(close_into(natives, closings))
+    }
+}
+
+/// The place of the first closing of a name.
+fn place_of(closings: &[Closing], name: &str) -> Option<usize>
+    ensures { result ≡ position (λ (c : Closing). bytes_eq c.name name.now) closings.now }
+{
+    closings
+        .iter()
+        .position(|closing| closing.name.as_str() == name)
+}
+
+/// The name of a native, with no number yet.
+fn unclosed<N: NativeSource>(alloc: Global, native: &N) -> Result<Closing, Memory>
+    ensures { IfOk result (λ closing. closing ≡ unclosed (N.meaning native.now)) }
+{
+    Ok(Closing {
+        name: Text::from_str(alloc, native.name())?,
+        number: 0,
+    })
+}
+
+/// The name of each native, with no number yet.
+fn unclosed_all<N: NativeSource>(alloc: Global, natives: &[N]) -> Result<Vec<Closing>, Memory>
+    ensures { IfOk result (λ closings. closings.items ≡ map unclosed (map N.meaning natives.now)) }
+{
+    let mut closings = Vec::new(alloc);
+    for native in natives {
+        closings.push(unclosed(alloc, native)?)?;
+    }
+    Ok(closings)
+}
+
+/// Closes a native, drops it, and answers the number that it said.
+fn close<N: NativeSource>(native: N) -> i64
+    requires { (N.meaning native).is_open ≡ true }
+    ensures { result ≡ closing_of (N.meaning native) }
+{
+    let mut native = native;
+    native.close()
+}
+
+/// Closes natives and drops them, in order.
+fn close_each<N: NativeSource>(natives: Vec<N>)
+    requires { all_open (map N.meaning natives.items) ≡ true }
+{
+    for native in natives {
+        close(native);
+    }
+}
+
+/// Closes natives and drops them, in order, and puts the number of each beside its name.
+fn close_into<N: NativeSource>(natives: Vec<N>, closings: Vec<Closing>) -> Vec<Closing>
+    requires opened { all_open (map N.meaning natives.items) ≡ true }
+    requires named { closings.items ≡ map unclosed (map N.meaning natives.items) }
+    ensures { result.items ≡ closings_of (map N.meaning natives.items) }
+{
+    let mut closings = closings;
+    let mut at = 0;
+    for native in natives {
+        closings[at].number = close(native);
+        at += 1;
+    }
+    closings
+}

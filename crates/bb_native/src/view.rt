@@ -1,0 +1,125 @@
+//! What a native sees of a blackboard: all that can be read of it, but for its notes.
+
+ghost use Rattle.std.specs.Prelude.{◌≡◌, ◌≤◌, ◌↔◌, Ok, Some, length, map, slice_get, IfOk, IsTrue, IsSome};
+ghost use Rattle.bb_pattern.specs.Fits.{query_fits};
+ghost use Rattle.bb_pattern.specs.Values.{kind_of_operand};
+ghost use Rattle.bb_units.specs.Units.{is_live, class_of, value_of, has_slot};
+ghost use Rattle.bb_units.specs.declared.units.TheConstants.{UNIT_LIMIT};
+ghost use Rattle.bb_links.specs.Links.{ends};
+ghost use Rattle.bb_world.specs.Answer.{answer};
+ghost use Rattle.bb_world.specs.May.{was};
+ghost use Rattle.bb_native.specs.Sight.{sight_of};
+
+use bb_basis::Memory;
+use bb_board::Board;
+use bb_schema::{ClassId, Schema, SlotId, UnitId, Value};
+use bb_world::{DimValue, Query};
+use std::marker::Model;
+
+/// A blackboard that can be read and not changed. Its notes are not seen, so that what a native does can't depend on
+/// when they were last taken.
+#[derive(Drop)]
+pub struct View<'a> {
+    board: &'a Board,
+}
+
+impl<'a> Model for View<'a> {
+    ghost use Rattle.bb_native.specs.Sight.{Sight, sight_of};
+    ghost use Rattle.bb_native.specs.proving.Codes.{sight_code};
+
+    ghost Value = { Sight };
+
+    ghost coded = { sight_code };
+
+    ghost view = { λ v. sight_of v.board.now };
+}
+
+impl<'a> View<'a> {
+    /// What can be read of a blackboard.
+    pub fn new(board: &'a Board) -> View<'a>
+        ensures { result ≡ sight_of board.now }
+    {
+        View { board }
+    }
+
+    /// The schema.
+    pub fn schema(&self) -> &Schema
+        ensures { result.now ≡ self.now.schema }
+    {
+        self.board.schema()
+    }
+
+    /// The number that the next unit gets, up to 2^63.
+    pub fn next(&self) -> UnitId
+        ensures { result ≡ self.now.world.units.next }
+    {
+        self.board.next()
+    }
+
+    /// Whether a number names a unit.
+    pub fn live(&self, unit: UnitId) -> bool
+        ensures { result ≡ is_live self.now.world.units unit }
+    {
+        self.board.live(unit)
+    }
+
+    /// Whether a number is 0, or that of a unit that was created and, if it is live, is of a class that descends from
+    /// this one.
+    pub fn was(&self, unit: UnitId, class: ClassId) -> bool
+        ensures { result ≡ was self.now.schema self.now.world unit class }
+    {
+        self.board.was(unit, class)
+    }
+
+    /// The class of a live unit.
+    pub fn class_of(&self, unit: UnitId) -> ClassId
+        requires { IsTrue (is_live self.now.world.units unit) }
+        ensures { class_of self.now.world.units unit ≡ Some result }
+    {
+        self.board.class_of(unit)
+    }
+
+    /// The value of an ordinary slot of a live unit, one that its class has.
+    pub fn get(&self, unit: UnitId, slot: SlotId) -> &Value
+        requires { IsSome (value_of self.now.world.units unit slot) }
+        ensures { value_of self.now.world.units unit slot ≡ Some result.now }
+    {
+        self.board.get(unit, slot)
+    }
+
+    /// Whether a number names a unit whose class has the ordinary slot.
+    pub fn has(&self, unit: UnitId, slot: SlotId) -> bool
+        ensures value { IsTrue result ↔ IsSome (value_of self.now.world.units unit slot) }
+        ensures listed { result ≡ has_slot self.now.world.units unit slot }
+    {
+        self.board.has(unit, slot)
+    }
+
+    /// The partners of a unit by a slot, in order of addition, 65,536 at most. A slot that is no link slot has none.
+    pub fn links(&self, unit: UnitId, slot: SlotId) -> &[UnitId]
+        ensures links { result.now ≡ ends self.now.world.links unit slot }
+        ensures few { length result.now ≤ UNIT_LIMIT }
+    {
+        self.board.links(unit, slot)
+    }
+
+    /// The first partner of a unit by a slot, which is the only one where the slot is singular.
+    pub fn one(&self, unit: UnitId, slot: SlotId) -> Option<UnitId>
+        ensures { result ≡ slice_get (ends self.now.world.links unit slot) 0 }
+    {
+        self.board.one(unit, slot)
+    }
+
+    /// The answer of a query that fits the schema, with operands of its kinds: the units in its space, of its class or
+    /// one below it, of which its pattern holds by their present values, rising (GBBopen Reference Manual,
+    /// find-instances). They are 65,536 at most.
+    pub fn find(&self, query: &Query, operands: &[DimValue]) -> Result<Vec<UnitId>, Memory>
+        requires fits { query_fits self.now.schema query.now ≡ Ok tt }
+        requires kinds { map kind_of_operand operands.now ≡ query.now.kinds }
+        ensures answer { IfOk result (λ found.
+            found.items ≡ answer self.now.schema self.now.world.units self.now.world.spaces query.now operands.now) }
+        ensures few { IfOk result (λ found. length found.items ≤ UNIT_LIMIT) }
+    {
+        self.board.find(query, operands)
+    }
+}
