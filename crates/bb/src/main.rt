@@ -1,12 +1,38 @@
-//! The blackboard shell as a program: it serves its standard input on its standard output.
+//! The blackboard shell as a program: it serves its standard input on its standard output, as the words of its command
+//! line say.
 #![tactic(auto)]
 
-use bb_main::{Intake, Pipe, program};
-use std::io;
+use bb_main::{Intake, Options, OptionsFault, Pipe, options, program, tell};
 use std::process::ExitCode;
+use std::rt::Env;
+use std::{env, io};
 
 fn main(rt: HostRuntime) -> ExitCode {
-    let mut reader = Intake::new(rt.stdin());
     let mut writer = Pipe::new(io::writer(&rt));
-    ExitCode::from(program(rt.alloc(), &mut reader, &mut writer))
+    let status = match chosen(&rt) {
+        Ok(options) => {
+            let mut reader = Intake::new(rt.stdin());
+            program(rt.alloc(), options, &mut reader, &mut writer)
+        }
+        Err(fault) => tell(&fault, &mut writer),
+    };
+    ExitCode::from(status)
+}
+
+/// What the words behind the program's name choose.
+fn chosen<R: Env + AllocGlobal>(rt: &R) -> Result<Options, OptionsFault> {
+    let words = words(rt)?;
+    options(rt.alloc(), words.as_slice())
+}
+
+/// The words behind the program's name, which have to be UTF-8.
+fn words<R: Env + AllocGlobal>(rt: &R) -> Result<Vec<String>, OptionsFault> {
+    match env::args(rt) {
+        Ok(all) => Ok(all.skip(1).collect(rt.alloc())?),
+        Err(error) if error.kind() == io::ErrorKind::OutOfMemory => Err(OptionsFault::Memory),
+        Err(_) => {
+            let text = String::from_str(rt.alloc(), "error: a word is not UTF-8\n")?;
+            Err(OptionsFault::Words(text))
+        }
+    }
 }

@@ -35,7 +35,7 @@ pub enum Fault {
     #[error("no text or board has this name")]
     Unknown,
     /// An option is missing, unknown, or has no value.
-    #[error("an option that this kind has not, or one without a value")]
+    #[error("an option that this kind has not, one without a value, or a mode that is none")]
     Options,
     /// A word is no number, or one out of its range.
     #[error("a number in its range is due")]

@@ -4,7 +4,7 @@
 ghost use Rattle.std.specs.Prelude.{◌≡◌, Some, false};
 
 use bb_case::{Difference, Entry, Fault, Header, Scope, expanded, number};
-use bb_main::{Intake, Out, serve};
+use bb_main::{Intake, Mode, Out, serve};
 use std::alloc::{AllocError, Global};
 
 /// Takes `room` bytes, at most `step` in one call, and then fails.
@@ -39,6 +39,7 @@ impl Out for Narrow {
 /// How inputs are served.
 #[derive(Clone, Copy)]
 pub(crate) struct Serving {
+    mode: Mode,
     limit: u32,
     floor: i64,
     room: usize,
@@ -48,8 +49,9 @@ pub(crate) struct Serving {
 impl Serving {
     /// What a header says of it.
     pub fn of(header: &Header<'_>) -> Result<Serving, Fault> {
-        header.check(&["limit", "floor", "room", "by"])?;
+        header.check(&["mode", "limit", "floor", "room", "by"])?;
         Ok(Serving {
+            mode: mode_of(header)?,
             limit: header.number("limit", 1_000_000)?,
             floor: header.number("floor", 0)?,
             room: header.number("room", usize::MAX)?,
@@ -72,7 +74,14 @@ impl Serving {
             step: self.step,
             failed: false,
         };
-        let given = serve(alloc, self.limit, self.floor, &mut reader, &mut out);
+        let given = serve(
+            alloc,
+            self.mode,
+            self.limit,
+            self.floor,
+            &mut reader,
+            &mut out,
+        );
         let difference = Difference::of(alloc, output, &out.taken)?;
         if difference.is_some() || given == status {
             return Ok(difference);
@@ -82,6 +91,16 @@ impl Serving {
             wanted: format!(in alloc; "{status}")?,
             given: format!(in alloc; "{given}")?,
         }))
+    }
+}
+
+/// The mode that a header names, or `run`.
+fn mode_of(header: &Header<'_>) -> Result<Mode, Fault> {
+    match header.option("mode") {
+        None | Some("run") => Ok(Mode::Run),
+        Some("check") => Ok(Mode::Check),
+        Some("compile") => Ok(Mode::Compile),
+        Some(_) => Err(Fault::Options),
     }
 }
 

@@ -5,4 +5,5 @@ pub mod ReadLemmas
 pub mod InputLemmas
 pub mod OrderLemmas
 pub mod ServeLemmas
+pub mod StatusLemmas
 pub mod Limits

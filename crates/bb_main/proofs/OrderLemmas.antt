@@ -10,34 +10,8 @@ use Rattle.bb_main.specs.declared.sections.Header.TheVariants.{Schema, Units, So
 use Rattle.bb_main.specs.declared.section_fault.SectionFault.{SectionFault}
 use Rattle.bb_main.specs.declared.section_fault.SectionFault.TheVariants.{Sections as NotInOrder}
 use Rattle.bb_main.specs.Lines.{lines, onto_first}
-use Rattle.bb_main.specs.Sections.{header_of, before, parts, line_before, with_part, Part, part, Texts, in_order, sections_of}
+use Rattle.bb_main.specs.Sections.{header_of, before, parts, line_before, with_part, Part, part, Texts, alone, bundle_first, in_order, sections_of, sources_first, units_first}
 use Rattle.bb_main.specs.proving.Cuts.{Begins, Takes}
-
--- the text of the units section, or the default, and the parts after it
-abbrev pub units_first : List Part → List ℕ × List Part
-units_first (part Units u ∷ others) = (u, others)
-units_first others = (codes "{}", others)
-
-abbrev pub bundle_first : List Part → List ℕ × List Part
-bundle_first (part Bundle b ∷ others) = (b, others)
-bundle_first others = ([], others)
-
-abbrev pub finish : List ℕ → List ℕ → List ℕ → List Part → Result Texts SectionFault
-finish s u b [] = Ok (record { schema = s; units = u; bundle = b })
-finish s u b (p ∷ others) = Err NotInOrder
-
-one_by_one : (s : List ℕ) (others : List Part) → in_order (part Schema s ∷ others) ≡ finish s (units_first others).0 (bundle_first (units_first others).1).0 (bundle_first (units_first others).1).1
-one_by_one s [] = refl
-one_by_one s (part Units u ∷ []) = refl
-one_by_one s (part Units u ∷ part Bundle b ∷ []) = refl
-one_by_one s (part Units u ∷ part Bundle b ∷ p ∷ others) = refl
-one_by_one s (part Units u ∷ part Schema x ∷ others) = refl
-one_by_one s (part Units u ∷ part Units x ∷ others) = refl
-one_by_one s (part Units u ∷ part Sources x ∷ others) = refl
-one_by_one s (part Bundle b ∷ []) = refl
-one_by_one s (part Bundle b ∷ p ∷ others) = refl
-one_by_one s (part Schema x ∷ others) = refl
-one_by_one s (part Sources x ∷ others) = refl
 
 units-none : (ps : List Part) → ((s : List ℕ) (others : List Part) → ps ≢ part Units s ∷ others) → units_first ps ≡ (codes "{}", ps)
 units-none [] lacks = refl
@@ -45,6 +19,13 @@ units-none (part Units u ∷ others) lacks = absurd (lacks u others refl)
 units-none (part Schema u ∷ others) lacks = refl
 units-none (part Sources u ∷ others) lacks = refl
 units-none (part Bundle u ∷ others) lacks = refl
+
+sources-none : (ps : List Part) → ((s : List ℕ) (others : List Part) → ps ≢ part Sources s ∷ others) → sources_first ps ≡ ([], ps)
+sources-none [] lacks = refl
+sources-none (part Sources u ∷ others) lacks = absurd (lacks u others refl)
+sources-none (part Schema u ∷ others) lacks = refl
+sources-none (part Bundle u ∷ others) lacks = refl
+sources-none (part Units u ∷ others) lacks = refl
 
 bundle-none : (ps : List Part) → ((s : List ℕ) (others : List Part) → ps ≢ part Bundle s ∷ others) → bundle_first ps ≡ ([], ps)
 bundle-none [] lacks = refl
@@ -62,6 +43,10 @@ pub units-taken : (rest : List ℕ) (taken : Option (Bor (List ℕ) × Bor (List
 units-taken rest (Some p) d got is takes begins none same = rw is (record { is = ap units_first takes.1; begins = takes.2 })
 units-taken rest None d got is takes begins none same = rw (is, none, same) (record { is = units-none (parts (lines rest)) (takes begins); begins = begins })
 
+pub sources-taken : (rest : List ℕ) (taken : Option (Bor (List ℕ) × Bor (List ℕ))) (d got : Bor (List ℕ) × Bor (List ℕ)) → got ≡ unwrap_or taken d → Takes Sources rest taken → Begins rest → d.0.now ≡ [] → d.1.now ≡ rest → Left sources_first rest got
+sources-taken rest (Some p) d got is takes begins none same = rw is (record { is = ap sources_first takes.1; begins = takes.2 })
+sources-taken rest None d got is takes begins none same = rw (is, none, same) (record { is = sources-none (parts (lines rest)) (takes begins); begins = begins })
+
 pub bundle-taken : (rest : List ℕ) (taken : Option (Bor (List ℕ) × Bor (List ℕ))) (d got : Bor (List ℕ) × Bor (List ℕ)) → got ≡ unwrap_or taken d → Takes Bundle rest taken → Begins rest → d.0.now ≡ [] → d.1.now ≡ rest → Left bundle_first rest got
 bundle-taken rest (Some p) d got is takes begins none same = rw is (record { is = ap bundle_first takes.1; begins = takes.2 })
 bundle-taken rest None d got is takes begins none same = rw (is, none, same) (record { is = bundle-none (parts (lines rest)) (takes begins); begins = begins })
@@ -78,14 +63,26 @@ sections-lacks text lacks = go (before (lines text)) (parts (lines text)) lacks
     go [] (part Sources s ∷ others) lacks = refl
     go [] (part Bundle s ∷ others) lacks = refl
 
-pub sections-finish : (text s rest : List ℕ) (units bundle : Bor (List ℕ) × Bor (List ℕ)) → Begins text → parts (lines text) ≡ part Schema s ∷ parts (lines rest) → Left units_first rest units → Left bundle_first units.1.now bundle → sections_of text ≡ finish s units.0.now bundle.0.now (parts (lines bundle.1.now))
-unfolding sections_of
-sections-finish text s rest units bundle begins is first second =
-    ap (λ b. if bytes_eq b [] then in_order (parts (lines text)) else Err NotInOrder) begins ∙ (ap in_order is ∙ (one_by_one s (parts (lines rest))
-    ∙ (ap (λ p. finish s p.0 (bundle_first p.1).0 (bundle_first p.1).1) first.is ∙ ap (λ p. finish s units.0.now p.0 p.1) second.is)))
+-- a pair whose halves are known
+abbrev both : (List ℕ × List Part) → List ℕ → List Part → Type 0
+both p text others = p ≡ (text, others)
 
-pub finish-end : (s u b rest : List ℕ) → length rest ≡ 0 → finish s u b (parts (lines rest)) ≡ Ok (record { schema = s; units = u; bundle = b })
-finish-end s u b rest empty = ap (λ r. finish s u b (parts (lines r))) (nil_from_length rest empty)
+in_order-as : (s u t b : List ℕ) (others behind_units behind_sources left : List Part) → both (units_first others) u behind_units → both (sources_first behind_units) t behind_sources → both (bundle_first behind_sources) b left
+    → in_order (part Schema s ∷ others) ≡ alone (record { schema = s; units = u; sources = t; bundle = b }) left
+in_order-as s u t b others behind_units behind_sources left first second third =
+    ap (λ (p : List ℕ × List Part). alone (record { schema = s; units = p.0; sources = (sources_first p.1).0; bundle = (bundle_first (sources_first p.1).1).0 }) (bundle_first (sources_first p.1).1).1) first
+    ∙ (ap (λ (p : List ℕ × List Part). alone (record { schema = s; units = u; sources = p.0; bundle = (bundle_first p.1).0 }) (bundle_first p.1).1) second
+    ∙ ap (λ (p : List ℕ × List Part). alone (record { schema = s; units = u; sources = t; bundle = p.0 }) p.1) third)
+
+pub sections-finish : (text s rest : List ℕ) (units sources bundle : Bor (List ℕ) × Bor (List ℕ)) → Begins text → parts (lines text) ≡ part Schema s ∷ parts (lines rest) → Left units_first rest units → Left sources_first units.1.now sources → Left bundle_first sources.1.now bundle
+    → sections_of text ≡ alone (record { schema = s; units = units.0.now; sources = sources.0.now; bundle = bundle.0.now }) (parts (lines bundle.1.now))
+unfolding sections_of
+sections-finish text s rest units sources bundle begins is first second third =
+    ap (λ b. if bytes_eq b [] then in_order (parts (lines text)) else Err NotInOrder) begins ∙ (ap in_order is
+    ∙ in_order-as s units.0.now sources.0.now bundle.0.now (parts (lines rest)) (parts (lines units.1.now)) (parts (lines sources.1.now)) (parts (lines bundle.1.now)) first.is second.is third.is)
+
+pub alone-end : (texts : Texts) (rest : List ℕ) → length rest ≡ 0 → alone texts (parts (lines rest)) ≡ Ok texts
+alone-end texts rest empty = ap (λ r. alone texts (parts (lines r))) (nil_from_length rest empty)
 
 onto-begin : (x : ℕ) (found : List (List ℕ)) → (l : List ℕ) × (ls : List (List ℕ)) × (onto_first x found ≡ (x ∷ l) ∷ ls)
 onto-begin x [] = ([], [], refl)
@@ -98,12 +95,12 @@ lines-begin x bytes = go (x == 10)
     go true = ([], lines bytes, refl)
     go false = onto-begin x (lines bytes)
 
-pub finish-more : (s u b rest : List ℕ) → Begins rest → 0 < length rest → finish s u b (parts (lines rest)) ≡ Err NotInOrder
-finish-more s u b [] begins some = absurd (omega arith)
-finish-more s u b (x ∷ bytes) begins some =
+pub alone-more : (texts : Texts) (rest : List ℕ) → Begins rest → 0 < length rest → alone texts (parts (lines rest)) ≡ Err NotInOrder
+alone-more texts [] begins some = absurd (omega arith)
+alone-more texts (x ∷ bytes) begins some =
     let shape = lines-begin x bytes in
-    ap (λ ls. finish s u b (parts ls)) shape.2 ∙ go (header_of (x ∷ shape.0)) shape.0 (before shape.1) (parts shape.1) (sym (ap before shape.2) ∙ begins)
+    ap (λ ls. alone texts (parts ls)) shape.2 ∙ go (header_of (x ∷ shape.0)) shape.0 (before shape.1) (parts shape.1) (sym (ap before shape.2) ∙ begins)
   where
-    go : (found : Option Header) (l rest : List ℕ) (ps : List Part) → line_before found (x ∷ l) rest ≡ [] → finish s u b (with_part found rest ps) ≡ Err NotInOrder
+    go : (found : Option Header) (l rest : List ℕ) (ps : List Part) → line_before found (x ∷ l) rest ≡ [] → alone texts (with_part found rest ps) ≡ Err NotInOrder
     go (Some h) l rest ps none = refl
     go None l rest ps none = cc

@@ -8,6 +8,12 @@ use Rattle.std.proofs.Math.Seq.{take-append-add, take-length}
 use Rattle.std.specs.Io.KnownBytes.{Appends, Consumes}
 use Rattle.std.proofs.KnownBytes.{Appends-nil, Appends-trans}
 use Rattle.std.specs.Option.{option_map_or}
+use Rattle.bb_options.specs.declared.choice.Mode.{Mode}
+use Rattle.bb_shell.specs.Check.{WritesCheck}
+use Rattle.bb_shell.specs.CheckText.{check_text}
+use Rattle.bb_shell.specs.Compile.{WritesBundle}
+use Rattle.bb_shell.specs.declared.written.Done.{Done}
+use Rattle.bb_shell.specs.declared.written.Done.TheVariants.{Written, Write}
 use Rattle.bb_shell.specs.End.{End}
 use Rattle.bb_shell.specs.End.TheVariants as ends
 use Rattle.bb_shell.specs.Finishes.{Finish}
@@ -16,37 +22,41 @@ use Rattle.bb_shell.specs.declared.input_fault.InputFault.{InputFault}
 use Rattle.bb_shell.specs.Finish.{WritesFront, end_of}
 use Rattle.bb_shell.specs.Meaning.{Meaning}
 use Rattle.bb_shell.specs.Run.{run}
+use Rattle.bb_shell.specs.BundleText.{bundle_text}
+use Rattle.bb_shell.specs.Code.{Code}
+use Rattle.bb_shell.specs.Source.{Source}
+use Rattle.bb_shell.specs.SourceDraft.{SourceDraft}
 use Rattle.bb_shell.specs.TraceText.{segment_text, trace_text}
 use Rattle.bb_main.specs.declared.read.TheConstants.{INPUT_LIMIT}
-use Rattle.bb_main.specs.declared.serving.TheConstants.{MEMORY, REFUSED}
+use Rattle.bb_main.specs.declared.serving.TheConstants.{MEMORY, REFUSED, WRITE}
 use Rattle.bb_main.specs.declared.section_fault.SectionFault.{SectionFault}
 use Rattle.bb_main.specs.declared.section_fault.SectionFault.TheVariants.{Limit}
 use Rattle.bb_main.specs.Input.{input_of}
 use Rattle.bb_main.specs.Sections.{Texts}
-use Rattle.bb_main.specs.Serve.{Answer, CutShort, Delivers, Serves, answer, answer_to_meaning, answer_to_run, answer_to_sections, end_status, limit_refusal, refusal, status_of, text_of}
+use Rattle.bb_main.specs.Serve.{Answer, CutShort, Delivers, Serves, answer, answer_to_check, answer_to_compile, answer_to_meaning, answer_to_run, answer_to_sections, done_status, end_status, limit_refusal, refusal, status_of, text_of}
 use Rattle.bb_main.proofs.InputLemmas.{is_long}
 
-pub answer-from : (bytes : List ℕ) (limit : ℕ) (floor : ℤ) (cut : Result Texts SectionFault) (P : Answer → Type 0) → cut ≡ input_of bytes → P (answer_to_sections limit floor cut) → P (answer bytes limit floor)
+pub answer-from : (bytes : List ℕ) (mode : Mode) (limit : ℕ) (floor : ℤ) (cut : Result Texts SectionFault) (P : Answer → Type 0) → cut ≡ input_of bytes → P (answer_to_sections mode limit floor cut) → P (answer bytes mode limit floor)
 unfolding answer
-answer-from bytes limit floor cut P is holds = subst (λ (c : Result Texts SectionFault). P (answer_to_sections limit floor c)) is holds
+answer-from bytes mode limit floor cut P is holds = subst (λ (c : Result Texts SectionFault). P (answer_to_sections mode limit floor c)) is holds
 
-answer-long : (bytes : List ℕ) (limit : ℕ) (floor : ℤ) (taken given : Option (List ℕ)) (status : ℕ) → INPUT_LIMIT < length bytes → Delivers limit_refusal taken given status → Delivers (answer bytes limit floor) taken given status
-answer-long bytes limit floor taken given status long delivers = answer-from bytes limit floor (Err Limit) (λ a. Delivers a taken given status) (is_long bytes long) delivers
+answer-long : (bytes : List ℕ) (mode : Mode) (limit : ℕ) (floor : ℤ) (taken given : Option (List ℕ)) (status : ℕ) → INPUT_LIMIT < length bytes → Delivers limit_refusal taken given status → Delivers (answer bytes mode limit floor) taken given status
+answer-long bytes mode limit floor taken given status long delivers = answer-from bytes mode limit floor (Err Limit) (λ a. Delivers a taken given status) (is_long bytes long) delivers
 
 -- a reader that gave too many bytes has too many
-pub serves-long : (limit : ℕ) (floor : ℤ) (read left taken given : Option (List ℕ)) (status : ℕ) (bytes : List ℕ) → Consumes read left bytes → length bytes ≡ INPUT_LIMIT + 1 → Delivers limit_refusal taken given status → Serves limit floor read taken given status
-serves-long limit floor None left taken given status bytes p long delivers = (bytes, tt, inl (answer-long bytes limit floor taken given status (omega arith) delivers))
-serves-long limit floor (Some xs) None taken given status bytes p long delivers = absurd p
-serves-long limit floor (Some xs) (Some ys) taken given status bytes p long delivers =
-    (xs, refl, inl (answer-long xs limit floor taken given status (omega (arith, length-append bytes ys, ap length p)) delivers))
+pub serves-long : (mode : Mode) (limit : ℕ) (floor : ℤ) (read left taken given : Option (List ℕ)) (status : ℕ) (bytes : List ℕ) → Consumes read left bytes → length bytes ≡ INPUT_LIMIT + 1 → Delivers limit_refusal taken given status → Serves mode limit floor read taken given status
+serves-long mode limit floor None left taken given status bytes p long delivers = (bytes, tt, inl (answer-long bytes mode limit floor taken given status (omega arith) delivers))
+serves-long mode limit floor (Some xs) None taken given status bytes p long delivers = absurd p
+serves-long mode limit floor (Some xs) (Some ys) taken given status bytes p long delivers =
+    (xs, refl, inl (answer-long xs mode limit floor taken given status (omega (arith, length-append bytes ys, ap length p)) delivers))
 
 -- where memory ran out before anything was written
 pub cut-nothing : (a : Answer) (taken : Option (List ℕ)) (status : ℕ) → status ≡ MEMORY → CutShort a taken taken status
 cut-nothing a taken status is = (is, (0, (λ _. refl), Appends-nil taken))
 
-pub serves-nothing : (limit : ℕ) (floor : ℤ) (read taken : Option (List ℕ)) (status : ℕ) → status ≡ MEMORY → Serves limit floor read taken taken status
-serves-nothing limit floor None taken status is = ([], tt, inr (cut-nothing (answer [] limit floor) taken status is))
-serves-nothing limit floor (Some xs) taken status is = (xs, refl, inr (cut-nothing (answer xs limit floor) taken status is))
+pub serves-nothing : (mode : Mode) (limit : ℕ) (floor : ℤ) (read taken : Option (List ℕ)) (status : ℕ) → status ≡ MEMORY → Serves mode limit floor read taken taken status
+serves-nothing mode limit floor None taken status is = ([], tt, inr (cut-nothing (answer [] mode limit floor) taken status is))
+serves-nothing mode limit floor (Some xs) taken status is = (xs, refl, inr (cut-nothing (answer xs mode limit floor) taken status is))
 
 -- the text of pieces
 pub text_of-map : {X : Type 0} (f : X → List ℕ) (xs : List X) → text_of (map f xs) ≡ flat_map f xs
@@ -105,6 +115,27 @@ served_meaning limit given f status old new is ends wrote front =
     let text = subst (λ (n : Meaning). IfSome (end_of f) (λ _. Appends old new (trace_text n.plan (run n.plan n.board limit).told))) (same_meaning given m wrote.0 ends.1 wrote.1) wrote.2 in
     let first = subst (λ (n : Meaning). WritesFront n.plan (run n.plan n.board limit) f old new) (same_meaning given m front.0 ends.1 front.1) front.2 in
     subst (λ (r : Result Meaning InputFault). Delivers (answer_to_meaning limit r) old new status ⊎ CutShort (answer_to_meaning limit r) old new status) (sym ends.1) (served_run limit m f status old new is ends.2 text first)
+
+-- an answer of one piece was written, or a front of it
+pub wrote_whole : (text : List ℕ) (status : ℕ) (old new : Option (List ℕ)) → Appends old new text → Delivers (record { pieces = text ∷ []; status = status }) old new status
+wrote_whole text status old new wrote = inl (refl, subst (Appends old new) (sym (text_of-one text)) wrote)
+
+pub wrote_front : (text : List ℕ) (status count : ℕ) (old new : Option (List ℕ)) → Appends old new (take count text) → Delivers (record { pieces = text ∷ []; status = status }) old new WRITE
+wrote_front text status count old new wrote = inr (refl, (count, subst (λ t. Appends old new (take count t)) (sym (text_of-one text)) wrote))
+
+-- the answer to a check, by what of its lines is known to have been written
+pub served_check : (given : Result (List Source) InputFault) (done : Done) (status : ℕ) (old new : Option (List ℕ)) → status ≡ done_status done
+    → WritesCheck given done old new → Delivers (answer_to_check given) old new status ⊎ CutShort (answer_to_check given) old new status
+served_check (Err fault) done status old new is wrote = absurd wrote
+served_check (Ok sources) Written status old new is wrote = rw is (inl (wrote_whole (check_text sources) 0 old new wrote))
+served_check (Ok sources) Write status old new is wrote = rw is (inl (wrote_front (check_text sources) 0 wrote.0 old new wrote.1))
+
+-- the answer to an input that is compiled, likewise
+pub served_compile : (given : Result (List (SourceDraft Code)) InputFault) (done : Done) (status : ℕ) (old new : Option (List ℕ)) → status ≡ done_status done
+    → WritesBundle given done old new → Delivers (answer_to_compile given) old new status ⊎ CutShort (answer_to_compile given) old new status
+served_compile (Err fault) done status old new is wrote = absurd wrote
+served_compile (Ok compiled) Written status old new is wrote = rw is (inl (wrote_whole (bundle_text compiled) 0 old new wrote))
+served_compile (Ok compiled) Write status old new is wrote = rw is (inl (wrote_front (bundle_text compiled) 0 wrote.0 old new wrote.1))
 
 -- the line of a refusal, written in two parts
 pub wrote_line : (line : List ℕ) (old mid new : Option (List ℕ)) → Appends old mid line → Appends mid new (10 ∷ []) → Appends old new (text_of (refusal line).pieces)

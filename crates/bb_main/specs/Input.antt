@@ -16,5 +16,5 @@ input_of bytes =
 
 -- what a call returned, with each section as its bytes
 abbrev pub texts_of : Result Sections SectionFault → Result Texts SectionFault
-texts_of (Ok s) = Ok (record { schema = s.schema.now; units = s.units.now; bundle = s.bundle.now })
+texts_of (Ok s) = Ok (record { schema = s.schema.now; units = s.units.now; sources = s.sources.now; bundle = s.bundle.now })
 texts_of (Err e) = Err e

@@ -49,14 +49,36 @@ parts (line ∷ others) = with_part (header_of line) (before others) (parts othe
 pub record Texts : Type 0 where
   pub schema : List ℕ
   pub units : List ℕ
+  pub sources : List ℕ
   pub bundle : List ℕ
 
--- the schema first, then units or none, then a bundle or none, and nothing more
+-- the first units, where they come next, or what stands for none, and the parts behind them
+abbrev pub units_first : List Part → List ℕ × List Part
+units_first (part Units text ∷ others) = (text, others)
+units_first others = (codes "{}", others)
+
+-- the same of the sources that are text
+abbrev pub sources_first : List Part → List ℕ × List Part
+sources_first (part Sources text ∷ others) = (text, others)
+sources_first others = ([], others)
+
+-- the same of the bundle
+abbrev pub bundle_first : List Part → List ℕ × List Part
+bundle_first (part Bundle text ∷ others) = (text, others)
+bundle_first others = ([], others)
+
+-- these texts, where no part is left
+abbrev pub alone : Texts → List Part → Result Texts SectionFault
+alone texts [] = Ok texts
+alone texts (p ∷ others) = Err NotInOrder
+
+-- the schema first, then units or none, then sources or none, then a bundle or none, and nothing more
 abbrev pub in_order : List Part → Result Texts SectionFault
-in_order (part Schema s ∷ []) = Ok (record { schema = s; units = codes "{}"; bundle = [] })
-in_order (part Schema s ∷ part Units u ∷ []) = Ok (record { schema = s; units = u; bundle = [] })
-in_order (part Schema s ∷ part Bundle b ∷ []) = Ok (record { schema = s; units = codes "{}"; bundle = b })
-in_order (part Schema s ∷ part Units u ∷ part Bundle b ∷ []) = Ok (record { schema = s; units = u; bundle = b })
+in_order (part Schema schema ∷ others) =
+    let units = units_first others in
+    let sources = sources_first units.1 in
+    let bundle = bundle_first sources.1 in
+    alone (record { schema = schema; units = units.0; sources = sources.0; bundle = bundle.0 }) bundle.1
 in_order _ = Err NotInOrder
 
 -- the sections of a text, which begins with its first header

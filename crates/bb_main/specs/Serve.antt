@@ -1,9 +1,18 @@
 -- What the program writes for an input, and with which status it ends.
-use Rattle.std.specs.Prelude.{◌≡◌, ◌⊎◌, ℕ, ℤ, pos, List, [], ◌∷◌, ◌++◌, map, take, Option, IfSome, Result, Ok, Err}
+use Rattle.std.specs.Prelude.{◌≡◌, ◌⊎◌, ℕ, ℤ, string_bytes, List, [], ◌∷◌, ◌++◌, map, take, Option, IfSome, Result, Ok, Err}
 use Rattle.std.specs.Prelude.{if◌then◌else◌}
 use Rattle.std.specs.List.{flat_map}
 use Rattle.std.specs.Option.{option_map_or}
 use Rattle.std.specs.Io.KnownBytes.{Appends}
+use Rattle.bb_options.specs.declared.choice.Mode.{Mode}
+use Rattle.bb_options.specs.declared.choice.Mode.TheVariants.{Run, Check, Compile}
+use Rattle.bb_options.specs.declared.fault.OptionsFault.{OptionsFault}
+use Rattle.bb_options.specs.declared.fault.OptionsFault.TheVariants.{Help, Words, Memory}
+use Rattle.bb_shell.specs.Check.{sources_in}
+use Rattle.bb_shell.specs.CheckText.{check_text}
+use Rattle.bb_shell.specs.Compile.{bundle_in}
+use Rattle.bb_shell.specs.declared.written.Done.{Done}
+use Rattle.bb_shell.specs.declared.written.Done.TheVariants.{Written, Write}
 use Rattle.bb_shell.specs.End.{End}
 use Rattle.bb_shell.specs.End.TheVariants as ends
 use Rattle.bb_shell.specs.Finishes.{Finish}
@@ -12,6 +21,10 @@ use Rattle.bb_shell.specs.Finish.{end_of, is_write}
 use Rattle.bb_shell.specs.Meaning.{Meaning, meaning}
 use Rattle.bb_shell.specs.Refusals.{refusal_text}
 use Rattle.bb_shell.specs.Run.{run}
+use Rattle.bb_shell.specs.BundleText.{bundle_text}
+use Rattle.bb_shell.specs.Code.{Code}
+use Rattle.bb_shell.specs.Source.{Source}
+use Rattle.bb_shell.specs.SourceDraft.{SourceDraft}
 use Rattle.bb_shell.specs.TraceText.{segment_text}
 use Rattle.bb_main.specs.declared.section_fault.SectionFault.{SectionFault}
 use Rattle.bb_main.specs.declared.section_fault.SectionFault.TheVariants as faults
@@ -19,14 +32,6 @@ use Rattle.bb_main.specs.declared.serving.TheConstants.{MEMORY, REFUSED, WRITE}
 use Rattle.bb_main.specs.Input.{input_of}
 use Rattle.bb_main.specs.Refusals.{read_line, section_line}
 use Rattle.bb_main.specs.Sections.{Texts}
-
--- the most cycles that the program makes
-abbrev pub program_limit : ℕ
-program_limit = 1000000
-
--- the least rating at which the program chooses an activation
-abbrev pub program_floor : ℤ
-program_floor = pos 0
 
 -- all that is written, in pieces each of which is written whole, and the status
 pub record Answer : Type 0 where
@@ -47,6 +52,17 @@ end_status (ends.Stuck reason) = 7
 abbrev pub status_of : Finish → ℕ
 status_of finish = option_map_or end_status (end_of finish) (if is_write finish then WRITE else MEMORY)
 
+-- the status where a text was written so far
+abbrev pub done_status : Done → ℕ
+done_status Written = 0
+done_status Write = WRITE
+
+-- words that choose nothing are answered by their text
+abbrev pub fault_answer : OptionsFault → Answer
+fault_answer (Help text) = record { pieces = string_bytes text ∷ []; status = 0 }
+fault_answer (Words text) = record { pieces = string_bytes text ∷ []; status = REFUSED }
+fault_answer Memory = record { pieces = []; status = MEMORY }
+
 -- a run is answered by its trace and the status of its end, which every run has
 abbrev pub answer_to_run : (limit : ℕ) → Meaning → Answer
 answer_to_run limit m =
@@ -62,14 +78,31 @@ abbrev pub answer_to_meaning : (limit : ℕ) → Result Meaning InputFault → A
 answer_to_meaning limit (Ok m) = answer_to_run limit m
 answer_to_meaning limit (Err fault) = refusal (refusal_text fault)
 
--- the sections are run, or there are none, which is refused
-abbrev pub answer_to_sections : (limit : ℕ) → (floor : ℤ) → Result Texts SectionFault → Answer
-answer_to_sections limit floor (Ok t) = answer_to_meaning limit (meaning t.schema t.units t.bundle floor)
-answer_to_sections limit floor (Err fault) = refusal (section_line fault)
+-- a check is answered by the lines on all sources, or refused
+abbrev pub answer_to_check : Result (List Source) InputFault → Answer
+answer_to_check (Ok sources) = record { pieces = check_text sources ∷ []; status = 0 }
+answer_to_check (Err fault) = refusal (refusal_text fault)
+
+-- an input that is compiled is answered by the bundle of its sources that are text, or refused
+abbrev pub answer_to_compile : Result (List (SourceDraft Code)) InputFault → Answer
+answer_to_compile (Ok compiled) = record { pieces = bundle_text compiled ∷ []; status = 0 }
+answer_to_compile (Err fault) = refusal (refusal_text fault)
+
+-- what the texts of the sections are answered in a mode
+abbrev pub answer_in : Mode → (limit : ℕ) → (floor : ℤ) → (schema units sources bundle : List ℕ) → Answer
+answer_in Run limit floor schema units sources bundle =
+    answer_to_meaning limit (meaning schema units sources bundle floor)
+answer_in Check limit floor schema units sources bundle = answer_to_check (sources_in schema sources bundle)
+answer_in Compile limit floor schema units sources bundle = answer_to_compile (bundle_in schema sources)
+
+-- the sections are answered, or there are none, which is refused
+abbrev pub answer_to_sections : Mode → (limit : ℕ) → (floor : ℤ) → Result Texts SectionFault → Answer
+answer_to_sections mode limit floor (Ok t) = answer_in mode limit floor t.schema t.units t.sources t.bundle
+answer_to_sections mode limit floor (Err fault) = refusal (section_line fault)
 
 -- the answer to the bytes of an input
-unfoldable pub answer : (bytes : List ℕ) → (limit : ℕ) → (floor : ℤ) → Answer
-answer bytes limit floor = answer_to_sections limit floor (input_of bytes)
+unfoldable pub answer : (bytes : List ℕ) → Mode → (limit : ℕ) → (floor : ℤ) → Answer
+answer bytes mode limit floor = answer_to_sections mode limit floor (input_of bytes)
 
 -- the answer where the reader fails, whatever its bytes are
 abbrev pub read_refusal : Answer
@@ -92,7 +125,8 @@ CutShort a taken given status =
     × ((count : ℕ) × (a.status ≡ REFUSED → count ≡ 0) × Appends taken given (text_of (take count a.pieces)))
 
 -- the answer to some bytes is delivered, or cut short; they are all of the reader's where it tells them
-abbrev pub Serves : (limit : ℕ) → (floor : ℤ) → (read taken given : Option (List ℕ)) → (status : ℕ) → Type 0
-Serves limit floor read taken given status =
+abbrev pub Serves : Mode → (limit : ℕ) → (floor : ℤ) → (read taken given : Option (List ℕ)) → (status : ℕ) → Type 0
+Serves mode limit floor read taken given status =
     (bytes : List ℕ) × IfSome read (λ xs. bytes ≡ xs)
-    × (Delivers (answer bytes limit floor) taken given status ⊎ CutShort (answer bytes limit floor) taken given status)
+    × (Delivers (answer bytes mode limit floor) taken given status
+    ⊎ CutShort (answer bytes mode limit floor) taken given status)

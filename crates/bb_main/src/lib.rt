@@ -9,7 +9,8 @@ mod serving;
 #[cfg(test)]
 mod tests;
 
+pub use bb_options::{Mode, Options, OptionsFault, options};
 pub use bb_shell::{Out, Pipe};
 pub use input::{In, Intake};
 pub use read::INPUT_LIMIT;
-pub use serving::{program, serve};
+pub use serving::{program, serve, tell};

@@ -15,7 +15,6 @@ use std::str;
 pub(crate) enum Header {
     Schema,
     Units,
-    /// Begins no section yet: an input that has it is refused.
     Sources,
     Bundle,
 }
@@ -25,6 +24,7 @@ pub(crate) enum Header {
 pub(crate) struct Sections<'a> {
     pub(crate) schema: &'a str,
     pub(crate) units: &'a str,
+    pub(crate) sources: &'a str,
     pub(crate) bundle: &'a str,
 }
 
@@ -48,6 +48,7 @@ impl<'a> Sections<'a> {
     {
         let (schema, rest) = section(Header::Schema, text).ok_or(SectionFault::Sections)?;
         let (units, rest) = section(Header::Units, rest).unwrap_or(("{}", rest));
+        let (sources, rest) = section(Header::Sources, rest).unwrap_or(("", rest));
         let (bundle, rest) = section(Header::Bundle, rest).unwrap_or(("", rest));
         if !rest.is_empty() {
             return Err(SectionFault::Sections);
@@ -55,6 +56,7 @@ impl<'a> Sections<'a> {
         Ok(Sections {
             schema,
             units,
+            sources,
             bundle,
         })
     }

@@ -3,7 +3,8 @@
 
 use crate::input::{In, Intake};
 use crate::read::read_input;
-use crate::serving::{program, serve};
+use crate::serving::{program, serve, tell};
+use bb_options::{Mode, Options, OptionsFault};
 use bb_shell::Pipe;
 use std::alloc::{AllocError, Global};
 use std::io;
@@ -124,7 +125,7 @@ impl Write for Full {
 fn serves<R: Read + Drop>(rt: &HostRuntime, reader: R, limit: u32, status: u8, text: &str) -> bool {
     let mut reader = Intake::new(reader);
     let mut writer = Pipe::new(Vec::new(rt.alloc()));
-    let ended = serve(rt.alloc(), limit, 0, &mut reader, &mut writer);
+    let ended = serve(rt.alloc(), Mode::Run, limit, 0, &mut reader, &mut writer);
     ended == status && writer.into_inner().as_slice() == text.as_bytes()
 }
 
@@ -134,7 +135,7 @@ fn too_long_inputs(rt: HostRuntime) {
     for byte in [b' ', 0xff] {
         let mut reader = Intake::new(Endless { byte, given: 0 });
         let mut writer = Pipe::new(Vec::new(rt.alloc()));
-        let status = serve(rt.alloc(), 100, 0, &mut reader, &mut writer);
+        let status = serve(rt.alloc(), Mode::Run, 100, 0, &mut reader, &mut writer);
         assert_eq!(rt; status, 2);
         assert!(rt; writer.into_inner().as_slice() == b"refused input limit\n".as_slice());
         assert_eq!(rt; reader.into_inner().given, 16_777_217);
@@ -145,8 +146,31 @@ fn too_long_inputs(rt: HostRuntime) {
 fn program_run(rt: HostRuntime) {
     let mut reader = Intake::new(FIRST_RUN.as_bytes());
     let mut writer = Pipe::new(Vec::new(rt.alloc()));
-    assert_eq!(rt; program(rt.alloc(), &mut reader, &mut writer), 0);
+    let options = Options {
+        mode: Mode::Run,
+        limit: 100,
+        floor: 0,
+    };
+    let status = program(rt.alloc(), options, &mut reader, &mut writer);
+    assert_eq!(rt; status, 0);
     assert!(rt; writer.into_inner().as_slice() == FIRST_TRACE.as_bytes());
+}
+
+#[test]
+fn told_words(rt: HostRuntime) -> Result<(), Fail> {
+    let help = OptionsFault::Help(String::from_str(rt.alloc(), "help\n")?);
+    let words = OptionsFault::Words(String::from_str(rt.alloc(), "no\n")?);
+    for (fault, room, status) in [
+        (&help, 5, 0),
+        (&help, 4, 6),
+        (&words, 3, 2),
+        (&words, 0, 6),
+        (&OptionsFault::Memory, 0, 5),
+    ] {
+        let mut writer = Pipe::new(Full { room });
+        assert_eq!(rt; tell(fault, &mut writer), status);
+    }
+    Ok(())
 }
 
 #[test]
@@ -234,7 +258,7 @@ fn failing_writers(rt: HostRuntime) {
     for (input, room) in [(FIRST_RUN, 0), (FIRST_RUN, 20), ("{}", 0), ("{}", 22)] {
         let mut reader = Intake::new(input.as_bytes());
         let mut writer = Pipe::new(Full { room });
-        let status = serve(rt.alloc(), 100, 0, &mut reader, &mut writer);
+        let status = serve(rt.alloc(), Mode::Run, 100, 0, &mut reader, &mut writer);
         assert_eq!(rt; status, 6);
     }
 }
@@ -280,7 +304,7 @@ fn stops_at(rt: &HostRuntime, input: &str, room: usize, end: Option<ErrorKind>) 
         failed: false,
         later: 0,
     });
-    let status = serve(rt.alloc(), 100, 0, &mut reader, &mut writer);
+    let status = serve(rt.alloc(), Mode::Run, 100, 0, &mut reader, &mut writer);
     status == 6 && writer.into_inner().later == 0
 }
 

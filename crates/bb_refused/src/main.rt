@@ -1,12 +1,17 @@
-//! The program of `bb` again: its stored input is refused, so that the gate sees a status other than 0.
+//! The program of `bb` again, without words: its stored input is refused, so that the gate sees a status other than 0.
 #![tactic(auto)]
 
-use bb_main::{Intake, Pipe, program};
+use bb_main::{Intake, Mode, Options, Pipe, program};
 use std::io;
 use std::process::ExitCode;
 
 fn main(rt: HostRuntime) -> ExitCode {
+    let options = Options {
+        mode: Mode::Run,
+        limit: 1_000_000,
+        floor: 0,
+    };
     let mut reader = Intake::new(rt.stdin());
     let mut writer = Pipe::new(io::writer(&rt));
-    ExitCode::from(program(rt.alloc(), &mut reader, &mut writer))
+    ExitCode::from(program(rt.alloc(), options, &mut reader, &mut writer))
 }

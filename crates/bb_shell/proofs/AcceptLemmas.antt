@@ -4,7 +4,7 @@ use Rattle.bb_basis.specs.Results.{◌>>=◌, Gives, map_err}
 use Rattle.bb_schema.specs.Schema.{Schema}
 use Rattle.bb_code.specs.Code.{Code}
 use Rattle.bb_verify.specs.Accepted.{Checked}
-use Rattle.bb_compile.specs.declared.source_code.SourceDraft.{SourceDraft}
+use Rattle.bb_bundle.specs.declared.source_code.SourceDraft.{SourceDraft}
 use Rattle.bb_run.specs.Classes.{Classes}
 use Rattle.bb_run.specs.MadeSource.{classes_of}
 use Rattle.bb_shell.specs.declared.accepting.CodeFault.{CodeFault}

@@ -8,3 +8,5 @@ pub mod AcceptLemmas
 pub mod GatherLemmas
 -- they are made of codes that were accepted
 pub mod MadeLemmas
+-- and what an input means is well made
+pub mod UnstuckLemmas

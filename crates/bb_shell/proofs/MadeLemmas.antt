@@ -1,5 +1,5 @@
 -- The sources of an input are made of codes that the verifier accepted under its schema.
-use Rattle.std.proofs.Common.{◌≡◌, List, [], ◌∷◌, ◌++◌, length, Option, Some, None, Result, Ok, Err, ap, subst, sym, ◌∙◌}
+use Rattle.std.proofs.Common.{◌≡◌, ℕ, List, [], ◌∷◌, ◌++◌, length, Option, Some, None, Result, Ok, Err, ap, subst, sym, ◌∙◌}
 use Rattle.std.specs.Prelude.{All, nat_le, if◌then◌else◌}
 use Rattle.std.specs.List.{list_any}
 use Rattle.std.specs.Str.{bytes_eq}
@@ -12,10 +12,10 @@ use Rattle.bb_verify.specs.Accepted.{Checked, checked}
 use Rattle.bb_verify.specs.PartType.{Part}
 use Rattle.bb_verify.specs.PartType.TheVariants as parts
 use Rattle.bb_verify.proofs.Laws.{checked_again}
-use Rattle.bb_compile.specs.declared.source_code.ActDraft.{ActDraft}
-use Rattle.bb_compile.specs.declared.source_code.ActDraft.TheVariants as acts
-use Rattle.bb_compile.specs.declared.source_code.ReactionDraft.{ReactionDraft}
-use Rattle.bb_compile.specs.declared.source_code.SourceDraft.{SourceDraft}
+use Rattle.bb_bundle.specs.declared.source_code.ActDraft.{ActDraft}
+use Rattle.bb_bundle.specs.declared.source_code.ActDraft.TheVariants as acts
+use Rattle.bb_bundle.specs.declared.source_code.ReactionDraft.{ReactionDraft}
+use Rattle.bb_bundle.specs.declared.source_code.SourceDraft.{SourceDraft}
 use Rattle.bb_run.specs.Classes.{Classes}
 use Rattle.bb_run.specs.MadeSource.{classes_of, obviate_part, retrigger_part, source_of}
 use Rattle.bb_run.specs.Law.{AreAccepted, IsAccepted, IsMade}
@@ -34,9 +34,9 @@ use Rattle.bb_shell.specs.declared.input_fault.InputFault.{InputFault}
 use Rattle.bb_shell.specs.declared.input_fault.InputFault.TheVariants as inputs
 use Rattle.bb_shell.specs.Accepting.{accepted_code, accepted_part, accepted_reaction, accepted_act, accepted_first, accepted_later, accepted_codes, accepted_draft, accepted_source, codes_of, draft_of, header_of, in_source}
 use Rattle.bb_shell.specs.Fitting.{fitted, is_native, names_of, source_after}
-use Rattle.bb_shell.specs.Sources.{in_input, resolved_source, sources_for}
+use Rattle.bb_shell.specs.Sources.{codes_in, given, in_input, resolved_source, sources_for}
 
-ok_of : {X E F : Type 0} (f : E → F) (r : Result X E) (x : X) → map_err f r ≡ Ok x → r ≡ Ok x
+pub ok_of : {X E F : Type 0} (f : E → F) (r : Result X E) (x : X) → map_err f r ≡ Ok x → r ≡ Ok x
 ok_of f (Ok y) x h = ap (λ z. Ok z) (same_ok y x h)
 ok_of f (Err e) x h = absurd cc
 
@@ -154,3 +154,10 @@ sources_made s codes sources h =
     let accepted = All-try_map (λ _. Unit {0}) (AreAccepted s) (accepted_source s) (λ draft made _ is. source_are s draft made is) codes drafts.0 (all_any codes) drafts.1 in
     let made = All-try_map (AreAccepted s) (IsMade s) (resolved_source s) (λ draft source are is. source_made_of s draft source (ok_of (inputs.Rule draft.name) (source_of s draft) source is) are) drafts.0 resolved.0 accepted resolved.1 in
     fitted_keeps (IsMade s) resolved.0 sources made (ok_of in_input (fitted resolved.0) sources resolved.2)
+
+-- those of an input's texts too
+pub given_made : (s : Schema) (texts bundle : List ℕ) (sources : List Source) → given s texts bundle ≡ Ok sources → All (IsMade s) sources
+unfolding given
+given_made s texts bundle sources h =
+    let one = bind_ok (codes_in s texts bundle) (sources_for s) sources h in
+    sources_made s one.0 sources one.2

@@ -6,10 +6,10 @@ use Rattle.bb_code.specs.Code.{Code}
 use Rattle.bb_verify.specs.Accepted.{Checked, checked}
 use Rattle.bb_verify.specs.PartType.{Part}
 use Rattle.bb_verify.specs.PartType.TheVariants as parts
-use Rattle.bb_compile.specs.declared.source_code.ActDraft.{ActDraft}
-use Rattle.bb_compile.specs.declared.source_code.ActDraft.TheVariants as acts
-use Rattle.bb_compile.specs.declared.source_code.ReactionDraft.{ReactionDraft}
-use Rattle.bb_compile.specs.declared.source_code.SourceDraft.{SourceDraft}
+use Rattle.bb_bundle.specs.declared.source_code.ActDraft.{ActDraft}
+use Rattle.bb_bundle.specs.declared.source_code.ActDraft.TheVariants as acts
+use Rattle.bb_bundle.specs.declared.source_code.ReactionDraft.{ReactionDraft}
+use Rattle.bb_bundle.specs.declared.source_code.SourceDraft.{SourceDraft}
 use Rattle.bb_run.specs.Classes.{Classes}
 use Rattle.bb_run.specs.MadeSource.{classes_of, obviate_part, retrigger_part}
 use Rattle.bb_shell.specs.declared.accepting.Header.{Header}

@@ -1,5 +1,5 @@
 -- The sources that run together: each has to fit those before it.
-use Rattle.std.specs.Prelude.{ℕ, Bool, true, false, nat_le, List, [], ◌∷◌, ◌++◌, length, map, Result, Ok, Err, if◌then◌else◌}
+use Rattle.std.specs.Prelude.{◌≡◌, ℕ, Bool, true, false, nat_le, List, [], ◌∷◌, ◌++◌, length, map, Result, Ok, Err, if◌then◌else◌}
 use Rattle.std.specs.List.{list_any}
 use Rattle.std.specs.Str.{bytes_eq}
 use Rattle.bb_basis.specs.Results.{try_fold}
@@ -19,6 +19,10 @@ names_of sources = map (λ source. source.name) sources
 abbrev pub is_native : Act → Bool
 is_native (acts.Code body) = false
 is_native acts.Native = true
+
+-- a source has a code for its act
+abbrev pub HasAct : Source → Type 0
+HasAct source = is_native source.act ≡ false
 
 -- one source more: no other has its name, their number is within the limit, and it needs no native, as there is none
 abbrev pub source_after : List Source → Source → Result (List Source) Unfit

@@ -8,6 +8,13 @@ pub mod Fitting
 pub mod Sources
 -- what an input means
 pub mod Meaning
+-- how far a text was written
+pub mod Written
+-- the lines of a check, and what of them is written
+pub mod CheckText
+pub mod Check
+-- the bundle of the sources that are text
+pub mod Compile
 -- the shell of a blackboard and sources
 pub mod Shell
 -- for models alone
@@ -18,11 +25,17 @@ pub use Rattle.bb_run.specs.Processing
 -- of bb_run: the run, and what every run is like
 pub use Rattle.bb_run.specs.Run
 pub use Rattle.bb_run.specs.Order
+pub use Rattle.bb_run.specs.Unstuck
 -- of bb_run: how a run ends, how its answer tells that, and what was written where it was cut short
 pub use Rattle.bb_run.specs.End
 pub use Rattle.bb_run.specs.Finish
 pub use Rattle.bb_run.specs.declared.finish.Finish as Finishes
 -- of bb_trace: the text of a trace
 pub use Rattle.bb_run.specs.TraceText
+-- of bb_bundle: sources with codes, and the text that is written for them
+pub use Rattle.bb_bundle.specs.Written as BundleText
+pub use Rattle.bb_bundle.specs.declared.source_code.SourceDraft
+pub use Rattle.bb_code.specs.Code
 -- of bb_rules: what sources were made of
 pub use Rattle.bb_run.specs.Law
+pub use Rattle.bb_run.specs.Source

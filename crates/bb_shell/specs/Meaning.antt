@@ -4,22 +4,20 @@ use Rattle.bb_basis.specs.Results.{◌>>=◌, map_err}
 use Rattle.bb_schema.specs.Reading.{schema_of}
 use Rattle.bb_run.specs.Board.{Board, new_board}
 use Rattle.bb_run.specs.Load.{loaded}
-use Rattle.bb_compile.specs.Bundle.{sources_of}
 use Rattle.bb_shell.specs.declared.input_fault.InputFault.{InputFault}
 use Rattle.bb_shell.specs.declared.input_fault.InputFault.TheVariants as inputs
 use Rattle.bb_run.specs.Plan.{Plan}
-use Rattle.bb_shell.specs.Sources.{sources_for}
+use Rattle.bb_shell.specs.Sources.{given}
 
 pub record Meaning : Type 0 where
   pub plan : Plan
   -- the first units and their links, with what was noted of them
   pub board : Board
 
--- the schema, the first units, the bundle and its sources, in this order
-unfoldable pub meaning : (schema units bundle : List ℕ) → (floor : ℤ) → Result Meaning InputFault
-meaning schema units bundle floor = do
+-- the schema, the first units, and the sources of both texts, in this order
+unfoldable pub meaning : (schema units sources bundle : List ℕ) → (floor : ℤ) → Result Meaning InputFault
+meaning schema units sources bundle floor = do
   s ← map_err inputs.Schema (schema_of schema)
   board ← map_err inputs.Units (loaded (new_board s) units)
-  codes ← map_err inputs.Bundle (sources_of bundle)
-  sources ← sources_for s codes
-  Ok (record { plan = record { schema = s; sources = sources; floor = floor }; board = board })
+  made ← given s sources bundle
+  Ok (record { plan = record { schema = s; sources = made; floor = floor }; board = board })

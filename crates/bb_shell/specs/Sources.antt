@@ -1,14 +1,18 @@
--- The sources that run together, from what a bundle spells: each refusal is the first, step by step.
-use Rattle.std.specs.Prelude.{List, Result}
+-- The sources that run together, from what a text and a bundle spell: each refusal is the first, step by step.
+use Rattle.std.specs.Prelude.{ℕ, List, ◌++◌, Result, Ok}
 use Rattle.bb_basis.specs.Results.{◌>>=◌, map_err, try_map}
 use Rattle.bb_schema.specs.Schema.{Schema}
 use Rattle.bb_verify.specs.Accepted.{Checked}
 use Rattle.bb_code.specs.Code.{Code}
-use Rattle.bb_compile.specs.declared.source_code.SourceDraft.{SourceDraft}
+use Rattle.bb_lang.specs.Sources.{sources_of as trees_of}
+use Rattle.bb_lang.specs.declared.source_text.SourceText.{SourceText}
+use Rattle.bb_compile.specs.Compiled.{compiled}
+use Rattle.bb_bundle.specs.Bundle.{sources_of}
+use Rattle.bb_bundle.specs.declared.source_code.SourceDraft.{SourceDraft}
 use Rattle.bb_run.specs.Source.{Source}
 use Rattle.bb_run.specs.MadeSource.{source_of}
 use Rattle.bb_shell.specs.declared.input_fault.InputFault.{InputFault}
-use Rattle.bb_shell.specs.declared.input_fault.InputFault.TheVariants.{Memory, Rule}
+use Rattle.bb_shell.specs.declared.input_fault.InputFault.TheVariants.{Bundle, Compile, Lang, Memory, Rule}
 use Rattle.bb_shell.specs.Accepting.{accepted_source}
 use Rattle.bb_shell.specs.declared.fitting.Unfit.{Unfit}
 use Rattle.bb_shell.specs.declared.fitting.Unfit.TheVariants as unfits
@@ -29,3 +33,26 @@ sources_for s codes = do
   accepted' ← try_map (accepted_source s) codes
   resolved ← try_map (resolved_source s) accepted'
   map_err in_input (fitted resolved)
+
+-- the codes of a source that is text; a fault is told with the source's name
+abbrev pub compiled_source : Schema → SourceText → Result (SourceDraft Code) InputFault
+compiled_source s tree = map_err (Compile tree.header.name) (compiled s tree)
+
+-- the codes of the sources of a text, which is read as a whole before one is compiled
+unfoldable pub compiled_text : Schema → (sources : List ℕ) → Result (List (SourceDraft Code)) InputFault
+compiled_text s sources = do
+  trees ← map_err Lang (trees_of sources)
+  try_map (compiled_source s) trees
+
+-- those of a text and then those of a bundle, which is read as a whole once the text is compiled
+unfoldable pub codes_in : Schema → (sources bundle : List ℕ) → Result (List (SourceDraft Code)) InputFault
+codes_in s sources bundle = do
+  compiled' ← compiled_text s sources
+  bundled ← map_err Bundle (sources_of bundle)
+  Ok (compiled' ++ bundled)
+
+-- the sources that both texts mean: all codes are there before one is verified
+unfoldable pub given : Schema → (sources bundle : List ℕ) → Result (List Source) InputFault
+given s sources bundle = do
+  codes ← codes_in s sources bundle
+  sources_for s codes

@@ -11,8 +11,8 @@ ghost use Rattle.bb_shell.specs.Accepting.{accepted_source, codes_of, draft_of, 
 
 use crate::input_fault::InputFault;
 use bb_basis::{Items, Text};
+use bb_bundle::{ActDraft, ClauseText, ReactionDraft, SourceDraft};
 use bb_code::Code;
-use bb_compile::{ActDraft, ClauseText, ReactionDraft, SourceDraft};
 use bb_run::Classes;
 use bb_schema::Schema;
 use bb_verify::{Checked, Flaw, Part, VerifyFault, verify};

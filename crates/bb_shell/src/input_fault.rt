@@ -2,10 +2,12 @@
 
 ghost use Rattle.std.specs.Prelude.{◌≡◌, IfOk, string_bytes};
 ghost use Rattle.bb_shell.specs.declared.input_fault.InputFault.TheVariants.{Memory as OutOfMemory};
-ghost use Rattle.bb_shell.specs.Refusals.{bundle_text, fault_number, refusal_text};
+ghost use Rattle.bb_shell.specs.Refusals.{bundle_text, compile_text, fault_number, lang_place, lang_text, refusal_text};
 
 use bb_basis::Text;
-use bb_compile::BundleFault;
+use bb_bundle::BundleFault;
+use bb_judge::CompileFault;
+use bb_lang::{LangFault, Place};
 use bb_run::{RuleFault, UnitsFault};
 use bb_schema::SchemaFault;
 use bb_verify::{Part, VerifyFault};
@@ -21,6 +23,16 @@ pub enum InputFault {
     /// The first units can't be created.
     #[error("{0}")]
     Units(UnitsFault),
+    /// The sources that are text can't be read.
+    #[error("{0}")]
+    Lang(LangFault),
+    /// A source that is text has no code.
+    #[error("{fault}")]
+    Compile {
+        /// The name of the source.
+        name: Text,
+        fault: CompileFault,
+    },
     /// The bundle spells no sources.
     #[error("{0}")]
     Bundle(BundleFault),
@@ -61,13 +73,15 @@ impl<T: Drop> From<AllocFailed<T>> for InputFault {
 }
 
 impl InputFault {
-    /// The number of the step that refuses, from 1 to 8. 3 and 4 are kept free, for parts of an input that come later.
+    /// The number of the step that refuses, from 1 to 8.
     pub fn number(&self) -> u8
         ensures { result ≡ fault_number self.now }
     {
         match self {
             InputFault::Schema(_) => 1,
             InputFault::Units(_) => 2,
+            InputFault::Lang(_) => 3,
+            InputFault::Compile { .. } => 4,
             InputFault::Bundle(_) => 5,
             InputFault::Verify { .. } => 6,
             InputFault::Rule { .. } => 7,
@@ -88,6 +102,8 @@ impl InputFault {
                 let number = fault.number();
                 format!(in alloc; "refused units {number}")
             }
+            InputFault::Lang(fault) => lang_line(alloc, *fault),
+            InputFault::Compile { name, fault } => compile_line(alloc, name.as_str(), *fault),
             InputFault::Bundle(fault) => bundle_line(alloc, *fault),
             InputFault::Verify { name, part, fault } => {
                 let name = name.as_str();
@@ -103,6 +119,46 @@ impl InputFault {
             }
             InputFault::Memory => Ok(String::new(alloc)),
         }
+    }
+}
+
+// Where the fault of a text is.
+fn lang_place(fault: LangFault) -> Option<Place>
+    ensures { result ≡ lang_place fault }
+{
+    match fault {
+        LangFault::Character { place }
+        | LangFault::Token { place }
+        | LangFault::Nesting { place }
+        | LangFault::Twice { place }
+        | LangFault::Limit { place } => Some(place),
+        LangFault::Memory => None,
+    }
+}
+
+fn lang_line(alloc: Global, fault: LangFault) -> Result<String, AllocError>
+    ensures { IfOk result (λ line. string_bytes line ≡ lang_text fault) }
+{
+    let Some(place) = lang_place(fault) else {
+        return Ok(String::new(alloc));
+    };
+    let line = place.line;
+    let column = place.column;
+    let number = fault.number();
+    format!(in alloc; "refused lang {line}:{column} {number}")
+}
+
+fn compile_line(alloc: Global, name: &str, fault: CompileFault) -> Result<String, AllocError>
+    ensures { IfOk result (λ line. string_bytes line ≡ compile_text name.now fault) }
+{
+    match fault {
+        CompileFault::At { flaw, place } => {
+            let line = place.line;
+            let column = place.column;
+            let number = flaw.number();
+            format!(in alloc; "refused compile {name} {line}:{column} {number}")
+        }
+        CompileFault::Memory => Ok(String::new(alloc)),
     }
 }
 

@@ -3,10 +3,11 @@
 ghost use Rattle.std.specs.Prelude.{◌≡◌, ◌≤◌, false, length, All, IfOk, IfSome};
 ghost use Rattle.std.specs.Io.KnownBytes.{Appends};
 ghost use Rattle.bb_basis.specs.Results.{Gives};
-ghost use Rattle.bb_run.specs.Law.{IsMade};
 ghost use Rattle.bb_run.specs.Finish.{WritesFront, end_of, is_write};
+ghost use Rattle.bb_run.specs.Law.{IsMade};
 ghost use Rattle.bb_run.specs.Run.{run};
 ghost use Rattle.bb_run.specs.TraceText.{trace_text};
+ghost use Rattle.bb_run.specs.Unstuck.{NotStuck};
 ghost use Rattle.bb_shell.specs.Shell.{shell_of};
 
 use crate::fitting::{Unfit, fit_all};
@@ -23,6 +24,8 @@ pub struct Shell {
 }
 
 impl Model for Shell {
+    ghost use Rattle.std.specs.Prelude.{◌≡◌, All};
+    ghost use Rattle.bb_shell.specs.Fitting.{HasAct};
     ghost use Rattle.bb_shell.specs.Meaning.{Meaning};
     ghost use Rattle.bb_shell.specs.proving.Codes.{shell_code};
 
@@ -31,12 +34,14 @@ impl Model for Shell {
     ghost coded = { shell_code };
 
     ghost view = { λ s. record { plan = s.plan; board = s.board } };
+
+    ghost invariant = { λ s. (s.board.schema ≡ s.plan.schema) × All HasAct s.plan.sources };
 }
 
 impl Shell {
-    /// A shell of sources that were made under the schema of the blackboard, of codes that were verified under it. The
-    /// fault is the first, source by source: `Twice`, `Limit` past 256 sources, `Native`. At a fault blackboard and
-    /// sources are given up.
+    /// A shell of these sources in their order, which a host makes under the schema of the blackboard. The fault is the
+    /// first, source by source: `Twice`, `Limit` past 256 sources, `Native`. At a fault blackboard and sources are given
+    /// up.
     #[tactic(auto, unfolding(crate::specs::Shell::shell_of))]
     pub fn new(
         alloc: Global,
@@ -44,7 +49,6 @@ impl Shell {
         sources: Vec<Source>,
         floor: i64,
     ) -> Result<Shell, RuleFault>
-        requires made { All (IsMade board.schema) sources.items }
         ensures { Gives RuleFault.Memory (λ s. s) result (shell_of board sources.items floor) }
     {
         let schema = board.shared_schema()?;
@@ -59,6 +63,8 @@ impl Shell {
     }
 
     /// Runs the shell, at most `limit` cycles, and writes the trace. `Memory`: memory ran out. `Write`: the output failed.
+    /// The run is not stuck where the sources were made under the schema of the blackboard, of codes that were verified
+    /// under it.
     pub fn run<O: Out>(self, alloc: Global, limit: u32, out: &mut O) -> Finish
         requires open { O.has_failed out.old ≡ false }
         ensures finish { IfSome (end_of result) (λ end. (run self.plan self.board limit).end ≡ Some end) }
@@ -66,6 +72,7 @@ impl Shell {
             (trace_text self.plan (run self.plan self.board limit).told)) }
         ensures front { WritesFront self.plan (run self.plan self.board limit) result (O.taken out.old) (O.taken out.new) }
         ensures failed { O.has_failed out.new ≡ is_write result }
+        ensures unstuck { All (IsMade self.plan.schema) self.plan.sources → NotStuck (end_of result) }
     {
         let Shell { plan, board } = self;
         run(alloc, &plan, board, limit, out)

@@ -10,7 +10,7 @@ use crate::accepting::accept;
 use crate::fitting::{Together, Unfit};
 use crate::input_fault::InputFault;
 use bb_basis::Text;
-use bb_compile::{SourceCode, SourceDraft};
+use bb_bundle::{SourceCode, SourceDraft};
 use bb_run::{RuleFault, SOURCE_LIMIT, Source};
 use bb_schema::Schema;
 use bb_verify::Checked;

@@ -1,31 +1,33 @@
 //! A run from the texts of its schema, first units and sources. Programs (bb_main) call it.
 
-ghost use Rattle.std.specs.Prelude.{◌≡◌, ◌⊎◌, true, false, IfOk, IfErr, IfSome, OnErr, Ok, Err, Some};
+ghost use Rattle.std.specs.Prelude.{◌≡◌, ◌⊎◌, true, false, All, IfOk, IfErr, IfSome, OnErr, Ok, Err, Some};
 ghost use Rattle.std.specs.Io.KnownBytes.{Appends};
 ghost use Rattle.bb_basis.specs.Results.{Gives, map_err};
 ghost use Rattle.bb_schema.specs.Reading.{schema_of};
 ghost use Rattle.bb_run.specs.Board.{is_fresh, new_board};
 ghost use Rattle.bb_run.specs.Load.{loaded};
-ghost use Rattle.bb_compile.specs.Bundle.{sources_of};
+ghost use Rattle.bb_run.specs.Law.{IsMade};
 ghost use Rattle.bb_run.specs.Finish.{WritesFront, end_of, is_write};
 ghost use Rattle.bb_shell.specs.Meaning.{Meaning, meaning};
 ghost use Rattle.bb_run.specs.Run.{run};
 ghost use Rattle.bb_run.specs.TraceText.{trace_text};
+ghost use Rattle.bb_run.specs.Unstuck.{NotStuck};
 
+use crate::given::given;
 use crate::input_fault::InputFault;
-use crate::sources::sources_for;
-use bb_compile::{BundleFault, SourceCode, unbundle};
 use bb_run::{Board, Finish, Out, Plan, SharedSchema, UnitsFault, run};
 use bb_schema::{Schema, SchemaFault};
 use std::alloc::Global;
 
-/// Runs a schema, its first units and the sources of a bundle, with at most `limit` cycles and no activation rated
-/// below `floor`, and writes the trace. An input is refused at the first step that refuses it, in this order: schema,
-/// units, bundle, codes, rules; then nothing is written. `Memory` as a refusal and as a finish: memory ran out.
+/// Runs a schema, its first units, the sources that are text and then those of a bundle, with at most `limit` cycles
+/// and no activation rated below `floor`, and writes the trace. An input is refused at the first step that refuses it,
+/// in this order: schema, units, the text of sources, their compiling, bundle, codes, rules; then nothing is written.
+/// `Memory` as a refusal and as a finish: memory ran out.
 pub fn run_texts<O: Out>(
     alloc: Global,
     schema: &str,
     units: &str,
+    sources: &str,
     bundle: &str,
     limit: u32,
     floor: i64,
@@ -34,46 +36,51 @@ pub fn run_texts<O: Out>(
     requires { O.has_failed out.old ≡ false }
 
     // At `Ok` the input has a meaning, the finish is that of its run, and the output took the text of its trace.
-    ensures finish { IfOk result (λ f. (m : Meaning) × (meaning schema.now units.now bundle.now floor ≡ Ok m)
+    ensures finish { IfOk result (λ f. (m : Meaning) × (meaning schema.now units.now sources.now bundle.now floor ≡ Ok m)
         × IfSome (end_of f) (λ end. (run m.plan m.board limit).end ≡ Some end)) }
-    ensures text { IfOk result (λ f. (m : Meaning) × (meaning schema.now units.now bundle.now floor ≡ Ok m)
+    ensures text { IfOk result (λ f. (m : Meaning) × (meaning schema.now units.now sources.now bundle.now floor ≡ Ok m)
         × IfSome (end_of f) (λ _. Appends (O.taken out.old) (O.taken out.new)
         (trace_text m.plan (run m.plan m.board limit).told))) }
 
     // At `Memory` the output took the text of the first segments of the run, at `Write` the front of its trace.
-    ensures front { IfOk result (λ f. (m : Meaning) × (meaning schema.now units.now bundle.now floor ≡ Ok m)
+    ensures front { IfOk result (λ f. (m : Meaning) × (meaning schema.now units.now sources.now bundle.now floor ≡ Ok m)
         × WritesFront m.plan (run m.plan m.board limit) f (O.taken out.old) (O.taken out.new)) }
+
+    // No run of an input is stuck.
+    ensures unstuck { IfOk result (λ f. NotStuck (end_of f)) }
 
     // `Write` tells that the output has failed, and no other finish does.
     ensures failed { IfOk result (λ f. O.has_failed out.new ≡ is_write f) }
 
     // At `Err` it is the first refusal, and the output is as it was.
     ensures refused { IfErr result (λ e. (e ≡ InputFault.Memory)
-        ⊎ (meaning schema.now units.now bundle.now floor ≡ Err e)) }
+        ⊎ (meaning schema.now units.now sources.now bundle.now floor ≡ Err e)) }
     ensures quiet { OnErr result (out.new ≡ out.old) }
 {
-    let (plan, board) = read_input(alloc, schema, units, bundle, floor)?;
+    let (plan, board) = read_input(alloc, schema, units, sources, bundle, floor)?;
     Ok(run(alloc, &plan, board, limit, out))
 }
 
+// What an input means. Its sources were made under its schema, of codes that the verifier accepted under it.
 fn read_input(
     alloc: Global,
     schema: &str,
     units: &str,
+    sources: &str,
     bundle: &str,
     floor: i64,
 ) -> Result<(Plan, Board), InputFault>
-    ensures { Gives InputFault.Memory (λ i. record { plan = i.0; board = i.1 }) result
-        (meaning schema.now units.now bundle.now floor) }
+    ensures means { Gives InputFault.Memory (λ i. record { plan = i.0; board = i.1 }) result
+        (meaning schema.now units.now sources.now bundle.now floor) }
+    ensures made { IfOk result (λ i. All (IsMade i.0.schema) i.0.sources) }
 {
     let schema = read_schema(alloc, schema)?;
     let (shared, board) = first_board(alloc, schema, units)?;
-    let codes = read_bundle(alloc, bundle)?;
-    let sources = sources_for(alloc, shared.get(), codes)?;
+    let sources = given(alloc, shared.get(), sources, bundle)?;
     Ok((Plan::new(shared, sources, floor), board))
 }
 
-fn read_schema(alloc: Global, text: &str) -> Result<Schema, InputFault>
+pub(crate) fn read_schema(alloc: Global, text: &str) -> Result<Schema, InputFault>
     ensures { Gives InputFault.Memory (λ s. s) result (map_err InputFault.Schema (schema_of text.now)) }
 {
     match Schema::read(alloc, text) {
@@ -108,15 +115,5 @@ fn load_units(board: &mut Board, text: &str) -> Result<(), InputFault>
         Ok(()) => Ok(()),
         Err(UnitsFault::Memory) => Err(InputFault::Memory),
         Err(fault) => Err(InputFault::Units(fault)),
-    }
-}
-
-fn read_bundle(alloc: Global, text: &str) -> Result<Vec<SourceCode>, InputFault>
-    ensures { Gives InputFault.Memory (λ v. v.items) result (map_err InputFault.Bundle (sources_of text.now)) }
-{
-    match unbundle(alloc, text) {
-        Ok(codes) => Ok(codes),
-        Err(BundleFault::Memory) => Err(InputFault::Memory),
-        Err(fault) => Err(InputFault::Bundle(fault)),
     }
 }

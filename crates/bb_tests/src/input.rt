@@ -20,6 +20,7 @@ pub(crate) const HAIL: &str = "source hail note 100\n\
 pub(crate) struct Input<'a> {
     pub schema: &'a str,
     pub units: &'a str,
+    pub sources: &'a str,
     pub bundle: &'a str,
     pub limit: u32,
     pub floor: i64,
@@ -29,6 +30,7 @@ pub(crate) struct Input<'a> {
 pub(crate) const FIRST: Input<'static> = Input {
     schema: NOTE_SCHEMA,
     units: ONE_NOTE,
+    sources: "",
     bundle: HAIL,
     limit: 100,
     floor: 0,
@@ -50,6 +52,7 @@ pub(crate) fn run_input(alloc: Global, input: Input<'_>) -> Result<Outcome, Fail
         alloc,
         input.schema,
         input.units,
+        input.sources,
         input.bundle,
         input.limit,
         input.floor,

@@ -9,6 +9,9 @@ use std::test::Fail;
 const NOT_ACCEPTED: &str =
     "source hail note 1\nwhen create note\ndo 4242430101000000000000000000022e2e\n";
 
+/// A text of a source on a class that is not there.
+const NOT_COMPILED: &str = "source echo on word { when create word; rate 1; native; }";
+
 /// The number of an input's refusal, or 0, and its line.
 fn numbered_refusal(alloc: Global, input: Input<'_>) -> Result<String, Fail> {
     let outcome = run_input(alloc, input)?;
@@ -20,21 +23,31 @@ fn numbered_refusal(alloc: Global, input: Input<'_>) -> Result<String, Fail> {
 // Each refusal has the number of the step that refuses.
 #[test]
 fn numbers_of_refusals(rt: HostRuntime) -> Result<(), Fail> {
-    for (schema, units, bundle, line) in [
-        ("", ONE_NOTE, HAIL, "1 refused schema 1"),
-        (NOTE_SCHEMA, "", HAIL, "2 refused units 1"),
-        (NOTE_SCHEMA, ONE_NOTE, "x", "5 refused bundle 1 1"),
+    for (schema, units, sources, bundle, line) in [
+        ("", ONE_NOTE, "X", HAIL, "1 refused schema 1"),
+        (NOTE_SCHEMA, "", "X", HAIL, "2 refused units 1"),
+        (NOTE_SCHEMA, ONE_NOTE, "X", "x", "3 refused lang 1:1 1"),
         (
             NOTE_SCHEMA,
             ONE_NOTE,
+            NOT_COMPILED,
+            "x",
+            "4 refused compile echo 1:13 1",
+        ),
+        (NOTE_SCHEMA, ONE_NOTE, "", "x", "5 refused bundle 1 1"),
+        (
+            NOTE_SCHEMA,
+            ONE_NOTE,
+            "",
             NOT_ACCEPTED,
             "6 refused verify hail do 1 4",
         ),
-        ("{}", "{}", HAIL, "7 refused rule hail 5"),
+        ("{}", "{}", "", HAIL, "7 refused rule hail 5"),
     ] {
         let input = Input {
             schema,
             units,
+            sources,
             bundle,
             ..FIRST
         };

@@ -1,13 +1,8 @@
 //! A shell that a host makes of a blackboard and sources, and runs.
 
-ghost use Rattle.std.specs.Prelude.{◌≡◌, IfOk};
-ghost use Rattle.bb_compile.specs.declared.source_code.ActDraft.TheVariants.{Do};
-ghost use Rattle.bb_shell.specs.Law.{IsAccepted, IsMade};
-ghost use Rattle.bb_verify.specs.Accepted.{Checked as Accepted};
-
 use crate::input::{HAIL, NOTE_SCHEMA, ONE_NOTE};
+use bb_bundle::{ActDraft, SourceCode, SourceDraft, unbundle};
 use bb_code::Code;
-use bb_compile::{ActDraft, SourceCode, SourceDraft, unbundle};
 use bb_schema::Schema;
 use bb_shell::{Board, Finish, Part, Pipe, RuleFault, Shell, Source};
 use bb_verify::{Checked, verify};
@@ -17,9 +12,11 @@ use std::test::Fail;
 const PART: Part = Part::Do { class: 1 };
 
 /// The verified act of a source on notes.
-fn verified(alloc: Global, schema: &Schema, act: ActDraft<Code>) -> Result<ActDraft<Checked>, Fail>
-    ensures { IfOk result (λ a. (c : Accepted) → a ≡ Do c → IsAccepted schema.now c) }
-{
+fn verified(
+    alloc: Global,
+    schema: &Schema,
+    act: ActDraft<Code>,
+) -> Result<ActDraft<Checked>, Fail> {
     match act {
         ActDraft::Do(code) => Ok(ActDraft::Do(verify(alloc, schema, PART, code)?)),
         ActDraft::Native => Ok(ActDraft::Native),
@@ -27,9 +24,7 @@ fn verified(alloc: Global, schema: &Schema, act: ActDraft<Code>) -> Result<ActDr
 }
 
 /// A source on notes that has an act alone, from its code.
-fn source_of(alloc: Global, schema: &Schema, code: SourceCode) -> Result<Source, Fail>
-    ensures { IfOk result (λ s. IsMade schema.now s) }
-{
+fn source_of(alloc: Global, schema: &Schema, code: SourceCode) -> Result<Source, Fail> {
     let SourceDraft {
         name,
         class,
@@ -55,14 +50,15 @@ fn source_of(alloc: Global, schema: &Schema, code: SourceCode) -> Result<Source,
     Ok(Source::new(alloc, schema, draft)?)
 }
 
-/// The source `HAIL`.
-fn hail(alloc: Global, schema: &Schema) -> Result<Source, Fail>
-    ensures { IfOk result (λ s. IsMade schema.now s) }
-{
-    match unbundle(alloc, HAIL)?.pop() {
-        Some(code) => source_of(alloc, schema, code),
-        None => Err(Fail::from("there is a source")),
+/// The sources of so many copies of `HAIL`.
+fn hails(alloc: Global, schema: &Schema, count: u8) -> Result<Vec<Source>, Fail> {
+    let mut sources = Vec::new(alloc);
+    for _ in 0..count {
+        for code in unbundle(alloc, HAIL)? {
+            sources.push(source_of(alloc, schema, code)?)?;
+        }
     }
+    Ok(sources)
 }
 
 /// A blackboard with one note.
@@ -75,8 +71,7 @@ fn one_note(alloc: Global) -> Result<Board, Fail> {
 /// What a run of one note and one source writes, with this floor.
 fn trace(alloc: Global, floor: i64) -> Result<Vec<u8>, Fail> {
     let board = one_note(alloc)?;
-    let mut sources = Vec::new(alloc);
-    sources.push(hail(alloc, board.schema())?)?;
+    let sources = hails(alloc, board.schema(), 1)?;
     let shell = Shell::new(alloc, board, sources, floor)?;
     let mut out = Pipe::new(Vec::new(alloc));
     match shell.run(alloc, 100, &mut out) {
@@ -85,12 +80,10 @@ fn trace(alloc: Global, floor: i64) -> Result<Vec<u8>, Fail> {
     }
 }
 
-/// Why a shell of one note and two sources of one name can't be made.
-fn refusal(alloc: Global) -> Result<Option<RuleFault>, Fail> {
+/// Why a shell of one note and so many sources of one name can't be made.
+fn refusal(alloc: Global, count: u8) -> Result<Option<RuleFault>, Fail> {
     let board = one_note(alloc)?;
-    let mut sources = Vec::new(alloc);
-    sources.push(hail(alloc, board.schema())?)?;
-    sources.push(hail(alloc, board.schema())?)?;
+    let sources = hails(alloc, board.schema(), count)?;
     match Shell::new(alloc, board, sources, 0) {
         Ok(_shell) => Ok(None),
         Err(fault) => Ok(Some(fault)),
@@ -123,6 +116,10 @@ fn shell_with_a_floor(rt: HostRuntime) -> Result<(), Fail> {
 
 #[test]
 fn two_sources_of_one_name(rt: HostRuntime) -> Result<(), Fail> {
-    assert_eq!(rt; refusal(rt.alloc())?, Some(RuleFault::Twice { place: 1 }));
+    assert_eq!(rt; refusal(rt.alloc(), 1)?, None);
+    assert_eq!(rt;
+        refusal(rt.alloc(), 2)?,
+        Some(RuleFault::Twice { place: 1 })
+    );
     Ok(())
 }

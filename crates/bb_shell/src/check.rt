@@ -1,0 +1,57 @@
+//! The check of an input: its sources are verified and made, nothing is run, and what their parts cost is written.
+//! Programs (bb_main) call `check_texts`.
+
+ghost use Rattle.std.specs.Prelude.{◌≡◌, ◌⊎◌, false, IfErr, IfOk, OnErr};
+ghost use Rattle.bb_basis.specs.Results.{Gives};
+ghost use Rattle.bb_shell.specs.Check.{WritesCheck, sources_in};
+ghost use Rattle.bb_shell.specs.Written.{is_cut};
+
+use crate::check_text::check_text;
+use crate::given::given;
+use crate::input_fault::InputFault;
+use crate::texts::read_schema;
+use crate::written::{Done, write};
+use bb_run::{Out, Source};
+use std::alloc::Global;
+
+/// Reads a schema and sources, as text and of a bundle, verifies all codes of all of them, and writes what the parts of
+/// each source cost, and how many sources there are. It refuses as `run_texts` does where it reads no units; then
+/// nothing is written. `Memory`: memory ran out.
+pub fn check_texts<O: Out>(
+    alloc: Global,
+    schema: &str,
+    sources: &str,
+    bundle: &str,
+    out: &mut O,
+) -> Result<Done, InputFault>
+    requires { O.has_failed out.old ≡ false }
+
+    // At `Ok` the sources are those of the texts, and the output took the lines on them, at `Write` a front of these.
+    ensures text { IfOk result (λ done.
+        WritesCheck (sources_in schema.now sources.now bundle.now) done (O.taken out.old) (O.taken out.new)) }
+
+    // `Write` tells that the output has failed.
+    ensures failed { IfOk result (λ done. O.has_failed out.new ≡ is_cut done) }
+
+    // At `Err` it is the first refusal, and the output is as it was.
+    ensures refused { IfErr result (λ e. (e ≡ InputFault.Memory)
+        ⊎ (sources_in schema.now sources.now bundle.now ≡ Err e)) }
+    ensures quiet { OnErr result (out.new ≡ out.old) }
+{
+    let checked = read_sources(alloc, schema, sources, bundle)?;
+    let text = check_text(alloc, checked.as_slice())?;
+    Ok(write(text.as_str(), out))
+}
+
+#[tactic(auto, unfolding(crate::specs::Check::sources_in))]
+fn read_sources(
+    alloc: Global,
+    schema: &str,
+    sources: &str,
+    bundle: &str,
+) -> Result<Vec<Source>, InputFault>
+    ensures { Gives InputFault.Memory (λ v. v.items) result (sources_in schema.now sources.now bundle.now) }
+{
+    let schema = read_schema(alloc, schema)?;
+    given(alloc, &schema, sources, bundle)
+}

@@ -1,0 +1,52 @@
+//! The bundle of an input's sources that are text. Programs (bb_main) call `compile_texts`.
+
+ghost use Rattle.std.specs.Prelude.{◌≡◌, ◌⊎◌, false, IfErr, IfOk, OnErr};
+ghost use Rattle.bb_basis.specs.Results.{Gives};
+ghost use Rattle.bb_shell.specs.Compile.{IsReadAgain, WritesBundle, bundle_in};
+ghost use Rattle.bb_shell.specs.Written.{is_cut};
+
+use crate::compiled::compiled_text;
+use crate::input_fault::InputFault;
+use crate::texts::read_schema;
+use crate::written::{Done, write};
+use bb_bundle::{SourceCode, bundle};
+use bb_run::Out;
+use std::alloc::Global;
+
+/// Reads a schema and a text of sources, compiles these, and writes them as a bundle. It refuses as `run_texts` does
+/// where it reads neither units nor a bundle, and verifies nothing: schema, text, then source by source; then nothing
+/// is written. `Memory`: memory ran out.
+pub fn compile_texts<O: Out>(
+    alloc: Global,
+    schema: &str,
+    sources: &str,
+    out: &mut O,
+) -> Result<Done, InputFault>
+    requires { O.has_failed out.old ≡ false }
+
+    // At `Ok` the output took the text of a bundle of the sources of the text, at `Write` a front of it.
+    ensures text { IfOk result (λ done.
+        WritesBundle (bundle_in schema.now sources.now) done (O.taken out.old) (O.taken out.new)) }
+
+    // Whoever reads that bundle has these sources.
+    ensures again { IfOk result (λ _. IsReadAgain (bundle_in schema.now sources.now)) }
+
+    // `Write` tells that the output has failed.
+    ensures failed { IfOk result (λ done. O.has_failed out.new ≡ is_cut done) }
+
+    // At `Err` it is the first refusal, and the output is as it was.
+    ensures refused { IfErr result (λ e. (e ≡ InputFault.Memory) ⊎ (bundle_in schema.now sources.now ≡ Err e)) }
+    ensures quiet { OnErr result (out.new ≡ out.old) }
+{
+    let codes = read_codes(alloc, schema, sources)?;
+    let text = bundle(alloc, codes.as_slice())?;
+    Ok(write(text.as_str(), out))
+}
+
+#[tactic(auto, unfolding(crate::specs::Compile::bundle_in))]
+fn read_codes(alloc: Global, schema: &str, sources: &str) -> Result<Vec<SourceCode>, InputFault>
+    ensures { Gives InputFault.Memory (λ v. v.items) result (bundle_in schema.now sources.now) }
+{
+    let schema = read_schema(alloc, schema)?;
+    compiled_text(alloc, &schema, sources)
+}

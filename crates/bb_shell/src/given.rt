@@ -1,0 +1,57 @@
+//! The sources of an input, as its two texts have them: those of the language (compiled.rt) and those of a bundle. Its
+//! run (texts.rt) and its check (check.rt) begin with them.
+
+ghost use Rattle.std.specs.Prelude.{◌≡◌, ◌≤◌, length, IfOk};
+ghost use Rattle.bb_basis.specs.Results.{Gives, map_err};
+ghost use Rattle.bb_bundle.specs.Bundle.{sources_of};
+ghost use Rattle.bb_shell.specs.Sources.{codes_in, given};
+
+use crate::compiled::compiled_text;
+use crate::input_fault::InputFault;
+use crate::sources::sources_for;
+use bb_bundle::{BundleFault, SourceCode, unbundle};
+use bb_run::{SOURCE_LIMIT, Source};
+use bb_schema::Schema;
+use std::alloc::Global;
+
+/// The sources that run together: those that are text, then those of the bundle. All texts are compiled before the
+/// bundle is read, and this is read as a whole before a code is verified.
+#[tactic(auto, unfolding(crate::specs::Sources::given))]
+pub(crate) fn given(
+    alloc: Global,
+    schema: &Schema,
+    sources: &str,
+    bundle: &str,
+) -> Result<Vec<Source>, InputFault>
+    ensures given { Gives InputFault.Memory (λ v. v.items) result (given schema.now sources.now bundle.now) }
+    ensures few { IfOk result (λ v. length v.items ≤ SOURCE_LIMIT) }
+{
+    let codes = codes_in(alloc, schema, sources, bundle)?;
+    sources_for(alloc, schema, codes)
+}
+
+// The codes of both texts.
+#[tactic(auto, unfolding(crate::specs::Sources::codes_in))]
+fn codes_in(
+    alloc: Global,
+    schema: &Schema,
+    sources: &str,
+    bundle: &str,
+) -> Result<Vec<SourceCode>, InputFault>
+    ensures { Gives InputFault.Memory (λ v. v.items) result (codes_in schema.now sources.now bundle.now) }
+{
+    let mut codes = compiled_text(alloc, schema, sources)?;
+    let mut bundled = read_bundle(alloc, bundle)?;
+    codes.append(&mut bundled)?;
+    Ok(codes)
+}
+
+fn read_bundle(alloc: Global, text: &str) -> Result<Vec<SourceCode>, InputFault>
+    ensures { Gives InputFault.Memory (λ v. v.items) result (map_err InputFault.Bundle (sources_of text.now)) }
+{
+    match unbundle(alloc, text) {
+        Ok(codes) => Ok(codes),
+        Err(BundleFault::Memory) => Err(InputFault::Memory),
+        Err(fault) => Err(InputFault::Bundle(fault)),
+    }
+}

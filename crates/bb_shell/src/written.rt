@@ -1,0 +1,29 @@
+//! A text that was made whole and is then written, and how far that came. What checks an input (check.rt) and what
+//! compiles one (compile.rt) end with it.
+
+ghost use Rattle.std.specs.Prelude.{◌≡◌, false};
+ghost use Rattle.bb_shell.specs.Written.{Wrote, is_cut};
+
+use bb_run::{Out, put_all};
+
+/// How far a text was written.
+#[derive(Clone, Copy, Debug, PartialEq, Eq)]
+pub enum Done {
+    /// The output took all of it.
+    Written,
+    /// The output failed, and took a front of it.
+    Write,
+}
+
+/// Writes a text to an output.
+pub(crate) fn write<O: Out>(text: &str, out: &mut O) -> Done
+    requires { O.has_failed out.old ≡ false }
+    ensures wrote { Wrote text.now result (O.taken out.old) (O.taken out.new) }
+    ensures failed { O.has_failed out.new ≡ is_cut result }
+{
+    if put_all(out, text.as_bytes()) {
+        Done::Written
+    } else {
+        Done::Write
+    }
+}
