@@ -1,4 +1,4 @@
-//! The source language: from a text to trees of its sources. Whoever compiles sources (bb_compile) calls `parse`.
+//! The source language: from a text to trees of its sources. Whoever compiles sources (bb_bundle) calls `parse`.
 #![tactic(auto)]
 
 mod actions;
