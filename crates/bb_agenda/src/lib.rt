@@ -16,8 +16,6 @@ mod row;
 mod setting;
 mod status;
 mod steering;
-#[cfg(test)]
-mod tests;
 mod waiting;
 
 pub use activation::Activation;

@@ -8,8 +8,6 @@ mod memory;
 mod name;
 mod names;
 mod table;
-#[cfg(test)]
-mod tests;
 mod text;
 
 pub use id_set::IdSet;

@@ -3,10 +3,6 @@
 
 mod board;
 mod loader;
-#[cfg(test)]
-mod space_tests;
-#[cfg(test)]
-mod tests;
 mod unit_names;
 mod units_fault;
 mod values;

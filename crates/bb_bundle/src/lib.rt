@@ -11,8 +11,6 @@ mod partial;
 mod rate;
 mod source_code;
 mod spelled;
-#[cfg(test)]
-mod tests;
 mod writer;
 
 pub use fault::BundleFault;

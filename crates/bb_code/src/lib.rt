@@ -19,6 +19,3 @@ pub use bb_op::{
 pub use code::Code;
 pub use fault::CodeFault;
 pub use once::one_spelling;
-
-#[cfg(test)]
-mod tests;

@@ -6,8 +6,6 @@
 mod clauses;
 mod part_codes;
 mod source;
-#[cfg(test)]
-mod tests;
 
 pub use bb_bundle::{
     ActDraft, BundleFault, ReactionDraft, SourceCode, SourceDraft, bundle, unbundle,

@@ -8,8 +8,6 @@ mod fault;
 mod form;
 mod json;
 mod shape;
-#[cfg(test)]
-mod tests;
 mod units_form;
 
 pub use document::{

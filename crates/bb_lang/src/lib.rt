@@ -11,8 +11,6 @@ mod level;
 mod source_text;
 mod sources;
 mod statements;
-#[cfg(test)]
-mod tests;
 mod tree;
 
 pub use atom::{Atom, Binary, Division, Operator, Relation, Unary, Variable};

@@ -8,8 +8,6 @@ mod layout;
 mod lists;
 mod pairs;
 mod taken;
-#[cfg(test)]
-mod tests;
 
 pub use bb_schema::UnitId;
 pub use couples::Couples;

@@ -7,8 +7,6 @@ mod fits;
 mod holds;
 mod pattern;
 mod query;
-#[cfg(test)]
-mod tests;
 mod value;
 
 pub use bb_schema::{ClassId, LabelId, LabelSetId, SpaceId};

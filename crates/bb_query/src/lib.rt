@@ -3,8 +3,6 @@
 #![tactic(auto)]
 
 mod answer;
-#[cfg(test)]
-mod tests;
 mod values;
 
 pub use answer::find;

@@ -12,8 +12,6 @@ mod parts;
 mod question;
 mod resolve;
 mod source;
-#[cfg(test)]
-mod tests;
 
 pub use clause::Clause;
 pub use clauses::Clauses;

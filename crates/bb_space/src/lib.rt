@@ -5,8 +5,6 @@
 mod leaf;
 mod members;
 mod spaces;
-#[cfg(test)]
-mod tests;
 
 pub use bb_schema::{SpaceId, UnitId};
 pub use leaf::Leaf;

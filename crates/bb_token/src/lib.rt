@@ -8,8 +8,6 @@ mod parser;
 mod place;
 mod scan;
 mod scope;
-#[cfg(test)]
-mod tests;
 mod words;
 
 pub use fault::LangFault;

@@ -3,8 +3,6 @@
 
 mod fault;
 mod layout;
-#[cfg(test)]
-mod tests;
 mod unit;
 mod units;
 mod values;

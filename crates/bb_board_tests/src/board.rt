@@ -1,6 +1,6 @@
-//! Tests of a blackboard: units, links, notes and first units with memory. Those of spaces stand in space_tests.rt.
+//! Tests of a blackboard: units, links, notes and first units with memory. Those of spaces stand in board_spaces.rt.
 
-use crate::{Board, Change, Event, Note, Reason, Said, SharedSchema, UnitsFault};
+use bb_board::{Board, Change, Event, Note, Reason, Said, SharedSchema, UnitsFault};
 use bb_schema::{Schema, SlotId, UnitId, Value};
 use std::alloc::Global;
 use std::fmt::Write;

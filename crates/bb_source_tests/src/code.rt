@@ -1,7 +1,10 @@
 //! Tests of codes: their bytes with memory, each byte with each value, and the limits of codes that are made.
 
-use super::*;
 use bb_basis::{Items, Text};
+use bb_code::{
+    Code, CodeFault, CodeParts, Division, Frame, FrameEntry, Kind, Node, Op, OperandKind, Pattern,
+    Query, one_spelling,
+};
 use std::alloc::Global;
 use std::test::Fail;
 
@@ -241,7 +244,7 @@ fn limits_of_queries(rt: HostRuntime) -> Result<(), Fail> {
 }
 
 #[test]
-fn numbers(rt: HostRuntime) {
+fn numbers_of_code_faults(rt: HostRuntime) {
     let faults = [
         CodeFault::Magic,
         CodeFault::Version,

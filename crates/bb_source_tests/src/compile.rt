@@ -1,7 +1,7 @@
 //! Tests of the compiler: the bundle of a source, and the fault of another.
 
-use super::*;
-use bb_frame::Schema;
+use bb_compile::{CompileFault, Flaw, Place, SourceCode, bundle, compile, parse};
+use bb_schema::Schema;
 use std::alloc::Global;
 use std::test::Fail;
 

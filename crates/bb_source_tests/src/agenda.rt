@@ -1,7 +1,7 @@
 //! Tests of the agenda with memory: each call that can want it, what becomes of each activation, and an agenda against
 //! plain lists.
 
-use super::*;
+use bb_agenda::{Activation, Agenda, Focus, RatedSource, Status};
 use bb_basis::Text;
 use bb_schema::{ClassId, Schema, SharedSchema, UnitId};
 use std::alloc::Global;

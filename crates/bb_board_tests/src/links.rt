@@ -1,8 +1,8 @@
 //! Tests of links: what a link answers with memory, by which slots there is one partner, that a couple takes many pairs,
 //! and all against a plain list of pairs.
 
-use super::*;
-use bb_schema::{CoupleId, Schema, SlotId};
+use bb_links::{Couples, Taken};
+use bb_schema::{CoupleId, Schema, SlotId, UnitId};
 use std::alloc::{AllocError, Global};
 use std::fmt::Write;
 use std::test::Fail;
@@ -22,6 +22,13 @@ const PARTS: CoupleId = 1;
 
 const KNOWS: CoupleId = 2;
 
+/// What a link takes away and adds that changes nothing.
+const NOTHING: Taken = Taken {
+    first: None,
+    second: None,
+    added: false,
+};
+
 fn no_links(alloc: Global) -> Result<Couples, Fail> {
     let schema = Schema::read(alloc, SCHEMA)?;
     Ok(Couples::new(alloc, &schema)?)
@@ -30,7 +37,7 @@ fn no_links(alloc: Global) -> Result<Couples, Fail> {
 /// Links two units, where the couple is there.
 fn link(couples: &mut Couples, couple: CoupleId, a: UnitId, b: UnitId) -> Result<Taken, Fail> {
     if couple as usize >= couples.count() {
-        return Ok(Taken::nothing());
+        return Ok(NOTHING);
     }
     Ok(couples.link(couple, a, b)?)
 }
@@ -38,7 +45,7 @@ fn link(couples: &mut Couples, couple: CoupleId, a: UnitId, b: UnitId) -> Result
 /// Whether two units are linked, and what a link would change, where the couple is there.
 fn foreseen(couples: &Couples, couple: CoupleId, a: UnitId, b: UnitId) -> (bool, Taken) {
     if couple as usize >= couples.count() {
-        return (false, Taken::nothing());
+        return (false, NOTHING);
     }
     (couples.linked(couple, a, b), couples.taken(couple, a, b))
 }
@@ -77,7 +84,7 @@ fn link_displaces_both(rt: HostRuntime) -> Result<(), Fail> {
     };
     assert_eq!(rt; foreseen(&couples, MATE, 1, 4), (false, displaced));
     assert_eq!(rt; link(&mut couples, MATE, 1, 4)?, displaced);
-    assert_eq!(rt; foreseen(&couples, MATE, 1, 4), (true, Taken::nothing()));
+    assert_eq!(rt; foreseen(&couples, MATE, 1, 4), (true, NOTHING));
     let mates = shown(rt.alloc(), &couples, 4)?;
     assert_eq!(rt; mates.as_str(), "1-4 ");
     let inverse = shown(rt.alloc(), &couples, 5)?;

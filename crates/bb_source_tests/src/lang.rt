@@ -1,6 +1,6 @@
 //! Tests of the source language: a text with its tree, and for each fault its first and last places.
 
-use super::*;
+use bb_lang::{ActText, LangFault, Place, parse};
 use std::alloc::{AllocError, Global};
 use std::test::Fail;
 

@@ -1,7 +1,7 @@
 //! Tests of units: their creation with memory, and values that no code can make.
 
-use super::*;
-use bb_schema::{ClassId, Schema, SlotId, Value};
+use bb_schema::{ClassId, Schema, SlotId, UnitId, Value};
+use bb_units::{CreateFault, Units};
 use std::alloc::Global;
 use std::test::Fail;
 

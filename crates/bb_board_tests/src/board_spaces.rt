@@ -1,14 +1,13 @@
-//! Tests of spaces on a blackboard with memory. Those of units and links stand in tests.rt.
+//! Tests of spaces on a blackboard with memory. Those of units and links stand in board.rt.
 
 ghost use Rattle.std.specs.Prelude.{◌≡◌, IfOk, map};
 ghost use Rattle.bb_pattern.specs.Values.{kind_of_operand};
 
-use crate::Board;
-use crate::tests::{load, noted};
+use crate::board::{load, noted};
 use bb_basis::Items;
-use bb_pattern::{Node, OperandKind, Pattern, PatternFault, Relation};
+use bb_board::Board;
+use bb_query::{DimValue, Node, OperandKind, Pattern, PatternFault, Query, Relation};
 use bb_schema::{ClassId, Schema, SlotId, SpaceId, UnitId, Value};
-use bb_world::{DimValue, Query};
 use std::alloc::Global;
 use std::test::Fail;
 

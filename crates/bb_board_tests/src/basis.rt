@@ -1,6 +1,6 @@
 //! Tests of texts, lists and tables, of which each call is made with memory.
 
-use super::*;
+use bb_basis::{IdSet, Items, Names, Table, Text};
 use std::test::Fail;
 
 #[test]

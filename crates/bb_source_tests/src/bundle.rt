@@ -1,6 +1,6 @@
 //! Tests of bundles: what is read of one and written with memory, and the numbers of faults.
 
-use super::*;
+use bb_bundle::{ActDraft, BundleFault, ChangeText, ClauseText, bundle, unbundle};
 use bb_code::{CodeFault, Op};
 use std::alloc::{AllocError, Global};
 use std::test::Fail;
@@ -107,7 +107,7 @@ fn written_as_read(rt: HostRuntime) -> Result<(), Fail> {
 }
 
 #[test]
-fn numbers(rt: HostRuntime) {
+fn numbers_of_bundle_faults(rt: HostRuntime) {
     let fault = CodeFault::Magic;
     assert_eq!(rt; BundleFault::Line { line: 9 }.number(), 1);
     assert_eq!(rt; BundleFault::Hex { line: 9 }.number(), 2);

@@ -1,6 +1,6 @@
 //! Tests of the two documents: what is read of each with memory.
 
-use super::*;
+use bb_document::{Document, UnitsDocument};
 use std::test::Fail;
 
 /// A document of a schema, with an entry of each sort.

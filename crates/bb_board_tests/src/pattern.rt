@@ -1,8 +1,8 @@
 //! Tests of patterns and queries where no code shows what they answer: which fault they have, and what is not there.
 
-use super::*;
 use bb_basis::{Items, Text};
-use bb_schema::{Schema, Value};
+use bb_pattern::{DimValue, Node, OperandKind, Pattern, Query, Relation};
+use bb_schema::{ClassId, Schema, SpaceId, Value};
 use std::alloc::Global;
 use std::test::Fail;
 

@@ -1,9 +1,9 @@
 //! Tests of sources: how they are made with memory, codes that were accepted for something else, and events that no
 //! bundle's clause names.
 
-use super::*;
 use bb_board::{Change, ChangeKind, Event};
 use bb_bundle::{ActDraft, SourceDraft, unbundle};
+use bb_rules::{Clause, RuleFault, Source};
 use bb_schema::{ClassId, Schema};
 use bb_verify::{Checked, Part, verify};
 use std::alloc::Global;

@@ -1,9 +1,9 @@
-//! Tests of faults: their numbers.
+//! Tests of the faults of a text: their numbers.
 
-use super::*;
+use bb_lang::{LangFault, Place};
 
 #[test]
-fn numbers(rt: HostRuntime) {
+fn numbers_of_language_faults(rt: HostRuntime) {
     let place = Place { line: 1, column: 2 };
     assert_eq!(rt; LangFault::Character { place }.number(), 1);
     assert_eq!(rt; LangFault::Token { place }.number(), 2);

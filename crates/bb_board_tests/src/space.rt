@@ -1,9 +1,9 @@
 //! Tests of spaces: their calls with memory, and the candidates, which no query shows.
 
-use super::*;
 use bb_basis::Items;
 use bb_pattern::{DimValue, Relation};
-use bb_schema::Schema;
+use bb_schema::{Schema, SpaceId, UnitId};
+use bb_space::{Leaf, Spaces};
 use std::alloc::{AllocError, Global};
 use std::fmt::Write;
 use std::test::Fail;

@@ -3,8 +3,10 @@
 ghost use Rattle.std.specs.Prelude.{IfOk};
 ghost use Rattle.bb_query.specs.Knows.{KnowsValues};
 
-use super::*;
 use bb_basis::Items;
+use bb_query::{
+    DimValue, Node, OperandKind, Pattern, PatternFault, Query, Relation, find, values_of,
+};
 use bb_schema::{ClassId, Schema, SlotId, SpaceId, UnitId, Value};
 use bb_space::Spaces;
 use bb_units::Units;
