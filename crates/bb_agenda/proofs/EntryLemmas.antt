@@ -13,7 +13,7 @@ find_is_lookup [] q = refl
 find_is_lookup (e ∷ es) q = ap (cond (is_at (nat_cmp q) e.0) (Some e.1)) (find_is_lookup es q)
 
 -- what the map that the entries make has at a number
-get_is_lookup : {X : Type 0} (es : List (ℕ × X)) (q : ℕ) → get (from_entries {R = nat_cmp} es) q ≡ lookup (is_at (nat_cmp q)) es
+pub get_is_lookup : {X : Type 0} (es : List (ℕ × X)) (q : ℕ) → get (from_entries {R = nat_cmp} es) q ≡ lookup (is_at (nat_cmp q)) es
 get_is_lookup es q = get-from_entries nat_cmp_total es q ∙ find_is_lookup es q
 
 -- entries that differ at one number make maps that differ there

@@ -16,3 +16,5 @@ pub mod RisingLemmas
 pub mod RowLemmas
 pub mod Rows
 pub mod WeightLemmas
+pub mod ShiftLemmas
+pub mod SumLemmas

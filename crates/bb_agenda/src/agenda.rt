@@ -13,7 +13,6 @@ mod changes;
 mod steps;
 
 use crate::activation::Activation;
-use crate::foci::Foci;
 use crate::setting::{RatedSource, Setting};
 use crate::status::Status;
 use crate::steering::Steering;
@@ -73,10 +72,7 @@ impl Agenda {
             given: 0,
             waiting: Waiting::new(alloc),
             obviated: BTreeSet::new(alloc),
-            steering: Steering {
-                setting: Setting::new(schema, sources),
-                foci: Foci::new(alloc),
-            },
+            steering: Steering::new(alloc, Setting::new(schema, sources)),
             refused: false,
         }
     }
@@ -130,8 +126,7 @@ impl Agenda {
         self.waiting.get(number).unwrap()
     }
 
-    /// The rating of the pending activation of a number: its base, and the weights of all foci that match it. It goes
-    /// over all foci.
+    /// The rating of the pending activation of a number: its base, and the weights of all foci that match it.
     pub fn rating(&self, number: u64) -> i128
         requires { IsSome (pending_at self.now number) }
         ensures { option_map (rating_in self.now) (pending_at self.now number) ≡ Some result }
@@ -140,8 +135,7 @@ impl Agenda {
         self.steering.rating(&activation)
     }
 
-    /// The rating that an activation has, whatever became of it: its base, and the weights of all foci that match it. It
-    /// goes over all foci.
+    /// The rating that an activation has, whatever became of it: its base, and the weights of all foci that match it.
     pub fn rating_of(&self, activation: &Activation) -> i128
         ensures { result ≡ rating_in self.now activation.now }
     {

@@ -1,8 +1,9 @@
 //! The foci that are set, and what they add to ratings. The agenda keeps them.
 
-ghost use Rattle.std.specs.Prelude.{◌≡◌, OnOk, OnErr};
+ghost use Rattle.std.specs.Prelude.{◌≡◌, ◌+ℤ◌, Bool, Some, IfOk, OnOk, OnErr, option_map};
 ghost use Rattle.std.specs.FinMap as fin;
-ghost use Rattle.bb_agenda.specs.proving.Weights.{rating_at};
+ghost use Rattle.bb_agenda.specs.declared.focus.Focus.{Focus as Weighing};
+ghost use Rattle.bb_agenda.specs.proving.Weights.{rating_at, weight_by, part_of, IsSum};
 ghost use Rattle.bb_agenda.specs.proving.Entries.{foci_of};
 
 use crate::focus::Focus;
@@ -29,6 +30,11 @@ impl Model for Foci {
     ghost coded = { foci_code };
 
     ghost view = { λ f. foci_of f.foci.entries };
+
+    ghost use Rattle.std.specs.List.{AllByRecursion};
+    ghost use Rattle.bb_agenda.specs.proving.Weights.{IsWeight};
+
+    ghost invariant = { λ f. AllByRecursion (λ e. IsWeight e.1.weight) f.foci.entries };
 }
 
 /// A base, and the weights of all foci that match the source at a place.
@@ -62,19 +68,39 @@ impl Foci {
         weighed(&self.foci, setting, place, base)
     }
 
-    /// The focus of a unit is now this one. An error changes nothing.
-    pub(crate) fn set(&mut self, unit: UnitId, focus: Focus) -> Result<(), Memory>
-        ensures ok { OnOk result (self.new ≡ fin.insert self.old unit focus) }
-        ensures err { OnErr result (self.new ≡ self.old) }
+    /// The focus of a unit, if it has one.
+    pub(crate) fn get(&self, unit: UnitId) -> Option<&Focus>
+        ensures { option_map (λ f. f.now) result ≡ fin.get self.now unit }
     {
-        self.foci.insert(unit, focus)?;
-        Ok(())
+        self.foci.get(&unit)
     }
 
-    /// A unit has no focus any more, if it had one.
-    pub(crate) fn remove(&mut self, unit: UnitId)
-        ensures { self.new ≡ fin.remove self.old unit }
+    /// Does nothing, and says that no weights have too great a sum.
+    pub(crate) fn fits(&self)
+        ensures { (p : Weighing → Bool) → IsSum (weight_by p self.now) }
     {
-        self.foci.remove(&unit);
+        let _count = self.foci.len();
+    }
+
+    /// The focus of a unit is now this one. Returns the one that it had. An error changes nothing.
+    pub(crate) fn set(&mut self, unit: UnitId, focus: Focus) -> Result<Option<Focus>, Memory>
+        ensures ok { OnOk result (self.new ≡ fin.insert self.old unit focus) }
+        ensures there { OnOk result (fin.get self.new unit ≡ Some focus) }
+        ensures weights { IfOk result (λ gone. (p : Weighing → Bool) →
+            weight_by p self.new +ℤ part_of p gone ≡ weight_by p self.old +ℤ part_of p (Some focus)) }
+        ensures err { OnErr result (self.new ≡ self.old) }
+    {
+        Ok(self.foci.insert(unit, focus)?)
+    }
+
+    /// A unit has no focus any more. Returns the one that it had.
+    pub(crate) fn remove(&mut self, unit: UnitId) -> Option<Focus>
+        ensures foci { self.new ≡ fin.remove self.old unit }
+        ensures weights { (p : Weighing → Bool) →
+            weight_by p self.new +ℤ part_of p result ≡ weight_by p self.old }
+    {
+        // Its keys ascend.
+        let _count = self.foci.len();
+        self.foci.remove(&unit)
     }
 }

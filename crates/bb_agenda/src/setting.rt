@@ -77,6 +77,11 @@ impl Setting {
         }
     }
 
+    /// How many sources there are.
+    pub(crate) fn source_count(&self) -> usize {
+        self.sources.as_slice().len()
+    }
+
     /// Whether a text is empty, or the name of the source at a place.
     pub(crate) fn has_source(&self, place: usize, name: &Text) -> bool
         ensures { result ≡ (is_empty name.now || is_source self.now.sources place name.now) }

@@ -9,6 +9,7 @@ use Rattle.bb_agenda.specs.declared.focus.Focus.{Focus}
 use Rattle.bb_agenda.specs.declared.setting.RatedSource.{RatedSource}
 use Rattle.bb_agenda.specs.Foci.{Foci, Setting}
 use Rattle.bb_agenda.specs.Agenda.{Agenda, Entry, pending, executed, obviated}
+use Rattle.bb_agenda.specs.proving.Weights.{Steered}
 
 abbrev focus_code : Coded Focus
 focus_code =
@@ -29,6 +30,11 @@ abbrev pub setting_code : Coded Setting
 setting_code =
     code_by (Schema × List RatedSource) (coded× schemas.the_row.coded (coded_list source_code))
     (λ s. (s.schema, s.sources)) (λ p. record { schema = p.0; sources = p.1 }) (λ _. refl)
+
+abbrev pub steered_code : Coded Steered
+steered_code =
+    code_by (Setting × Foci) (coded× setting_code foci_code) (λ s. (s.setting, s.foci))
+    (λ p. record { setting = p.0; foci = p.1 }) (λ _. refl)
 
 abbrev activation_code : Coded Activation
 activation_code =

@@ -105,7 +105,7 @@ impl Agenda {
         ensures closed { IsTrue self.old.refused → IsErr result }
     {
         self.guard()?;
-        self.steering.foci.remove(unit);
+        self.steering.remove(unit);
         Ok(())
     }
 }

@@ -59,6 +59,6 @@ impl Agenda {
         ensures ok { OnOk result (self.new ≡ with_focus self.old unit focus) }
         ensures err { OnErr result (self.new ≡ self.old) }
     {
-        self.steering.foci.set(unit, focus)
+        self.steering.set(unit, focus)
     }
 }

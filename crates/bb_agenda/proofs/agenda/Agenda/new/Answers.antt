@@ -2,8 +2,8 @@ use Rattle.std.proofs.Common.{ap, ◌∙◌, List, [], false}
 use Rattle.std.specs.FinMap as fin
 use Rattle.bb_agenda.specs.declared.activation.Activation.{Activation}
 use Rattle.bb_agenda.specs.Agenda.{Agenda, Entry}
-use Rattle.bb_agenda.specs.Foci.{Foci, Setting}
 use Rattle.bb_agenda.specs.proving.Kept.{entries_of}
+use Rattle.bb_agenda.specs.proving.Weights.{Steered}
 use Rattle.bb_agenda.proofs.KeptLemmas.{kept_first, none_kept}
 use Rattle.bb_agenda.proofs.agenda.Agenda.new.Goals as goal
 
@@ -12,6 +12,6 @@ invariant_of-result c = rw (c.new.ensures, c.new-2.ensures.empty) kept_first
 
 pub returns : goal.returns
 returns c =
-    let made : List Entry → Foci → Setting → Agenda = λ given foci setting. record { given = given; foci = foci; setting = setting; refused = false } in
-    ap (λ given. made given c.new-4.result c.new-3.result) (ap (λ (l : List Activation). entries_of 0 l c.new-2.result.keys) c.new.ensures ∙ ap (entries_of 0 []) c.new-2.ensures.empty ∙ none_kept)
-    ∙ ap (λ foci. made [] foci c.new-3.result) c.new-4.ensures ∙ ap (made [] fin.empty) c.new-3.ensures
+    let made : List Entry → Steered → Agenda = λ given s. record { given = given; foci = s.foci; setting = s.setting; refused = false } in
+    ap (λ given. made given c.new-4.result) (ap (λ (l : List Activation). entries_of 0 l c.new-2.result.keys) c.new.ensures ∙ ap (entries_of 0 []) c.new-2.ensures.empty ∙ none_kept)
+    ∙ ap (made []) c.new-4.ensures ∙ ap (λ setting. made [] (record { setting = setting; foci = fin.empty })) c.new-3.ensures
