@@ -12,6 +12,7 @@ pub use Rattle.bb_step.specs.Changing
 pub use Rattle.bb_step.specs.Jumping
 pub use Rattle.bb_step.specs.Step
 pub use Rattle.bb_step.specs.Activation
+pub use Rattle.bb_step.specs.Kept
 pub use Rattle.bb_step.specs.Writes
 -- of bb_state: its state, and how it comes out
 pub use Rattle.bb_step.specs.Reasons

@@ -12,6 +12,7 @@ ghost use Rattle.bb_verify.specs.FrameType.{Frame};
 ghost use Rattle.bb_verify.specs.PartType.{Part};
 ghost use Rattle.bb_step.specs.Stop.TheVariants.{Full, Memory as OutOfMemory};
 ghost use Rattle.bb_step.specs.Activation.{activation, steps_from};
+ghost use Rattle.bb_step.specs.Kept.{IsCut};
 ghost use Rattle.bb_step.specs.Machine.{entry_state};
 ghost use Rattle.bb_step.specs.Changing.{State};
 ghost use Rattle.bb_step.specs.Writes.{has_no_writes};
@@ -25,10 +26,10 @@ use std::alloc::Global;
 
 /// Executes a code from its first place for an entry, at most `limit` steps, on a blackboard, and returns how it came
 /// out. What it changes is noted there. Each op is tested as it is met, so any code can be executed, and what it
-/// declares of frames and loops is not read. `Memory` may come at any op, after changes of those before it. A code
-/// without an op that writes leaves the blackboard as it was, however it comes out. But where memory ran out, a unit
-/// that no new note names keeps its class and its values, the schema stays, and no number that was given out is given
-/// to another unit. `Full` comes only where no unit can be created.
+/// declares of frames and loops is not read. `Memory` may come at any op, and then the blackboard is that after the ops
+/// before it. A code without an op that writes leaves the blackboard as it was, however it comes out. A unit that no new
+/// note names keeps its class and its values, the schema stays, and no number that was given out is given to another
+/// unit. `Full` comes only where no unit can be created.
 ///
 /// A code that was accepted for a part never goes wrong, where the entry is one of the part (`Begins`): each state that
 /// it passes through suits the frame of its place, its answer is one of the part, and the blackboard stays as it was
@@ -46,9 +47,10 @@ pub fn trial(
     ensures few { IfOk result (λ o. o.found ≤ UNIT_LIMIT) }
     ensures board { (result ≡ Err OutOfMemory) ⊎ (board.new ≡ (activation limit code.now entry board.old).1) }
     ensures reads_only { has_no_writes code.now ≡ true → board.new ≡ board.old }
-    ensures named { (result ≡ Err OutOfMemory) ⊎ NotesChanges board.old.world board.new.world }
-    ensures schema { (result ≡ Err OutOfMemory) ⊎ (board.new.schema ≡ board.old.schema) }
-    ensures outlives { (result ≡ Err OutOfMemory) ⊎ Outlives board.old.world.units board.new.world.units }
+    ensures cut { IsCut code.now entry board.old board.new }
+    ensures named { NotesChanges board.old.world board.new.world }
+    ensures schema { board.new.schema ≡ board.old.schema }
+    ensures outlives { Outlives board.old.world.units board.new.world.units }
     ensures full { (steps found : ℕ) → result ≡ Err (Full steps found) → is_full board.new.world.units ≡ true }
     ensures suits { (part : Part) (frames : List Frame) (n : ℕ) (state : State) →
         Begins part frames code.now entry board.old →

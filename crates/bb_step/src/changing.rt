@@ -44,8 +44,10 @@ pub(crate) fn new_unit(
         return Err(Halt::Stuck(Stuck::Missing));
     }
     machine.room()?;
+    // Its number is added before it is created, so that where memory runs out nothing was created.
+    machine.add(Value::Unit(board.next()))?;
     match board.create(class) {
-        Ok(unit) => Ok(machine.add(Value::Unit(unit))?),
+        Ok(_) => Ok(()),
         Err(CreateFault::Full) => Err(Halt::Full),
         Err(CreateFault::Memory) => Err(Halt::Memory),
     }

@@ -7,6 +7,7 @@ ghost use Rattle.bb_state.specs.Named.{NotesChanges};
 ghost use Rattle.bb_state.specs.Units.{is_full};
 ghost use Rattle.bb_state.specs.declared.outcome.Stop.TheVariants.{Full, Memory as OutOfMemory};
 ghost use Rattle.bb_step.specs.Activation.{activation, halted};
+ghost use Rattle.bb_step.specs.Kept.{IsCut};
 ghost use Rattle.bb_step.specs.Writes.{has_no_writes};
 ghost use Rattle.bb_state.specs.Machine.{units_of};
 
@@ -17,9 +18,9 @@ use std::alloc::Global;
 
 /// Executes a code from its first place for an entry, at most `limit` steps, on a blackboard, and returns how it came
 /// out. What it changes is noted there. Each op is tested as it is met, so any code can be executed, and what it
-/// declares of frames and loops is not read. `Memory` may come at any op, after changes of those before it. A code
-/// without an op that writes leaves the blackboard as it was, however it comes out. But where memory ran out, a unit
-/// that no new note names keeps its class and its values. `Full` comes only where no unit can be created.
+/// declares of frames and loops is not read. `Memory` may come at any op, and then the blackboard is that after the ops
+/// before it. A code without an op that writes leaves the blackboard as it was, however it comes out. A unit that no new
+/// note names keeps its class and its values. `Full` comes only where no unit can be created.
 pub fn execute(
     alloc: Global,
     code: &Code,
@@ -31,7 +32,8 @@ pub fn execute(
     ensures few { IfOk result (λ o. o.found ≤ UNIT_LIMIT) }
     ensures board { (result ≡ Err OutOfMemory) ⊎ (board.new ≡ (activation limit code.now entry board.old).1) }
     ensures reads_only { has_no_writes code.now ≡ true → board.new ≡ board.old }
-    ensures named { (result ≡ Err OutOfMemory) ⊎ NotesChanges board.old.world board.new.world }
+    ensures cut { IsCut code.now entry board.old board.new }
+    ensures named { NotesChanges board.old.world board.new.world }
     ensures full { (steps found : ℕ) → result ≡ Err (Full steps found) → is_full board.new.world.units ≡ true }
 {
     if (code.locals() as usize) < unit_count(entry) {

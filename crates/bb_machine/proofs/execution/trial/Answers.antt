@@ -2,16 +2,16 @@ use Rattle.std.proofs.Common.{subst}
 use Rattle.bb_schema.specs.Fits as schemas
 use Rattle.bb_machine.proofs.NeverWrong.{each_stands, stuck_by_turns, answers, never_stuck, within_budget, stuck_below, found_few, goes_on}
 use Rattle.bb_machine.proofs.WriteLemmas.{only_part_reads}
-use Rattle.bb_machine.proofs.changing.OutlivedSteps.{lasts_where, schema_where}
+use Rattle.bb_machine.proofs.changing.OutlivedSteps.{cut_lasts, cut_schema}
 use Rattle.bb_machine.proofs.execution.trial.Goals as goal
 
 pub returns-clause-schema : goal.returns-clause-schema
 returns-clause-schema c =
-    schema_where c.execute.result c.args.limit c.args.code.now c.args.entry c.args.board.now c.execute.new.board c.execute.ensures.board
+    cut_schema c.args.code.now c.args.entry c.args.board.now c.execute.new.board c.execute.ensures.cut
 
 pub returns-clause-outlives : goal.returns-clause-outlives
 returns-clause-outlives c =
-    lasts_where c.execute.result c.args.limit c.args.code.now c.args.entry c.args.board.now c.execute.new.board c.execute.ensures.board
+    cut_lasts c.args.code.now c.args.entry c.args.board.now c.execute.new.board c.execute.ensures.cut
 
 pub returns-clause-suits : goal.returns-clause-suits
 returns-clause-suits c = λ part frames n state begins.
