@@ -1,0 +1,38 @@
+-- worked texts
+mod Rows
+-- the first ops of a code, one after another
+pub mod ComeLemmas
+-- ops on values
+pub mod OpLemmas
+-- what is laid out on a sheet without a flaw
+pub mod SheetLemmas
+-- names and their locals
+pub mod NameLemmas
+-- parts of expressions, one after another
+pub mod MeansLemmas
+-- slots by their names
+pub mod SlotLemmas
+-- expressions without parts
+pub mod AtomLemmas
+-- operations
+pub mod OperationLemmas
+-- units that are linked, and how many there are
+pub mod SequenceLemmas
+-- queries
+pub mod FindLemmas
+-- all expressions
+pub mod ExprLemmas
+-- names that are declared, or get another value
+pub mod SceneLemmas
+-- what statements share
+pub mod ActLemmas
+-- ops that change the blackboard, or end an execution
+pub mod LeafLemmas
+-- statements that declare a name, or give one another value
+pub mod BindLemmas
+-- statements that change a unit
+pub mod UnitLemmas
+-- all statements without blocks
+pub mod ActionLemmas
+-- whole parts
+pub mod PartLemmas
