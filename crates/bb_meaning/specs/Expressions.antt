@@ -57,7 +57,8 @@ operand v = ok_or (operand_of v) meaningless
 -- the units of a class in a space of which a pattern holds, with these operands
 abbrev pub found_units : Board → (class space : ℕ) → Tree → List DimValue → List ℕ
 found_units b class space pattern operands =
-    answer b.schema b.world.units b.world.spaces (record { class = class; space = space; kinds = []; pattern = pattern }) operands
+    answer b.schema b.world.units b.world.spaces
+    (record { class = class; space = space; kinds = []; pattern = pattern }) operands
 
 -- ---- expressions, sequences and patterns, from the left
 

@@ -11,7 +11,7 @@ pub data End : Type 0 where
   answered : Answer → Board → End
   -- a unit was to be created where none can be
   full : Board → End
-  -- the text means nothing: it uses a unit that was deleted, or a value of another kind than is due
+  -- the text means nothing: it uses a unit that was deleted, or is not one that the compiler takes
   meaningless : End
 
 -- what a text comes to

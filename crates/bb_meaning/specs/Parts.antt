@@ -13,7 +13,8 @@ use Rattle.bb_meaning.specs.Statements.{Scene, statements}
 -- a part begins with names for the activation's unit and, where it answers an event, for the event's
 abbrev pub first_names : Entry → List Name
 first_names entry =
-    record { name = codes "it"; value = One entry.it } ∷ elim entry.ev [ None ↦ [] | Some n ↦ record { name = codes "ev"; value = One n } ∷ [] ]
+    record { name = codes "it"; value = One entry.it }
+    ∷ elim entry.ev [ None ↦ [] | Some n ↦ record { name = codes "ev"; value = One n } ∷ [] ]
 
 abbrev pub first_scene : Entry → Board → Scene
 first_scene entry b = record { names = first_names entry; board = b }

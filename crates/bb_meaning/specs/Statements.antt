@@ -61,7 +61,8 @@ set_to u name v s = do
   Ok (in_world s (after_set s.board.schema s.board.world n slot held))
 
 -- link, unlink: two units that are live
-unfoldable pub relinked : (World → (unit slot partner : ℕ) → World) → (slot : List ℕ) → (unit other : Value) → Scene → Meaning Scene
+unfoldable pub relinked : (World → (unit slot partner : ℕ) → World) → (slot : List ℕ) → (unit other : Value) → Scene
+    → Meaning Scene
 relinked change name u v s = do
   n ← live_value s.board u
   m ← live_value s.board v
@@ -69,7 +70,8 @@ relinked change name u v s = do
   Ok (in_world s (change s.board.world n slot m))
 
 -- enter, leave: a unit that is live, and a space
-unfoldable pub moved : (World → (unit space : ℕ) → World) → (space : List ℕ) → (unit : Value) → Scene → Meaning Scene
+unfoldable pub moved : (World → (unit space : ℕ) → World) → (space : List ℕ) → (unit : Value) → Scene
+    → Meaning Scene
 moved change name u s = do
   n ← live_value s.board u
   space ← ok_or (space_named s.board.schema name) meaningless

@@ -1,5 +1,5 @@
-//! What holds of compiled code. No code calls it: it says of the code that `emit_part` gives (bb_emit) what its execution
-//! by `trial` (bb_machine) comes to.
+//! What holds of compiled code. No code calls it: it says of the code that `emit_part` gives (bb_emit) what its
+//! execution by `trial` (bb_machine) comes to.
 
 ghost use Rattle.std.specs.Prelude.{◌≡◌, ◌≤◌, ℕ, true, List, length, Ok};
 ghost use Rattle.bb_lang.specs.Blocks.{BlockTree};
@@ -19,13 +19,14 @@ use bb_code::Code;
 
 /// What the code of a part means, if the part has no `if`, no `with` and no `for`, whatever its expressions are.
 ///
-/// - `means`: where the verifier accepts the code for the part, and is begun with units that fit the part, its execution
-///   gives the answer of the text and leaves the blackboard of the text, with its notes; it finds no room for one more unit
-///   exactly where the text finds none; and as many steps as the code has ops are enough for that.
+/// - `means`: where the verifier accepts the code for the part, and the execution begins with units that fit the part,
+///   it gives the answer of the text and leaves the blackboard of the text, with its notes; it finds no room for one
+///   more unit exactly where the text finds none; and as many steps as the code has ops are enough for that.
 ///
 /// It does not say that the verifier accepts the code, and nothing of texts with `if`, `with` or `for`.
 pub fn accepted_code_means_its_text(code: &Code, board: &Board)
-    ensures means { (part : Part) (place : Place) (block : BlockTree) (frames : List Frame) (entry : Entry) (limit : ℕ) →
+    ensures means { (part : Part) (place : Place) (block : BlockTree)
+        (frames : List Frame) (entry : Entry) (limit : ℕ) →
         is_plain block ≡ true → part_code board.now.schema part place block ≡ Ok code.now →
         Begins part frames code.now entry board.now → length code.now.ops ≤ limit →
         IsTold (meaning part block entry board.now) (activation limit code.now entry board.now) }
