@@ -1,4 +1,5 @@
--- What the call of a native leaves of a roster: how many there are, where a name is found, and that all are open.
+-- The lemmas on natives that crates above use. Here: what the call of a native leaves of a roster, which is how many
+-- there are, where a name is found, and that all are open.
 use Rattle.std.proofs.Common.{◌≡◌, ℕ, zero, suc, ◌&&◌, List, [], ◌∷◌, map, length, set, Option, Some, None, true, refl, sym, ap, ◌∙◌}
 use Rattle.std.specs.Prelude.{slice_get, position}
 use Rattle.std.specs.Option.{option_map_or}
@@ -9,6 +10,9 @@ use Rattle.bb_basis.proofs.ListLemmas.{position-map}
 use Rattle.bb_native.specs.Sight.{Sight}
 use Rattle.bb_native.specs.Native.{Native, after_act}
 use Rattle.bb_native.specs.Roster.{all_open, place_of, after_act_at}
+-- what an ask that is applied leaves of a blackboard, and when it is not applied
+pub use Rattle.bb_native.proofs.AskedLemmas.{Leads, applied_leads, applied_fits}
+pub use Rattle.bb_native.proofs.AppliedLemmas.{applied_full, applied_no_memory}
 
 set_seen : {A B : Type 0} (f : A → B) (xs : List A) (i : ℕ) (x y : A) → slice_get xs i ≡ Some x → f y ≡ f x → map f (set xs i y) ≡ map f xs
 set_seen f [] i x y at h = refl

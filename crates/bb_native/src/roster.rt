@@ -49,6 +49,13 @@ impl<N: NativeSource> Roster<N> {
         place_of(&self.closings, name)
     }
 
+    /// The name of each native, with no number yet, in the order in which they were handed in.
+    pub fn handed_in(&self) -> &[Closing]
+        ensures { result.now ≡ map unclosed (map N.meaning self.now.natives.items) }
+    {
+        &self.closings
+    }
+
     /// What the native at a place asks for a unit, with what it sees of the blackboard, in order. It then holds its next
     /// list. An error changes nothing.
     pub fn act(
@@ -116,8 +123,8 @@ fn close<N: NativeSource>(native: N) -> i64
     native.close()
 }
 
-/// Closes natives and drops them, in order.
-fn close_each<N: NativeSource>(natives: Vec<N>)
+/// Closes each of some open natives once, in order, and drops it. It takes no memory.
+pub fn close_each<N: NativeSource>(natives: Vec<N>)
     requires { all_open (map N.meaning natives.items) ≡ true }
 {
     for native in natives {

@@ -3,7 +3,7 @@
 ghost use Rattle.std.specs.Prelude.{◌≡◌, true, map, IfOk};
 ghost use Rattle.bb_native.specs.Roster.{all_open};
 
-use crate::{Ask, Closed, NativeSource, Roster, View};
+use crate::{Ask, Closed, Denial, NativeSource, Refusal, Roster, View, apply};
 use bb_basis::{Memory, Text};
 use bb_board::Board;
 use bb_schema::{Schema, UnitId};
@@ -238,5 +238,27 @@ fn each_is_closed_once_in_order(rt: HostRuntime) -> Result<(), Fail> {
         drop(roster.close_all());
     }
     assert_eq!(rt; told.get(), 123);
+    Ok(())
+}
+
+/// Asks for a unit of a class.
+fn asks_for(alloc: Global, class: &str, board: &mut Board) -> Result<Result<(), Denial>, Memory> {
+    let class = Text::from_str(alloc, class)?;
+    Ok(apply(alloc, Ask::New { class }, board))
+}
+
+#[test]
+fn asks_one_by_one(rt: HostRuntime) -> Result<(), Fail> {
+    let alloc = rt.alloc();
+    let mut board = board(alloc)?;
+    assert!(rt; asks_for(alloc, "note", &mut board)? == Ok(()));
+    assert!(rt; board.live(1));
+    let refused = Err(Denial::Refused(Refusal::Class));
+    assert!(rt; asks_for(alloc, "word", &mut board)? == refused);
+    assert!(rt; apply(alloc, Ask::Delete { unit: 1 }, &mut board) == Ok(()));
+    assert!(rt; !board.live(1));
+    let refused = Err(Denial::Refused(Refusal::Deleted));
+    assert!(rt; apply(alloc, Ask::Delete { unit: 1 }, &mut board) == refused);
+    assert_eq!(rt; board.next(), 2);
     Ok(())
 }

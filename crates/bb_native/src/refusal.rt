@@ -1,0 +1,53 @@
+//! Why an ask of a native is refused. Whoever applies asks (applying.rt) tells it, and a trace names its number.
+
+ghost use Rattle.std.specs.Prelude.{◌≡◌};
+ghost use Rattle.bb_native.specs.Refusals.{refusal_number, refusal_of};
+
+use bb_world::Reason;
+
+/// Why an ask is refused: the first reason, in this order.
+#[derive(Clone, Copy, Debug, PartialEq, Eq)]
+pub enum Refusal {
+    /// A unit that it names is not live.
+    Deleted,
+    /// The unit's class has no such slot.
+    Slot,
+    /// The slot can't hold the value, or a text to be said is too long.
+    Kind,
+    /// The other unit is not of the class that the link slot leads to.
+    LinkClass,
+    /// The space isn't there, or does not allow units of the class.
+    Space,
+    /// The class isn't there.
+    Class,
+}
+
+impl Refusal {
+    /// The number by which a trace names the refusal, from 1 to 6.
+    pub fn number(self) -> u8
+        ensures { result ≡ refusal_number self }
+    {
+        match self {
+            Refusal::Deleted => 1,
+            Refusal::Slot => 2,
+            Refusal::Kind => 3,
+            Refusal::LinkClass => 4,
+            Refusal::Space => 5,
+            Refusal::Class => 6,
+        }
+    }
+}
+
+impl From<Reason> for Refusal {
+    ghost from_gives = { λ reason refusal. refusal ≡ refusal_of reason };
+
+    fn from(reason: Reason) -> Refusal {
+        match reason {
+            Reason::Deleted => Refusal::Deleted,
+            Reason::Slot => Refusal::Slot,
+            Reason::Kind => Refusal::Kind,
+            Reason::LinkClass => Refusal::LinkClass,
+            Reason::Space => Refusal::Space,
+        }
+    }
+}
