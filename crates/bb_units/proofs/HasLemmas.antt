@@ -1,7 +1,7 @@
 -- Which slots a unit has: the ordinary ones of its class.
-use Rattle.std.proofs.Common.{◌≡◌, ℕ, Bool, true, false, ◌&&◌, ◌||◌, List, [], ◌∷◌, Option, Some, None, refl, sym, ap, ◌∙◌}
-use Rattle.std.specs.Prelude.{◌==◌, is_some, slice_get, option_map, option_and_then}
-use Rattle.std.specs.List.{list_any, cons_option}
+use Rattle.std.proofs.Common.{◌≡◌, ℕ, Bool, true, false, ◌&&◌, List, [], ◌∷◌, Option, Some, None, refl, sym, ap, ◌∙◌}
+use Rattle.std.specs.Prelude.{◌==◌, is_some, slice_get, option_and_then}
+use Rattle.std.specs.List.{list_any}
 use Rattle.std.specs.Map.{keys_of}
 use Rattle.std.specs.Option.{option_map_or}
 use Rattle.std.specs.FinMap.{get}
@@ -9,7 +9,7 @@ use Rattle.std.proofs.lemmas.Bool.{eqb-true}
 use Rattle.bb_classes.specs.declared.value.Value.{Value}
 use Rattle.bb_units.specs.declared.unit.Unit.{Unit}
 use Rattle.bb_units.specs.Values.{value_at}
-use Rattle.bb_units.specs.Layout.{Layout, slots_of, default_at, defaults_of, blank}
+use Rattle.bb_units.specs.Layout.{Layout, slots_of, default_at, defaults_of}
 use Rattle.bb_units.specs.Units.{Units, value_of, has_slot}
 use Rattle.bb_units.specs.Fits.{IsUnitOf, Fits}
 

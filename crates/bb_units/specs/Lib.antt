@@ -1,3 +1,5 @@
+-- the value of what a slot holds
+pub mod Held
 -- the values of a unit
 pub mod Values
 -- which slots the units of a class have, and what a new unit has in them

@@ -5,6 +5,8 @@ ghost use Rattle.bb_classes.specs.Values.{label_counts};
 ghost use Rattle.bb_schema.specs.Schema.{default_in, default_of};
 ghost use Rattle.bb_units.specs.Layout.{layout_of, default_at, can_hold, defaults_of, blank};
 
+use crate::held::Held;
+use crate::shared_value::SharedValue;
 use crate::values::Values;
 use bb_basis::Memory;
 use bb_schema::{ClassId, Kind, LabelSetId, Schema, SlotId, Value};
@@ -18,7 +20,7 @@ pub(crate) struct Layout {
     // By class, all its slots in class order.
     slots: Vec<Vec<SlotId>>,
     // By slot, the default of an ordinary one.
-    defaults: Vec<Option<Value>>,
+    defaults: Vec<Option<SharedValue>>,
     // By label set, the number of its labels.
     label_counts: Vec<usize>,
 }
@@ -37,7 +39,7 @@ impl Model for Layout {
 }
 
 /// The default of an ordinary slot.
-fn default_at(defaults: &[Option<Value>], slot: SlotId) -> Option<&Value>
+fn default_at(defaults: &[Option<SharedValue>], slot: SlotId) -> Option<&SharedValue>
     ensures { option_map (λ v. v.now) result ≡ default_at defaults.now slot }
 {
     match defaults.get(slot as usize) {
@@ -49,7 +51,7 @@ fn default_at(defaults: &[Option<Value>], slot: SlotId) -> Option<&Value>
 /// The slots that have a default, each with it, in their order.
 fn defaults_of(
     alloc: Global,
-    defaults: &[Option<Value>],
+    defaults: &[Option<SharedValue>],
     slots: &[SlotId],
 ) -> Result<Values, Memory>
     ensures { IfOk result (λ values. values ≡ defaults_of defaults.now slots.now) }
@@ -59,7 +61,7 @@ fn defaults_of(
         let Some(value) = default_at(defaults, *slot) else {
             continue;
         };
-        values.push(*slot, value.clone()?)?;
+        values.push(*slot, Held::default(value.share()?))?;
     }
     Ok(values)
 }
@@ -76,23 +78,23 @@ fn slots_by_class(alloc: Global, schema: &Schema) -> Result<Vec<Vec<SlotId>>, Me
 }
 
 /// What a new unit has in a slot. A link slot is `None`.
-fn default_of(schema: &Schema, slot: SlotId) -> Result<Option<Value>, Memory>
+fn default_of(alloc: Global, schema: &Schema, slot: SlotId) -> Result<Option<SharedValue>, Memory>
     requires { slot < length schema.now.slots }
     ensures { IfOk result (λ default. default ≡ default_of schema.now slot) }
 {
     match schema.kind(slot) {
         Kind::Link(_) => Ok(None),
-        _ => Ok(Some(schema.default(slot).clone()?)),
+        _ => Ok(Some(SharedValue::new(alloc, schema.default(slot).clone()?)?)),
     }
 }
 
 /// By slot, the default of an ordinary one.
-fn defaults_by_slot(alloc: Global, schema: &Schema) -> Result<Vec<Option<Value>>, Memory>
+fn defaults_by_slot(alloc: Global, schema: &Schema) -> Result<Vec<Option<SharedValue>>, Memory>
     ensures { IfOk result (λ defaults. defaults.items ≡ map (λ t. default_in t.content) schema.now.slots) }
 {
     let mut defaults = Vec::new(alloc);
     for slot in 0..schema.slot_count() {
-        defaults.push(default_of(schema, slot as SlotId)?)?;
+        defaults.push(default_of(alloc, schema, slot as SlotId)?)?;
     }
     Ok(defaults)
 }
@@ -133,7 +135,7 @@ impl Layout {
     {
         match default_at(&self.defaults, slot) {
             None => false,
-            Some(default) => value.fits(&self.label_counts, default.kind()),
+            Some(default) => value.fits(&self.label_counts, default.get().kind()),
         }
     }
 

@@ -2,7 +2,9 @@
 #![tactic(auto)]
 
 mod fault;
+mod held;
 mod layout;
+mod shared_value;
 mod unit;
 mod units;
 mod values;

@@ -4,6 +4,7 @@ ghost use Rattle.std.specs.Prelude.{◌≡◌, [], ◌∷◌, ◌++◌, IfOk, Is
 ghost use Rattle.std.specs.Map.{lookup, set_value};
 ghost use Rattle.bb_units.specs.Values.{place_of, value_at, with_value};
 
+use crate::held::Held;
 use bb_schema::{SlotId, Value};
 use std::alloc::{AllocError, Global};
 use std::marker::Model;
@@ -12,7 +13,7 @@ use std::mem;
 /// The values of a unit, each under the number of its slot.
 #[derive(Drop)]
 pub(crate) struct Values {
-    entries: Vec<(SlotId, Value)>,
+    entries: Vec<(SlotId, Held)>,
 }
 
 impl Model for Values {
@@ -25,7 +26,7 @@ impl Model for Values {
 }
 
 /// The index of a slot among values.
-fn place(entries: &[(SlotId, Value)], slot: SlotId) -> Option<usize>
+fn place(entries: &[(SlotId, Held)], slot: SlotId) -> Option<usize>
     ensures { result ≡ place_of slot entries.now }
 {
     entries.iter().position(|entry| entry.0 == slot)
@@ -42,7 +43,7 @@ impl Values {
     }
 
     /// Appends a value.
-    pub(crate) fn push(&mut self, slot: SlotId, value: Value) -> Result<(), AllocError>
+    pub(crate) fn push(&mut self, slot: SlotId, value: Held) -> Result<(), AllocError>
         ensures { IfOk result (λ _. self.new ≡ self.old ++ (slot, value) ∷ []) }
     {
         self.entries.push((slot, value))?;
@@ -54,7 +55,7 @@ impl Values {
         ensures { option_map (λ v. v.now) result ≡ value_at self.now slot }
     {
         let place = place(&self.entries, slot)?;
-        Some(&self.entries[place].1)
+        Some(self.entries[place].1.get())
     }
 
     /// Gives a slot that is there another value.
@@ -63,7 +64,7 @@ impl Values {
     {
         match place(&self.entries, slot) {
             None => drop(value),
-            Some(place) => drop(mem::replace(&mut self.entries[place].1, value)),
+            Some(place) => drop(mem::replace(&mut self.entries[place].1, Held::given(value))),
         }
     }
 }

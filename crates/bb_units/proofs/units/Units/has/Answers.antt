@@ -1,4 +1,4 @@
-use Rattle.std.proofs.Common.{◌≡◌, ◌∙◌, Bool, Option, Some, None, refl, sym, ap, subst}
+use Rattle.std.proofs.Common.{◌≡◌, ◌∙◌, Option, Some, None, ap}
 use Rattle.std.specs.Prelude.{is_some, option_map}
 use Rattle.bb_units.specs.Units.{Units, units_of, has_slot}
 use Rattle.bb_units.proofs.HasLemmas.{has_its_slots}

@@ -2,7 +2,7 @@ use Rattle.std.proofs.Common.{◌≡◌, true, sym, subst}
 use Rattle.std.specs.Prelude.{is_some}
 use Rattle.std.proofs.lemmas.Bool.{and_parts}
 use Rattle.bb_units.specs.Layout.{can_hold}
-use Rattle.bb_units.specs.Units.{Units, value_of, takes}
+use Rattle.bb_units.specs.Units.{Units, value_of}
 use Rattle.bb_units.proofs.KeptLemmas.{kept_changed}
 use Rattle.bb_units.proofs.units.Units.set.Goals as goal
 

@@ -13,4 +13,4 @@ returns-in_err-place c =
 pub returns : goal.returns
 returns c =
     let there = is_place (λ s. s == c.args.slot) c.index.result.now c.in_ok-place.place c.self.inside.entries.items (sym (c.in_ok-place.ensures ∙ ap (place_of c.args.slot) c.deref.ensures.value)) in
-    rw (← c.self.view_is) (ap (λ (e : ℕ × Value). Some e.1) c.index.ensures ∙ sym there.found)
+    rw (← c.self.view_is, c.get.ensures) (ap (λ (e : ℕ × Value). Some e.1) c.index.ensures ∙ sym there.found)
