@@ -146,6 +146,14 @@ class_there s w n fits live =
     let count = ap (λ (l : Layout). length l.slots) fits.layout in
     (found.0, omega (arith, found.1, count, length-map s.classes (λ (k : Class). k.slots)))
 
+-- a slot that takes a value is there
+pub slot_within : (s : Schema) (w : World) (n slot : ℕ) (value : Value) → Fits s w → takes w.units n slot value ≡ true → slot < length s.slots
+slot_within s w n slot value fits takes_it =
+    let held = (and_parts (is_some (value_of w.units n slot)) (can_hold w.units.layout slot value) takes_it).1 in
+    let there = default_there w.units.layout.defaults slot (λ d. value_fits w.units.layout.label_counts (kind_of_value d) value) held in
+    let count = ap (λ (l : Layout). length l.defaults) fits.layout in
+    omega (arith, there, count, length-map s.slots (λ (t : Slot). default_in t.content))
+
 pub set_keeps : (s : Schema) (w : World) (n slot : ℕ) (value : Value) → Fits s w → units.Fits (with_value w.units n slot value) → IsTrue (is_live w.units n) → IsTrue (takes w.units n slot value)
     → Fits s (after_set s w n slot value)
 set_keeps s w n slot value fits u live takes_it = record {
@@ -158,10 +166,7 @@ set_keeps s w n slot value fits u live takes_it = record {
   spaces = knows_set s w.units w.spaces fits.spaces n slot value;
   notes =
       let takes_is : takes w.units n slot value ≡ true = search (rules, takes_it) in
-      let held = (and_parts (is_some (value_of w.units n slot)) (can_hold w.units.layout slot value) takes_is).1 in
-      let there = default_there w.units.layout.defaults slot (λ d. value_fits w.units.layout.label_counts (kind_of_value d) value) held in
-      let count = ap (λ (l : Layout). length l.defaults) fits.layout in
-      let within : slot < length s.slots = omega (arith, there, count, length-map s.slots (λ (t : Slot). default_in t.content)) in
+      let within = slot_within s w n slot value fits takes_is in
       noted_more s (with_value w.units n slot value) w.notes (event n (class_at w n) (Update slot))
       (notes_kept s w.units (with_value w.units n slot value) (set_outlives w.units n slot value) w.notes fits.notes)
       (event_of_live s w (with_value w.units n slot value) n (Update slot) fits (set_outlives w.units n slot value) (search (rules, live)) (below slot (length s.slots) within));

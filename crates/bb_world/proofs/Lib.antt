@@ -11,5 +11,9 @@ pub mod ClassLemmas
 pub mod MemberLemmas
 pub mod KnowLemmas
 pub mod SettingLemmas
+pub mod SlotLemmas
+pub mod DimLemmas
+pub mod QuietLemmas
+pub mod ReadLemmas
 pub mod SpaceLemmas
 pub mod Laws

@@ -147,7 +147,8 @@ module _ (n : ℕ) where
   one_none_by values t x none (inl e) = ap (λ m. get m n) e ∙ moved_none values (membership t x) none
   one_none_by values t x none (inr e) = ap (λ (z : Spaces). values_in z x n) e ∙ none
 
-  apart_same : (values : List DimValue) (t : Spaces) (x q k : ℕ) → q ≢ x → values_in (after_moved t x n values) q k ≡ values_in t q k
+  -- another space stays as it is
+  pub apart_same : (values : List DimValue) (t : Spaces) (x q k : ℕ) → q ≢ x → values_in (after_moved t x n values) q k ≡ values_in t q k
   apart_same values t x q k apart = ap (λ m. get m k) (changed_there (moved n values) t x q apart)
 
   one_other : (values : List DimValue) (t : Spaces) (x q k : ℕ) → eq_by_cmp nat_cmp k n ≡ false → ((eqb q x ≡ true) × (q ≡ x)) ⊎ ((eqb q x ≡ false) × (q ≢ x)) → values_in (after_moved t x n values) q k ≡ values_in t q k

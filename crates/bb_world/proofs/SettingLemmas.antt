@@ -1,7 +1,7 @@
 -- What a unit has on a dimension once a slot of it is set, and one space more of those that it is in.
-use Rattle.std.proofs.Common.{◌≡◌, ◌≢◌, ℕ, ◌+◌, suc, Bool, true, false, cond, List, [], ◌∷◌, ◌++◌, map, Option, Some, None, refl, sym, ap, ◌∙◌, arith}
+use Rattle.std.proofs.Common.{◌≡◌, ◌≢◌, ℕ, ◌+◌, zero, suc, Bool, true, false, cond, List, [], ◌∷◌, ◌++◌, map, Option, Some, None, refl, sym, ap, ◌∙◌, arith}
 use Rattle.std.specs.Prelude.{◌==◌, is_some, option_and_then}
-use Rattle.std.specs.List.{filter, range_with_len}
+use Rattle.std.specs.List.{filter, filter_map, cons_option, range_with_len}
 use Rattle.std.specs.Option.{option_map_or}
 use Rattle.std.specs.Cmp.{nat_cmp_total, eq_by_cmp_equiv}
 use Rattle.std.specs.FinMap.{get, insert, get-insert}
@@ -90,3 +90,26 @@ module _ {X : Type 0} (f : ℕ → X) (p : ℕ → Bool) (before : List X) (i : 
   passed_on made after x yes_it is new so_far =
       new ∙ (ap (λ y. made ++ y ∷ []) is ∙ (ap (λ ys. ys ++ f i ∷ []) so_far ∙ (append_assoc before (map f (passed i)) (f i ∷ [])
       ∙ (ap (λ ys. before ++ ys) (sym (map_push f (passed i) i)) ∙ ap (λ xs. before ++ map f xs) (sym (one_more ∙ ap (λ b. passed i ++ cond b (i ∷ []) []) yes_it))))))
+
+-- what one space more is told, if it is told anything
+module _ {X : Type 0} (f : ℕ → Option X) where
+  abbrev given : ℕ → List X
+  given k = filter_map f (range_with_len 0 k)
+
+  given_more : (n a j : ℕ) → a + n ≡ j → filter_map f (range_with_len a (suc n)) ≡ filter_map f (range_with_len a n) ++ cons_option (f j) []
+  given_more zero a j e = ap (λ i. cons_option (f i) []) (let same : a ≡ j = omega (arith, e) in same)
+  given_more (suc n) a j e = one (f a) (given_more n (a + 1) j (omega (arith, e)))
+    where
+      one : (o : Option X) → filter_map f (range_with_len (a + 1) (suc n)) ≡ filter_map f (range_with_len (a + 1) n) ++ cons_option (f j) []
+          → cons_option o (filter_map f (range_with_len (a + 1) (suc n))) ≡ cons_option o (filter_map f (range_with_len (a + 1) n)) ++ cons_option (f j) []
+      one None more = more
+      one (Some x) more = ap (λ ys. x ∷ ys) more
+
+  given_next : (i : ℕ) → given (i + 1) ≡ given i ++ cons_option (f i) []
+  given_next i = ap given (let on : i + 1 ≡ suc i = omega arith in on) ∙ given_more i 0 i (omega arith)
+
+  pub given_none : (made : List X) (i : ℕ) → f i ≡ None → made ≡ given i → made ≡ given (i + 1)
+  given_none made i none so_far = so_far ∙ sym (given_next i ∙ (ap (λ o. given i ++ cons_option o []) none ∙ append-nil (given i)))
+
+  pub given_one : (made after : List X) (i : ℕ) (x : X) → f i ≡ Some x → after ≡ made ++ x ∷ [] → made ≡ given i → after ≡ given (i + 1)
+  given_one made after i x is new so_far = new ∙ (ap (λ ys. ys ++ x ∷ []) so_far ∙ sym (given_next i ∙ ap (λ o. given i ++ cons_option o []) is))

@@ -3,10 +3,12 @@
 ghost use Rattle.std.specs.Prelude.{◌≡◌, ◌<◌, ◌^◌, ℕ, length, IfOk, IsTrue, OnOk, OnErr};
 ghost use Rattle.bb_basis.specs.Results.{Gives};
 ghost use Rattle.bb_schema.specs.Couples.{couple_of};
+ghost use Rattle.bb_schema.specs.Fits as schemas;
 ghost use Rattle.bb_units.specs.Fits as units;
 ghost use Rattle.bb_units.specs.Units.{is_live, next_number, takes};
 ghost use Rattle.bb_links.specs.Couples.{end_of};
 ghost use Rattle.bb_links.specs.Fits as links;
+ghost use Rattle.bb_world.specs.Fits.{Fits};
 ghost use Rattle.bb_world.specs.World.{empty_world, event, after_note, after_create, after_set, after_say, after_take};
 
 use crate::event::{Change, Event};
@@ -100,7 +102,8 @@ impl State {
         }
     }
 
-    /// Sets a slot that takes the value, tells the unit's spaces, and notes it. An error changes nothing.
+    /// Sets a slot that takes the value, tells the spaces of the unit that read the slot, and notes it. The other spaces
+    /// have the unit's present values. An error changes nothing.
     pub(crate) fn set(
         &mut self,
         alloc: Global,
@@ -109,6 +112,8 @@ impl State {
         slot: SlotId,
         value: Value,
     ) -> Result<(), Memory>
+        requires schema { schemas.Fits schema.now }
+        requires fits { Fits schema.now self.old }
         requires live { IsTrue (is_live self.old.units unit) }
         requires takes { IsTrue (takes self.old.units unit slot value) }
         requires spaces { length self.old.spaces.spaces ≡ length schema.now.spaces }
@@ -116,7 +121,7 @@ impl State {
         ensures ok { OnOk result (self.new ≡ after_set schema.now self.old unit slot value) }
         ensures err { OnErr result (self.new ≡ self.old) }
     {
-        let moves = moves_of(alloc, schema, &self.units, &self.spaces, unit, slot, &value)?;
+        let moves = moves_of(alloc, schema, &self.spaces, unit, slot, &value)?;
         // The note comes first: it can be taken back.
         let noted = self.notes.len();
         let class = self.units.class_of(unit);
