@@ -31,7 +31,8 @@ use Rattle.bb_query.proofs.Laws.{whole}
 use Rattle.bb_world.specs.State.{World}
 use Rattle.bb_world.specs.World.{class_at}
 use Rattle.bb_world.specs.Fits.{Fits}
-use Rattle.bb_world.specs.Told.{reading, values_anew, moves_for, told_again}
+use Rattle.bb_world.specs.Told.{told_again}
+use Rattle.bb_world.specs.proving.Moves.{reading, values_anew, moves_for}
 use Rattle.bb_world.proofs.ClassLemmas.{same_class_of}
 use Rattle.bb_world.proofs.DimLemmas.{IsWhole, IsAnew, same_values, anew}
 use Rattle.bb_world.proofs.KeepLemmas.{class_there, slot_within}

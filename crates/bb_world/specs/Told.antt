@@ -1,13 +1,10 @@
 -- What spaces are told of a unit whose values change.
-use Rattle.std.specs.Prelude.{ℕ, List, Option, map, length, option_map, option_and_then, position, slice_set}
-use Rattle.std.specs.List.{filter, filter_map, range_with_len}
-use Rattle.std.specs.Str.{bytes_eq}
-use Rattle.bb_classes.specs.declared.value.Value.{Value}
-use Rattle.bb_schema.specs.Schema.{Schema, dims_of, name_of_slot}
+use Rattle.std.specs.Prelude.{ℕ, List, map, length}
+use Rattle.std.specs.List.{filter, range_with_len}
+use Rattle.bb_schema.specs.Schema.{Schema}
 use Rattle.bb_units.specs.Units.{Units}
 use Rattle.bb_pattern.specs.declared.value.DimValue.{DimValue}
-use Rattle.bb_pattern.specs.Values.{dim_value_of}
-use Rattle.bb_space.specs.Spaces.{Spaces, is_member, values_in, after_moves}
+use Rattle.bb_space.specs.Spaces.{Spaces, is_member, after_moves}
 use Rattle.bb_query.specs.PresentValues.{present_values}
 
 -- the spaces that a unit is in, rising
@@ -21,22 +18,3 @@ values_for s u n spaces = map (λ space. (space, present_values s u n space)) sp
 -- each space that a unit is in was told its present values
 abbrev pub told_again : Schema → Units → Spaces → (unit : ℕ) → Spaces
 told_again s u t n = after_moves t n (values_for s u n (spaces_of t n))
-
--- ---- how the code finds these values where a slot of the unit is set: of what a space was told, it changes one
-
--- the place of the dimension that reads a slot
-abbrev pub reading : Schema → (slot space : ℕ) → Option ℕ
-reading s slot space =
-    option_and_then (λ name. position (λ d. bytes_eq d.name name) (dims_of s space)) (name_of_slot s slot)
-
--- the values of a member of a space that reads the slot, once this is set to a value
-abbrev pub values_anew : Schema → Spaces → (unit slot : ℕ) → Value → (space : ℕ) → Option (List DimValue)
-values_anew s t n slot value space =
-    option_and_then (λ told. option_and_then (λ place. option_map (slice_set told place) (dim_value_of value))
-    (reading s slot space)) (values_in t space n)
-
--- the spaces of the unit that read the slot, each with these values
-abbrev pub moves_for : Schema → Spaces → (unit slot : ℕ) → Value → List (ℕ × List DimValue)
-moves_for s t n slot value =
-    filter_map (λ space. option_map (λ values. (space, values)) (values_anew s t n slot value space))
-    (range_with_len 0 (length t.spaces))

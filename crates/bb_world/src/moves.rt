@@ -2,7 +2,7 @@
 
 ghost use Rattle.std.specs.Prelude.{◌≡◌, ◌<◌, ◌^◌, IfOk, length, position, slice_set};
 ghost use Rattle.std.specs.Str.{bytes_eq};
-ghost use Rattle.bb_world.specs.Told.{reading, values_anew, moves_for};
+ghost use Rattle.bb_world.specs.proving.Moves.{reading, values_anew, moves_for};
 
 use bb_basis::{Items, Memory};
 use bb_query::DimValue;

@@ -102,8 +102,8 @@ impl State {
         }
     }
 
-    /// Sets a slot that takes the value, tells the spaces of the unit that read the slot, and notes it. The other spaces
-    /// have the unit's present values. An error changes nothing.
+    /// Sets a slot that takes the value, tells the spaces of the unit that read the slot, and notes it. The other
+    /// spaces have the unit's present values. An error changes nothing.
     pub(crate) fn set(
         &mut self,
         alloc: Global,

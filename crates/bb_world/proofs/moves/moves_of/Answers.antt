@@ -1,6 +1,6 @@
 use Rattle.std.proofs.Common.{List, option_map, ap, sym, ◌∙◌}
 use Rattle.bb_pattern.specs.declared.value.DimValue.{DimValue}
-use Rattle.bb_world.specs.Told.{values_anew}
+use Rattle.bb_world.specs.proving.Moves.{values_anew}
 use Rattle.bb_world.proofs.SettingLemmas.{given_none, given_one}
 use Rattle.bb_world.proofs.moves.moves_of.Goals as goal
 

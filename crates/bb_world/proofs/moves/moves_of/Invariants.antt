@@ -1,7 +1,7 @@
 use Rattle.std.proofs.Common.{◌≡◌}
 use Rattle.std.specs.Prelude.{option_map}
 use Rattle.std.specs.List.{filter_map, range_with_len}
-use Rattle.bb_world.specs.Told.{values_anew}
+use Rattle.bb_world.specs.proving.Moves.{values_anew}
 use Rattle.bb_world.proofs.moves.moves_of.Given as goal
 
 abbrev pub invariant-loop-space : goal.invariant-loop-space
