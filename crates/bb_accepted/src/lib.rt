@@ -1,0 +1,7 @@
+//! That the verifier accepts compiled code, as far as it is proved: the code of parts without branches and loops. No code
+//! calls it.
+#![tactic(auto)]
+
+mod acceptance;
+
+pub use acceptance::compiled_code_is_accepted;
