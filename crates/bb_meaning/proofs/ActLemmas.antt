@@ -1,10 +1,9 @@
 -- What statements without blocks lay out does what they mean: the parts of the proof that all share.
-use Rattle.std.proofs.Common.{◌≡◌, ℕ, ◌+◌, ◌<◌, Bool, true, false, cond, List, [], ◌∷◌, ◌++◌, length, Option, Some, None, Result, Ok, refl, subst, sym, ap, ◌∙◌, arith, append_assoc, length-append}
-use Rattle.std.specs.Prelude.{slice_get, set, position, max, nat_le}
+use Rattle.std.proofs.Common.{◌≡◌, ℕ, ◌+◌, ◌<◌, Bool, true, false, cond, List, [], ◌∷◌, ◌++◌, length, Option, Some, Result, Ok, refl, subst, sym, ap, ◌∙◌, arith, append_assoc, length-append}
+use Rattle.std.specs.Prelude.{slice_get, set, position, nat_le}
 use Rattle.std.proofs.lemmas.Bool.{leb-false}
 use Rattle.bb_basis.specs.Results.{◌>>=◌}
 use Rattle.bb_basis.proofs.PositionLemmas.{position_within}
-use Rattle.bb_basis.proofs.ResultLemmas.{bind_ok}
 use Rattle.bb_code.specs.Code.{Code}
 use Rattle.bb_frame.specs.Kind.{Kind}
 use Rattle.bb_frame.specs.Op.{Op}
@@ -12,9 +11,8 @@ use Rattle.bb_frame.specs.Op.TheVariants as ops
 use Rattle.bb_judge.specs.declared.scope.NamedLocal.{NamedLocal}
 use Rattle.bb_judge.specs.declared.scope.Scope.{Scope}
 use Rattle.bb_judge.specs.LocalKinds.{is_free, kind_at}
-use Rattle.bb_judge.specs.Scope.{with_name}
-use Rattle.bb_sheet.specs.declared.sheet.Sheet.{Sheet}
-use Rattle.bb_sheet.specs.Sheets.{put, taken, take_local, declare}
+use Rattle.bb_accepted.specs.Sheet.{Sheet}
+use Rattle.bb_accepted.specs.Sheets.{declare}
 use Rattle.bb_state.specs.Board.{Board}
 use Rattle.bb_step.specs.Changing.{State}
 use Rattle.bb_step.specs.Halt.{Halt}
@@ -24,6 +22,7 @@ use Rattle.bb_step.specs.Step.{step, keeps}
 use Rattle.bb_step.specs.Stuck.TheVariants as reasons
 use Rattle.bb_step.specs.Value.{stuck}
 use Rattle.bb_step.specs.Values.{Value}
+use Rattle.bb_accepted.proofs.Laws.{Clean, Grown, Has, with_op, grown_on, seam, declare_is}
 use Rattle.bb_meaning.specs.Meaning.{Meaning, Name}
 use Rattle.bb_meaning.specs.Meaning as names
 use Rattle.bb_meaning.specs.Statements.{Scene, where_named}
@@ -31,8 +30,6 @@ use Rattle.bb_meaning.proofs.ComeLemmas.{Leaves, done_on, Comes, Gets, gets_op}
 use Rattle.bb_meaning.proofs.MeansLemmas.{Means, part_gets, Value₀}
 use Rattle.bb_meaning.proofs.NameLemmas.{AreHeld, AreTaken}
 use Rattle.bb_meaning.proofs.OpLemmas.{Pushed}
-use Rattle.bb_meaning.proofs.SheetLemmas.{Clean, Grown, Has, with_op, put_ok, grown_on, seam}
-use Rattle.bb_meaning.proofs.AtomLemmas.{pair_ok}
 use Rattle.bb_meaning.proofs.SceneLemmas.{AreApart, all_known, known_new, taken_more, free_other, apart_more, first_free, held_declared}
 use Rattle.std.proofs.lemmas.List.{append-nil, length-set}
 
@@ -73,12 +70,6 @@ last_clean op s t l clean = sym l.flaw ∙ clean
 
 -- ---- a name is declared
 
-abbrev declared_on : (name : List ℕ) → (local : ℕ) → Kind → Sheet → Sheet
-declared_on name local kind s = record s {
-  scope = record { names = s.scope.names ++ record { name = name; local = local } ∷ []; kinds = set (set s.scope.kinds local kind) local kind };
-  locals = max s.locals (local + 1);
-}
-
 -- the lowest free local takes the value
 pub record Declares (name : List ℕ) (kind : Kind) (s t : Sheet) : Type 0 where
   pub local : ℕ
@@ -88,26 +79,15 @@ pub record Declares (name : List ℕ) (kind : Kind) (s t : Sheet) : Type 0 where
   pub kinds : t.scope.kinds ≡ set (set s.scope.kinds local kind) local kind
 
 pub declare_ok : (name : List ℕ) (kind : Kind) (s t : Sheet) → declare name kind s ≡ Ok t → Declares name kind s t
-unfolding declare take_local
 declare_ok name kind s t h =
-    let one = bind_ok (taken (position is_free s.scope.kinds) kind s) (λ p. put (ops.Store p.0) (record p.1 { scope = with_name name p.0 kind p.1.scope })) t h in
-    by_local (position is_free s.scope.kinds) refl one.0.0 one.0.1 one.1 one.2
-  where
-    by_local : (o : Option ℕ) → position is_free s.scope.kinds ≡ o → (l : ℕ) (u : Sheet) → taken o kind s ≡ Ok (l, u) → put (ops.Store l) (record u { scope = with_name name l kind u.scope }) ≡ Ok t → Declares name kind s t
-    by_local None is l u h g = absurd cc
-    by_local (Some local) is l u h g =
-        let same = pair_ok local l (record s { scope = record { names = s.scope.names; kinds = set s.scope.kinds local kind }; locals = max s.locals (local + 1) }) u h in
-        let put_is : t ≡ with_op (ops.Store local) (declared_on name local kind s) =
-        put_ok (ops.Store l) (record u { scope = with_name name l kind u.scope }) t g
-        ∙ ap (λ (x : Sheet). with_op (ops.Store l) (record x { scope = with_name name l kind x.scope })) (sym same.1)
-        ∙ ap (λ i. with_op (ops.Store i) (record (declared_on name local kind s) { scope = record { names = s.scope.names ++ record { name = name; local = i } ∷ []; kinds = set (set s.scope.kinds local kind) i kind } })) (sym same.0) in
-        record {
-          local = local;
-          free = is;
-          last = record { ops = ap (λ (x : Sheet). x.ops) put_is; texts = ap (λ (x : Sheet). x.texts) put_is; queries = ap (λ (x : Sheet). x.queries) put_is; flaw = ap (λ (x : Sheet). x.flaw) put_is };
-          names = ap (λ (x : Sheet). x.scope.names) put_is;
-          kinds = ap (λ (x : Sheet). x.scope.kinds) put_is;
-        }
+    let d = declare_is name kind s t h in
+    record {
+      local = d.0;
+      free = d.1;
+      last = record { ops = ap (λ (x : Sheet). x.ops) d.2; texts = ap (λ (x : Sheet). x.texts) d.2; queries = ap (λ (x : Sheet). x.queries) d.2; flaw = ap (λ (x : Sheet). x.flaw) d.2 };
+      names = ap (λ (x : Sheet). x.scope.names) d.2;
+      kinds = ap (λ (x : Sheet). x.scope.kinds) d.2;
+    }
 
 pub declared_tidy : (name : List ℕ) (kind : Kind) (s t : Sheet) → Declares name kind s t → is_free kind ≡ false → IsTidy s.scope → IsTidy t.scope
 declared_tidy name kind s t d known tidy =

@@ -22,10 +22,10 @@ use Rattle.bb_judge.specs.declared.fault.CompileFault.{CompileFault}
 use Rattle.bb_judge.specs.declared.fault.Flaw.TheVariants.{Effect, NoEnd, Limit}
 use Rattle.bb_judge.specs.declared.scope.Scope.{Scope}
 use Rattle.bb_judge.specs.declared.scope.NamedLocal.{NamedLocal}
-use Rattle.bb_sheet.specs.declared.sheet.Sheet.{Sheet}
-use Rattle.bb_sheet.specs.Sheets.{noted, due, put}
-use Rattle.bb_emit.specs.Expressions.{expr_code}
-use Rattle.bb_emit.specs.Actions.{effect_noted, end_noted, values_code, say_code, end_code, action_code}
+use Rattle.bb_accepted.specs.Sheet.{Sheet}
+use Rattle.bb_accepted.specs.Sheets.{noted, due, put}
+use Rattle.bb_accepted.specs.Expressions.{expr_code}
+use Rattle.bb_accepted.specs.Actions.{effect_noted, end_noted, values_code, say_code, end_code, action_code}
 use Rattle.bb_state.specs.Board.{Board, with_world}
 use Rattle.bb_state.specs.World.{after_say}
 use Rattle.bb_state.specs.Said.{Said}
@@ -37,6 +37,7 @@ use Rattle.bb_step.specs.Step.{step}
 use Rattle.bb_step.specs.Stuck.TheVariants as reasons
 use Rattle.bb_step.specs.Value.{stuck, said_of}
 use Rattle.bb_step.specs.Values.{Value}
+use Rattle.bb_accepted.proofs.Laws.{Clean, Grown, Has, passed, never_noted, is_due, put_ok, put_clean, grown_none, grown_on, grown_op, has_before, clean_before}
 use Rattle.bb_meaning.specs.Meaning.{Meaning, Name, meaningless, named}
 use Rattle.bb_meaning.specs.Meaning as ends
 use Rattle.bb_meaning.specs.Values.{number, truth}
@@ -47,8 +48,7 @@ use Rattle.bb_meaning.proofs.ComeLemmas.{Leaves, done_on, Comes, Gets, gets_none
 use Rattle.bb_meaning.proofs.MeansLemmas.{part_gets}
 use Rattle.bb_meaning.proofs.NameLemmas.{AreHeld}
 use Rattle.bb_meaning.proofs.OpLemmas.{Pushed}
-use Rattle.bb_meaning.proofs.SheetLemmas.{Clean, Grown, Has, passed, never_noted, is_due, put_ok, put_clean, grown_none, grown_on, grown_op, has_before}
-use Rattle.bb_meaning.proofs.AtomLemmas.{Good, clean_before}
+use Rattle.bb_meaning.proofs.AtomLemmas.{Good}
 use Rattle.bb_meaning.proofs.ExprLemmas.{expr_means}
 use Rattle.bb_meaning.proofs.FindLemmas.{Piled, popped, pile}
 use Rattle.bb_meaning.proofs.ActLemmas.{IsTidy, IsScene, Acts, OneLeaf, last_put, last_gets, one_act, acts_as}

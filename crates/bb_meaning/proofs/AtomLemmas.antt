@@ -1,5 +1,5 @@
 -- Expressions without parts mean what their code does.
-use Rattle.std.proofs.Common.{◌≡◌, ◌⊎◌, inl, inr, ℕ, ◌+◌, ◌<◌, Bool, true, false, cond, List, [], ◌∷◌, ◌++◌, length, Option, Some, None, Result, Ok, Err, refl, subst, sym, ap, ◌∙◌}
+use Rattle.std.proofs.Common.{◌≡◌, ◌⊎◌, inl, inr, ℕ, ◌+◌, ◌<◌, Bool, true, false, List, [], ◌∷◌, ◌++◌, length, Option, Some, None, Result, Ok, Err, refl, subst, sym, ap, ◌∙◌}
 use Rattle.std.specs.Prelude.{slice_get, position, get_or, option_map, nat_le}
 use Rattle.std.specs.Str.{bytes_eq}
 use Rattle.std.proofs.lemmas.List.{append-nil}
@@ -26,15 +26,14 @@ use Rattle.bb_lang.specs.declared.atom.Variable.{Variable}
 use Rattle.bb_judge.specs.declared.fault.CompileFault.{CompileFault}
 use Rattle.bb_judge.specs.declared.fault.CompileFault.TheVariants.{At}
 use Rattle.bb_judge.specs.declared.fault.Flaw.{Flaw}
-use Rattle.bb_judge.specs.declared.fault.Flaw.TheVariants.{Unknown, Kind as WrongKind, DeadName, Limit}
+use Rattle.bb_judge.specs.declared.fault.Flaw.TheVariants.{Unknown, Limit}
 use Rattle.bb_judge.specs.declared.scope.Scope.{Scope}
-use Rattle.bb_judge.specs.Kinds.{class_of, is_live}
 use Rattle.bb_judge.specs.LocalKinds.{is_free, kind_at}
-use Rattle.bb_judge.specs.Scope.{name_of, local_of}
+use Rattle.bb_judge.specs.Scope.{name_of}
 use Rattle.bb_judge.specs.Slots.{with_kind, slot_of, value_in, link_in, value_slot, link_slot}
-use Rattle.bb_sheet.specs.declared.sheet.Sheet.{Sheet}
-use Rattle.bb_sheet.specs.Sheets.{noted, put, put_value, text_at, text_index}
-use Rattle.bb_sheet.specs.Atoms.{pushed, loaded, variable_code, live_unit, unit_of, unit_code, gotten, got_from, slot_code, text_noted, text_code, label_of, label_in, label_code, atom_code}
+use Rattle.bb_accepted.specs.Sheet.{Sheet}
+use Rattle.bb_accepted.specs.Sheets.{noted, put, text_at, text_index}
+use Rattle.bb_accepted.specs.Atoms.{pushed, loaded, unit_code, gotten, got_from, slot_code, text_noted, text_code, label_of, label_in, label_code, atom_code}
 use Rattle.bb_state.specs.Board.{Board}
 use Rattle.bb_state.specs.Fits.{Fits}
 use Rattle.bb_state.specs.Units as units
@@ -49,6 +48,7 @@ use Rattle.bb_step.specs.Stuck.TheVariants as reasons
 use Rattle.bb_step.specs.Value.{copy_of, value_from, stuck}
 use Rattle.bb_step.specs.Values.{Value}
 use Rattle.bb_step.specs.Values.TheVariants.{Int, Text, Bool as Truth, Label, Interval, Unit as One, Seq}
+use Rattle.bb_accepted.proofs.Laws.{Clean, Grown, Has, with_op, passed, never_noted, put_ok, grown_none, grown_on, grown_op, has_before, front, seam, pair_ok, clean_before, IsPut, pushed_ok, IsLoaded, variable_ok, unit_ok}
 use Rattle.bb_meaning.specs.Meaning.{Meaning, meaningless, named}
 use Rattle.bb_meaning.specs.Values.{unit}
 use Rattle.bb_meaning.specs.Units as texts
@@ -57,46 +57,10 @@ use Rattle.bb_meaning.proofs.ComeLemmas.{Leaves, done_on, Comes}
 use Rattle.bb_meaning.proofs.MeansLemmas.{IsKind, OneOpOn, Means, means_on, one_turns_on, push_means, means_as}
 use Rattle.bb_meaning.proofs.NameLemmas.{AreHeld, AreTaken, value_named, name_taken}
 use Rattle.bb_meaning.proofs.OpLemmas.{Pushed, Like, push_leaves}
-use Rattle.bb_meaning.proofs.SheetLemmas.{Clean, Grown, Has, with_op, passed, never_noted, put_ok, put_value_ok, grown_none, grown_on, grown_op, has_before, front, seam}
 use Rattle.bb_meaning.proofs.SlotLemmas.{slot_same, value_among}
 use Rattle.bb_world.proofs.Laws.{class_there}
 
--- the parts of a pair that was made
-pub pair_ok : {A B E : Type 0} (a c : A) (b d : B) → (let r : Result (A × B) E = Ok (a, b) in r) ≡ Ok (c, d) → (a ≡ c) × (b ≡ d)
-pair_ok {A} {B} a c b d h =
-    let e = same_ok (a, b) (c, d) h in
-    (ap (λ (p : A × B). p.0) e, ap (λ (p : A × B). p.1) e)
-
-pub clean_before : (op : Op) (s t : Sheet) → t ≡ with_op op s → Clean t → Clean s
-clean_before op s t is clean = sym (ap (λ (u : Sheet). u.flaw) is) ∙ clean
-
-abbrev pub IsPut : Op → (gives : Kind) → Sheet → Sheet → Option Kind → Type 0
-IsPut op gives s t made = (t ≡ with_op op s) × (made ≡ Some gives)
-
-pub pushed_ok : (op : Op) (gives : Kind) (room : ℕ) (s t : Sheet) (made : Option Kind) → pushed op gives room s ≡ Ok (made, t) → Clean t → IsPut op gives s t made
-unfolding pushed
-pushed_ok op gives room s t made h clean =
-    let one = bind_ok (put_value op room s) (λ u. Ok (Some gives, u)) (made, t) h in
-    let same = pair_ok (Some gives) made one.0 t one.2 in
-    let is = put_value_ok op room s one.0 one.1 (ap (λ (u : Sheet). u.flaw) same.1 ∙ clean) in
-    (sym same.1 ∙ is.0, sym same.0)
-
 -- ---- names
-
-abbrev pub IsLoaded : Variable → Sheet → Sheet → Option Kind → Type 0
-IsLoaded v s t made = (local : ℕ) × (local_of s.scope (name_of v) ≡ Some local) × (t ≡ with_op (ops.Load local) s) × (made ≡ Some (kind_at s.scope.kinds local))
-
-pub variable_ok : (v : Variable) (room : ℕ) (s t : Sheet) (made : Option Kind) → variable_code v room s ≡ Ok (made, t) → Clean t → IsLoaded v s t made
-unfolding variable_code
-variable_ok v room s t made h clean = by_local (local_of s.scope (name_of v)) refl h
-  where
-    by_local : (o : Option ℕ) → local_of s.scope (name_of v) ≡ o → loaded o room s ≡ Ok (made, t) → IsLoaded v s t made
-    by_local None is h = never_noted Unknown s (ap (λ (u : Sheet). u.flaw) (pair_ok None made (noted Unknown s) t h).1 ∙ clean)
-    by_local (Some local) is h =
-        let one = bind_ok (put_value (ops.Load local) room s) (λ u. Ok (Some (kind_at u.scope.kinds local), u)) (made, t) h in
-        let same = pair_ok (Some (kind_at one.0.scope.kinds local)) made one.0 t one.2 in
-        let put = put_value_ok (ops.Load local) room s one.0 one.1 (ap (λ (u : Sheet). u.flaw) same.1 ∙ clean) in
-        (local, is, sym same.1 ∙ put.0, sym same.0 ∙ ap (λ (u : Sheet). Some (kind_at u.scope.kinds local)) put.0)
 
 -- a copy of what a local holds
 copy_leaves : (n : ℕ) (base : State) (m : Machine) (b : Board) (v : Value) → Like n base m b → Leaves (Pushed n base) (Ok v) (done_on b (keeps b (copy_of v >>= λ u. push u m)))
@@ -130,30 +94,6 @@ live_cases m b (Truth x) rest is = inr (reasons.Kind, rw is refl)
 live_cases m b (Label x y) rest is = inr (reasons.Kind, rw is refl)
 live_cases m b (Interval x y) rest is = inr (reasons.Kind, rw is refl)
 live_cases m b (Seq x) rest is = inr (reasons.Kind, rw is refl)
-
-abbrev pub IsUnit : Sheet → Sheet → Option ℕ → Variable → Type 0
-IsUnit s t class v = (kind : Kind) × (c : ℕ) × IsLoaded v s t (Some kind) × (class ≡ Some c) × (class_of kind ≡ Some c) × (is_live kind ≡ true)
-
--- a live unit by its name
-pub unit_ok : (v : Variable) (room : ℕ) (s t : Sheet) (class : Option ℕ) → unit_code v room s ≡ Ok (class, t) → Clean t → IsUnit s t class v
-unfolding unit_code
-unit_ok v room s t class h clean =
-    let one = bind_ok (variable_code v room s) (λ p. unit_of p.0 p.1) (class, t) h in by_made one.0.0 one.0.1 one.1 one.2
-  where
-    by_class : (kind : Kind) (u : Sheet) (o : Option ℕ) → class_of kind ≡ o → variable_code v room s ≡ Ok (Some kind, u) → live_unit o (is_live kind) u ≡ Ok (class, t) → IsUnit s t class v
-    by_class kind u None is var h = never_noted WrongKind u (ap (λ (x : Sheet). x.flaw) (pair_ok None class (noted WrongKind u) t h).1 ∙ clean)
-    by_class kind u (Some c) is var h =
-        let same = pair_ok (Some c) class (cond (is_live kind) u (noted DeadName u)) t h in
-        let alive = passed (is_live kind) DeadName u (ap (λ (x : Sheet). x.flaw) same.1 ∙ clean) in
-        let here : u ≡ t = sym alive.1 ∙ same.1 in
-        (kind, c, subst (λ x. IsLoaded v s x (Some kind)) here (variable_ok v room s u (Some kind) var (ap (λ (x : Sheet). x.flaw) here ∙ clean)), sym same.0, is, alive.0)
-
-    by_made : (made : Option Kind) (u : Sheet) → variable_code v room s ≡ Ok (made, u) → unit_of made u ≡ Ok (class, t) → IsUnit s t class v
-    by_made None u var h =
-        let same = pair_ok None class u t h in
-        let loaded = variable_ok v room s u None var (ap (λ (x : Sheet). x.flaw) same.1 ∙ clean) in
-        absurd (let e = loaded.3 in cc)
-    by_made (Some kind) u var h = by_class kind u (class_of kind) refl var h
 
 -- ---- slots
 

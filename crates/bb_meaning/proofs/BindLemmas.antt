@@ -20,11 +20,11 @@ use Rattle.bb_judge.specs.declared.scope.NamedLocal.{NamedLocal}
 use Rattle.bb_judge.specs.Kinds.{assigned, assigned_unit, class_of, is_live, unit_of}
 use Rattle.bb_judge.specs.LocalKinds.{is_free, kind_at}
 use Rattle.bb_judge.specs.Scope.{local_of}
-use Rattle.bb_sheet.specs.declared.sheet.Sheet.{Sheet}
-use Rattle.bb_sheet.specs.Sheets.{noted, known, put, with_kinds, declare}
-use Rattle.bb_sheet.specs.Operations.{Made}
-use Rattle.bb_emit.specs.Expressions.{expr_code}
-use Rattle.bb_emit.specs.Actions.{let_as, let_code, assign_as, assign_to, assign_code, new_of, new_code}
+use Rattle.bb_accepted.specs.Sheet.{Sheet}
+use Rattle.bb_accepted.specs.Sheets.{noted, known, put, with_kinds, declare}
+use Rattle.bb_accepted.specs.Operations.{Made}
+use Rattle.bb_accepted.specs.Expressions.{expr_code}
+use Rattle.bb_accepted.specs.Actions.{let_as, let_code, assign_as, assign_to, assign_code, new_of, new_code}
 use Rattle.bb_state.specs.Board.{with_world}
 use Rattle.bb_state.specs.CreateFault.{CreateFault}
 use Rattle.bb_state.specs.CreateFault.TheVariants as creates
@@ -34,6 +34,7 @@ use Rattle.bb_step.specs.Changing.{State, halt_of_create, new_unit}
 use Rattle.bb_step.specs.Machine.{Machine, with_stack, there, room, push, go_to}
 use Rattle.bb_step.specs.Step.{step}
 use Rattle.bb_step.specs.Values.TheVariants.{Unit as One}
+use Rattle.bb_accepted.proofs.Laws.{Clean, Has, never_noted, put_ok, grown_on, has_before}
 use Rattle.bb_meaning.specs.Meaning.{Meaning, Name, meaningless, named}
 use Rattle.bb_meaning.specs.Meaning as ends
 use Rattle.bb_meaning.specs.Expressions.{value_of}
@@ -41,7 +42,6 @@ use Rattle.bb_meaning.specs.Statements.{Scene, in_world, where_named, created, a
 use Rattle.bb_meaning.proofs.ComeLemmas.{Leaves, done_on, Comes, Gets}
 use Rattle.bb_meaning.proofs.MeansLemmas.{part_gets}
 use Rattle.bb_meaning.proofs.NameLemmas.{AreHeld, AreTaken, value_named, name_taken}
-use Rattle.bb_meaning.proofs.SheetLemmas.{Clean, Has, never_noted, put_ok, grown_on, has_before}
 use Rattle.bb_meaning.proofs.AtomLemmas.{Good}
 use Rattle.bb_meaning.proofs.ExprLemmas.{expr_means}
 use Rattle.bb_meaning.proofs.SceneLemmas.{AreApart, all_known, held_assigned}

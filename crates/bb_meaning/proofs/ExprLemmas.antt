@@ -10,18 +10,19 @@ use Rattle.bb_op.specs.Trees as nodes
 use Rattle.bb_schema.specs.Schema.{Schema, class_named, space_named, dims_of}
 use Rattle.bb_schema.specs.Fits as schemas
 use Rattle.bb_lang.specs.Trees.{ExprTree, Steps, SequenceTree, PatternTree, Patterns, atom, unary, binary, chain, size_of, no_step, apply, divide, found, linked, all, and_of, or_of, not_of, test, no_pattern, more}
-use Rattle.bb_emit.specs.declared.asked.Asked.{Asked}
-use Rattle.bb_emit.specs.Expressions.{expr_code, steps_code, sequence_code, pattern_code, patterns_code}
-use Rattle.bb_emit.specs.Queries.{Patterned, no_operand, node_counted, node_noted, test_code, query_code}
+use Rattle.bb_accepted.specs.Asked.{Asked}
+use Rattle.bb_accepted.specs.Expressions.{expr_code, steps_code, sequence_code, pattern_code, patterns_code}
+use Rattle.bb_accepted.specs.Queries.{Patterned, no_operand, node_counted, node_noted, test_code, query_code}
 use Rattle.bb_judge.specs.Slots.{index_of}
 use Rattle.bb_judge.specs.declared.scope.Scope.{Scope}
 use Rattle.bb_judge.specs.declared.fault.CompileFault.{CompileFault}
-use Rattle.bb_sheet.specs.declared.sheet.Sheet.{Sheet}
-use Rattle.bb_sheet.specs.Sheets.{known, put}
-use Rattle.bb_sheet.specs.Operations.{Made, unary_code, binary_code, operator_code, division_code}
+use Rattle.bb_accepted.specs.Sheet.{Sheet}
+use Rattle.bb_accepted.specs.Sheets.{known, put}
+use Rattle.bb_accepted.specs.Operations.{Made, unary_code, binary_code, operator_code, division_code}
 use Rattle.bb_state.specs.Board.{Board}
 use Rattle.bb_step.specs.Changing.{State}
 use Rattle.bb_step.specs.Values.{Value}
+use Rattle.bb_accepted.proofs.Laws.{Clean, Grown, Has, with_op, is_known, put_ok, grown_none, grown_on, grown_op, has_before, pair_ok, clean_before, triple_ok}
 use Rattle.bb_meaning.specs.Meaning.{Meaning, Name, meaningless}
 use Rattle.bb_meaning.specs.Values.{unary_value, binary_value, operator_value, division_value}
 use Rattle.bb_meaning.specs.Expressions.{value_of, after_steps, units_of, pattern_of, patterns_of, operand, found_units, tested}
@@ -29,11 +30,10 @@ use Rattle.bb_meaning.proofs.ComeLemmas.{Comes, Gets, gets_none}
 use Rattle.bb_meaning.proofs.MeansLemmas.{IsKind, IsMade, Means, Turns, means_on, turns_on, turns_as, two_turns, bind_assoc}
 use Rattle.bb_meaning.proofs.NameLemmas.{AreTaken}
 use Rattle.bb_meaning.proofs.OpLemmas.{Pushed}
-use Rattle.bb_meaning.proofs.SheetLemmas.{Clean, Grown, Has, with_op, is_known, put_ok, grown_none, grown_on, grown_op, has_before}
-use Rattle.bb_meaning.proofs.AtomLemmas.{Good, pair_ok, clean_before, atom_means}
+use Rattle.bb_meaning.proofs.AtomLemmas.{Good, atom_means}
 use Rattle.bb_meaning.proofs.OperationLemmas.{binary_clean, binary_puts, operator_puts, unary_turns, division_turns}
 use Rattle.bb_meaning.proofs.SequenceLemmas.{as_sequence, MeansUnits, links_mean, size_means}
-use Rattle.bb_meaning.proofs.FindLemmas.{Asks, triple_ok, found_by, asks_none, asks_map, asks_on, asks_as, asks_node, node_free, test_asks, find_means}
+use Rattle.bb_meaning.proofs.FindLemmas.{Asks, found_by, asks_none, asks_map, asks_on, asks_as, asks_node, node_free, test_asks, find_means}
 
 module _ (schema : Schema) (sf : schemas.Fits schema) (code : Code) (start : State) (good : (n : ℕ) (st : State) → Comes code start n (Ok st) → Good schema st.1) where
   -- the same meaning, on the blackboards that are met

@@ -4,7 +4,7 @@ use Rattle.std.specs.Prelude.{slice_get, nat_le, nat_lt, option_and_then, option
 use Rattle.std.proofs.lemmas.List.{append-nil, reverse-append, length-reverse}
 use Rattle.std.proofs.Math.Seq.{take-append_seam, drop-append_seam}
 use Rattle.bb_basis.specs.Results.{◌>>=◌, ok_or, try_map}
-use Rattle.bb_basis.proofs.ResultLemmas.{bind_ok, guard_ok, same_ok}
+use Rattle.bb_basis.proofs.ResultLemmas.{bind_ok, guard_ok}
 use Rattle.bb_code.specs.Code.{Code}
 use Rattle.bb_code.specs.Limits.{QUERY_LIMIT}
 use Rattle.bb_frame.specs.Kind.{Kind}
@@ -28,11 +28,11 @@ use Rattle.bb_judge.specs.declared.fault.CompileFault.TheVariants.{At}
 use Rattle.bb_judge.specs.declared.fault.Flaw.TheVariants.{Unknown, Limit}
 use Rattle.bb_judge.specs.declared.scope.Scope.{Scope}
 use Rattle.bb_judge.specs.Slots.{index_of, in_byte, operand_due, dimension_at, dimension}
-use Rattle.bb_emit.specs.declared.asked.Asked.{Asked}
-use Rattle.bb_emit.specs.Queries.{Patterned, no_operand, node_counted, node_noted, with_operand, operand_number, operand_noted, test_tree, test_at, test_code, query_code}
-use Rattle.bb_sheet.specs.declared.sheet.Sheet.{Sheet}
-use Rattle.bb_sheet.specs.Sheets.{noted, due, put_value, asked_query}
-use Rattle.bb_sheet.specs.Operations.{Made}
+use Rattle.bb_accepted.specs.Asked.{Asked}
+use Rattle.bb_accepted.specs.Queries.{Patterned, no_operand, node_counted, node_noted, with_operand, operand_number, operand_noted, test_tree, test_at, test_code, query_code}
+use Rattle.bb_accepted.specs.Sheet.{Sheet}
+use Rattle.bb_accepted.specs.Sheets.{noted, due, put_value, asked_query}
+use Rattle.bb_accepted.specs.Operations.{Made}
 use Rattle.bb_state.specs.Board.{Board}
 use Rattle.bb_step.specs.Changing.{State}
 use Rattle.bb_step.specs.Halt.{Halt}
@@ -44,14 +44,14 @@ use Rattle.bb_step.specs.Stuck.TheVariants as reasons
 use Rattle.bb_step.specs.Value.{stuck}
 use Rattle.bb_step.specs.Values.{Value}
 use Rattle.bb_step.specs.Values.TheVariants.{Int, Text, Bool as Truth, Label, Interval, Unit as One, Seq}
+use Rattle.bb_accepted.proofs.Laws.{Clean, Grown, Has, with_op, not_failed, never_noted, is_due, put_value_ok, grown_none, grown_op, grown_on, has_before, front, seam, pair_ok, clean_before, triple_ok}
 use Rattle.bb_meaning.specs.Meaning.{Meaning, Name, meaningless}
 use Rattle.bb_meaning.specs.Expressions.{tested, operand, found_units}
 use Rattle.bb_meaning.proofs.ComeLemmas.{Leaves, done_on, Comes, Gets, gets_none}
 use Rattle.bb_meaning.proofs.MeansLemmas.{Means, part_gets, op_gets, Value₀}
 use Rattle.bb_meaning.proofs.NameLemmas.{AreHeld}
 use Rattle.bb_meaning.proofs.OpLemmas.{Pushed, Like}
-use Rattle.bb_meaning.proofs.SheetLemmas.{Clean, Grown, Has, with_op, not_failed, never_noted, is_due, put_value_ok, grown_none, grown_op, grown_on, has_before, front, seam}
-use Rattle.bb_meaning.proofs.AtomLemmas.{Good, pair_ok, clean_before}
+use Rattle.bb_meaning.proofs.AtomLemmas.{Good}
 use Rattle.bb_meaning.proofs.SequenceLemmas.{as_sequence, found_leaves}
 
 -- values that were put on the stack of another state, one after another
@@ -66,11 +66,6 @@ pub record Ready {X : Type 0} (n : ℕ) (base : State) (made : X) (after : Asked
   pub tree : x.0 ≡ made
   pub piled : Piled n base x.1 next
   pub count : length x.1 ≡ length after.kinds
-
-pub triple_ok : {A B C E : Type 0} (a x : A) (b y : B) (c z : C) → (let r : Result (A × B × C) E = Ok (a, b, c) in r) ≡ Ok (x, y, z) → (a ≡ x) × (b ≡ y) × (c ≡ z)
-triple_ok {A} {B} {C} a x b y c z h =
-    let e = same_ok (a, b, c) (x, y, z) h in
-    (ap (λ (p : A × B × C). p.0) e, ap (λ (p : A × B × C). p.1) e, ap (λ (p : A × B × C). p.2) e)
 
 -- ---- operands on the stack
 

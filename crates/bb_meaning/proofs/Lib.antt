@@ -4,8 +4,6 @@ mod Rows
 pub mod ComeLemmas
 -- ops on values
 pub mod OpLemmas
--- what is laid out on a sheet without a flaw
-pub mod SheetLemmas
 -- names and their locals
 pub mod NameLemmas
 -- parts of expressions, one after another
@@ -36,3 +34,5 @@ pub mod UnitLemmas
 pub mod ActionLemmas
 -- whole parts
 pub mod PartLemmas
+-- the codes of a source
+pub mod SourceLemmas

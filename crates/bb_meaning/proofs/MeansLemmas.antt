@@ -6,17 +6,17 @@ use Rattle.bb_frame.specs.Kind.{Kind}
 use Rattle.bb_frame.specs.Op.{Op}
 use Rattle.bb_judge.specs.LocalKinds.{is_free}
 use Rattle.bb_judge.specs.declared.scope.Scope.{Scope}
-use Rattle.bb_sheet.specs.declared.sheet.Sheet.{Sheet}
+use Rattle.bb_accepted.specs.Sheet.{Sheet}
 use Rattle.bb_state.specs.Board.{Board}
 use Rattle.bb_step.specs.Changing.{State}
 use Rattle.bb_step.specs.Machine.{Machine, with_stack, go_to}
 use Rattle.bb_step.specs.Step.{step}
 use Rattle.bb_step.specs.Values.{Value}
+use Rattle.bb_accepted.proofs.Laws.{Clean, Grown, Has, with_op, grown_on, grown_op, count_op, count_of, op_at}
 use Rattle.bb_meaning.specs.Meaning.{Meaning, Name}
 use Rattle.bb_meaning.proofs.ComeLemmas.{Leaves, done_on, Comes, Gets, gets_then, gets_op}
 use Rattle.bb_meaning.proofs.NameLemmas.{AreHeld, AreTaken}
 use Rattle.bb_meaning.proofs.OpLemmas.{Pushed, Like}
-use Rattle.bb_meaning.proofs.SheetLemmas.{Clean, Grown, Has, with_op, grown_on, grown_op, count_op, count_of, op_at}
 
 pub bind_assoc : {A B C E : Type 0} (r : Result A E) (f : A → Result B E) (g : B → Result C E) → ((r >>= f) >>= g) ≡ (r >>= λ x. f x >>= g)
 bind_assoc (Ok x) f g = refl

@@ -29,42 +29,20 @@ use Rattle.bb_judge.specs.declared.fault.CompileFault.{CompileFault}
 use Rattle.bb_judge.specs.declared.fault.Flaw.TheVariants.{Kind as WrongKind, Limit}
 use Rattle.bb_judge.specs.Kinds.{class_of, plain_equality, equality}
 use Rattle.bb_judge.specs.LocalKinds.{is_free}
-use Rattle.bb_sheet.specs.declared.sheet.Sheet.{Sheet}
-use Rattle.bb_sheet.specs.Sheets.{noted, due, put}
-use Rattle.bb_sheet.specs.Operations.{Made, one_due, two_due, unary_code, equality_by, binary_code, operator_code, division_op, divisor_noted, division_code}
+use Rattle.bb_accepted.specs.Sheet.{Sheet}
+use Rattle.bb_accepted.specs.Sheets.{noted, put}
+use Rattle.bb_accepted.specs.Operations.{Made, unary_code, equality_by, binary_code, operator_code, division_op, divisor_noted, division_code}
 use Rattle.bb_step.specs.Arithmetic.{calculated, compared, combined, divided}
 use Rattle.bb_step.specs.Changing.{State}
 use Rattle.bb_step.specs.Machine.{with_stack}
 use Rattle.bb_step.specs.Values.{Value}
 use Rattle.bb_step.specs.Values.TheVariants.{Int, Bool as Truth, Interval}
+use Rattle.bb_accepted.proofs.Laws.{Clean, Grown, Has, with_op, grown_op, grown_none, not_failed, never_noted, put_ok, IsPut, pair_ok, clean_before, one_due_ok, two_due_ok}
 use Rattle.bb_meaning.specs.Meaning.{Meaning}
 use Rattle.bb_meaning.specs.Values.{unary_value, of_numbers, of_truths, equal, binary_value, operator_value, division_value}
 use Rattle.bb_meaning.proofs.ComeLemmas.{Leaves, done_on}
 use Rattle.bb_meaning.proofs.OpLemmas.{Pushed, numbers_leave, truths_leave, number_leaves, not_leaves, low_leaves, high_leaves, equal_numbers, equal_texts, equal_units, equal_labels, calculate_on, compare_on, combine_on, make_interval_on, eq_text_on, eq_unit_on, eq_label_on, divide_on, negate_on, bound_on}
-use Rattle.bb_meaning.proofs.SheetLemmas.{Clean, Grown, Has, with_op, grown_op, grown_none, not_failed, never_noted, is_due, put_ok, put_clean}
 use Rattle.bb_meaning.proofs.MeansLemmas.{IsKind, IsMade, OneOp, TwoOp, Turns, one_turns}
-use Rattle.bb_meaning.proofs.AtomLemmas.{IsPut, pair_ok, clean_before}
-
--- ---- what is put
-
-pub one_due_ok : (operand : Made) (wanted : Kind) (op : Op) (gives : Kind) (s t : Sheet) (made : Made) → one_due operand wanted op gives s ≡ Ok (made, t) → Clean t → IsPut op gives s t made
-unfolding one_due
-one_due_ok operand wanted op gives s t made h clean =
-    let one = bind_ok (put op (due operand wanted s)) (λ u. Ok (Some gives, u)) (made, t) h in
-    let same = pair_ok (Some gives) made one.0 t one.2 in
-    (sym same.1 ∙ put_clean op s (due operand wanted s) one.0 (is_due operand wanted s) one.1 (ap (λ (u : Sheet). u.flaw) same.1 ∙ clean), sym same.0)
-
-pub two_due_ok : (left right : Made) (wanted : Kind) (op : Op) (gives : Kind) (s t : Sheet) (made : Made) → two_due left right wanted op gives s ≡ Ok (made, t) → Clean t → IsPut op gives s t made
-unfolding two_due
-two_due_ok left right wanted op gives s t made h clean =
-    let one = bind_ok (put op (due right wanted (due left wanted s))) (λ u. Ok (Some gives, u)) (made, t) h in
-    let same = pair_ok (Some gives) made one.0 t one.2 in
-    (sym same.1 ∙ put_clean op s (due right wanted (due left wanted s)) one.0 both one.1 (ap (λ (u : Sheet). u.flaw) same.1 ∙ clean), sym same.0)
-  where
-    both : Clean (due right wanted (due left wanted s)) → due right wanted (due left wanted s) ≡ s
-    both c =
-        let outer = is_due right wanted (due left wanted s) c in
-        outer ∙ is_due left wanted s (sym (ap (λ (u : Sheet). u.flaw) outer) ∙ c)
 
 module _ (code : Code) where
   -- an op is put that does with two operands what a meaning says

@@ -15,18 +15,17 @@ use Rattle.bb_lang.specs.Blocks.{BlockTree, no_statement, before_others, action,
 use Rattle.bb_judge.specs.Place.{Place}
 use Rattle.bb_judge.specs.declared.fault.CompileFault.{CompileFault}
 use Rattle.bb_judge.specs.declared.fault.CompileFault.TheVariants.{At}
-use Rattle.bb_judge.specs.declared.fault.Flaw.{Flaw}
 use Rattle.bb_judge.specs.declared.fault.Flaw.TheVariants.{NoEnd, Limit}
 use Rattle.bb_judge.specs.Ending.{ends}
 use Rattle.bb_judge.specs.Scope.{begin_with, of_unit, of_event, mark_of}
-use Rattle.bb_sheet.specs.declared.sheet.Sheet.{Sheet}
-use Rattle.bb_sheet.specs.Sheets.{settled, refused_at, put, leave}
-use Rattle.bb_sheet.specs.Finish.{empty_sheet, code_of, if_within}
-use Rattle.bb_sheet.specs.Within.{is_within}
-use Rattle.bb_emit.specs.Actions.{action_code}
-use Rattle.bb_emit.specs.Statements.{left, after_end, action_of, statement_code, statements_code, block_code}
-use Rattle.bb_emit.specs.Parts.{has_no_end, done, part_code}
-use Rattle.bb_emit.specs.declared.part.TheConstants.{LOOP_NESTING}
+use Rattle.bb_accepted.specs.Sheet.{Sheet}
+use Rattle.bb_accepted.specs.Sheets.{settled, put, leave}
+use Rattle.bb_accepted.specs.Finish.{empty_sheet, code_of, if_within}
+use Rattle.bb_accepted.specs.Within.{is_within}
+use Rattle.bb_accepted.specs.Actions.{action_code}
+use Rattle.bb_accepted.specs.Statements.{left, after_end, action_of, statement_code, statements_code, block_code}
+use Rattle.bb_accepted.specs.Parts.{has_no_end, done, part_code}
+use Rattle.bb_accepted.specs.PartLimits.{LOOP_NESTING}
 use Rattle.bb_state.specs.Board.{Board}
 use Rattle.bb_state.specs.Fits.{Fits}
 use Rattle.bb_state.specs.State.{World}
@@ -48,6 +47,8 @@ use Rattle.bb_step.specs.Stuck.TheVariants as reasons
 use Rattle.bb_step.proofs.Laws.{activation_schema, by_op}
 use Rattle.bb_machine.specs.NeverWrong.{Begins, EntryFits, NeverStuck}
 use Rattle.bb_machine.proofs.Laws.{activation_fits, activation_never_stuck}
+use Rattle.bb_accepted.proofs.Laws.{Clean, Grown, Has, not_failed, put_ok, grown_none, grown_on, grown_op, has_before, op_at, pair_ok, settled_clean, block_clean, part_accepted}
+use Rattle.bb_verify.proofs.Laws.{checked_facts}
 use Rattle.bb_meaning.specs.Meaning.{End, Meaning, Name, meaningless}
 use Rattle.bb_meaning.specs.Meaning as comes
 use Rattle.bb_meaning.specs.Statements.{Scene, acted, statement, statements}
@@ -57,16 +58,11 @@ use Rattle.bb_meaning.specs.Told.{IsTold}
 use Rattle.bb_meaning.proofs.ComeLemmas.{Came, Leaves, Comes, Gets, comes_on, gets_none}
 use Rattle.bb_meaning.proofs.MeansLemmas.{part_gets}
 use Rattle.bb_meaning.proofs.NameLemmas.{AreHeld}
-use Rattle.bb_meaning.proofs.SheetLemmas.{Clean, Grown, Has, not_failed, put_ok, grown_none, grown_on, grown_op, has_before, op_at}
-use Rattle.bb_meaning.proofs.AtomLemmas.{Good, pair_ok}
+use Rattle.bb_meaning.proofs.AtomLemmas.{Good}
 use Rattle.bb_meaning.proofs.ActLemmas.{IsTidy, IsScene, Acts}
 use Rattle.bb_meaning.proofs.ActionLemmas.{action_does}
 
 -- ---- statements, one after another
-
-settled_clean : (place : Place) (o : Option Flaw) (u : Unit {0}) → refused_at place o ≡ Ok u → o ≡ None
-settled_clean place None u h = refl
-settled_clean place (Some flaw) u h = absurd cc
 
 module _ (schema : Schema) (sf : schemas.Fits schema) (part : Part) (code : Code) (start : State) (good : (n : ℕ) (st : State) → Comes code start n (Ok st) → Good schema st.1) where
   acts_on : (s t u : Sheet) (f g : Scene → Meaning Scene) → Acts code start s t f → Acts code start t u g → Acts code start s u (λ scene. f scene >>= g)
@@ -107,21 +103,6 @@ module _ (schema : Schema) (sf : schemas.Fits schema) (part : Part) (code : Code
   block_does (before_others place (if_of test then other) others) loops was now s t plain h clean has = absurd cc
   block_does (before_others place (with_of binding then other) others) loops was now s t plain h clean has = absurd cc
   block_does (before_others place (for_of name sequence body) others) loops was now s t plain h clean has = absurd cc
-
-  -- a statement with a flaw is refused, so there is none behind a block
-  block_clean : (b : BlockTree) (loops : ℕ) (was now : Bool) (s t : Sheet) → is_plain b ≡ true → Clean s → statements_code schema part loops was b s ≡ Ok (now, t) → Clean t
-  unfolding statements_code statement_code
-  block_clean no_statement loops was now s t plain clean h = ap (λ (x : Sheet). x.flaw) (sym (pair_ok was now s t h).1) ∙ clean
-  block_clean (before_others place (action a) others) loops was now s t plain clean h =
-      let here = after_end was s in
-      let one = bind_ok (action_of schema part place a here) (λ p. statements_code schema part loops (was || p.0) others p.1) (now, t) h in
-      let two = bind_ok (action_code schema part a here) (λ u. settled place u >>= λ _. Ok (ends a, u)) one.0 one.1 in
-      let three = bind_ok (settled place two.0) (λ _. Ok (ends a, two.0)) one.0 two.2 in
-      let same = pair_ok (ends a) one.0.0 two.0 one.0.1 three.2 in
-      block_clean others loops (was || one.0.0) now one.0.1 t plain (ap (λ (x : Sheet). x.flaw) (sym same.1) ∙ settled_clean place two.0.flaw three.0 three.1) one.2
-  block_clean (before_others place (if_of test then other) others) loops was now s t plain clean h = absurd cc
-  block_clean (before_others place (with_of binding then other) others) loops was now s t plain clean h = absurd cc
-  block_clean (before_others place (for_of name sequence body) others) loops was now s t plain clean h = absurd cc
 
 -- ---- what a part begins with
 
@@ -239,7 +220,7 @@ module _ (part : Part) (frames : List Frame) (code : Code) (entry : Entry) (b : 
 
     block_gets : (now : Bool) (t : Sheet) → statements_code b.schema part LOOP_NESTING false block first ≡ Ok (now, t) → Has code t → Gets code start (IsScene (length t.ops) t.scope.names) (statements block (first_scene entry b)) (length t.ops)
     block_gets now t h has =
-        let clean = block_clean b.schema sf part code start good block LOOP_NESTING false now first t plain refl h in
+        let clean = block_clean b.schema part block LOOP_NESTING false now first t plain refl h in
         (block_does b.schema sf part code start good block LOOP_NESTING false now first t plain h clean has).gets (begin_tidy part) start (first_scene entry b)
         (refl, (λ k. let e : 0 + k ≡ k = omega arith in ap (λ i. steps_from i 0 code start) e))
         (record { place = refl; held = begin_held b.schema b.world part code entry begins.units; stack = refl; board = refl })
@@ -310,3 +291,12 @@ module _ (part : Part) (frames : List Frame) (code : Code) (entry : Entry) (b : 
         let three = bind_ok (done part one.0.1) (λ u. if_within u.start (code_of u)) code one.2 in
         let same = pair_ok two.0.0 one.0.0 (leave (mark_of first.scope) two.0.1) one.0.1 two.2 in
         by_part part refl two.0.0 two.0.1 three.0 two.1 (ap (done part) same.1 ∙ three.1) (within_same three.0 (is_within (code_of three.0)) three.2)
+
+-- ---- the code of a part is accepted, so it does what its text means
+
+pub compiled_told : (part : Part) (code : Code) (entry : Entry) (b : Board) → IsCode code → schemas.Fits b.schema → Fits b.schema b.world → (place : Place) (block : BlockTree) (limit : ℕ) → is_plain block ≡ true → part_code b.schema part place block ≡ Ok code
+    → EntryFits b.schema b.world part entry → length code.ops ≤ limit → IsTold (meaning part block entry b) (activation limit code entry b)
+compiled_told part code entry b is sf fits place block limit plain code_is entry_fits enough =
+    let it = part_accepted b.schema sf part place block plain code code_is in
+    let begins : Begins part it.0 code entry b = record { accepted = checked_facts b.schema part code (record { code = code; part = part; frames = it.0 }) it.1 is.ops.some; units = entry_fits } in
+    part_told part it.0 code entry b is sf fits begins place block limit enough plain code_is

@@ -15,11 +15,11 @@ use Rattle.bb_lang.specs.declared.atom.Variable.{Variable}
 use Rattle.bb_judge.specs.declared.fault.Flaw.{Flaw}
 use Rattle.bb_judge.specs.Scope.{name_of}
 use Rattle.bb_judge.specs.Slots.{link_slot}
-use Rattle.bb_sheet.specs.declared.sheet.Sheet.{Sheet}
-use Rattle.bb_sheet.specs.Sheets.{noted, put}
-use Rattle.bb_sheet.specs.Operations.{Made}
-use Rattle.bb_sheet.specs.Atoms.{unit_code}
-use Rattle.bb_emit.specs.Queries.{linked_by, linked_from, links_code}
+use Rattle.bb_accepted.specs.Sheet.{Sheet}
+use Rattle.bb_accepted.specs.Sheets.{noted, put}
+use Rattle.bb_accepted.specs.Operations.{Made}
+use Rattle.bb_accepted.specs.Atoms.{unit_code}
+use Rattle.bb_accepted.specs.Queries.{linked_by, linked_from, links_code}
 use Rattle.bb_state.specs.Board.{Board}
 use Rattle.bb_state.specs.May.{has_link}
 use Rattle.bb_state.specs.Units as units
@@ -36,15 +36,15 @@ use Rattle.bb_step.specs.Stuck.TheVariants as reasons
 use Rattle.bb_step.specs.Value.{stuck, sequence_of}
 use Rattle.bb_step.specs.Values.{Value}
 use Rattle.bb_step.specs.Values.TheVariants.{Int, Unit as One, Seq}
+use Rattle.bb_accepted.proofs.Laws.{Clean, Has, with_op, never_noted, put_ok, grown_op, has_before, pair_ok, clean_before, unit_ok}
 use Rattle.bb_meaning.specs.Meaning.{Meaning, Name, meaningless, nothing, named}
 use Rattle.bb_meaning.specs.Values.{unit}
 use Rattle.bb_meaning.specs.Units as texts
 use Rattle.bb_meaning.proofs.ComeLemmas.{Leaves, done_on, Comes}
 use Rattle.bb_meaning.proofs.MeansLemmas.{OneOp, OneOpOn, Means, means_on, one_turns, one_turns_on, means_as}
 use Rattle.bb_meaning.proofs.OpLemmas.{Pushed, Like, push_leaves}
-use Rattle.bb_meaning.proofs.SheetLemmas.{Clean, Has, with_op, never_noted, put_ok, grown_op, has_before}
 use Rattle.bb_meaning.proofs.SlotLemmas.{slot_same, link_among}
-use Rattle.bb_meaning.proofs.AtomLemmas.{Good, live_cases, pair_ok, clean_before, unit_ok, link_slot_ok, name_means}
+use Rattle.bb_meaning.proofs.AtomLemmas.{Good, live_cases, link_slot_ok, name_means}
 
 -- a list of units as a value
 abbrev pub as_sequence : List ℕ → Meaning Value

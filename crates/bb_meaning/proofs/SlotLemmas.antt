@@ -4,10 +4,8 @@ use Rattle.std.specs.Prelude.{slice_get, find, is_some, option_map, unwrap_or, �
 use Rattle.std.specs.List.{list_any}
 use Rattle.std.specs.Option.{option_map_or}
 use Rattle.std.specs.FinMap.{get}
-use Rattle.std.specs.Str.{bytes_eq}
-use Rattle.std.proofs.lemmas.Bool.{eqb-true, eq-eqb}
+use Rattle.std.proofs.lemmas.Bool.{eqb-true}
 use Rattle.std.proofs.lemmas.Option.{slice_get-map}
-use Rattle.std.proofs.lemmas.Slice.Eq.{bytes_eq-Decides}
 use Rattle.bb_classes.specs.declared.value.Value.{Value}
 use Rattle.bb_classes.specs.declared.class.Class.{Class}
 use Rattle.bb_classes.specs.Inheritance.{is_among}
@@ -24,22 +22,9 @@ use Rattle.bb_state.specs.State.{World}
 use Rattle.bb_state.specs.World.{class_at}
 use Rattle.bb_state.specs.May.{class_has, has_link}
 use Rattle.bb_state.specs.Fits.{Fits}
+use Rattle.bb_accepted.proofs.Laws.{find_sound, named_slot}
 
 module _ (p : ℕ → Bool) where
-  sound_by : (x : ℕ) (xs : List ℕ) (n : ℕ) (b : Bool) → p x ≡ b → (find p xs ≡ Some n → (p n ≡ true) × (is_among xs n ≡ true)) → cond b (Some x) (find p xs) ≡ Some n → (p n ≡ true) × (is_among (x ∷ xs) n ≡ true)
-  unfolding is_among
-  sound_by x xs n true is rest h = let e : x ≡ n = cc in (ap p (sym e) ∙ is, ap (λ b. b || list_any (λ d. d == n) xs) (eq-eqb x n e))
-  sound_by x xs n false is rest h = let r = rest h in (r.0, by_tail (x == n) r.1)
-    where
-      by_tail : (b : Bool) → list_any (λ d. d == n) xs ≡ true → (b || list_any (λ d. d == n) xs) ≡ true
-      by_tail true h = refl
-      by_tail false h = h
-
-  -- what is found passes, and is one of them
-  find_sound : (xs : List ℕ) (n : ℕ) → find p xs ≡ Some n → (p n ≡ true) × (is_among xs n ≡ true)
-  find_sound [] n h = absurd cc
-  find_sound (x ∷ xs) n h = sound_by x xs n (p x) refl (find_sound xs n) h
-
   here_by : (x : ℕ) (xs : List ℕ) (n : ℕ) (b c : Bool) → p x ≡ b → (x == n) ≡ c → p n ≡ true → (is_among xs n ≡ true → (m : ℕ) × (find p xs ≡ Some m)) → (c || is_among xs n) ≡ true → (m : ℕ) × (cond b (Some x) (find p xs) ≡ Some m)
   here_by x xs n true c is same passes rest h = (x, refl)
   here_by x xs n false true is same passes rest h = absurd (let e : p n ≡ false = ap p (sym (eqb-true x n same)) ∙ is in cc)
@@ -50,15 +35,6 @@ module _ (p : ℕ → Bool) where
   unfolding is_among
   find_here [] n passes h = absurd cc
   find_here (x ∷ xs) n passes h = here_by x xs n (p x) (x == n) refl refl passes (find_here xs n passes) h
-
--- the slot of a number that has a name
-named_slot : (slots : List Slot) (name : List ℕ) (n : ℕ) → has_name slots name n ≡ true → (t : Slot) × (slice_get slots n ≡ Some t) × (name ≡ t.name)
-unfolding has_name
-named_slot slots name n h = by_slot (slice_get slots n) refl h
-  where
-    by_slot : (o : Option Slot) → slice_get slots n ≡ o → option_map_or (λ t. bytes_eq name t.name) o false ≡ true → (t : Slot) × (slice_get slots n ≡ Some t) × (name ≡ t.name)
-    by_slot None is h = absurd cc
-    by_slot (Some t) is h = (t, is, (bytes_eq-Decides name t.name).0 h)
 
 -- a name has one meaning in all classes that have the slot
 pub slot_same : (s : Schema) (c d slot : ℕ) (name : List ℕ) → schemas.Fits s → d < length s.classes → slot_named s c name ≡ Some slot → is_among (slots_of s d) slot ≡ true → slot_named s d name ≡ Some slot

@@ -22,17 +22,18 @@ use Rattle.bb_judge.specs.declared.scope.Scope.{Scope}
 use Rattle.bb_judge.specs.declared.scope.NamedLocal.{NamedLocal}
 use Rattle.bb_judge.specs.Scope.{name_of}
 use Rattle.bb_judge.specs.Slots.{value_slot, link_slot}
-use Rattle.bb_sheet.specs.declared.sheet.Sheet.{Sheet}
-use Rattle.bb_sheet.specs.Sheets.{noted, due, known, put, with_kinds}
-use Rattle.bb_sheet.specs.Operations.{Made}
-use Rattle.bb_sheet.specs.Atoms.{unit_code}
-use Rattle.bb_emit.specs.Expressions.{expr_code}
-use Rattle.bb_emit.specs.Actions.{set_by, set_in, set_code, link_noted, relinked_by, relinked_in, relink_code, space_noted, entered, enter_code, left_space, leave_code, deleted, delete_code}
+use Rattle.bb_accepted.specs.Sheet.{Sheet}
+use Rattle.bb_accepted.specs.Sheets.{noted, due, known, put, with_kinds}
+use Rattle.bb_accepted.specs.Operations.{Made}
+use Rattle.bb_accepted.specs.Atoms.{unit_code}
+use Rattle.bb_accepted.specs.Expressions.{expr_code}
+use Rattle.bb_accepted.specs.Actions.{set_by, set_in, set_code, link_noted, relinked_by, relinked_in, relink_code, space_noted, entered, enter_code, left_space, leave_code, deleted, delete_code}
 use Rattle.bb_state.specs.Board.{Board}
 use Rattle.bb_state.specs.Spaces.{after_enter, after_leave}
 use Rattle.bb_step.specs.Changing.{State, after_change}
 use Rattle.bb_step.specs.Machine.{room}
 use Rattle.bb_step.specs.Values.{Value}
+use Rattle.bb_accepted.proofs.Laws.{Clean, Has, with_op, passed, never_noted, is_due, put_ok, put_clean, grown_op, has_before, clean_before, unit_ok}
 use Rattle.bb_meaning.specs.Meaning.{Meaning, named}
 use Rattle.bb_meaning.specs.Expressions.{value_of}
 use Rattle.bb_meaning.specs.Statements as says
@@ -40,8 +41,7 @@ use Rattle.bb_meaning.specs.Statements.{Scene, in_world, where_named, created, s
 use Rattle.bb_meaning.proofs.ComeLemmas.{Comes}
 use Rattle.bb_meaning.proofs.MeansLemmas.{Means}
 use Rattle.bb_meaning.proofs.NameLemmas.{AreTaken}
-use Rattle.bb_meaning.proofs.SheetLemmas.{Clean, Has, with_op, passed, never_noted, is_due, put_ok, put_clean, grown_op, has_before}
-use Rattle.bb_meaning.proofs.AtomLemmas.{Good, clean_before, unit_ok, value_slot_ok, link_slot_ok, name_means}
+use Rattle.bb_meaning.proofs.AtomLemmas.{Good, value_slot_ok, link_slot_ok, name_means}
 use Rattle.bb_meaning.proofs.ExprLemmas.{expr_means}
 use Rattle.bb_meaning.proofs.SceneLemmas.{AreApart, all_struck}
 use Rattle.bb_meaning.proofs.ActLemmas.{IsTidy, Last, Acts, OneLeaf, last_grown, last_put, last_clean, two_act, one_act}

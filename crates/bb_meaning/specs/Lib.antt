@@ -11,6 +11,8 @@ pub mod Statements
 -- what the text of a part means
 pub mod Parts
 -- texts without branches and loops
-pub mod Plain
+pub use Rattle.bb_accepted.specs.Plain
 -- what an execution comes to, by the text
 pub mod Told
+-- sources without branches and loops, and what it is that their codes are accepted
+pub mod Sources

@@ -4,4 +4,4 @@
 
 mod laws;
 
-pub use laws::accepted_code_means_its_text;
+pub use laws::{compiled_code_means_its_text, compiled_source_is_accepted};
