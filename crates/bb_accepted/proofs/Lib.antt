@@ -1,3 +1,5 @@
+-- worked codes
+mod Rows
 -- codes without jumps
 pub mod StraightLemmas
 -- kinds that the verifier knows, and the compiler
