@@ -1,5 +1,7 @@
 -- worked codes
 mod Rows
+-- a code that is refused, of a tree that no text has
+mod ChainRows
 -- codes without jumps
 pub mod StraightLemmas
 -- kinds that the verifier knows, and the compiler
