@@ -45,7 +45,7 @@ def input_of(bbasm, foci, pending, cycles):
 def seconds(program, text):
     began = time.perf_counter()
     ran = subprocess.run([program], input=text, text=True, capture_output=True)
-    if ran.returncode or not ran.stdout.endswith("finish quiescence\n"):
+    if ran.returncode or "\nfinish quiescence\n" not in ran.stdout:
         raise SystemExit("the run did not end by quiescence: " + ran.stdout[-200:])
     return time.perf_counter() - began, ran.stdout.count("\ncycle ")
 

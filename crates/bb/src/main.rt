@@ -1,5 +1,5 @@
 //! The blackboard shell as a program: it serves its standard input on its standard output, as the words of its command
-//! line say.
+//! line say, and on standard error it says why an input is refused.
 #![tactic(auto)]
 
 use bb_main::{Intake, Options, OptionsFault, Pipe, options, program, tell};
@@ -12,7 +12,8 @@ fn main(rt: HostRuntime) -> ExitCode {
     let status = match chosen(&rt) {
         Ok(options) => {
             let mut reader = Intake::new(rt.stdin());
-            program(rt.alloc(), options, &mut reader, &mut writer)
+            let mut errors = rt.stderr();
+            program(rt.alloc(), options, &mut reader, &mut writer, &mut errors)
         }
         Err(fault) => tell(&fault, &mut writer),
     };

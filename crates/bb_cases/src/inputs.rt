@@ -1,10 +1,11 @@
 //! Inputs go through `serve`, and the output and the status are compared. The suite calls it for a case, and tables for
 //! their rows.
 
-ghost use Rattle.std.specs.Prelude.{◌≡◌, Some, false};
+ghost use Rattle.std.specs.Prelude.{◌≡◌, Some, true, false, map, IfOk};
+ghost use Rattle.bb_main.specs.Roster.{all_open};
 
 use bb_case::{Difference, Entry, Fault, Header, Scope, expanded, number};
-use bb_main::{Intake, Mode, Out, serve};
+use bb_main::{Intake, Mode, NativeSource, Out, ProgramNative, program_natives, serve};
 use std::alloc::{AllocError, Global};
 
 /// Takes `room` bytes, at most `step` in one call, and then fails.
@@ -44,18 +45,20 @@ pub(crate) struct Serving {
     floor: i64,
     room: usize,
     step: usize,
+    has_natives: bool,
 }
 
 impl Serving {
     /// What a header says of it.
     pub fn of(header: &Header<'_>) -> Result<Serving, Fault> {
-        header.check(&["mode", "limit", "floor", "room", "by"])?;
+        header.check(&["mode", "limit", "floor", "room", "by", "natives"])?;
         Ok(Serving {
             mode: mode_of(header)?,
             limit: header.number("limit", 1_000_000)?,
             floor: header.number("floor", 0)?,
             room: header.number("room", usize::MAX)?,
             step: header.number("by", usize::MAX)?,
+            has_natives: has_natives(header)?,
         })
     }
 
@@ -79,6 +82,7 @@ impl Serving {
             self.mode,
             self.limit,
             self.floor,
+            natives(alloc, self.has_natives)?,
             &mut reader,
             &mut out,
         );
@@ -92,6 +96,25 @@ impl Serving {
             given: format!(in alloc; "{given}")?,
         }))
     }
+}
+
+/// Whether a header hands in the natives of the program; else there are none.
+fn has_natives(header: &Header<'_>) -> Result<bool, Fault> {
+    match header.option("natives") {
+        None => Ok(false),
+        Some("program") => Ok(true),
+        Some(_) => Err(Fault::Options),
+    }
+}
+
+/// The natives of the program, or none.
+fn natives(alloc: Global, are_handed_in: bool) -> Result<Vec<ProgramNative>, AllocError>
+    ensures { IfOk result (λ natives. all_open (map ⟦<ProgramNative as NativeSource>⟧.meaning natives.items) ≡ true) }
+{
+    if !are_handed_in {
+        return Ok(Vec::new(alloc));
+    }
+    program_natives(alloc)
 }
 
 /// The mode that a header names, or `run`.

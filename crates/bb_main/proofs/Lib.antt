@@ -7,3 +7,4 @@ pub mod OrderLemmas
 pub mod ServeLemmas
 pub mod StatusLemmas
 pub mod Limits
+pub mod Laws

@@ -20,6 +20,7 @@ use Rattle.bb_shell.specs.Finishes.{Finish}
 use Rattle.bb_shell.specs.Finishes.TheVariants as finishes
 use Rattle.bb_shell.specs.declared.input_fault.InputFault.{InputFault}
 use Rattle.bb_shell.specs.Finish.{WritesFront, end_of}
+use Rattle.bb_shell.specs.Native.{Native}
 use Rattle.bb_shell.specs.Meaning.{Meaning}
 use Rattle.bb_shell.specs.Run.{run}
 use Rattle.bb_shell.specs.BundleText.{bundle_text}
@@ -32,31 +33,41 @@ use Rattle.bb_main.specs.declared.serving.TheConstants.{MEMORY, REFUSED, WRITE}
 use Rattle.bb_main.specs.declared.section_fault.SectionFault.{SectionFault}
 use Rattle.bb_main.specs.declared.section_fault.SectionFault.TheVariants.{Limit}
 use Rattle.bb_main.specs.Input.{input_of}
+use Rattle.bb_main.specs.Reading.{HasTaken, TakesAtMost}
 use Rattle.bb_main.specs.Sections.{Texts}
 use Rattle.bb_main.specs.Serve.{Answer, CutShort, Delivers, Serves, answer, answer_to_check, answer_to_compile, answer_to_meaning, answer_to_run, answer_to_sections, done_status, end_status, limit_refusal, refusal, status_of, text_of}
 use Rattle.bb_main.proofs.InputLemmas.{is_long}
 
-pub answer-from : (bytes : List ℕ) (mode : Mode) (limit : ℕ) (floor : ℤ) (cut : Result Texts SectionFault) (P : Answer → Type 0) → cut ≡ input_of bytes → P (answer_to_sections mode limit floor cut) → P (answer bytes mode limit floor)
+pub answer-from : (natives : List Native) (bytes : List ℕ) (mode : Mode) (limit : ℕ) (floor : ℤ) (cut : Result Texts SectionFault) (P : Answer → Type 0) → cut ≡ input_of bytes → P (answer_to_sections natives mode limit floor cut) → P (answer natives bytes mode limit floor)
 unfolding answer
-answer-from bytes mode limit floor cut P is holds = subst (λ (c : Result Texts SectionFault). P (answer_to_sections mode limit floor c)) is holds
+answer-from natives bytes mode limit floor cut P is holds = subst (λ (c : Result Texts SectionFault). P (answer_to_sections natives mode limit floor c)) is holds
 
-answer-long : (bytes : List ℕ) (mode : Mode) (limit : ℕ) (floor : ℤ) (taken given : Option (List ℕ)) (status : ℕ) → INPUT_LIMIT < length bytes → Delivers limit_refusal taken given status → Delivers (answer bytes mode limit floor) taken given status
-answer-long bytes mode limit floor taken given status long delivers = answer-from bytes mode limit floor (Err Limit) (λ a. Delivers a taken given status) (is_long bytes long) delivers
+answer-long : (natives : List Native) (bytes : List ℕ) (mode : Mode) (limit : ℕ) (floor : ℤ) (taken given : Option (List ℕ)) (status : ℕ) → INPUT_LIMIT < length bytes → Delivers limit_refusal taken given status → Delivers (answer natives bytes mode limit floor) taken given status
+answer-long natives bytes mode limit floor taken given status long delivers = answer-from natives bytes mode limit floor (Err Limit) (λ a. Delivers a taken given status) (is_long bytes long) delivers
 
 -- a reader that gave too many bytes has too many
-pub serves-long : (mode : Mode) (limit : ℕ) (floor : ℤ) (read left taken given : Option (List ℕ)) (status : ℕ) (bytes : List ℕ) → Consumes read left bytes → length bytes ≡ INPUT_LIMIT + 1 → Delivers limit_refusal taken given status → Serves mode limit floor read taken given status
-serves-long mode limit floor None left taken given status bytes p long delivers = (bytes, tt, inl (answer-long bytes mode limit floor taken given status (omega arith) delivers))
-serves-long mode limit floor (Some xs) None taken given status bytes p long delivers = absurd p
-serves-long mode limit floor (Some xs) (Some ys) taken given status bytes p long delivers =
-    (xs, refl, inl (answer-long xs mode limit floor taken given status (omega (arith, length-append bytes ys, ap length p)) delivers))
+pub serves-long : (natives : List Native) (mode : Mode) (limit : ℕ) (floor : ℤ) (read left taken given : Option (List ℕ)) (status : ℕ) (bytes : List ℕ) → Consumes read left bytes → length bytes ≡ INPUT_LIMIT + 1 → Delivers limit_refusal taken given status → Serves natives mode limit floor read taken given status
+serves-long natives mode limit floor None left taken given status bytes p long delivers = (bytes, tt, inl (answer-long natives bytes mode limit floor taken given status (omega arith) delivers))
+serves-long natives mode limit floor (Some xs) None taken given status bytes p long delivers = absurd p
+serves-long natives mode limit floor (Some xs) (Some ys) taken given status bytes p long delivers =
+    (xs, refl, inl (answer-long natives xs mode limit floor taken given status (omega (arith, length-append bytes ys, ap length p)) delivers))
 
 -- where memory ran out before anything was written
 pub cut-nothing : (a : Answer) (taken : Option (List ℕ)) (status : ℕ) → status ≡ MEMORY → CutShort a taken taken status
 cut-nothing a taken status is = (is, (0, (λ _. refl), Appends-nil taken))
 
-pub serves-nothing : (mode : Mode) (limit : ℕ) (floor : ℤ) (read taken : Option (List ℕ)) (status : ℕ) → status ≡ MEMORY → Serves mode limit floor read taken taken status
-serves-nothing mode limit floor None taken status is = ([], tt, inr (cut-nothing (answer [] mode limit floor) taken status is))
-serves-nothing mode limit floor (Some xs) taken status is = (xs, refl, inr (cut-nothing (answer xs mode limit floor) taken status is))
+pub serves-nothing : (natives : List Native) (mode : Mode) (limit : ℕ) (floor : ℤ) (read taken : Option (List ℕ)) (status : ℕ) → status ≡ MEMORY → Serves natives mode limit floor read taken taken status
+serves-nothing natives mode limit floor None taken status is = ([], tt, inr (cut-nothing (answer natives [] mode limit floor) taken status is))
+serves-nothing natives mode limit floor (Some xs) taken status is = (xs, refl, inr (cut-nothing (answer natives xs mode limit floor) taken status is))
+
+-- a reader of which nothing was taken
+pub nothing-taken : (most : ℕ) (read : Option (List ℕ)) → TakesAtMost most read read
+nothing-taken most None = ([], tt, omega arith)
+nothing-taken most (Some xs) = ([], refl, omega arith)
+
+pub not-too-long : (n : ℕ) (read : Option (List ℕ)) → 0 < n → ¬ HasTaken n read read
+not-too-long n None some h = absurd h
+not-too-long n (Some xs) some h = omega (arith, h, some)
 
 -- the text of pieces
 pub text_of-map : {X : Type 0} (f : X → List ℕ) (xs : List X) → text_of (map f xs) ≡ flat_map f xs
@@ -75,46 +86,46 @@ run-not-refused (Some ends.Full) k is = let no : 4 ≡ 2 = is in omega (arith, n
 run-not-refused (Some (ends.Stuck reason)) k is = let no : 7 ≡ 2 = is in omega (arith, no)
 
 -- a run's answer, by how the run came out
-pub served_run : (limit : ℕ) (m : Meaning) (f : Finish) (status : ℕ) (old new : Option (List ℕ)) → status ≡ status_of f
-    → IfSome (end_of f) (λ end. (run m.plan m.board limit).end ≡ Some end)
-    → IfSome (end_of f) (λ _. Appends old new (trace_text m.plan (run m.plan m.board limit).told))
-    → WritesFront m.plan (run m.plan m.board limit) f old new
-    → Delivers (answer_to_run limit m) old new status ⊎ CutShort (answer_to_run limit m) old new status
-served_run limit m f status old new = by f
+pub served_run : (natives : List Native) (limit : ℕ) (m : Meaning) (f : Finish) (status : ℕ) (old new : Option (List ℕ)) → status ≡ status_of f
+    → IfSome (end_of f) (λ end. (run m.plan m.board natives limit).end ≡ Some end)
+    → IfSome (end_of f) (λ _. Appends old new (trace_text m.plan (run m.plan m.board natives limit).told))
+    → WritesFront m.plan (run m.plan m.board natives limit) f old new
+    → Delivers (answer_to_run natives limit m) old new status ⊎ CutShort (answer_to_run natives limit m) old new status
+served_run natives limit m f status old new = by f
   where
-    whole : trace_text m.plan (run m.plan m.board limit).told ≡ text_of (answer_to_run limit m).pieces
-    whole = sym (text_of-map (segment_text m.plan) (run m.plan m.board limit).told)
+    whole : trace_text m.plan (run m.plan m.board natives limit).told ≡ text_of (answer_to_run natives limit m).pieces
+    whole = sym (text_of-map (segment_text m.plan) (run m.plan m.board natives limit).told)
 
-    all : Appends old new (trace_text m.plan (run m.plan m.board limit).told) → Appends old new (text_of (answer_to_run limit m).pieces)
+    all : Appends old new (trace_text m.plan (run m.plan m.board natives limit).told) → Appends old new (text_of (answer_to_run natives limit m).pieces)
     all p = subst (Appends old new) whole p
 
     by : (f : Finish) → status ≡ status_of f
-        → IfSome (end_of f) (λ end. (run m.plan m.board limit).end ≡ Some end)
-        → IfSome (end_of f) (λ _. Appends old new (trace_text m.plan (run m.plan m.board limit).told))
-        → WritesFront m.plan (run m.plan m.board limit) f old new
-        → Delivers (answer_to_run limit m) old new status ⊎ CutShort (answer_to_run limit m) old new status
+        → IfSome (end_of f) (λ end. (run m.plan m.board natives limit).end ≡ Some end)
+        → IfSome (end_of f) (λ _. Appends old new (trace_text m.plan (run m.plan m.board natives limit).told))
+        → WritesFront m.plan (run m.plan m.board natives limit) f old new
+        → Delivers (answer_to_run natives limit m) old new status ⊎ CutShort (answer_to_run natives limit m) old new status
     by finishes.Quiescence is ends wrote front = inl (inl (rw ends is, all wrote))
     by finishes.Limit is ends wrote front = inl (inl (rw ends is, all wrote))
     by finishes.Full is ends wrote front = inl (inl (rw ends is, all wrote))
     by (finishes.Stuck reason) is ends wrote front = inl (inl (rw ends is, all wrote))
     by finishes.Memory is ends wrote front =
-        inr (is, (front.0, run-not-refused (run m.plan m.board limit).end front.0, subst (Appends old new) (sym (text_of-map (segment_text m.plan) (take front.0 (run m.plan m.board limit).told)) ∙ ap text_of (sym (take-map (segment_text m.plan) front.0 (run m.plan m.board limit).told))) front.1))
+        inr (is, (front.0, run-not-refused (run m.plan m.board natives limit).end front.0, subst (Appends old new) (sym (text_of-map (segment_text m.plan) (take front.0 (run m.plan m.board natives limit).told)) ∙ ap text_of (sym (take-map (segment_text m.plan) front.0 (run m.plan m.board natives limit).told))) front.1))
     by finishes.Write is ends wrote front = inl (inr (is, (front.0, subst (λ t. Appends old new (take front.0 t)) whole front.1)))
 
 same_meaning : (given : Result Meaning InputFault) (m n : Meaning) → given ≡ Ok m → given ≡ Ok n → n ≡ m
 same_meaning given m n p q = let e : ◌≡◌ {A = Result Meaning InputFault} (Ok n) (Ok m) = sym q ∙ p in cc
 
 -- the answer to what sections mean, by what a run of them is known to have told
-pub served_meaning : (limit : ℕ) (given : Result Meaning InputFault) (f : Finish) (status : ℕ) (old new : Option (List ℕ)) → status ≡ status_of f
-    → (m : Meaning) × (given ≡ Ok m) × IfSome (end_of f) (λ end. (run m.plan m.board limit).end ≡ Some end)
-    → (m : Meaning) × (given ≡ Ok m) × IfSome (end_of f) (λ _. Appends old new (trace_text m.plan (run m.plan m.board limit).told))
-    → (m : Meaning) × (given ≡ Ok m) × WritesFront m.plan (run m.plan m.board limit) f old new
-    → Delivers (answer_to_meaning limit given) old new status ⊎ CutShort (answer_to_meaning limit given) old new status
-served_meaning limit given f status old new is ends wrote front =
+pub served_meaning : (natives : List Native) (limit : ℕ) (given : Result Meaning InputFault) (f : Finish) (status : ℕ) (old new : Option (List ℕ)) → status ≡ status_of f
+    → (m : Meaning) × (given ≡ Ok m) × IfSome (end_of f) (λ end. (run m.plan m.board natives limit).end ≡ Some end)
+    → (m : Meaning) × (given ≡ Ok m) × IfSome (end_of f) (λ _. Appends old new (trace_text m.plan (run m.plan m.board natives limit).told))
+    → (m : Meaning) × (given ≡ Ok m) × WritesFront m.plan (run m.plan m.board natives limit) f old new
+    → Delivers (answer_to_meaning natives limit given) old new status ⊎ CutShort (answer_to_meaning natives limit given) old new status
+served_meaning natives limit given f status old new is ends wrote front =
     let m = ends.0 in
-    let text = subst (λ (n : Meaning). IfSome (end_of f) (λ _. Appends old new (trace_text n.plan (run n.plan n.board limit).told))) (same_meaning given m wrote.0 ends.1 wrote.1) wrote.2 in
-    let first = subst (λ (n : Meaning). WritesFront n.plan (run n.plan n.board limit) f old new) (same_meaning given m front.0 ends.1 front.1) front.2 in
-    subst (λ (r : Result Meaning InputFault). Delivers (answer_to_meaning limit r) old new status ⊎ CutShort (answer_to_meaning limit r) old new status) (sym ends.1) (served_run limit m f status old new is ends.2 text first)
+    let text = subst (λ (n : Meaning). IfSome (end_of f) (λ _. Appends old new (trace_text n.plan (run n.plan n.board natives limit).told))) (same_meaning given m wrote.0 ends.1 wrote.1) wrote.2 in
+    let first = subst (λ (n : Meaning). WritesFront n.plan (run n.plan n.board natives limit) f old new) (same_meaning given m front.0 ends.1 front.1) front.2 in
+    subst (λ (r : Result Meaning InputFault). Delivers (answer_to_meaning natives limit r) old new status ⊎ CutShort (answer_to_meaning natives limit r) old new status) (sym ends.1) (served_run natives limit m f status old new is ends.2 text first)
 
 -- an answer of one piece was written, or a front of it
 pub wrote_whole : (text : List ℕ) (status : ℕ) (old new : Option (List ℕ)) → Appends old new text → Delivers (record { pieces = text ∷ []; status = status }) old new status
@@ -141,7 +152,7 @@ served_compile (Ok compiled) Write status old new is wrote = rw is (inl (wrote_f
 pub wrote_line : (line : List ℕ) (old mid new : Option (List ℕ)) → Appends old mid line → Appends mid new (10 ∷ []) → Appends old new (text_of (refusal line).pieces)
 wrote_line line old mid new a b = subst (Appends old new) (sym (text_of-one (line ++ 10 ∷ []))) (Appends-trans old mid new line (10 ∷ []) a b)
 
-front_within : (count : ℕ) (line more : List ℕ) → (n : ℕ) × (take count line ≡ take n (line ++ more))
+pub front_within : (count : ℕ) (line more : List ℕ) → (n : ℕ) × (take count line ≡ take n (line ++ more))
 front_within count line more = by (cases_lt (length line) count)
   where
     by : (length line < count) ⊎ (count ≤ length line) → (n : ℕ) × (take count line ≡ take n (line ++ more))

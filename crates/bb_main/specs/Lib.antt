@@ -8,7 +8,14 @@ pub mod Input
 pub mod Refusals
 -- how much of a reader was taken
 pub mod Reading
+-- the natives of the program
+pub mod Natives
 -- what the program writes for an input, and its status
 pub mod Serve
+-- of bb_native: natives, and what a roster of them means
+pub use Rattle.bb_shell.specs.Native
+pub use Rattle.bb_shell.specs.Roster
+-- of bb_options: what is done with an input
+pub use Rattle.bb_options.specs.declared.choice.Mode
 -- relations that serve proofs
 pub mod proving

@@ -18,6 +18,8 @@ use Rattle.bb_shell.specs.End.TheVariants as ends
 use Rattle.bb_shell.specs.Finishes.{Finish}
 use Rattle.bb_shell.specs.declared.input_fault.InputFault.{InputFault}
 use Rattle.bb_shell.specs.Finish.{end_of, is_write}
+use Rattle.bb_shell.specs.Fitting.{native_names}
+use Rattle.bb_shell.specs.Native.{Native}
 use Rattle.bb_shell.specs.Meaning.{Meaning, meaning}
 use Rattle.bb_shell.specs.Refusals.{refusal_text}
 use Rattle.bb_shell.specs.Run.{run}
@@ -64,9 +66,9 @@ fault_answer (Words text) = record { pieces = string_bytes text ∷ []; status =
 fault_answer Memory = record { pieces = []; status = MEMORY }
 
 -- a run is answered by its trace and the status of its end, which every run has
-abbrev pub answer_to_run : (limit : ℕ) → Meaning → Answer
-answer_to_run limit m =
-    let r = run m.plan m.board limit in
+abbrev pub answer_to_run : List Native → (limit : ℕ) → Meaning → Answer
+answer_to_run natives limit m =
+    let r = run m.plan m.board natives limit in
     record { pieces = map (segment_text m.plan) r.told; status = option_map_or end_status r.end 0 }
 
 -- a refused input is answered by its line, ended by a line feed
@@ -74,9 +76,9 @@ abbrev pub refusal : List ℕ → Answer
 refusal line = record { pieces = (line ++ 10 ∷ []) ∷ []; status = REFUSED }
 
 -- what the sections mean is run, or refused
-abbrev pub answer_to_meaning : (limit : ℕ) → Result Meaning InputFault → Answer
-answer_to_meaning limit (Ok m) = answer_to_run limit m
-answer_to_meaning limit (Err fault) = refusal (refusal_text fault)
+abbrev pub answer_to_meaning : List Native → (limit : ℕ) → Result Meaning InputFault → Answer
+answer_to_meaning natives limit (Ok m) = answer_to_run natives limit m
+answer_to_meaning natives limit (Err fault) = refusal (refusal_text fault)
 
 -- a check is answered by the lines on all sources, or refused
 abbrev pub answer_to_check : Result (List Source) InputFault → Answer
@@ -88,21 +90,23 @@ abbrev pub answer_to_compile : Result (List (SourceDraft Code)) InputFault → A
 answer_to_compile (Ok compiled) = record { pieces = bundle_text compiled ∷ []; status = 0 }
 answer_to_compile (Err fault) = refusal (refusal_text fault)
 
--- what the texts of the sections are answered in a mode
-abbrev pub answer_in : Mode → (limit : ℕ) → (floor : ℤ) → (schema units sources bundle : List ℕ) → Answer
-answer_in Run limit floor schema units sources bundle =
-    answer_to_meaning limit (meaning schema units sources bundle floor)
-answer_in Check limit floor schema units sources bundle = answer_to_check (sources_in schema sources bundle)
-answer_in Compile limit floor schema units sources bundle = answer_to_compile (bundle_in schema sources)
+-- what the texts of the sections are answered in a mode, with the natives that were handed in
+abbrev pub answer_in : List Native → Mode → (limit : ℕ) → (floor : ℤ) → (schema units sources bundle : List ℕ) → Answer
+answer_in natives Run limit floor schema units sources bundle =
+    answer_to_meaning natives limit (meaning (native_names natives) schema units sources bundle floor)
+answer_in natives Check limit floor schema units sources bundle =
+    answer_to_check (sources_in (native_names natives) schema sources bundle)
+answer_in natives Compile limit floor schema units sources bundle = answer_to_compile (bundle_in schema sources)
 
 -- the sections are answered, or there are none, which is refused
-abbrev pub answer_to_sections : Mode → (limit : ℕ) → (floor : ℤ) → Result Texts SectionFault → Answer
-answer_to_sections mode limit floor (Ok t) = answer_in mode limit floor t.schema t.units t.sources t.bundle
-answer_to_sections mode limit floor (Err fault) = refusal (section_line fault)
+abbrev pub answer_to_sections : List Native → Mode → (limit : ℕ) → (floor : ℤ) → Result Texts SectionFault → Answer
+answer_to_sections natives mode limit floor (Ok t) =
+    answer_in natives mode limit floor t.schema t.units t.sources t.bundle
+answer_to_sections natives mode limit floor (Err fault) = refusal (section_line fault)
 
 -- the answer to the bytes of an input
-unfoldable pub answer : (bytes : List ℕ) → Mode → (limit : ℕ) → (floor : ℤ) → Answer
-answer bytes mode limit floor = answer_to_sections mode limit floor (input_of bytes)
+unfoldable pub answer : List Native → (bytes : List ℕ) → Mode → (limit : ℕ) → (floor : ℤ) → Answer
+answer natives bytes mode limit floor = answer_to_sections natives mode limit floor (input_of bytes)
 
 -- the answer where the reader fails, whatever its bytes are
 abbrev pub read_refusal : Answer
@@ -125,8 +129,8 @@ CutShort a taken given status =
     × ((count : ℕ) × (a.status ≡ REFUSED → count ≡ 0) × Appends taken given (text_of (take count a.pieces)))
 
 -- the answer to some bytes is delivered, or cut short; they are all of the reader's where it tells them
-abbrev pub Serves : Mode → (limit : ℕ) → (floor : ℤ) → (read taken given : Option (List ℕ)) → (status : ℕ) → Type 0
-Serves mode limit floor read taken given status =
+abbrev pub Serves : List Native → Mode → (limit : ℕ) → (floor : ℤ) → (read taken given : Option (List ℕ)) → (status : ℕ) → Type 0
+Serves natives mode limit floor read taken given status =
     (bytes : List ℕ) × IfSome read (λ xs. bytes ≡ xs)
-    × (Delivers (answer bytes mode limit floor) taken given status
-    ⊎ CutShort (answer bytes mode limit floor) taken given status)
+    × (Delivers (answer natives bytes mode limit floor) taken given status
+    ⊎ CutShort (answer natives bytes mode limit floor) taken given status)

@@ -2,15 +2,22 @@
 #![tactic(auto)]
 
 mod input;
+mod program_native;
 mod read;
+#[cfg(test)]
+mod refusal_tests;
+mod refusing;
 mod section_fault;
 mod sections;
+mod served;
 mod serving;
 #[cfg(test)]
 mod tests;
 
 pub use bb_options::{Mode, Options, OptionsFault, options};
-pub use bb_shell::{Out, Pipe};
+pub use bb_shell::{Memory, NativeSource, Out, Pipe};
 pub use input::{In, Intake};
+pub use program_native::{ProgramNative, Trade, program_natives};
 pub use read::INPUT_LIMIT;
-pub use serving::{program, serve, tell};
+pub use served::Served;
+pub use serving::{program, serve, serve_with, tell};

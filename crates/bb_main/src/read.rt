@@ -18,10 +18,10 @@ const CHUNK_LIMIT: usize = 8_192;
 #[derive(Clone, Copy, Debug, PartialEq, Eq, Error)]
 pub(crate) enum ReadFault {
     /// The reader failed.
-    #[error("the input cannot be read")]
+    #[error("input: it could not be read")]
     Read,
     /// The input has more bytes than are taken.
-    #[error("the input is too long")]
+    #[error("input: it has more than 16,777,216 bytes")]
     Limit,
     /// Memory ran out.
     #[error("out of memory")]

@@ -1,4 +1,5 @@
-//! Why the bytes of an input have no sections, and the line that says so. `Sections::of_bytes` answers it.
+//! Why the bytes of an input have no sections, the line that refuses it then, and the sentence that says why.
+//! `Sections::of_bytes` answers it.
 
 ghost use Rattle.std.specs.Prelude.{◌≡◌};
 ghost use Rattle.bb_main.specs.Refusals.{section_line};
@@ -9,13 +10,13 @@ use thiserror::Error;
 #[derive(Clone, Copy, Debug, PartialEq, Eq, Error)]
 pub(crate) enum SectionFault {
     /// The bytes are more than are taken.
-    #[error("the input is too long")]
+    #[error("input: it has more than 16,777,216 bytes")]
     Limit,
     /// The bytes are not UTF-8.
-    #[error("the input is not UTF-8")]
+    #[error("input: it is not UTF-8")]
     Utf8,
     /// The sections are not in their order, each at most once, with the schema first.
-    #[error("the sections are not in order")]
+    #[error("input: its first line is not `%schema`, or a header line is out of order or there twice")]
     Sections,
 }
 

@@ -1,43 +1,59 @@
 //! The program: an input is read, cut into sections, and run, checked or compiled; its trace, the lines of its check,
-//! its bundle, or the line that refuses it, is written. Where the words of the command line choose nothing, their text
-//! is written.
+//! its bundle, or the line that refuses it, is written, and why it is refused is said beside that. Where the words of
+//! the command line choose nothing, their text is written.
 
-ghost use Rattle.std.specs.Prelude.{◌≡◌, ◌≢◌, ◌==◌, ◌+◌, ◌∷◌, ◌⊎◌, [], false, IfErr};
+ghost use Rattle.std.specs.Prelude.{◌≡◌, ◌≢◌, ◌==◌, ◌+◌, ◌∷◌, ◌⊎◌, [], true, false, map, IfErr, IsNone};
 ghost use Rattle.std.specs.Bool.{OnFalse, OnTrue};
 ghost use Rattle.bb_shell.specs.Check.{sources_in};
+ghost use Rattle.bb_shell.specs.Fitting.{native_names};
+ghost use Rattle.bb_shell.specs.Roster.{all_open};
 ghost use Rattle.bb_shell.specs.Compile.{bundle_in};
 ghost use Rattle.bb_shell.specs.Meaning.{meaning};
-ghost use Rattle.bb_shell.specs.Refusals.{refusal_text};
 ghost use Rattle.bb_main.specs.Input.{input_of};
+ghost use Rattle.bb_main.specs.Natives.{program_natives};
 ghost use Rattle.bb_main.specs.Reading.{HasTaken, TakesAtMost};
 ghost use Rattle.bb_main.specs.Refusals.{section_line};
 ghost use Rattle.bb_main.specs.Serve.{CutShort, Delivers, Serves, answer, answer_in, answer_to_check};
 ghost use Rattle.bb_main.specs.Serve.{answer_to_compile, answer_to_meaning, done_status, fault_answer};
 ghost use Rattle.bb_main.specs.Serve.{limit_refusal, read_refusal, refusal, status_of};
-ghost use Rattle.bb_main.specs.declared.serving.TheConstants.{WRITE};
+ghost use Rattle.bb_main.specs.declared.serving.TheConstants.{REFUSED, WRITE};
 
 use crate::input::In;
+use crate::program_native::program_natives;
 use crate::read::{INPUT_LIMIT, ReadFault, read_input};
+use crate::refusing::{refuse, refuse_input};
 use crate::section_fault::SectionFault;
 use crate::sections::Sections;
+use crate::served::Served;
 use bb_options::{Mode, Options, OptionsFault};
-use bb_shell::{Done, Finish, InputFault, Out, check_texts, compile_texts, put_all, run_texts};
+use bb_shell::{
+    Done, Finish, InputFault, NativeSource, Out, Report, check_texts, close_each, compile_texts,
+    put_all, run_texts,
+};
 use std::alloc::Global;
+use std::io::Write;
 
 /// The status of a refused input, and of refused words.
-const REFUSED: u8 = 2;
+pub(crate) const REFUSED: u8 = 2;
 
 /// The status where memory ran out.
-const MEMORY: u8 = 5;
+pub(crate) const MEMORY: u8 = 5;
 
 /// The status where the output failed.
-const WRITE: u8 = 6;
+pub(crate) const WRITE: u8 = 6;
 
-/// What the program does: `serve`, as the words of its command line choose. Answers the status of the program.
-pub fn program<R: In, O: Out>(alloc: Global, options: Options, reader: &mut R, writer: &mut O) -> u8
+/// What the program does: `serve`, as the words of its command line choose, with its natives `tally` and `reaper`.
+/// After the line of a refusal it says on `errors` why. Answers the status of the program, whatever `errors` does.
+pub fn program<R: In, O: Out, E: Write>(
+    alloc: Global,
+    options: Options,
+    reader: &mut R,
+    writer: &mut O,
+    errors: &mut E,
+) -> u8
     requires reader { R.has_failed reader.old ≡ false }
     requires writer { O.has_failed writer.old ≡ false }
-    ensures answer { OnFalse (R.has_failed reader.new) (Serves options.mode options.limit options.floor
+    ensures answer { OnFalse (R.has_failed reader.new) (Serves program_natives options.mode options.limit options.floor
         (R.remaining reader.old) (O.taken writer.old) (O.taken writer.new) result) }
     ensures unread { OnTrue (R.has_failed reader.new)
         (Delivers read_refusal (O.taken writer.old) (O.taken writer.new) result) }
@@ -46,9 +62,25 @@ pub fn program<R: In, O: Out>(alloc: Global, options: Options, reader: &mut R, w
         → Delivers limit_refusal (O.taken writer.old) (O.taken writer.new) result }
     ensures failed { O.has_failed writer.new ≡ (result == WRITE) }
     ensures unstuck { result ≢ 7 }
+    // Nothing is said but of a refused input.
+    ensures silent { result ≢ REFUSED → errors.new ≡ errors.old }
 {
-    let Options { mode, limit, floor } = options;
-    serve(alloc, mode, limit, floor, reader, writer)
+    let Ok(natives) = program_natives(alloc) else {
+        return MEMORY;
+    };
+    let Served { status, report } = serve_with(alloc, options, natives, reader, writer);
+    say(report, errors);
+    status
+}
+
+/// Says why an input is refused, if there is something to say. What cannot be written is left out.
+fn say<E: Write>(report: Option<String>, errors: &mut E)
+    ensures { IsNone report → errors.new ≡ errors.old }
+{
+    let Some(report) = report else {
+        return;
+    };
+    let _ = writeln!(errors, "bb: {report}");
 }
 
 /// Writes the text of words that choose nothing. Answers the status of the program: 0 where help or the version was
@@ -84,22 +116,25 @@ fn write_text<O: Out>(text: &str, status: u8, writer: &mut O) -> u8
 /// rated below `floor`, and writes its trace; `Check` verifies its sources and writes what their parts cost; `Compile`
 /// writes the bundle of its sources that are text. Or it writes the line by which the input is refused. Answers the
 /// status of the program: 0 quiescence, a check or a bundle written, 2 a refused input, 3 the limit, 4 full, 5 no
-/// memory, 6 the output failed, 7 stuck.
-pub fn serve<R: In, O: Out>(
+/// memory, 6 the output failed, 7 stuck. Each native is closed once, in order, at each of these answers.
+pub fn serve<N: NativeSource, R: In, O: Out>(
     alloc: Global,
     mode: Mode,
     limit: u32,
     floor: i64,
+    natives: Vec<N>,
     reader: &mut R,
     writer: &mut O,
 ) -> u8
+    requires natives { all_open (map N.meaning natives.items) ≡ true }
     requires reader { R.has_failed reader.old ≡ false }
     requires writer { O.has_failed writer.old ≡ false }
 
     // The answer is that to the reader's bytes, or its first pieces where memory ran out, or a front of its text where
     // the output failed. Where the reader failed, the answer refuses the input.
     ensures answer { OnFalse (R.has_failed reader.new)
-        (Serves mode limit floor (R.remaining reader.old) (O.taken writer.old) (O.taken writer.new) result) }
+        (Serves (map N.meaning natives.items) mode limit floor (R.remaining reader.old) (O.taken writer.old)
+        (O.taken writer.new) result) }
     ensures unread { OnTrue (R.has_failed reader.new)
         (Delivers read_refusal (O.taken writer.old) (O.taken writer.new) result) }
 
@@ -112,76 +147,124 @@ pub fn serve<R: In, O: Out>(
     // No input has the status of a run that is stuck.
     ensures unstuck { result ≢ 7 }
 {
+    let options = Options { mode, limit, floor };
+    serve_with(alloc, options, natives, reader, writer).status
+}
+
+/// `serve` as the words of a command line choose, with what there is to say of a refused input.
+pub fn serve_with<N: NativeSource, R: In, O: Out>(
+    alloc: Global,
+    options: Options,
+    natives: Vec<N>,
+    reader: &mut R,
+    writer: &mut O,
+) -> Served
+    requires natives { all_open (map N.meaning natives.items) ≡ true }
+    requires reader { R.has_failed reader.old ≡ false }
+    requires writer { O.has_failed writer.old ≡ false }
+    ensures answer { OnFalse (R.has_failed reader.new)
+        (Serves (map N.meaning natives.items) options.mode options.limit options.floor
+        (R.remaining reader.old) (O.taken writer.old) (O.taken writer.new) result.status) }
+    ensures unread { OnTrue (R.has_failed reader.new)
+        (Delivers read_refusal (O.taken writer.old) (O.taken writer.new) result.status) }
+    ensures taken { TakesAtMost (INPUT_LIMIT + 1) (R.remaining reader.old) (R.remaining reader.new) }
+    ensures too_long { HasTaken (INPUT_LIMIT + 1) (R.remaining reader.old) (R.remaining reader.new)
+        → Delivers limit_refusal (O.taken writer.old) (O.taken writer.new) result.status }
+    ensures failed { O.has_failed writer.new ≡ (result.status == WRITE) }
+    ensures unstuck { result.status ≢ 7 }
+    ensures silent { result.status ≢ REFUSED → IsNone result.report }
+{
     match read_input(alloc, reader) {
-        Ok(bytes) => serve_bytes(alloc, mode, limit, floor, bytes.as_slice(), writer),
-        Err(ReadFault::Read) => write_refusal("refused input read", writer),
-        Err(ReadFault::Limit) => write_refusal(SectionFault::Limit.line(), writer),
-        Err(ReadFault::Memory) => MEMORY,
+        Ok(bytes) => serve_bytes(alloc, options, natives, bytes.as_slice(), writer),
+        Err(ReadFault::Read) => {
+            refuse_input(
+                alloc,
+                "refused input read",
+                ReadFault::Read,
+                natives,
+                writer,
+            )
+        }
+        Err(ReadFault::Limit) => {
+            let fault = SectionFault::Limit;
+            refuse_input(alloc, fault.line(), fault, natives, writer)
+        }
+        Err(ReadFault::Memory) => {
+            close_each(natives);
+            Served::quiet(MEMORY)
+        }
     }
 }
 
-/// Serves an input of these bytes. Where they have no sections, no memory is wanted.
-fn serve_bytes<O: Out>(
+/// Serves an input of these bytes. Where they have no sections, the answer wants no memory.
+fn serve_bytes<N: NativeSource, O: Out>(
     alloc: Global,
-    mode: Mode,
-    limit: u32,
-    floor: i64,
+    options: Options,
+    natives: Vec<N>,
     bytes: &[u8],
     writer: &mut O,
-) -> u8
-    requires { O.has_failed writer.old ≡ false }
-    ensures answer { Delivers (answer bytes.now mode limit floor) (O.taken writer.old) (O.taken writer.new) result
-        ⊎ CutShort (answer bytes.now mode limit floor) (O.taken writer.old) (O.taken writer.new) result }
+) -> Served
+    requires natives { all_open (map N.meaning natives.items) ≡ true }
+    requires open { O.has_failed writer.old ≡ false }
+    ensures answer { let a = answer (map N.meaning natives.items) bytes.now options.mode options.limit options.floor in
+        Delivers a (O.taken writer.old) (O.taken writer.new) result.status
+        ⊎ CutShort a (O.taken writer.old) (O.taken writer.new) result.status }
     ensures refused { IfErr (input_of bytes.now)
-        (λ fault. Delivers (refusal (section_line fault)) (O.taken writer.old) (O.taken writer.new) result) }
-    ensures failed { O.has_failed writer.new ≡ (result == WRITE) }
-    ensures unstuck { result ≢ 7 }
+        (λ fault. Delivers (refusal (section_line fault)) (O.taken writer.old) (O.taken writer.new) result.status) }
+    ensures failed { O.has_failed writer.new ≡ (result.status == WRITE) }
+    ensures unstuck { result.status ≢ 7 }
+    ensures silent { result.status ≢ REFUSED → IsNone result.report }
 {
     match Sections::of_bytes(bytes) {
-        Ok(sections) => serve_sections(alloc, mode, limit, floor, sections, writer),
-        Err(fault) => write_refusal(fault.line(), writer),
+        Ok(sections) => serve_sections(alloc, options, natives, sections, writer),
+        Err(fault) => refuse_input(alloc, fault.line(), fault, natives, writer),
     }
 }
 
 /// Serves an input of these sections.
-fn serve_sections<O: Out>(
+fn serve_sections<N: NativeSource, O: Out>(
     alloc: Global,
-    mode: Mode,
-    limit: u32,
-    floor: i64,
+    options: Options,
+    natives: Vec<N>,
     sections: Sections<'_>,
     writer: &mut O,
-) -> u8
-    requires { O.has_failed writer.old ≡ false }
+) -> Served
+    requires natives { all_open (map N.meaning natives.items) ≡ true }
+    requires open { O.has_failed writer.old ≡ false }
     ensures answer { let s = sections.entry in
-        let a = answer_in mode limit floor s.schema.now s.units.now s.sources.now s.bundle.now in
-        Delivers a (O.taken writer.old) (O.taken writer.new) result
-        ⊎ CutShort a (O.taken writer.old) (O.taken writer.new) result }
-    ensures failed { O.has_failed writer.new ≡ (result == WRITE) }
-    ensures unstuck { result ≢ 7 }
+        let a = answer_in (map N.meaning natives.items) options.mode options.limit options.floor
+        s.schema.now s.units.now s.sources.now s.bundle.now in
+        Delivers a (O.taken writer.old) (O.taken writer.new) result.status
+        ⊎ CutShort a (O.taken writer.old) (O.taken writer.new) result.status }
+    ensures failed { O.has_failed writer.new ≡ (result.status == WRITE) }
+    ensures unstuck { result.status ≢ 7 }
+    ensures silent { result.status ≢ REFUSED → IsNone result.report }
 {
-    match mode {
-        Mode::Run => run_sections(alloc, limit, floor, sections, writer),
-        Mode::Check => check_sections(alloc, sections, writer),
-        Mode::Compile => compile_sections(alloc, sections, writer),
+    match options.mode {
+        Mode::Run => run_sections(alloc, options, natives, sections, writer),
+        Mode::Check => check_sections(alloc, natives, sections, writer),
+        Mode::Compile => compile_sections(alloc, natives, sections, writer),
     }
 }
 
 /// Runs these sections.
-fn run_sections<O: Out>(
+fn run_sections<N: NativeSource, O: Out>(
     alloc: Global,
-    limit: u32,
-    floor: i64,
+    options: Options,
+    natives: Vec<N>,
     sections: Sections<'_>,
     writer: &mut O,
-) -> u8
-    requires { O.has_failed writer.old ≡ false }
+) -> Served
+    requires natives { all_open (map N.meaning natives.items) ≡ true }
+    requires open { O.has_failed writer.old ≡ false }
     ensures answer { let s = sections.entry in
-        let a = answer_to_meaning limit (meaning s.schema.now s.units.now s.sources.now s.bundle.now floor) in
-        Delivers a (O.taken writer.old) (O.taken writer.new) result
-        ⊎ CutShort a (O.taken writer.old) (O.taken writer.new) result }
-    ensures failed { O.has_failed writer.new ≡ (result == WRITE) }
-    ensures unstuck { result ≢ 7 }
+        let a = answer_to_meaning (map N.meaning natives.items) options.limit
+        (meaning (native_names (map N.meaning natives.items)) s.schema.now s.units.now s.sources.now s.bundle.now options.floor) in
+        Delivers a (O.taken writer.old) (O.taken writer.new) result.status
+        ⊎ CutShort a (O.taken writer.old) (O.taken writer.new) result.status }
+    ensures failed { O.has_failed writer.new ≡ (result.status == WRITE) }
+    ensures unstuck { result.status ≢ 7 }
+    ensures silent { result.status ≢ REFUSED → IsNone result.report }
 {
     let Sections {
         schema,
@@ -189,22 +272,40 @@ fn run_sections<O: Out>(
         sources,
         bundle,
     } = sections;
-    match run_texts(alloc, schema, units, sources, bundle, limit, floor, writer) {
-        Ok(finish) => status(finish),
-        Err(InputFault::Memory) => MEMORY,
-        Err(fault) => refuse(alloc, &fault, writer),
+    let Options { limit, floor, .. } = options;
+    match run_texts(
+        alloc, schema, units, sources, bundle, natives, limit, floor, writer,
+    ) {
+        Ok(finish) => Served::quiet(status(finish)),
+        Err(InputFault::Memory) => Served::quiet(MEMORY),
+        Err(fault) => refuse(
+            alloc,
+            Report {
+                fault: &fault,
+                sources,
+            },
+            writer,
+        ),
     }
 }
 
 /// Checks these sections. The units are not looked at.
-fn check_sections<O: Out>(alloc: Global, sections: Sections<'_>, writer: &mut O) -> u8
-    requires { O.has_failed writer.old ≡ false }
+fn check_sections<N: NativeSource, O: Out>(
+    alloc: Global,
+    natives: Vec<N>,
+    sections: Sections<'_>,
+    writer: &mut O,
+) -> Served
+    requires natives { all_open (map N.meaning natives.items) ≡ true }
+    requires open { O.has_failed writer.old ≡ false }
     ensures answer { let s = sections.entry in
-        let a = answer_to_check (sources_in s.schema.now s.sources.now s.bundle.now) in
-        Delivers a (O.taken writer.old) (O.taken writer.new) result
-        ⊎ CutShort a (O.taken writer.old) (O.taken writer.new) result }
-    ensures failed { O.has_failed writer.new ≡ (result == WRITE) }
-    ensures unstuck { result ≢ 7 }
+        let a = answer_to_check
+        (sources_in (native_names (map N.meaning natives.items)) s.schema.now s.sources.now s.bundle.now) in
+        Delivers a (O.taken writer.old) (O.taken writer.new) result.status
+        ⊎ CutShort a (O.taken writer.old) (O.taken writer.new) result.status }
+    ensures failed { O.has_failed writer.new ≡ (result.status == WRITE) }
+    ensures unstuck { result.status ≢ 7 }
+    ensures silent { result.status ≢ REFUSED → IsNone result.report }
 {
     let Sections {
         schema,
@@ -212,22 +313,36 @@ fn check_sections<O: Out>(alloc: Global, sections: Sections<'_>, writer: &mut O)
         sources,
         bundle,
     } = sections;
-    match check_texts(alloc, schema, sources, bundle, writer) {
-        Ok(done) => done_status(done),
-        Err(InputFault::Memory) => MEMORY,
-        Err(fault) => refuse(alloc, &fault, writer),
+    match check_texts(alloc, schema, sources, bundle, natives, writer) {
+        Ok(done) => Served::quiet(done_status(done)),
+        Err(InputFault::Memory) => Served::quiet(MEMORY),
+        Err(fault) => refuse(
+            alloc,
+            Report {
+                fault: &fault,
+                sources,
+            },
+            writer,
+        ),
     }
 }
 
 /// Compiles these sections. The units and the bundle are not looked at.
-fn compile_sections<O: Out>(alloc: Global, sections: Sections<'_>, writer: &mut O) -> u8
-    requires { O.has_failed writer.old ≡ false }
+fn compile_sections<N: NativeSource, O: Out>(
+    alloc: Global,
+    natives: Vec<N>,
+    sections: Sections<'_>,
+    writer: &mut O,
+) -> Served
+    requires natives { all_open (map N.meaning natives.items) ≡ true }
+    requires open { O.has_failed writer.old ≡ false }
     ensures answer { let s = sections.entry in
         let a = answer_to_compile (bundle_in s.schema.now s.sources.now) in
-        Delivers a (O.taken writer.old) (O.taken writer.new) result
-        ⊎ CutShort a (O.taken writer.old) (O.taken writer.new) result }
-    ensures failed { O.has_failed writer.new ≡ (result == WRITE) }
-    ensures unstuck { result ≢ 7 }
+        Delivers a (O.taken writer.old) (O.taken writer.new) result.status
+        ⊎ CutShort a (O.taken writer.old) (O.taken writer.new) result.status }
+    ensures failed { O.has_failed writer.new ≡ (result.status == WRITE) }
+    ensures unstuck { result.status ≢ 7 }
+    ensures silent { result.status ≢ REFUSED → IsNone result.report }
 {
     let Sections {
         schema,
@@ -235,10 +350,17 @@ fn compile_sections<O: Out>(alloc: Global, sections: Sections<'_>, writer: &mut 
         sources,
         bundle: _,
     } = sections;
-    match compile_texts(alloc, schema, sources, writer) {
-        Ok(done) => done_status(done),
-        Err(InputFault::Memory) => MEMORY,
-        Err(fault) => refuse(alloc, &fault, writer),
+    match compile_texts(alloc, schema, sources, natives, writer) {
+        Ok(done) => Served::quiet(done_status(done)),
+        Err(InputFault::Memory) => Served::quiet(MEMORY),
+        Err(fault) => refuse(
+            alloc,
+            Report {
+                fault: &fault,
+                sources,
+            },
+            writer,
+        ),
     }
 }
 
@@ -263,31 +385,5 @@ fn status(finish: Finish) -> u8
         Finish::Memory => MEMORY,
         Finish::Write => WRITE,
         Finish::Stuck(_) => 7,
-    }
-}
-
-/// Writes why the sections of an input mean no run.
-fn refuse<O: Out>(alloc: Global, fault: &InputFault, writer: &mut O) -> u8
-    requires { O.has_failed writer.old ≡ false }
-    ensures answer { Delivers (refusal (refusal_text fault.now)) (O.taken writer.old) (O.taken writer.new) result
-        ⊎ CutShort (refusal (refusal_text fault.now)) (O.taken writer.old) (O.taken writer.new) result }
-    ensures failed { O.has_failed writer.new ≡ (result == WRITE) }
-{
-    match fault.line(alloc) {
-        Ok(line) => write_refusal(line.as_str(), writer),
-        Err(_) => MEMORY,
-    }
-}
-
-/// Writes the line of a refusal. It wants no memory.
-fn write_refusal<O: Out>(line: &str, writer: &mut O) -> u8
-    requires { O.has_failed writer.old ≡ false }
-    ensures answer { Delivers (refusal line.now) (O.taken writer.old) (O.taken writer.new) result }
-    ensures failed { O.has_failed writer.new ≡ (result == WRITE) }
-{
-    if put_all(writer, line.as_bytes()) && put_all(writer, b"\n") {
-        REFUSED
-    } else {
-        WRITE
     }
 }

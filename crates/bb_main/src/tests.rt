@@ -1,11 +1,15 @@
 //! Tests of the program with readers that give pieces, fail, are interrupted or never end, and with writers that fail;
 //! also with such as fail once and would go on, and with a segment that is long.
 
+ghost use Rattle.std.specs.Prelude.{◌≡◌, true, map};
+ghost use Rattle.bb_shell.specs.Roster.{all_open};
+
 use crate::input::{In, Intake};
+use crate::program_native::ProgramNative;
 use crate::read::read_input;
 use crate::serving::{program, serve, tell};
 use bb_options::{Mode, Options, OptionsFault};
-use bb_shell::Pipe;
+use bb_shell::{NativeSource, Pipe};
 use std::alloc::{AllocError, Global};
 use std::io;
 use std::io::{Error, ErrorKind, Read, Write};
@@ -121,11 +125,26 @@ impl Write for Full {
     }
 }
 
+/// No natives.
+fn none(alloc: Global) -> Vec<ProgramNative>
+    ensures { all_open (map ⟦<ProgramNative as NativeSource>⟧.meaning result.items) ≡ true }
+{
+    Vec::new(alloc)
+}
+
 /// Whether an input, read from this reader, ends with that status and exactly that text.
 fn serves<R: Read + Drop>(rt: &HostRuntime, reader: R, limit: u32, status: u8, text: &str) -> bool {
     let mut reader = Intake::new(reader);
     let mut writer = Pipe::new(Vec::new(rt.alloc()));
-    let ended = serve(rt.alloc(), Mode::Run, limit, 0, &mut reader, &mut writer);
+    let ended = serve(
+        rt.alloc(),
+        Mode::Run,
+        limit,
+        0,
+        none(rt.alloc()),
+        &mut reader,
+        &mut writer,
+    );
     ended == status && writer.into_inner().as_slice() == text.as_bytes()
 }
 
@@ -135,7 +154,15 @@ fn too_long_inputs(rt: HostRuntime) {
     for byte in [b' ', 0xff] {
         let mut reader = Intake::new(Endless { byte, given: 0 });
         let mut writer = Pipe::new(Vec::new(rt.alloc()));
-        let status = serve(rt.alloc(), Mode::Run, 100, 0, &mut reader, &mut writer);
+        let status = serve(
+            rt.alloc(),
+            Mode::Run,
+            100,
+            0,
+            none(rt.alloc()),
+            &mut reader,
+            &mut writer,
+        );
         assert_eq!(rt; status, 2);
         assert!(rt; writer.into_inner().as_slice() == b"refused input limit\n".as_slice());
         assert_eq!(rt; reader.into_inner().given, 16_777_217);
@@ -151,9 +178,13 @@ fn program_run(rt: HostRuntime) {
         limit: 100,
         floor: 0,
     };
-    let status = program(rt.alloc(), options, &mut reader, &mut writer);
+    let mut errors = Vec::new(rt.alloc());
+    let status = program(rt.alloc(), options, &mut reader, &mut writer, &mut errors);
     assert_eq!(rt; status, 0);
-    assert!(rt; writer.into_inner().as_slice() == FIRST_TRACE.as_bytes());
+    assert_eq!(rt; errors.len(), 0);
+    let mut expected = String::new(rt.alloc());
+    let told = write!(expected, "{FIRST_TRACE}closed tally 0\nclosed reaper 0\n").is_ok();
+    assert!(rt; told && writer.into_inner().as_slice() == expected.as_bytes());
 }
 
 #[test]
@@ -258,7 +289,15 @@ fn failing_writers(rt: HostRuntime) {
     for (input, room) in [(FIRST_RUN, 0), (FIRST_RUN, 20), ("{}", 0), ("{}", 22)] {
         let mut reader = Intake::new(input.as_bytes());
         let mut writer = Pipe::new(Full { room });
-        let status = serve(rt.alloc(), Mode::Run, 100, 0, &mut reader, &mut writer);
+        let status = serve(
+            rt.alloc(),
+            Mode::Run,
+            100,
+            0,
+            none(rt.alloc()),
+            &mut reader,
+            &mut writer,
+        );
         assert_eq!(rt; status, 6);
     }
 }
@@ -304,7 +343,15 @@ fn stops_at(rt: &HostRuntime, input: &str, room: usize, end: Option<ErrorKind>) 
         failed: false,
         later: 0,
     });
-    let status = serve(rt.alloc(), Mode::Run, 100, 0, &mut reader, &mut writer);
+    let status = serve(
+        rt.alloc(),
+        Mode::Run,
+        100,
+        0,
+        none(rt.alloc()),
+        &mut reader,
+        &mut writer,
+    );
     status == 6 && writer.into_inner().later == 0
 }
 

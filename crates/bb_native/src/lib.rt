@@ -15,6 +15,7 @@ mod view;
 
 pub use applying::apply;
 pub use ask::Ask;
+pub use bb_pattern::{Node, OperandKind, Pattern, Relation};
 pub use bb_world::{DimValue, Query};
 pub use closing::Closing;
 pub use denial::Denial;

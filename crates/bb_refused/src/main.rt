@@ -13,5 +13,7 @@ fn main(rt: HostRuntime) -> ExitCode {
     };
     let mut reader = Intake::new(rt.stdin());
     let mut writer = Pipe::new(io::writer(&rt));
-    ExitCode::from(program(rt.alloc(), options, &mut reader, &mut writer))
+    let mut errors = rt.stderr();
+    let status = program(rt.alloc(), options, &mut reader, &mut writer, &mut errors);
+    ExitCode::from(status)
 }

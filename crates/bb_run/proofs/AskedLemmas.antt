@@ -1,5 +1,5 @@
 -- Sources are triggered as the events ask for it: each part of a run answers the events that it tells.
-use Rattle.std.proofs.Common.{◌≡◌, ℕ, zero, suc, ◌+◌, ℤ, List, [], ◌∷◌, ◌++◌, map, slice_get, Option, Some, None, Result, Ok, Err, refl, sym, ap, subst, ◌∙◌, append_assoc}
+use Rattle.std.proofs.Common.{◌≡◌, ℕ, zero, suc, ◌+◌, ℤ, List, [], ◌∷◌, ◌++◌, length, map, slice_get, Option, Some, None, Result, Ok, Err, refl, sym, ap, subst, ◌∙◌, append_assoc}
 use Rattle.std.specs.Prelude.{⊤, option_and_then}
 use Rattle.std.proofs.lemmas.List.{append-nil}
 use Rattle.std.proofs.lemmas.List.Concat.{flat_map-append}
@@ -18,18 +18,22 @@ use Rattle.bb_trace.specs.Source.{Source}
 use Rattle.bb_trace.specs.declared.end.End.{End}
 use Rattle.bb_trace.specs.declared.end.End.TheVariants as finishes
 use Rattle.bb_trace.specs.declared.note.Note.{Note}
-use Rattle.bb_trace.specs.declared.note.Note.TheVariants.{Board, Triggered, Declined, Obviated, Retriggered, Chosen, Invalid, Ended, Finished}
+use Rattle.bb_trace.specs.declared.note.Note.TheVariants.{Board, Triggered, Declined, Obviated, Retriggered, Chosen, Invalid, Ended, Refused, NativeEnded, Finished, Closed}
+use Rattle.bb_trace.specs.Ask.{Ask}
+use Rattle.bb_trace.specs.Native.{Native}
+use Rattle.bb_trace.specs.Roster.{after_act_at, asks_at, place_of}
+use Rattle.bb_trace.specs.Sight.{sight_of}
 use Rattle.bb_trace.specs.Plan.{Plan}
 use Rattle.bb_run.specs.declared.execution.Verdict.{Verdict}
 use Rattle.bb_run.specs.declared.execution.Verdict.TheVariants as verdicts
-use Rattle.bb_run.specs.declared.state.State.{State}
-use Rattle.bb_run.specs.State.{with_board}
-use Rattle.bb_run.specs.Told.{Response, Stretch, over, and_then, and_then_unless, segment}
+use Rattle.bb_run.specs.State.{State, with_board, with_natives}
+use Rattle.bb_run.specs.Told.{Response, Stretch, telling, over, and_then, and_then_unless, segment}
 use Rattle.bb_run.specs.Asking.{attempt, entry_of}
 use Rattle.bb_run.specs.Processing.{events_in, processing, processing_all, reported, response}
-use Rattle.bb_run.specs.Run.{rating, choice, wait, wait_for, quiet, noted, answered, execution, acting, if_valid, chosen_with, cycle, cycles, if_chosen, validity}
+use Rattle.bb_run.specs.Run.{rating, choice, wait, wait_for, quiet, noted, answered, calling, each_applied, execution, acting, if_valid, chosen_with, cycle, cycles, if_chosen, validity}
 use Rattle.bb_run.specs.Order.{notes_of, chosen_in}
 use Rattle.bb_run.specs.Asked.{asked_by, asked_for, answered_in, MayOwe}
+use Rattle.bb_run.proofs.AskRule.{HoldsOfAsks, asks_hold}
 use Rattle.bb_run.proofs.OrderLemmas.{Comes, comes_none, comes_one, comes_then}
 use Rattle.bb_run.proofs.OrderlyParts.{all_of_two, IsEarly, early_end, IsEarlyVerdict, early_verdict}
 use Rattle.bb_run.proofs.PaidLemmas.{answered_two, events_two, chosen_two, none_of_two, may_owe, Pays, pays_none, pays_first, pays_then, Answers, answers_event}
@@ -47,7 +51,7 @@ module _ (plan : Plan) where
       let q = next p.state in
       subst (λ l. Pays (xs ++ ys) l q.end) (sym (all_of_two p.told q.told)) (pays_then xs ys (notes_of p) (notes_of q) q.end (subst (Pays xs (notes_of p)) is first) (rest p.state))
 
-  events_answered : (events : List Event) (s : State) → PaysAll (asked_for plan events) (processing_all plan events s)
+  pub events_answered : (events : List Event) (s : State) → PaysAll (asked_for plan events) (processing_all plan events s)
   unfolding processing_all
   events_answered [] s = pays_none
   events_answered (event ∷ events) s =
@@ -96,6 +100,9 @@ module _ (plan : Plan) where
   comes_unchosen past (Chosen number a r ∷ notes) none = absurd cc
   comes_unchosen past (Invalid number ∷ notes) none = (tt, comes_unchosen (past ++ Invalid number ∷ []) notes none)
   comes_unchosen past (Ended steps found allowed ∷ notes) none = (tt, comes_unchosen (past ++ Ended steps found allowed ∷ []) notes none)
+  comes_unchosen past (Refused ask refusal ∷ notes) none = (tt, comes_unchosen (past ++ Refused ask refusal ∷ []) notes none)
+  comes_unchosen past (NativeEnded asks ∷ notes) none = (tt, comes_unchosen (past ++ NativeEnded asks ∷ []) notes none)
+  comes_unchosen past (Closed closing ∷ notes) none = (tt, comes_unchosen (past ++ Closed closing ∷ []) notes none)
   comes_unchosen past (Finished end ∷ notes) none = (tt, comes_unchosen (past ++ Finished end ∷ []) notes none)
 
   -- notes of a part of a run, after notes that are paid
@@ -166,13 +173,49 @@ module _ (plan : Plan) where
   acts_on code s (Ok o) = reports (answered code s (Ok o)) (mute_board s.board.world.notes (Ended o.steps o.found (budget code o.found) ∷ []) (record { unchosen = refl; silent = refl })) tt
   acts_on code s (Err stop) = reports (answered code s (Err stop)) (mute_board s.board.world.notes [] mute_none) (early_end stop)
 
+  -- ---- the call of a native
+
+  -- it tells no choice, answers nothing, and does not end between two cycles
+  abbrev Mute : State → Response → Type 0
+  Mute s r = IsMute r.told × IsEarly r.end
+
+  mute_two : (xs ys : List Note) → IsMute xs → IsMute ys → IsMute (xs ++ ys)
+  mute_two xs ys p q = record {
+    unchosen = none_of_two (chosen_in (xs ++ ys)) (chosen_in xs) (chosen_in ys) (chosen_two xs ys) p.unchosen q.unchosen;
+    silent = none_of_two (answered_in (xs ++ ys)) (answered_in xs) (answered_in ys) (answered_two xs ys) p.silent q.silent;
+  }
+
+  mute_then : (r : Response) (next : State → Response) (end : Option End) → r.end ≡ end → IsMute r.told × IsEarly r.end → IsMute (next r.state).told × IsEarly (next r.state).end
+      → let p = and_then_unless end r next in IsMute p.told × IsEarly p.end
+  mute_then r next (Some e) is first rest = first
+  mute_then r next None is first rest = (mute_two r.told (next r.state).told first.0 rest.0, rest.1)
+
+  ask_parts : (asks : List Ask) → HoldsOfAsks asks Mute
+  ask_parts asks = record {
+    nothing = λ s. (mute_none, tt);
+    changed = λ s ask board is. (mute_board board.world.notes [] mute_none, tt);
+    refused = λ s number refusal. (record { unchosen = refl; silent = refl }, tt);
+    full = λ s ask there is. (mute_none, tt);
+    no_memory = λ s ask is. (mute_none, tt);
+    further = λ s r next first rest. mute_then r next r.end refl first rest;
+  }
+
+  pub call_mute : (place : Option ℕ) (a : Activation) (s : State) → let r = calling place a s in IsMute r.told × IsEarly r.end
+  call_mute None a s = (mute_none, tt)
+  call_mute (Some place) a s =
+      let seen = sight_of s.board in
+      let asks = asks_at s.natives place a.unit seen in
+      let t = with_natives s (after_act_at s.natives place a.unit seen) in
+      let r = each_applied 1 asks t in
+      mute_then r (λ u. telling (NativeEnded (length asks) ∷ []) u None) r.end refl (asks_hold asks Mute (ask_parts asks) t) (record { unchosen = refl; silent = refl }, tt)
+
   acts : (source : Option Source) (a : Activation) (s : State) → GoesOn (acting plan source a s)
   acts None a s = goes_none None (λ e is. absurd cc)
   acts (Some source) a s = acts_by source.act
     where
-      acts_by : (act : Act) → GoesOn (reported plan (execution act a s))
+      acts_by : (act : Act) → GoesOn (reported plan (execution source.name act a s))
       acts_by (deeds.Code body) = let e = attempt body.code (entry_of a.unit None) s.board in acts_on body.code (with_board s e.1) e.0
-      acts_by deeds.Native = reports (execution deeds.Native a s) mute_none tt
+      acts_by deeds.Native = let place = place_of s.natives source.name in let mute = call_mute place a s in reports (calling place a s) mute.0 mute.1
 
   -- ---- cycles
 

@@ -15,23 +15,29 @@ use Rattle.bb_machine.specs.Stop.{Stop}
 use Rattle.bb_machine.specs.Stop.TheVariants as stops
 use Rattle.bb_trace.specs.Act.{Act}
 use Rattle.bb_trace.specs.Act.TheVariants as acts
+use Rattle.bb_trace.specs.Ask.{Ask}
+use Rattle.bb_trace.specs.Native.{Native}
+use Rattle.bb_trace.specs.Roster.{after_act_at, asks_at, place_of}
+use Rattle.bb_trace.specs.Sight.{Sight, sight_of}
+use Rattle.bb_trace.specs.declared.note.Note.TheVariants.{NativeEnded}
+use Rattle.bb_trace.proofs.Laws.{applied_full, applied_no_memory}
 use Rattle.bb_trace.specs.Source.{Source}
 use Rattle.bb_trace.specs.declared.end.End.{End}
 use Rattle.bb_trace.specs.declared.end.End.TheVariants as finishes
 use Rattle.bb_trace.specs.Plan.{Plan}
 use Rattle.bb_run.specs.declared.execution.Verdict.{Verdict}
 use Rattle.bb_run.specs.declared.execution.Verdict.TheVariants as verdicts
-use Rattle.bb_run.specs.declared.state.State.{State}
-use Rattle.bb_run.specs.State.{with_board}
-use Rattle.bb_run.specs.Told.{Response, Told, over, and_then, and_then_unless, segment}
+use Rattle.bb_run.specs.State.{State, with_board, with_natives}
+use Rattle.bb_run.specs.Told.{Response, Told, telling, over, and_then, and_then_unless, segment}
 use Rattle.bb_run.specs.Asking.{attempt, end_by, entry_of, reply_by}
 use Rattle.bb_run.specs.Processing.{events_in, processing, processing_all, reported, response}
-use Rattle.bb_run.specs.Run.{rating, choice, wait, wait_for, noted, answered, execution, acting, verdict_by, verdict_of, validity, chosen_with, if_valid, cycle, if_chosen, cycles, first_state, start, run}
+use Rattle.bb_run.specs.Run.{rating, choice, wait, wait_for, noted, answered, calling, each_applied, execution, acting, verdict_by, verdict_of, validity, chosen_with, if_valid, cycle, if_chosen, cycles, first_state, start, run}
 use Rattle.bb_machine.proofs.Laws.{activation_full, activation_no_memory}
 use Rattle.bb_machine.specs.Units.{is_full as no_unit_left}
 use Rattle.bb_verify.specs.Budget.{budget}
 use Rattle.bb_verify.specs.declared.checked.TheConstants.{FOUND_LIMIT}
-use Rattle.bb_run.specs.Causes.{WasStopped, of_agenda, of_units, of_execution, of_native, HasCause}
+use Rattle.bb_run.specs.Causes.{WasStopped, of_agenda, of_ask, of_units, of_execution, of_native, HasCause}
+use Rattle.bb_run.proofs.AskRule.{HoldsOfAsks, asks_hold}
 use Rattle.bb_run.proofs.ResponseRule.{HoldsOfParts, OfPlan, holds}
 
 -- ---- an item at a place is one of the list
@@ -108,11 +114,61 @@ module _ (plan : Plan) where
         by_stop (answered code.code (with_board s (attempt code.code (entry_of a.unit None) s.board).1) (Err stop)).state stop
         (record { source = source; one = there; code = code; part = inl is; entry = entry_of a.unit None; before = s.board; came = came; left = inr refl })
 
-    acts_by : (act : Act) → source.act ≡ act → IsCaused (reported plan (execution act a s))
+    -- an ask finds no room for a unit more
+    module _ (native : source.act ≡ acts.Native) (before : List Native) (place : ℕ) (placed : place_of before source.name ≡ Some place) (seen : Sight) where
+      abbrev asked : List Ask
+      asked = asks_at before place a.unit seen
+
+      -- while asks are applied the natives are those after the call
+      record Applies (t : State) (r : Response) : Type 0 where
+        natives : t.natives ≡ after_act_at before place a.unit seen → r.state.natives ≡ after_act_at before place a.unit seen
+        cause : t.natives ≡ after_act_at before place a.unit seen → IsCaused r
+
+      applies_then : (t : State) (r : Response) (next : State → Response) (end : Option End) → r.end ≡ end → Applies t r → Applies r.state (next r.state) → Applies t (and_then_unless end r next)
+      applies_then t r next (Some e) is first rest = first
+      applies_then t r next None is first rest = record { natives = λ same. rest.natives (first.natives same); cause = λ same. rest.cause (first.natives same) }
+
+      ask_parts : HoldsOfAsks asked Applies
+      ask_parts = record {
+        nothing = λ t. record { natives = λ same. same; cause = λ same. tt };
+        changed = λ t ask b is. record { natives = λ same. same; cause = λ same. tt };
+        refused = λ t number refusal. record { natives = λ same. same; cause = λ same. tt };
+        full = λ t ask there' came. record {
+          natives = λ same. same;
+          cause = λ same. of_ask (record {
+            source = source;
+            one = there;
+            native = native;
+            before = before;
+            place = place;
+            place_is = placed;
+            unit = a.unit;
+            seen = seen;
+            after = same;
+            ask = ask;
+            asked = there';
+            came = came;
+          }) (applied_full ask t.board came);
+        };
+        no_memory = λ t ask came. absurd (applied_no_memory ask t.board came);
+        further = λ t r next first rest. applies_then t r next r.end refl first rest;
+      }
+
+    calls : (place : Option ℕ) → source.act ≡ acts.Native → place_of s.natives source.name ≡ place → IsCaused (calling place a s)
+    calls None native is = of_native (source, there, native, is)
+    calls (Some place) native is =
+        let seen = sight_of s.board in
+        let asks = asks_at s.natives place a.unit seen in
+        let t = with_natives s (after_act_at s.natives place a.unit seen) in
+        let r = each_applied 1 asks t in
+        caused_then r (λ u. telling (NativeEnded (length asks) ∷ []) u None) r.end refl
+        ((asks_hold asks (Applies native s.natives place is seen) (ask_parts native s.natives place is seen) t).cause refl) tt
+
+    acts_by : (act : Act) → source.act ≡ act → IsCaused (reported plan (execution source.name act a s))
     acts_by (acts.Code code) is =
         let e = attempt code.code (entry_of a.unit None) s.board in
         reports (answered code.code (with_board s e.1) e.0) (executes code e.0 is refl)
-    acts_by acts.Native is = reports (execution acts.Native a s) (of_native (source, there, is))
+    acts_by acts.Native is = reports (calling (place_of s.natives source.name) a s) (calls (place_of s.natives source.name) is refl)
 
   acts_at : (source : Option Source) (a : Activation) (s : State) → slice_get plan.sources a.source ≡ source → IsCaused (acting plan source a s)
   acts_at None a s is = tt
@@ -187,8 +243,8 @@ module _ (plan : Plan) where
       caused_then p (λ t. if_chosen t (choice plan t) (λ a. and_then (cycle plan (made + 1) a t) (cycles plan (made + 1) left))) p.end refl (waits s (choice plan s))
       (next_cycle made left p.state (choice plan p.state) (λ t. cycles_caused (made + 1) left t))
 
-  pub run_has_cause : (board : Blackboard) (limit : ℕ) → let p = run plan board limit in HasCause plan p.state p.end
-  run_has_cause board limit =
-      let first : State = first_state plan board in
-      let p = start plan board in
+  pub run_has_cause : (board : Blackboard) (natives : List Native) (limit : ℕ) → let p = run plan board natives limit in HasCause plan p.state p.end
+  run_has_cause board natives limit =
+      let first : State = first_state plan board natives in
+      let p = start plan board natives in
       caused_then p (cycles plan 0 limit) p.end refl (reports (noted first [] None) tt) (cycles_caused 0 limit p.state)

@@ -1,5 +1,5 @@
 -- How many cycles the parts of a run make.
-use Rattle.std.proofs.Common.{◌≡◌, ℕ, ℤ, List, [], ◌∷◌, ◌++◌, map, slice_get, Option, Some, None, Result, Ok, Err, refl, sym, ap, subst, ◌∙◌}
+use Rattle.std.proofs.Common.{◌≡◌, ℕ, ℤ, List, [], ◌∷◌, ◌++◌, length, map, slice_get, Option, Some, None, Result, Ok, Err, refl, ap, ◌∙◌}
 use Rattle.std.specs.Prelude.{option_and_then}
 use Rattle.std.proofs.lemmas.List.{append-nil}
 use Rattle.bb_trace.specs.Event.{Event}
@@ -16,17 +16,21 @@ use Rattle.bb_trace.specs.Act.TheVariants as acts
 use Rattle.bb_trace.specs.Source.{Source}
 use Rattle.bb_trace.specs.declared.end.End.{End}
 use Rattle.bb_trace.specs.declared.note.Note.{Note}
-use Rattle.bb_trace.specs.declared.note.Note.TheVariants.{Board, Chosen, Invalid, Ended}
+use Rattle.bb_trace.specs.declared.note.Note.TheVariants.{Board, Chosen, Invalid, Ended, NativeEnded}
+use Rattle.bb_trace.specs.Ask.{Ask}
+use Rattle.bb_trace.specs.Native.{Native}
+use Rattle.bb_trace.specs.Roster.{after_act_at, asks_at, place_of}
+use Rattle.bb_trace.specs.Sight.{sight_of}
 use Rattle.bb_trace.specs.Plan.{Plan}
 use Rattle.bb_run.specs.declared.execution.Verdict.{Verdict}
 use Rattle.bb_run.specs.declared.execution.Verdict.TheVariants as verdicts
-use Rattle.bb_run.specs.declared.state.State.{State}
-use Rattle.bb_run.specs.State.{with_board}
-use Rattle.bb_run.specs.Told.{Response, Stretch, and_then, and_then_unless, segment}
+use Rattle.bb_run.specs.State.{State, with_board, with_natives}
+use Rattle.bb_run.specs.Told.{Response, Stretch, telling, and_then, and_then_unless, segment}
 use Rattle.bb_run.specs.Asking.{attempt, entry_of}
 use Rattle.bb_run.specs.Processing.{events_in, processing, processing_all, reported, response}
-use Rattle.bb_run.specs.Run.{rating, choice, wait, wait_for, answered, execution, acting, validity, chosen_with, if_valid, cycle}
+use Rattle.bb_run.specs.Run.{rating, choice, wait, wait_for, answered, calling, each_applied, execution, acting, validity, chosen_with, if_valid, cycle}
 use Rattle.bb_run.specs.Order.{notes_of, chosen_in}
+use Rattle.bb_run.proofs.AskRule.{HoldsOfAsks, asks_hold}
 use Rattle.bb_run.proofs.OrderlyParts.{all_of_two}
 use Rattle.bb_run.proofs.PendingLemmas.{chosen_then}
 use Rattle.bb_run.proofs.ResponseRule.{HoldsOfParts, holds}
@@ -102,14 +106,32 @@ module _ (plan : Plan) where
   answered_silent code s (Ok o) = silent_two (map Board s.board.world.notes) (Ended o.steps o.found (budget code o.found) ∷ []) (silent_board s.board.world.notes) refl
   answered_silent code s (Err stop) = silent_two (map Board s.board.world.notes) [] (silent_board s.board.world.notes) refl
 
-  execution_silent : (act : Act) (a : Activation) (s : State) → IsSilent (execution act a s).told
-  execution_silent (acts.Code body) a s =
+  ask_parts : (asks : List Ask) → HoldsOfAsks asks Silent
+  ask_parts asks = record {
+    nothing = λ s. refl;
+    changed = λ s ask board is. silent_two (map Board board.world.notes) [] (silent_board board.world.notes) refl;
+    refused = λ s number refusal. refl;
+    full = λ s ask there is. refl;
+    no_memory = λ s ask is. refl;
+    further = λ s r next first rest. silent_after r next r.end first rest;
+  }
+
+  call_silent : (place : Option ℕ) (a : Activation) (s : State) → IsSilent (calling place a s).told
+  call_silent None a s = refl
+  call_silent (Some place) a s =
+      let seen = sight_of s.board in
+      let asks = asks_at s.natives place a.unit seen in
+      let t = with_natives s (after_act_at s.natives place a.unit seen) in
+      silent_after (each_applied 1 asks t) (λ u. telling (NativeEnded (length asks) ∷ []) u None) (each_applied 1 asks t).end (asks_hold asks Silent (ask_parts asks) t) refl
+
+  execution_silent : (name : List ℕ) (act : Act) (a : Activation) (s : State) → IsSilent (execution name act a s).told
+  execution_silent name (acts.Code body) a s =
       let e = attempt body.code (entry_of a.unit None) s.board in answered_silent body.code (with_board s e.1) e.0
-  execution_silent acts.Native a s = refl
+  execution_silent name acts.Native a s = call_silent (place_of s.natives name) a s
 
   acting_silent : (source : Option Source) (a : Activation) (s : State) → IsSilent (notes_of (acting plan source a s))
   acting_silent None a s = refl
-  acting_silent (Some source) a s = silent_reported (execution source.act a s) (execution_silent source.act a s)
+  acting_silent (Some source) a s = silent_reported (execution source.name source.act a s) (execution_silent source.name source.act a s)
 
   module _ (number : ℕ) (a : Activation) (r : ℤ) (s : State) where
     one_then : (notes : List Note) → IsSilent notes → chosen_in (Chosen number a r ∷ notes) ≡ a ∷ []

@@ -5,6 +5,7 @@ use Rattle.std.specs.Prelude.{All, Contains, ◌&&◌, ◌||◌, ◌==◌, nat_l
 use Rattle.std.specs.List.{AllZip, list_all, list_any}
 use Rattle.std.specs.Option.{option_map_or}
 use Rattle.std.proofs.lemmas.Bool.{and_parts, eqb-true}
+use Rattle.std.proofs.lemmas.Bool.Decides.{nat_tests}
 use Rattle.std.proofs.lemmas.List.Elements.{All-cons, All-contains, All-head, All-nil, All-tail}
 use Rattle.bb_schema.specs.Schema.{Schema, descends}
 use Rattle.bb_schema.specs.Fits as schemas
@@ -21,6 +22,7 @@ use Rattle.bb_machine.specs.Fits.{is_event_of, is_noted, is_of_if_live, names_sl
 use Rattle.bb_machine.specs.Kinds.{WasOf}
 use Rattle.bb_machine.specs.NeverWrong.{Begins, EntryFits}
 use Rattle.bb_machine.specs.Units.{Units, class_of}
+use Rattle.bb_trace.specs.Outlives.{Outlives}
 use Rattle.bb_trace.specs.Act.TheVariants as acts
 use Rattle.bb_trace.specs.Board.{Board as Blackboard}
 use Rattle.bb_trace.specs.BoardNote.{Note as BoardNote}
@@ -82,6 +84,34 @@ module _ (s : Schema) (sf : schemas.Fits s) (b : Blackboard) where
       or_given (unit == 0) (nat_lt unit u.next) (option_map_or (λ c. descends s c class) (class_of u unit) true) r.0
       (still_of class of (class_of u unit) r.1 (named class unit of change list all is))
   event_was class list events.Quiescence all here is = refl
+
+  -- ---- events of a blackboard that has changed since
+
+  all_four : (a c d f : Bool) → a ≡ true → c ≡ true → d ≡ true → f ≡ true → (a && c && d && f) ≡ true
+  all_four a c d f p q r t = rw (p, q, r, t) refl
+
+  still_out : (n next later : ℕ) → next ≤ later → nat_lt n next ≡ true → nat_lt n later ≡ true
+  still_out n next later le lt = grind (arith, nat_tests)
+
+  below : (n next : ℕ) → nat_lt n next ≡ true → n < next
+  below n next lt = grind (arith, nat_tests)
+
+  still_own : (of : ℕ) (before after : Option ℕ) → ((c : ℕ) → after ≡ Some c → before ≡ Some c) → option_map_or (λ c. c == of) before true ≡ true → option_map_or (λ c. c == of) after true ≡ true
+  still_own of before None from is = refl
+  still_own of before (Some c) from is = sym (ap (λ (o : Option ℕ). option_map_or (λ d. d == of) o true) (from c refl)) ∙ is
+
+  -- an event stays one of it
+  pub event_lasts : (c : Blackboard) (e : Event) → Outlives b.world.units c.world.units → IsEventOf s b e → IsEventOf s c e
+  event_lasts c events.Quiescence outlives here = refl
+  event_lasts c (events.Change unit of change) outlives here =
+      let u = b.world.units in
+      let v = c.world.units in
+      let p = and_parts (nat_lt unit u.next && is_of_if_live u unit of && nat_lt of (length s.classes)) (names_slot_of s change) here in
+      let q = and_parts (nat_lt unit u.next && is_of_if_live u unit of) (nat_lt of (length s.classes)) p.0 in
+      let r = and_parts (nat_lt unit u.next) (is_of_if_live u unit of) q.0 in
+      all_four (nat_lt unit v.next) (is_of_if_live v unit of) (nat_lt of (length s.classes)) (names_slot_of s change)
+      (still_out unit u.next v.next outlives.next r.0)
+      (still_own of (class_of u unit) (class_of v unit) (λ k. outlives.classes unit k (below unit u.next r.0)) r.1) q.1 p.1
 
   -- ---- events that were noted
 

@@ -1,6 +1,6 @@
 -- What comes after a choice is what its cycle tells.
 use Rattle.std.proofs.Common.{◌≡◌, ◌<◌, ◌≤◌, inl, inr, ℕ, ◌+◌, ◌-◌, ℤ, List, [], ◌∷◌, ◌++◌, length, slice_get, Option, Some, None, refl, sym, ap, subst, ◌∙◌, append_assoc, arith, length-append}
-use Rattle.std.proofs.lemmas.List.{append-nil, append_cancel_left}
+use Rattle.std.proofs.lemmas.List.{append-nil, append_cancel_left, append_cancel_right}
 use Rattle.std.proofs.lemmas.Option.{slice_get_cases}
 use Rattle.bb_trace.specs.Board.{Board as Blackboard}
 use Rattle.bb_agenda.specs.declared.activation.Activation.{Activation}
@@ -8,27 +8,26 @@ use Rattle.bb_trace.specs.Source.{Source}
 use Rattle.bb_trace.specs.declared.end.End.{End}
 use Rattle.bb_trace.specs.declared.end.End.TheVariants as finishes
 use Rattle.bb_trace.specs.declared.note.Note.{Note}
-use Rattle.bb_trace.specs.declared.note.Note.TheVariants.{Chosen, Finished}
+use Rattle.bb_trace.specs.declared.note.Note.TheVariants.{Chosen}
+use Rattle.bb_trace.specs.Native.{Native}
 use Rattle.bb_trace.specs.Plan.{Plan}
 use Rattle.bb_run.specs.declared.execution.Verdict.{Verdict}
 use Rattle.bb_run.specs.declared.execution.Verdict.TheVariants as verdicts
-use Rattle.bb_run.specs.declared.state.State.{State}
-use Rattle.bb_run.specs.State.{with_board, with_agenda}
+use Rattle.bb_run.specs.State.{State, with_board, with_agenda}
 use Rattle.bb_run.specs.Told.{Response, Stretch, and_then, and_then_unless, segment}
 use Rattle.bb_run.specs.Processing.{events_in, processing_all}
 use Rattle.bb_agenda.specs.Changes.{with_executed}
-use Rattle.bb_run.specs.Run.{rating, choice, validity, execution, chosen_with, if_valid, acting, cycle, cycle_of, finish_segments, run}
+use Rattle.bb_run.specs.Run.{rating, choice, validity, execution, chosen_with, if_valid, acting, cycle, cycle_of, finish, finish_segments, run}
 use Rattle.bb_run.specs.Order.{all_of, notes_of, chosen_in, IsChosenAfter}
 use Rattle.bb_run.specs.Executed.{upon_verdict, upon_choice, finish_by, IsFollowed}
-use Rattle.bb_run.proofs.OrderLemmas.{same_last}
 use Rattle.bb_run.proofs.PendingLemmas.{chosen_then}
-use Rattle.bb_run.proofs.OrderlyParts.{all_of_two}
+use Rattle.bb_run.proofs.OrderlyParts.{all_of_more, all_of_two}
 use Rattle.bb_run.proofs.OrderlyRuns.{run_is_counted, run_keeps_limit, run_chooses}
 use Rattle.bb_run.proofs.LimitLemmas.{BeginsByCycle, GoesFurther, run_goes_further}
 
-finish_is : (end : Option End) → all_of (finish_segments end) ≡ finish_by end
-finish_is None = refl
-finish_is (Some end) = refl
+finish_is : (end : Option End) (natives : List Native) → all_of (finish_segments end natives) ≡ finish_by end natives
+finish_is None natives = refl
+finish_is (Some end) natives = append-nil (finish end natives)
 
 -- a list has an item at each place within
 item_at : {X : Type 0} (xs : List X) (i : ℕ) → i < length xs → (x : X) × (slice_get xs i ≡ Some x)
@@ -40,19 +39,19 @@ item_at xs i lt = elim (slice_get_cases xs i).1 [
 module _ (plan : Plan) where
   -- what is reported is told first, and the finish where the run ends in it
   reported_first : (r : Response) (end : Option End) → r.end ≡ end
-      → (rest : List Note) × (let p = and_then_unless end (segment r) (processing_all plan (events_in r.told)) in all_of (p.told ++ finish_segments p.end) ≡ (r.told ++ finish_by r.end) ++ rest)
-  reported_first r (Some e) is = ([], ap (λ l. r.told ++ l) (finish_is r.end) ∙ sym (append-nil (r.told ++ finish_by r.end)))
+      → (rest : List Note) × (let p = and_then_unless end (segment r) (processing_all plan (events_in r.told)) in all_of (p.told ++ finish_segments p.end p.state.natives) ≡ (r.told ++ finish_by r.end r.state.natives) ++ rest)
+  reported_first r (Some e) is = ([], ap (λ l. r.told ++ l) (finish_is r.end r.state.natives) ∙ sym (append-nil (r.told ++ finish_by r.end r.state.natives)))
   reported_first r None is =
       let q = processing_all plan (events_in r.told) r.state in
-      let rest = all_of (q.told ++ finish_segments q.end) in
-      (rest, ap (λ l. l ++ rest) (sym (append-nil r.told) ∙ ap (λ e. r.told ++ finish_by e) (sym is)))
+      let rest = all_of (q.told ++ finish_segments q.end q.state.natives) in
+      (rest, ap (λ l. l ++ rest) (sym (append-nil r.told) ∙ ap (λ e. r.told ++ finish_by e r.state.natives) (sym is)))
 
   -- the same of a cycle, by its verdict
   by_verdict : (source : Source) (v : Verdict) (number : ℕ) (a : Activation) (r : ℤ) (t : State)
-      → (rest : List Note) × (let p = and_then (segment (chosen_with number a r v t)) (acting plan (if_valid v (Some source)) a) in let told = upon_verdict v source.act a t in
-      all_of (p.told ++ finish_segments p.end) ≡ Chosen number a r ∷ ((told.told ++ finish_by told.end) ++ rest))
+      → (rest : List Note) × (let p = and_then (segment (chosen_with number a r v t)) (acting plan (if_valid v (Some source)) a) in let told = upon_verdict v source a t in
+      all_of (p.told ++ finish_segments p.end p.state.natives) ≡ Chosen number a r ∷ ((told.told ++ finish_by told.end told.state.natives) ++ rest))
   by_verdict source verdicts.Valid number a r t =
-      let e = execution source.act a (with_agenda t (with_executed t.agenda a.number)) in
+      let e = execution source.name source.act a (with_agenda t (with_executed t.agenda a.number)) in
       let first = reported_first e e.end refl in
       (first.0, ap (λ l. Chosen number a r ∷ l) first.1)
   by_verdict source verdicts.Invalid number a r t = ([], refl)
@@ -61,12 +60,12 @@ module _ (plan : Plan) where
   -- a cycle tells the choice, and then this
   cycle_first : (source : Source) (number : ℕ) (a : Activation) (s : State) → slice_get plan.sources a.source ≡ Some source
       → (rest : List Note) × (let p = cycle plan number a s in let told = upon_choice source a s in
-      all_of (p.told ++ finish_segments p.end) ≡ Chosen number a (rating plan s a) ∷ ((told.told ++ finish_by told.end) ++ rest))
+      all_of (p.told ++ finish_segments p.end p.state.natives) ≡ Chosen number a (rating plan s a) ∷ ((told.told ++ finish_by told.end told.state.natives) ++ rest))
   cycle_first source number a s is =
       let v = validity source.revalidate a s.board in
       subst
       (λ o. (rest : List Note) × (let p = cycle_of plan number o a s in let told = upon_choice source a s in
-      all_of (p.told ++ finish_segments p.end) ≡ Chosen number a (rating plan s a) ∷ ((told.told ++ finish_by told.end) ++ rest)))
+      all_of (p.told ++ finish_segments p.end p.state.natives) ≡ Chosen number a (rating plan s a) ∷ ((told.told ++ finish_by told.end told.state.natives) ++ rest)))
       (sym is) (by_verdict source v.0 number a (rating plan s a) (with_board s v.1))
 
   -- segments that begin with a cycle tell its choice, and then what comes upon it
@@ -77,14 +76,14 @@ module _ (plan : Plan) where
       let same : begins.chosen ≡ a = let e = begins.choice_is in cc in
       let p = cycle plan m a s in
       let told = upon_choice found.0 a s in
-      let parts : segments ≡ (p.told ++ finish_segments p.end) ++ begins.more =
-      subst (λ x. let q = cycle plan m x s in segments ≡ (q.told ++ finish_segments q.end) ++ begins.more) same begins.begins in
+      let parts : segments ≡ (p.told ++ finish_segments p.end p.state.natives) ++ begins.more =
+      subst (λ x. let q = cycle plan m x s in segments ≡ (q.told ++ finish_segments q.end q.state.natives) ++ begins.more) same begins.begins in
       let first = cycle_first found.0 m a s found.1 in
       let rest = first.0 ++ all_of begins.more in
-      let all : Chosen number a r ∷ after ≡ Chosen m a (rating plan s a) ∷ (((told.told ++ finish_by told.end) ++ first.0) ++ all_of begins.more) =
-      is ∙ ap all_of parts ∙ all_of_two (p.told ++ finish_segments p.end) begins.more ∙ ap (λ l. l ++ all_of begins.more) first.1 in
-      let tail : after ≡ ((told.told ++ finish_by told.end) ++ first.0) ++ all_of begins.more = cc in
-      record { source = found.0; source_is = found.1; rest = rest; begins = tail ∙ append_assoc (told.told ++ finish_by told.end) first.0 (all_of begins.more) }
+      let all : Chosen number a r ∷ after ≡ Chosen m a (rating plan s a) ∷ (((told.told ++ finish_by told.end told.state.natives) ++ first.0) ++ all_of begins.more) =
+      is ∙ ap all_of parts ∙ all_of_two (p.told ++ finish_segments p.end p.state.natives) begins.more ∙ ap (λ l. l ++ all_of begins.more) first.1 in
+      let tail : after ≡ ((told.told ++ finish_by told.end told.state.natives) ++ first.0) ++ all_of begins.more = cc in
+      record { source = found.0; source_is = found.1; rest = rest; begins = tail ∙ append_assoc (told.told ++ finish_by told.end told.state.natives) first.0 (all_of begins.more) }
 
   -- a choice among the notes of a stretch is one more than those before it
   chosen_more : (notes before after : List Note) (number : ℕ) (a : Activation) (r : ℤ) → notes ≡ before ++ Chosen number a r ∷ after → length (chosen_in before) + 1 ≤ length (chosen_in notes)
@@ -102,20 +101,20 @@ module _ (plan : Plan) where
   goes_on number m a r p q before after is counted few chosen told (inr further) =
       let front = further.1.0 in
       let rest = further.1.1.0 in
-      let finish : List Note = Finished finishes.Limit ∷ [] in
-      let ends : all_of front ++ finish ≡ before ++ finish = sym (all_of_two front (finish ∷ [])) ∙ ap all_of (sym further.1.1.1.0) ∙ chosen.told in
-      let same : all_of front ≡ before = (same_last (all_of front) before (Finished finishes.Limit) (Finished finishes.Limit) ends).0 in
+      let last = finish finishes.Limit p.state.natives in
+      let ends : all_of front ++ last ≡ before ++ last = sym (all_of_more front last) ∙ ap all_of (sym further.1.1.1.0) ∙ chosen.told in
+      let same : all_of front ≡ before = append_cancel_right (all_of front) before last ends in
       let all : before ++ Chosen number a r ∷ after ≡ before ++ all_of rest = sym told ∙ ap all_of further.1.1.1.1.0 ∙ all_of_two front rest ∙ ap (λ l. l ++ all_of rest) same in
       followed_by number (m + 1) a r p.state rest after chosen.source_there chosen.choice_is further.1.1.1.1.1 (append_cancel_left before (Chosen number a r ∷ after) (all_of rest) all)
 
-  pub run_is_followed : (board : Blackboard) (limit : ℕ) (before after : List Note) (number : ℕ) (a : Activation) (r : ℤ) → notes_of (run plan board limit) ≡ before ++ Chosen number a r ∷ after
-      → IsFollowed plan (run plan board (number - 1)).state a after
-  run_is_followed board limit before after number a r told =
+  pub run_is_followed : (board : Blackboard) (natives : List Native) (limit : ℕ) (before after : List Note) (number : ℕ) (a : Activation) (r : ℤ) → notes_of (run plan board natives limit) ≡ before ++ Chosen number a r ∷ after
+      → IsFollowed plan (run plan board natives (number - 1)).state a after
+  run_is_followed board natives limit before after number a r told =
       let m = number - 1 in
-      let counted : number ≡ length (chosen_in before) + 1 = (run_is_counted plan board limit).cycles before number a r (after, told) in
-      let within : length (chosen_in (notes_of (run plan board limit))) ≤ limit = (run_keeps_limit plan board limit).within in
-      let many = chosen_more (notes_of (run plan board limit)) before after number a r told in
+      let counted : number ≡ length (chosen_in before) + 1 = (run_is_counted plan board natives limit).cycles before number a r (after, told) in
+      let within : length (chosen_in (notes_of (run plan board natives limit))) ≤ limit = (run_keeps_limit plan board natives limit).within in
+      let many = chosen_more (notes_of (run plan board natives limit)) before after number a r told in
       let one : number ≡ m + 1 = omega (arith, counted) in
       let left : m + (limit - m) ≡ limit = omega (arith, counted, within, many) in
-      let further : GoesFurther plan (m + 1) (run plan board m) (run plan board limit) = subst (λ n. GoesFurther plan (m + 1) (run plan board m) (run plan board n)) left (run_goes_further plan board m (limit - m)) in
-      goes_on number m a r (run plan board m) (run plan board limit) before after one counted (run_keeps_limit plan board m).within (run_chooses plan board limit before number a r (after, told)) told further
+      let further : GoesFurther plan (m + 1) (run plan board natives m) (run plan board natives limit) = subst (λ n. GoesFurther plan (m + 1) (run plan board natives m) (run plan board natives n)) left (run_goes_further plan board natives m (limit - m)) in
+      goes_on number m a r (run plan board natives m) (run plan board natives limit) before after one counted (run_keeps_limit plan board natives m).within (run_chooses plan board natives limit before number a r (after, told)) told further

@@ -7,25 +7,23 @@ use Rattle.bb_machine.specs.Answer.{Answer}
 use Rattle.bb_machine.specs.Entry.{Entry}
 use Rattle.bb_machine.specs.Outcome.{Outcome}
 use Rattle.bb_machine.specs.Stop.{Stop}
-use Rattle.bb_trace.specs.Act.TheVariants as acts
 use Rattle.bb_trace.specs.Board.{Board as Blackboard}
 use Rattle.bb_trace.specs.declared.end.End.{End}
 use Rattle.bb_trace.specs.declared.note.Note.{Note}
 use Rattle.bb_run.specs.declared.asking.Reply.{Reply}
-use Rattle.bb_run.specs.declared.state.State.{State}
 use Rattle.bb_run.specs.Asking.{asking, attempt, entry_of, reply_by, upon}
-use Rattle.bb_run.specs.State.{with_board}
+use Rattle.bb_run.specs.State.{State, with_board}
 use Rattle.bb_run.specs.Told.{Response}
-use Rattle.bb_run.specs.Run.{answered, execution}
+use Rattle.bb_run.specs.Run.{answered, executing}
 use Rattle.bb_run.specs.proving.Telling.{IsResponse, Replies}
 
 module _ (old new : List Note) (s t : State) (end : Option End) (board : Blackboard) where
   -- an execution was noted
   pub execution_noted : (body : Checked) (a : Activation) (entry : Entry) (r : Result Outcome Stop) → entry ≡ entry_of a.unit None → (attempt body.code entry s.board).0 ≡ r → board ≡ (attempt body.code entry s.board).1
-      → IsResponse (answered body.code (with_board s board) r) old new t end → IsResponse (execution (acts.Code body) a s) old new t end
+      → IsResponse (answered body.code (with_board s board) r) old new t end → IsResponse (executing body.code a s) old new t end
   execution_noted body a entry r begins came left noted =
       let by : Entry → Response = λ e. answered body.code (with_board s (attempt body.code e s.board).1) (attempt body.code e s.board).0 in
-      let is : answered body.code (with_board s board) r ≡ execution (acts.Code body) a s =
+      let is : answered body.code (with_board s board) r ≡ executing body.code a s =
       ap (λ b. answered body.code (with_board s b) r) left ∙ ap (answered body.code (with_board s (attempt body.code entry s.board).1)) (sym came) ∙ ap by begins
       in
       subst (λ q. IsResponse q old new t end) is noted

@@ -1,12 +1,13 @@
 -- The code of a run goes on knowing the foci of the blackboard.
-use Rattle.std.proofs.Common.{◌≡◌, ℕ, Option, Ok, sym, subst}
+use Rattle.std.proofs.Common.{◌≡◌, ℕ, List, Option, Ok, sym, subst}
 use Rattle.bb_agenda.specs.declared.activation.Activation.{Activation}
 use Rattle.bb_trace.specs.Board.{Board as Blackboard}
 use Rattle.bb_trace.specs.Event.TheVariants.{Quiescence as quiescence}
 use Rattle.bb_trace.specs.declared.end.End.{End}
+use Rattle.bb_trace.specs.Native.{Native}
 use Rattle.bb_trace.specs.Plan.{Plan}
 use Rattle.bb_run.specs.declared.cycles.Decision.{Decision}
-use Rattle.bb_run.specs.declared.state.State.{State}
+use Rattle.bb_run.specs.State.{State}
 use Rattle.bb_run.specs.Run.{choice, cycle, quiet, start}
 use Rattle.bb_run.specs.Weighed.{KnowsFoci}
 use Rattle.bb_run.specs.proving.Knowing.{Knows, MayKnow}
@@ -30,5 +31,5 @@ module _ (plan : Plan) (a b : Place) (s t : State) where
   cycle_known number x end k made = as_is k (cycle plan number x s).state made.1.state (cycle_knows plan k.reading number x s k.foci)
 
 -- after the start
-pub start_known : (plan : Plan) (a b : Place) (board : Blackboard) (t : State) (end : Option End) → MayKnow plan board → Makes plan a b (start plan board) t (Ok end) → Knows plan t
-start_known plan a b board t end may made = record { reading = may.reading; foci = subst (KnowsFoci plan) (sym made.1.state) (start_knows plan may.reading board may.given) }
+pub start_known : (plan : Plan) (a b : Place) (board : Blackboard) (natives : List Native) (t : State) (end : Option End) → MayKnow plan board → Makes plan a b (start plan board natives) t (Ok end) → Knows plan t
+start_known plan a b board natives t end may made = record { reading = may.reading; foci = subst (KnowsFoci plan) (sym made.1.state) (start_knows plan may.reading board natives may.given) }

@@ -10,6 +10,8 @@ pub mod WholeLemmas
 pub mod ResponseLemmas
 -- executions
 pub mod ExecutionLemmas
+-- calls of natives
+pub mod CallLemmas
 -- notes that may come one after another
 pub mod OrderLemmas
 -- what is pending by the notes
@@ -26,8 +28,14 @@ pub mod AskedLemmas
 pub mod LimitLemmas
 -- each run does
 pub mod OrderlyRuns
+-- each native is closed once, in order
+pub mod ClosedLemmas
 -- what comes after a choice
 pub mod ExecutedLemmas
+-- what holds of the asks of a native
+pub mod AskRule
+-- what holds of the state that a run leaves
+pub mod StateRule
 -- what holds of every response
 pub mod ResponseRule
 -- why a run ends full or stuck
@@ -52,5 +60,11 @@ pub mod WaitingLemmas
 pub mod EntryLemmas
 -- what answers to an event is not stuck
 pub mod UnstuckParts
--- no run is
+-- states that are ready
+pub mod UnstuckStates
+-- no run is stuck
 pub mod UnstuckRuns
+-- each event that is told is processed
+pub mod VisitLemmas
+-- each event is processed in a state that is ready
+pub mod ProcessedLemmas

@@ -6,21 +6,21 @@ use Rattle.bb_trace.specs.Board.{Board as Blackboard}
 use Rattle.bb_trace.specs.declared.end.End.{End}
 use Rattle.bb_trace.specs.declared.end.End.TheVariants as finishes
 use Rattle.bb_trace.specs.declared.note.Note.{Note}
-use Rattle.bb_trace.specs.declared.note.Note.TheVariants.{Finished}
+use Rattle.bb_trace.specs.Native.{Native}
 use Rattle.bb_trace.specs.Plan.{Plan}
-use Rattle.bb_run.specs.declared.state.State.{State}
+use Rattle.bb_run.specs.State.{State}
 use Rattle.bb_run.specs.Told.{Stretch, over, after_told, and_then, and_then_unless}
-use Rattle.bb_run.specs.Run.{choice, wait, cycle, if_chosen, cycles, start, finish_segments, with_finish, unfinished, run}
+use Rattle.bb_run.specs.Run.{choice, wait, cycle, if_chosen, cycles, start, finish, finish_segments, with_finish, unfinished, run}
 use Rattle.bb_run.specs.Order.{Extends}
 
 -- a stretch and its finish begin a stretch that goes on with it, and its finish
 first_tells : (end : Option End) (p : Stretch) (next : State → Stretch) → p.end ≡ end
-    → (more : List (List Note)) × (let q = and_then_unless end p next in q.told ++ finish_segments q.end ≡ (p.told ++ finish_segments p.end) ++ more)
-first_tells (Some e) p next is = ([], sym (append-nil (p.told ++ finish_segments p.end)))
+    → (more : List (List Note)) × (let q = and_then_unless end p next in q.told ++ finish_segments q.end q.state.natives ≡ (p.told ++ finish_segments p.end p.state.natives) ++ more)
+first_tells (Some e) p next is = ([], sym (append-nil (p.told ++ finish_segments p.end p.state.natives)))
 first_tells None p next is =
     let r = next p.state in
-    let first : p.told ≡ p.told ++ finish_segments p.end = sym (append-nil p.told) ∙ ap (λ e. p.told ++ finish_segments e) (sym is) in
-    (r.told ++ finish_segments r.end, append_assoc p.told r.told (finish_segments r.end) ∙ ap (λ l. l ++ (r.told ++ finish_segments r.end)) first)
+    let first : p.told ≡ p.told ++ finish_segments p.end p.state.natives = sym (append-nil p.told) ∙ ap (λ e. p.told ++ finish_segments e p.state.natives) (sym is) in
+    (r.told ++ finish_segments r.end r.state.natives, append_assoc p.told r.told (finish_segments r.end r.state.natives) ∙ ap (λ l. l ++ (r.told ++ finish_segments r.end r.state.natives)) first)
 
 module _ (plan : Plan) where
   -- these segments begin with the cycle of what can be chosen in a state, and the finish where the run ends in it
@@ -28,12 +28,12 @@ module _ (plan : Plan) where
     pub chosen : Activation
     pub choice_is : choice plan s ≡ Some chosen
     pub more : List (List Note)
-    pub begins : let p = cycle plan number chosen s in segments ≡ (p.told ++ finish_segments p.end) ++ more
+    pub begins : let p = cycle plan number chosen s in segments ≡ (p.told ++ finish_segments p.end p.state.natives) ++ more
 
   -- a stretch is this one, or goes on by a cycle of this number where this one is over by the limit
   abbrev GoesOn : (number : ℕ) → Stretch → Stretch → Type 0
   GoesOn number p q =
-      (q ≡ p) ⊎ ((p.end ≡ Some finishes.Limit) × ((rest : List (List Note)) × ((q.told ≡ p.told ++ rest) × BeginsByCycle number p.state (rest ++ finish_segments q.end))))
+      (q ≡ p) ⊎ ((p.end ≡ Some finishes.Limit) × ((rest : List (List Note)) × ((q.told ≡ p.told ++ rest) × BeginsByCycle number p.state (rest ++ finish_segments q.end q.state.natives))))
 
   goes_after : (number : ℕ) (told : List (List Note)) (p q : Stretch) → GoesOn number p q → GoesOn number (after_told told p) (after_told told q)
   goes_after number told p q (inl same) = inl (ap (after_told told) same)
@@ -64,9 +64,9 @@ module _ (plan : Plan) where
   goes_by_cycle made more number t a is chosen =
       let c = cycle plan (made + 1) a t in
       let first = first_tells c.end c (cycles plan (made + 1) more) refl in
-      let begins : BeginsByCycle (made + 1) t ((cycle_then made more t a).told ++ finish_segments (cycle_then made more t a).end) =
+      let begins : BeginsByCycle (made + 1) t ((cycle_then made more t a).told ++ finish_segments (cycle_then made more t a).end (cycle_then made more t a).state.natives) =
       record { chosen = a; choice_is = chosen; more = first.0; begins = first.1 } in
-      inr (refl, ((cycle_then made more t a).told, (refl, subst (λ n. BeginsByCycle n t ((cycle_then made more t a).told ++ finish_segments (cycle_then made more t a).end)) is begins)))
+      inr (refl, ((cycle_then made more t a).told, (refl, subst (λ n. BeginsByCycle n t ((cycle_then made more t a).told ++ finish_segments (cycle_then made more t a).end (cycle_then made more t a).state.natives)) is begins)))
 
   cycles_go_on : (made left more number : ℕ) (s : State) → number ≡ made + left + 1 → GoesOn number (cycles plan made left s) (cycles plan made (left + more) s)
   unfolding cycles
@@ -90,7 +90,7 @@ module _ (plan : Plan) where
   abbrev pub GoesFurther : (number : ℕ) → (run longer : Stretch) → Type 0
   GoesFurther number run longer =
       (longer ≡ run) ⊎ ((run.end ≡ Some finishes.Limit) × ((front : List (List Note)) × ((rest : List (List Note)) ×
-      ((run.told ≡ front ++ (Finished finishes.Limit ∷ []) ∷ []) × ((longer.told ≡ front ++ rest) × BeginsByCycle number run.state rest)))))
+      ((run.told ≡ front ++ finish finishes.Limit run.state.natives ∷ []) × ((longer.told ≡ front ++ rest) × BeginsByCycle number run.state rest)))))
 
   -- the same with the finish told last
   finishes_on : (number : ℕ) (p q : Stretch) → GoesOn number p q → GoesFurther number (with_finish p) (with_finish q)
@@ -101,25 +101,25 @@ module _ (plan : Plan) where
         (
           p.told,
           (
-            more.1.0 ++ finish_segments q.end,
+            more.1.0 ++ finish_segments q.end q.state.natives,
             (
-              ap (λ e. p.told ++ finish_segments e) more.0,
-              (ap (λ t. t ++ finish_segments q.end) more.1.1.0 ∙ append_assoc p.told more.1.0 (finish_segments q.end), more.1.1.1),
+              ap (λ e. p.told ++ finish_segments e p.state.natives) more.0,
+              (ap (λ t. t ++ finish_segments q.end q.state.natives) more.1.1.0 ∙ append_assoc p.told more.1.0 (finish_segments q.end q.state.natives), more.1.1.1),
             ),
           ),
         ),
       )
 
-  pub run_goes_further : (board : Blackboard) (limit more : ℕ) → GoesFurther (limit + 1) (run plan board limit) (run plan board (limit + more))
-  run_goes_further board limit more =
-      let p = start plan board in
+  pub run_goes_further : (board : Blackboard) (natives : List Native) (limit more : ℕ) → GoesFurther (limit + 1) (run plan board natives limit) (run plan board natives (limit + more))
+  run_goes_further board natives limit more =
+      let p = start plan board natives in
       let count : limit + 1 ≡ 0 + limit + 1 = omega arith in
-      finishes_on (limit + 1) (unfinished plan board limit) (unfinished plan board (limit + more))
+      finishes_on (limit + 1) (unfinished plan board natives limit) (unfinished plan board natives (limit + more))
       (goes_then (limit + 1) p.end p (cycles plan 0 limit) (cycles plan 0 (limit + more)) (λ s. cycles_go_on 0 limit more (limit + 1) s count))
 
   extends_by : (number : ℕ) (p q : Stretch) → GoesFurther number p q → Extends p q
   extends_by number p q (inl same) = inl same
   extends_by number p q (inr more) = inr (more.0, (more.1.0, (more.1.1.0, (more.1.1.1.0, more.1.1.1.1.0))))
 
-  pub run_extends : (board : Blackboard) (limit more : ℕ) → Extends (run plan board limit) (run plan board (limit + more))
-  run_extends board limit more = extends_by (limit + 1) (run plan board limit) (run plan board (limit + more)) (run_goes_further board limit more)
+  pub run_extends : (board : Blackboard) (natives : List Native) (limit more : ℕ) → Extends (run plan board natives limit) (run plan board natives (limit + more))
+  run_extends board natives limit more = extends_by (limit + 1) (run plan board natives limit) (run plan board natives (limit + more)) (run_goes_further board natives limit more)

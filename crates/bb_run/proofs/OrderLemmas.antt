@@ -1,23 +1,30 @@
 -- Notes that may come one after another, by any rule for what may come after what.
-use Rattle.std.proofs.Common.{◌≡◌, ◌⊎◌, inl, inr, List, [], ◌∷◌, ◌++◌, refl, sym, ap, subst, ◌∙◌, append_assoc}
+use Rattle.std.proofs.Common.{◌≡◌, ◌⊎◌, inl, inr, List, [], ◌∷◌, ◌++◌, map, refl, sym, ap, subst, ◌∙◌, append_assoc}
 use Rattle.std.specs.Prelude.{⊤}
 use Rattle.std.proofs.lemmas.List.{append-nil}
+use Rattle.bb_trace.specs.Closing.{Closing}
+use Rattle.bb_trace.specs.declared.end.End.{End}
 use Rattle.bb_trace.specs.declared.note.Note.{Note}
+use Rattle.bb_trace.specs.declared.note.Note.TheVariants.{Closed, Finished}
 
-not_none : (bs : List Note) (note : Note) (after : List Note) → (let none : List Note = [] in none) ≡ bs ++ note ∷ after → ⊥
-not_none [] note after is = absurd cc
-not_none (b ∷ bs) note after is = absurd cc
+-- a note of a closing
+abbrev pub IsClosing : Note → Type 0
+IsClosing note = (closing : Closing) × (note ≡ Closed closing)
 
--- two lists with a last note each
-pub same_last : (xs ys : List Note) (x y : Note) → xs ++ x ∷ [] ≡ ys ++ y ∷ [] → (xs ≡ ys) × (x ≡ y)
-same_last [] [] x y is = (refl, cc)
-same_last [] (b ∷ ys) x y is = let none : [] ≡ ys ++ y ∷ [] = cc in absurd (not_none ys y [] none)
-same_last (a ∷ xs) [] x y is = let none : xs ++ x ∷ [] ≡ [] = cc in absurd (not_none xs x [] (sym none))
-same_last (a ∷ xs) (b ∷ ys) x y is =
-    let first : a ≡ b = cc in
-    let more : xs ++ x ∷ [] ≡ ys ++ y ∷ [] = cc in
-    let rest = same_last xs ys x y more in
-    (ap (λ c. c ∷ xs) first ∙ ap (λ l. b ∷ l) rest.0, rest.1)
+-- a note that does not come with the finish
+abbrev pub ComesBefore : Note → Type 0
+ComesBefore (Finished end) = ⊥
+ComesBefore (Closed closing) = ⊥
+ComesBefore _ = ⊤
+
+same_end : (d e : End) → Finished d ≡ Finished e → d ≡ e
+same_end d e is = cc
+
+closing_among : (closings : List Closing) (bs : List Note) (note : Note) (after : List Note) → map Closed closings ≡ bs ++ note ∷ after → IsClosing note
+closing_among [] [] note after is = absurd cc
+closing_among [] (b ∷ bs) note after is = absurd cc
+closing_among (c ∷ cs) [] note after is = (c, let same : Closed c ≡ note = cc in sym same)
+closing_among (c ∷ cs) (b ∷ bs) note after is = let rest : map Closed cs ≡ bs ++ note ∷ after = cc in closing_among cs bs note after rest
 
 module _ (May : List Note → Note → Type 0) where
   -- notes to come, each of which may come after those before it
@@ -38,16 +45,40 @@ module _ (May : List Note → Note → Type 0) where
   comes_then past [] ys p q = subst (λ b. Comes b ys) (append-nil past) q
   comes_then past (x ∷ xs) ys p q = (p.0, comes_then (past ++ x ∷ []) xs ys p.1 (subst (λ b. Comes b ys) (sym (append_assoc past (x ∷ []) xs)) q))
 
-  -- a note of these and one more: it may come where it is, or it is the last
-  pub comes_or_last : (past xs : List Note) (last : Note) (before : List Note) (note : Note) (after : List Note) → Comes past xs → xs ++ last ∷ [] ≡ before ++ note ∷ after → May (past ++ before) note ⊎ ((note ≡ last) × (after ≡ []))
+  -- a note of these, one more, and closings: it may come where it is, or it is that one, or a closing
+  pub comes_or_last : (past xs : List Note) (last : Note) (closings : List Closing) (before : List Note) (note : Note) (after : List Note) → Comes past xs → xs ++ last ∷ map Closed closings ≡ before ++ note ∷ after
+      → May (past ++ before) note ⊎ (((note ≡ last) × ((before ≡ xs) × (after ≡ map Closed closings))) ⊎ IsClosing note)
   unfolding Comes
-  comes_or_last past [] last [] note after p is = let same : last ≡ note = cc in let none : [] ≡ after = cc in inr (sym same, sym none)
-  comes_or_last past [] last (b ∷ bs) note after p is = let none : [] ≡ bs ++ note ∷ after = cc in absurd (not_none bs note after none)
-  comes_or_last past (x ∷ xs) last [] note after p is =
+  comes_or_last past [] last closings [] note after p is = let same : last ≡ note = cc in let rest : map Closed closings ≡ after = cc in inr (inl (sym same, (refl, sym rest)))
+  comes_or_last past [] last closings (b ∷ bs) note after p is = let rest : map Closed closings ≡ bs ++ note ∷ after = cc in inr (inr (closing_among closings bs note after rest))
+  comes_or_last past (x ∷ xs) last closings [] note after p is =
       let same : x ≡ note = cc in
       inl (subst (λ b. May b note) (sym (append-nil past)) (subst (May past) same p.0))
-  comes_or_last past (x ∷ xs) last (b ∷ bs) note after p is =
+  comes_or_last past (x ∷ xs) last closings (b ∷ bs) note after p is =
       let same : x ≡ b = cc in
-      let rest : xs ++ last ∷ [] ≡ bs ++ note ∷ after = cc in
-      subst (λ c. May c note ⊎ ((note ≡ last) × (after ≡ []))) (append_assoc past (b ∷ []) bs)
-      (comes_or_last (past ++ b ∷ []) xs last bs note after (subst (λ y. Comes (past ++ y ∷ []) xs) same p.1) rest)
+      let rest : xs ++ last ∷ map Closed closings ≡ bs ++ note ∷ after = cc in
+      elim (comes_or_last (past ++ b ∷ []) xs last closings bs note after (subst (λ y. Comes (past ++ y ∷ []) xs) same p.1) rest) [
+        | inl may ↦ inl (subst (λ c. May c note) (append_assoc past (b ∷ []) bs) may)
+        | inr (inl at) ↦ inr (inl (at.0, (ap (λ l. b ∷ l) at.1.0 ∙ ap (λ y. y ∷ xs) (sym same), at.1.1)))
+        | inr (inr closing) ↦ inr (inr closing)
+      ]
+
+  -- what does not come with the finish may come where it is
+  pub comes_before : (past xs : List Note) (end : End) (closings : List Closing) (before : List Note) (note : Note) (after : List Note) → Comes past xs → ComesBefore note
+      → xs ++ Finished end ∷ map Closed closings ≡ before ++ note ∷ after → May (past ++ before) note
+  comes_before past xs end closings before note after p early is =
+      elim (comes_or_last past xs (Finished end) closings before note after p is) [
+        | inl may ↦ may
+        | inr (inl last) ↦ absurd (subst ComesBefore last.0 early)
+        | inr (inr closing) ↦ absurd (subst ComesBefore closing.1 early)
+      ]
+
+  -- where no finish may come it is the last
+  pub comes_last : (past xs : List Note) (end : End) (closings : List Closing) (before : List Note) (e : End) (after : List Note) → Comes past xs → (May (past ++ before) (Finished e) → ⊥)
+      → xs ++ Finished end ∷ map Closed closings ≡ before ++ Finished e ∷ after → (e ≡ end) × ((before ≡ xs) × (after ≡ map Closed closings))
+  comes_last past xs end closings before e after p none is =
+      elim (comes_or_last past xs (Finished end) closings before (Finished e) after p is) [
+        | inl may ↦ absurd (none may)
+        | inr (inl last) ↦ (same_end e end last.0, last.1)
+        | inr (inr closing) ↦ absurd (let other : Finished e ≡ Closed closing.0 = closing.1 in cc)
+      ]

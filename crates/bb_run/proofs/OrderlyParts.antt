@@ -28,12 +28,12 @@ use Rattle.bb_trace.specs.Source.{Source}
 use Rattle.bb_trace.specs.declared.end.End.{End}
 use Rattle.bb_trace.specs.declared.end.End.TheVariants as finishes
 use Rattle.bb_trace.specs.declared.note.Note.{Note}
-use Rattle.bb_trace.specs.declared.note.Note.TheVariants.{Board, Triggered, Declined, Obviated, Retriggered, Chosen, Invalid, Ended, Finished}
+use Rattle.bb_trace.specs.declared.note.Note.TheVariants.{Board, Triggered, Declined, Obviated, Retriggered, Chosen, Invalid, Ended, Refused, NativeEnded, Finished, Closed}
+use Rattle.bb_trace.specs.Native.{Native}
 use Rattle.bb_trace.specs.Plan.{Plan}
 use Rattle.bb_run.specs.declared.execution.Verdict.{Verdict}
 use Rattle.bb_run.specs.declared.execution.Verdict.TheVariants as verdicts
-use Rattle.bb_run.specs.declared.state.State.{State}
-use Rattle.bb_run.specs.State.{with_board, with_agenda}
+use Rattle.bb_run.specs.State.{State, with_board, with_agenda}
 use Rattle.bb_run.specs.Told.{Response, Stretch, telling, idle, over, and_then, and_then_unless, segment}
 use Rattle.bb_run.specs.Asking.{attempt, asking, end_by, entry_of, reply_by, upon}
 use Rattle.bb_run.specs.Processing.{activating, events_in, if_triggered, obviated_by, processing, processing_all, reacting, reacting_to, reacting_to_each, reported, required_by, rerated_by, response, response_by, source_response, triggering}
@@ -44,6 +44,10 @@ use Rattle.bb_run.proofs.PendingLemmas.{IsKnown, Stands, IsSilent, triggered_the
 
 pub all_of_two : (xs ys : List (List Note)) → all_of (xs ++ ys) ≡ all_of xs ++ all_of ys
 all_of_two xs ys = flat_map-append (λ segment. segment) xs ys
+
+-- a last segment
+pub all_of_more : (xs : List (List Note)) (last : List Note) → all_of (xs ++ last ∷ []) ≡ all_of xs ++ last
+all_of_more xs last = all_of_two xs (last ∷ []) ∙ ap (λ l. all_of xs ++ l) (append-nil last)
 
 -- an end that does not come between two cycles
 abbrev pub IsEarly : Option End → Type 0
@@ -77,7 +81,7 @@ pub early_verdict : (code : Option Checked) (a : Activation) (b : Blackboard) �
 early_verdict None a b end is = absurd cc
 early_verdict (Some code) a b end is = early_by (attempt code.code (entry_of a.unit None) b).0 end is
 
-module _ (plan : Plan) (board : Blackboard) where
+module _ (plan : Plan) (board : Blackboard) (natives : List Native) where
   -- a cycle may choose after these notes
   pub record MayChoose (before : List Note) (number : ℕ) (a : Activation) (r : ℤ) : Type 0 where
     pub counted : number ≡ length (chosen_in before) + 1
@@ -85,7 +89,7 @@ module _ (plan : Plan) (board : Blackboard) where
     pub once : is_among a.number (gone_in before) ≡ false
     pub enough : plan.floor ≤ℤ r
     pub in_turn : ends_in before ≡ length (chosen_in before)
-    pub choice : IsChosenAfter plan (run plan board (number - 1)) before a r
+    pub choice : IsChosenAfter plan (run plan board natives (number - 1)) before a r
 
   -- a note of a run may come after these, before it finishes
   abbrev pub May : List Note → Note → Type 0
@@ -93,7 +97,10 @@ module _ (plan : Plan) (board : Blackboard) where
   May before (Chosen number a r) = MayChoose before number a r
   May before (Invalid number) = ends_in before + 1 ≡ length (chosen_in before)
   May before (Ended steps found budget) = ends_in before + 1 ≡ length (chosen_in before)
+  May before (NativeEnded asks) = ends_in before + 1 ≡ length (chosen_in before)
+  May before (Refused ask refusal) = ends_in before + 1 ≡ length (chosen_in before)
   May before (Finished end) = ⊥
+  May before (Closed closing) = ⊥
   May before _ = ⊤
 
   -- the agenda is what is pending by the notes
@@ -112,7 +119,7 @@ module _ (plan : Plan) (board : Blackboard) where
   Tells past made executed p = Keeps past (notes_of p) made executed p.state p.end
 
   -- no notes
-  keeps_none : (past : List Note) (made executed : ℕ) (s : State) (end : Option End) → IsEarly end → Agrees past made executed s.agenda → Keeps past [] made executed s end
+  pub keeps_none : (past : List Note) (made executed : ℕ) (s : State) (end : Option End) → IsEarly end → Agrees past made executed s.agenda → Keeps past [] made executed s end
   keeps_none past made executed s end early stands =
       let same = sym (append-nil past) in
       record { comes = comes_none May past; cycles = stands.cycles ∙ ap (λ l. length (chosen_in l)) same; stands = λ e. subst (λ l. Agrees l made executed s.agenda) same stands; early = early }
@@ -147,7 +154,7 @@ module _ (plan : Plan) (board : Blackboard) where
   Responds past made executed r = Keeps past r.told made executed r.state r.end
 
   -- a response, and then the next
-  responds_then : (past : List Note) (made executed : ℕ) (r : Response) (next : State → Response) (end : Option End) → r.end ≡ end → Responds past made executed r
+  pub responds_then : (past : List Note) (made executed : ℕ) (r : Response) (next : State → Response) (end : Option End) → r.end ≡ end → Responds past made executed r
       → (Agrees (past ++ r.told) made executed r.state.agenda → Responds (past ++ r.told) made executed (next r.state)) → Responds past made executed (and_then_unless end r next)
   responds_then past made executed r next (Some end) is first rest = first
   responds_then past made executed r next None is first rest =
@@ -171,13 +178,13 @@ module _ (plan : Plan) (board : Blackboard) where
       replied next past made executed e.0 (with_board s e.1) stands (λ answer. goes answer (with_board s e.1) stands)
 
   -- a note that tells of no activation
-  agrees_silent : (past : List Note) (note : Note) (made executed : ℕ) (agenda : Agenda) → IsSilent (note ∷ []) → ends_in (note ∷ []) ≡ 0 → Agrees past made executed agenda → Agrees (past ++ note ∷ []) made executed agenda
+  pub agrees_silent : (past : List Note) (note : Note) (made executed : ℕ) (agenda : Agenda) → IsSilent (note ∷ []) → ends_in (note ∷ []) ≡ 0 → Agrees past made executed agenda → Agrees (past ++ note ∷ []) made executed agenda
   agrees_silent past note made executed agenda silent none stands =
       let same : executed + 0 ≡ executed = omega arith in
       subst (λ n. Agrees (past ++ note ∷ []) made n agenda) same (stands_silent (length plan.sources) past made executed agenda stands (note ∷ []) 0 silent none)
 
   -- one note that leaves this
-  tells_one : (past : List Note) (note : Note) (made executed : ℕ) (s : State) → May past note → Agrees (past ++ note ∷ []) made executed s.agenda → Responds past made executed (telling (note ∷ []) s None)
+  pub tells_one : (past : List Note) (note : Note) (made executed : ℕ) (s : State) → May past note → Agrees (past ++ note ∷ []) made executed s.agenda → Responds past made executed (telling (note ∷ []) s None)
   tells_one past note made executed s may later = record { comes = comes_one May past note may; cycles = later.cycles; stands = λ e. later; early = tt }
 
   -- ---- what a source does about its pending activations

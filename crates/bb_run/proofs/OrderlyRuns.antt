@@ -1,5 +1,5 @@
 -- Each run goes on orderly up to its end.
-use Rattle.std.proofs.Common.{◌≡◌, ◌≤◌, inl, inr, ℕ, zero, suc, ℤ, ◌+◌, ◌-◌, List, [], ◌∷◌, ◌++◌, length, Option, Some, None, refl, sym, ap, subst, ◌∙◌, append_assoc, arith}
+use Rattle.std.proofs.Common.{◌≡◌, ◌≤◌, ℕ, zero, suc, ℤ, ◌+◌, ◌-◌, List, [], ◌∷◌, ◌++◌, length, map, Option, Some, None, refl, sym, ap, subst, ◌∙◌, append_assoc, arith}
 use Rattle.std.specs.Prelude.{Contains}
 use Rattle.std.proofs.lemmas.List.{append-nil}
 use Rattle.std.proofs.lemmas.List.Elements.{All-contains}
@@ -10,30 +10,35 @@ use Rattle.bb_agenda.proofs.Laws.{chosen_some}
 use Rattle.bb_trace.specs.declared.end.End.{End}
 use Rattle.bb_trace.specs.declared.end.End.TheVariants as finishes
 use Rattle.bb_trace.specs.declared.note.Note.{Note}
-use Rattle.bb_trace.specs.declared.note.Note.TheVariants.{Triggered, Chosen, Invalid, Ended, Finished}
+use Rattle.bb_trace.specs.declared.note.Note.TheVariants.{Triggered, Chosen, Invalid, Ended, Refused, NativeEnded, Finished, Closed}
+use Rattle.bb_trace.specs.Closing.{Closing}
+use Rattle.bb_trace.specs.Native.{Native}
+use Rattle.bb_trace.specs.Roster.{closings_of}
 use Rattle.bb_trace.specs.Plan.{Plan}
-use Rattle.bb_run.specs.declared.state.State.{State}
+use Rattle.bb_run.specs.State.{State}
 use Rattle.bb_run.specs.Told.{Stretch, telling, over, after_told, and_then, and_then_unless}
-use Rattle.bb_run.specs.Run.{rating, choice, wait, noted, cycle, if_chosen, cycles, first_state, start, finish_segments, with_finish, unfinished, run}
+use Rattle.bb_run.specs.Run.{rating, choice, wait, noted, cycle, if_chosen, cycles, finish, first_state, start, finish_segments, with_finish, unfinished, run}
 use Rattle.bb_run.specs.Foci.{setting_of}
 use Rattle.bb_run.specs.Order.{all_of, notes_of, At, chosen_in, IsCounted, ActsOnPending, ExecutesInTurn, IsFinished, KeepsLimit, IsChosenAfter}
-use Rattle.bb_run.proofs.OrderLemmas.{Comes, comes_none, comes_then, comes_or_last, same_last}
+use Rattle.bb_run.proofs.OrderLemmas.{Comes, ComesBefore, comes_before, comes_last, comes_none, comes_then}
 use Rattle.bb_run.specs.Processing.{events_in}
 use Rattle.bb_run.specs.Asked.{asked_for, answered_in, IsAnswered, MayOwe}
 use Rattle.bb_run.proofs.AskedLemmas.{GoesOn, MayAsk, goes_then, reports_board, cycles_go}
 use Rattle.bb_run.proofs.PendingLemmas.{IsKnown, chosen_then, is_apart, stands_first}
-use Rattle.bb_run.proofs.OrderlyParts.{all_of_two, IsEarly, MayChoose, May, Agrees, Tells, reports, waits_for}
+use Rattle.bb_run.proofs.OrderlyParts.{all_of_more, all_of_two, IsEarly, MayChoose, May, Agrees, Tells, reports, waits_for}
 use Rattle.bb_run.proofs.OrderlyCycles.{keeps_board, cycles_once}
 
-same_end : (d e : End) → Finished d ≡ Finished e → d ≡ e
-same_end d e is = cc
+-- closings are no choices
+closed_unchosen : (closings : List Closing) → chosen_in (map Closed closings) ≡ []
+closed_unchosen [] = refl
+closed_unchosen (c ∷ cs) = closed_unchosen cs
 
-module _ (plan : Plan) (board : Blackboard) where
+module _ (plan : Plan) (board : Blackboard) (natives : List Native) where
   -- ---- the run so far
 
   -- whatever the limit, a run that makes so many cycles begins with these segments
   abbrev pub Begins : (told : List (List Note)) (made : ℕ) → State → Type 0
-  Begins told made s = (left limit : ℕ) → limit ≡ made + left → unfinished plan board limit ≡ after_told told (cycles plan made left s)
+  Begins told made s = (left limit : ℕ) → limit ≡ made + left → unfinished plan board natives limit ≡ after_told told (cycles plan made left s)
 
   -- what comes after the wait before a cycle, where no cycle more can be made, and where one can
   abbrev at_limit : Option Activation → State → Stretch
@@ -77,13 +82,13 @@ module _ (plan : Plan) (board : Blackboard) where
   -- ---- a choice
 
   -- the state where a choice is made is the last of the run that ends by its limit there
-  choice_after : (u : Stretch) (past : List Note) (told segments : List (List Note)) (made : ℕ) (t : State) (a : Activation) → u ≡ after_told told (after_told segments (over finishes.Limit t)) → past ≡ all_of told → Agrees plan board (past ++ all_of segments) made made t.agenda
+  choice_after : (u : Stretch) (past : List Note) (told segments : List (List Note)) (made : ℕ) (t : State) (a : Activation) → u ≡ after_told told (after_told segments (over finishes.Limit t)) → past ≡ all_of told → Agrees plan board natives (past ++ all_of segments) made made t.agenda
       → choice plan t ≡ Some a → IsChosenAfter plan (with_finish u) (past ++ all_of segments) a (rating plan t a)
   choice_after u past told segments made t a is before stands chosen =
-      let finish : List Note = Finished finishes.Limit ∷ [] in
+      let last = finish finishes.Limit t.natives in
       let best = chosen_some (rating plan t) plan.floor (pending_of t.agenda) a chosen in
       subst (λ v. IsChosenAfter plan (with_finish v) (past ++ all_of segments) a (rating plan t a)) (sym is) (record {
-        told = all_of_two (told ++ (segments ++ [])) (finish ∷ []) ∙ ap (λ l. l ++ finish) (all_of_two told (segments ++ []) ∙ ap (λ l. all_of told ++ all_of l) (append-nil segments) ∙ ap (λ l. l ++ all_of segments) (sym before));
+        told = all_of_more (told ++ (segments ++ [])) last ∙ ap (λ l. l ++ last) (all_of_two told (segments ++ []) ∙ ap (λ l. all_of told ++ all_of l) (append-nil segments) ∙ ap (λ l. l ++ all_of segments) (sym before));
         agenda = stands.pending;
         choice_is = chosen;
         rated = refl;
@@ -93,7 +98,7 @@ module _ (plan : Plan) (board : Blackboard) where
 
   -- a cycle may choose what is chosen after the wait
   may_choose : (past : List Note) (told : List (List Note)) (made : ℕ) (s : State) (a : Activation) → Begins told made s → past ≡ all_of told → (wait plan s).end ≡ None → choice plan (wait plan s).state ≡ Some a
-      → Agrees plan board (past ++ notes_of (wait plan s)) made made (wait plan s).state.agenda → MayChoose plan board (past ++ notes_of (wait plan s)) (made + 1) a (rating plan (wait plan s).state a)
+      → Agrees plan board natives (past ++ notes_of (wait plan s)) made made (wait plan s).state.agenda → MayChoose plan board natives (past ++ notes_of (wait plan s)) (made + 1) a (rating plan (wait plan s).state a)
   may_choose past told made s a begins before goes chosen stands =
       let p = wait plan s in
       let best = chosen_some (rating plan p.state) plan.floor (pending_of p.state.agenda) a chosen in
@@ -104,14 +109,14 @@ module _ (plan : Plan) (board : Blackboard) where
         once = is_apart (length plan.sources) (past ++ notes_of p) made made p.state.agenda stands a best.waits;
         enough = best.enough;
         in_turn = sym stands.executions ∙ stands.cycles;
-        choice = choice_after (unfinished plan board (made + 1 - 1)) past told p.told made p.state a (begins zero (made + 1 - 1) count ∙ ap (λ q. after_told told q) (limit_after made s a goes chosen)) before stands chosen;
+        choice = choice_after (unfinished plan board natives (made + 1 - 1)) past told p.told made p.state a (begins zero (made + 1 - 1) count ∙ ap (λ q. after_told told q) (limit_after made s a goes chosen)) before stands chosen;
       }
 
   -- ---- cycles up to the end
 
   -- notes after these that end a run, with the state that they leave
   record Ends (past notes : List Note) (limit : ℕ) (s : State) (end : Option End) : Type 0 where
-    comes : Comes (May plan board) past notes
+    comes : Comes (May plan board natives) past notes
     ends : (e : End) × (end ≡ Some e)
     within : length (chosen_in (past ++ notes)) ≤ limit
     met : end ≡ Some finishes.Limit → length (chosen_in (past ++ notes)) ≡ limit
@@ -123,11 +128,11 @@ module _ (plan : Plan) (board : Blackboard) where
   TellsLast past limit p = Ends past (notes_of p) limit p.state p.end
 
   -- notes before others
-  ends_more : (past xs ys : List Note) (limit : ℕ) (s : State) (end : Option End) → Comes (May plan board) past xs → Ends (past ++ xs) ys limit s end → Ends past (xs ++ ys) limit s end
+  ends_more : (past xs ys : List Note) (limit : ℕ) (s : State) (end : Option End) → Comes (May plan board natives) past xs → Ends (past ++ xs) ys limit s end → Ends past (xs ++ ys) limit s end
   ends_more past xs ys limit s end may rest =
       let same : (past ++ xs) ++ ys ≡ past ++ (xs ++ ys) = append_assoc past xs ys in
       record {
-        comes = comes_then (May plan board) past xs ys may rest.comes;
+        comes = comes_then (May plan board natives) past xs ys may rest.comes;
         ends = rest.ends;
         within = subst (λ l. length (chosen_in l) ≤ limit) same rest.within;
         met = λ e. subst (λ l. length (chosen_in l) ≡ limit) same (rest.met e);
@@ -136,8 +141,8 @@ module _ (plan : Plan) (board : Blackboard) where
       }
 
   -- a stretch, and then the next, in which the run ends
-  ends_then : (past : List Note) (made executed limit : ℕ) (p : Stretch) (next : State → Stretch) (end : Option End) → p.end ≡ end → made ≤ limit → Tells plan board past made executed p
-      → (p.end ≡ None → Agrees plan board (past ++ notes_of p) made executed p.state.agenda → TellsLast (past ++ notes_of p) limit (next p.state)) → TellsLast past limit (and_then_unless end p next)
+  ends_then : (past : List Note) (made executed limit : ℕ) (p : Stretch) (next : State → Stretch) (end : Option End) → p.end ≡ end → made ≤ limit → Tells plan board natives past made executed p
+      → (p.end ≡ None → Agrees plan board natives (past ++ notes_of p) made executed p.state.agenda → TellsLast (past ++ notes_of p) limit (next p.state)) → TellsLast past limit (and_then_unless end p next)
   ends_then past made executed limit p next (Some end) is le first rest = record {
     comes = first.comes;
     ends = (end, is);
@@ -151,13 +156,13 @@ module _ (plan : Plan) (board : Blackboard) where
       subst (λ l. Ends past l limit q.state q.end) (sym (all_of_two p.told q.told)) (ends_more past (notes_of p) (notes_of q) limit q.state q.end first.comes (rest is (first.stands is)))
 
   -- no cycle comes of no notes
-  same_count : (past : List Note) (made executed : ℕ) (agenda : Agenda) → Agrees plan board past made executed agenda → length (chosen_in (past ++ [])) ≡ made
+  same_count : (past : List Note) (made executed : ℕ) (agenda : Agenda) → Agrees plan board natives past made executed agenda → length (chosen_in (past ++ [])) ≡ made
   same_count past made executed agenda stands = ap (λ l. length (chosen_in l)) (append-nil past) ∙ sym stands.cycles
 
   -- nothing can be chosen
-  ends_quiet : (past : List Note) (made executed limit : ℕ) (t : State) → made ≤ limit → choice plan t ≡ None → Agrees plan board past made executed t.agenda → TellsLast past limit (over finishes.Quiescence t)
+  ends_quiet : (past : List Note) (made executed limit : ℕ) (t : State) → made ≤ limit → choice plan t ≡ None → Agrees plan board natives past made executed t.agenda → TellsLast past limit (over finishes.Quiescence t)
   ends_quiet past made executed limit t le none stands = record {
-    comes = comes_none (May plan board) past;
+    comes = comes_none (May plan board natives) past;
     ends = (finishes.Quiescence, refl);
     within = subst (λ n. n ≤ limit) (sym (same_count past made executed t.agenda stands)) le;
     met = λ e. absurd cc;
@@ -166,12 +171,12 @@ module _ (plan : Plan) (board : Blackboard) where
   }
 
   -- no cycle more can be made
-  ends_limit : (past : List Note) (limit executed : ℕ) (t : State) (c : Option Activation) → choice plan t ≡ c → Agrees plan board past limit executed t.agenda → TellsLast past limit (at_limit c t)
+  ends_limit : (past : List Note) (limit executed : ℕ) (t : State) (c : Option Activation) → choice plan t ≡ c → Agrees plan board natives past limit executed t.agenda → TellsLast past limit (at_limit c t)
   ends_limit past limit executed t None is stands = ends_quiet past limit executed limit t (omega arith) is stands
   ends_limit past limit executed t (Some a) is stands =
       let count = same_count past limit executed t.agenda stands in
       record {
-        comes = comes_none (May plan board) past;
+        comes = comes_none (May plan board natives) past;
         ends = (finishes.Limit, refl);
         within = omega (arith, count);
         met = λ e. count;
@@ -180,27 +185,27 @@ module _ (plan : Plan) (board : Blackboard) where
       }
 
   -- a cycle is made, if one can be chosen
-  ends_cycle : (past : List Note) (made left limit : ℕ) (t : State) (c : Option Activation) → choice plan t ≡ c → made + 1 ≤ limit → Agrees plan board past made made t.agenda
-      → ((a : Activation) → choice plan t ≡ Some a → MayChoose plan board past (made + 1) a (rating plan t a))
-      → ((a : Activation) → choice plan t ≡ Some a → let p = cycle plan (made + 1) a t in p.end ≡ None → Agrees plan board (past ++ notes_of p) (made + 1) (made + 1) p.state.agenda → TellsLast (past ++ notes_of p) limit (cycles plan (made + 1) left p.state))
+  ends_cycle : (past : List Note) (made left limit : ℕ) (t : State) (c : Option Activation) → choice plan t ≡ c → made + 1 ≤ limit → Agrees plan board natives past made made t.agenda
+      → ((a : Activation) → choice plan t ≡ Some a → MayChoose plan board natives past (made + 1) a (rating plan t a))
+      → ((a : Activation) → choice plan t ≡ Some a → let p = cycle plan (made + 1) a t in p.end ≡ None → Agrees plan board natives (past ++ notes_of p) (made + 1) (made + 1) p.state.agenda → TellsLast (past ++ notes_of p) limit (cycles plan (made + 1) left p.state))
       → TellsLast past limit (at_cycle made left c t)
   ends_cycle past made left limit t None is le stands may rest = ends_quiet past made made limit t (omega arith) is stands
   ends_cycle past made left limit t (Some a) is le stands may rest =
       let p = cycle plan (made + 1) a t in
       let there = (chosen_some (rating plan t) plan.floor (pending_of t.agenda) a is).waits in
-      ends_then past (made + 1) (made + 1) limit p (cycles plan (made + 1) left) p.end refl le (cycles_once plan board a t past made (may a is) there stands) (rest a is)
+      ends_then past (made + 1) (made + 1) limit p (cycles plan (made + 1) left) p.end refl le (cycles_once plan board natives a t past made (may a is) there stands) (rest a is)
 
-  waits : (past : List Note) (made : ℕ) (s : State) → Agrees plan board past made made s.agenda → Tells plan board past made made (wait plan s)
-  waits past made s stands = waits_for plan board past made made s (choice plan s) stands
+  waits : (past : List Note) (made : ℕ) (s : State) → Agrees plan board natives past made made s.agenda → Tells plan board natives past made made (wait plan s)
+  waits past made s stands = waits_for plan board natives past made made s (choice plan s) stands
 
   -- as many cycles as are left
-  all_cycles : (left made limit : ℕ) (past : List Note) (told : List (List Note)) (s : State) → limit ≡ made + left → past ≡ all_of told → Begins told made s → Agrees plan board past made made s.agenda → TellsLast past limit (cycles plan made left s)
+  all_cycles : (left made limit : ℕ) (past : List Note) (told : List (List Note)) (s : State) → limit ≡ made + left → past ≡ all_of told → Begins told made s → Agrees plan board natives past made made s.agenda → TellsLast past limit (cycles plan made left s)
   unfolding cycles
   all_cycles zero made limit past told s count before begins stands =
       let p = wait plan s in
       let met : limit ≡ made = omega (arith, count) in
       ends_then past made made limit p (λ t. at_limit (choice plan t) t) p.end refl (omega (arith, count)) (waits past made s stands)
-      (λ goes later. ends_limit (past ++ notes_of p) limit made p.state (choice plan p.state) refl (subst (λ n. Agrees plan board (past ++ notes_of p) n made p.state.agenda) (sym met) later))
+      (λ goes later. ends_limit (past ++ notes_of p) limit made p.state (choice plan p.state) refl (subst (λ n. Agrees plan board natives (past ++ notes_of p) n made p.state.agenda) (sym met) later))
   all_cycles (suc left) made limit past told s count before begins stands =
       let p = wait plan s in
       ends_then past made made limit p (λ t. at_cycle made left (choice plan t) t) p.end refl (omega (arith, count)) (waits past made s stands)
@@ -215,79 +220,93 @@ module _ (plan : Plan) (board : Blackboard) where
 
   -- ---- the whole run
 
-  starts : Tells plan board [] 0 0 (start plan board)
+  starts : Tells plan board natives [] 0 0 (start plan board natives)
   starts =
-      let first : State = first_state plan board in
-      reports plan board [] 0 0 (noted first [] None) (keeps_board plan board [] 0 0 0 first None tt (λ none. refl) (stands_first (length plan.sources) (setting_of plan) first.agenda.foci))
+      let first : State = first_state plan board natives in
+      reports plan board natives [] 0 0 (noted first [] None) (keeps_board plan board natives [] 0 0 0 first None tt (λ none. refl) (stands_first (length plan.sources) (setting_of plan) first.agenda.foci))
 
   -- the run up to its finish
-  ends_all : (limit : ℕ) → TellsLast [] limit (unfinished plan board limit)
+  ends_all : (limit : ℕ) → TellsLast [] limit (unfinished plan board natives limit)
   ends_all limit =
-      let p = start plan board in
+      let p = start plan board natives in
       ends_then [] 0 0 limit p (cycles plan 0 limit) p.end refl (omega arith) starts
       (λ goes later. all_cycles limit 0 limit (notes_of p) p.told p.state (omega arith) refl
       (λ left any is. let same : any ≡ left = omega (arith, is) in ap (λ e. and_then_unless e p (cycles plan 0 any)) goes ∙ ap (λ n. after_told p.told (cycles plan 0 n p.state)) same) later)
 
   -- the end of the whole run
-  end_of_run : (limit : ℕ) → (e : End) × ((unfinished plan board limit).end ≡ Some e)
+  end_of_run : (limit : ℕ) → (e : End) × ((unfinished plan board natives limit).end ≡ Some e)
   end_of_run limit = (ends_all limit).ends
 
-  -- its notes, the finish last
-  notes_of_run : (limit : ℕ) → notes_of (run plan board limit) ≡ notes_of (unfinished plan board limit) ++ Finished (end_of_run limit).0 ∷ []
+  -- what natives say at their close
+  abbrev closings : (limit : ℕ) → List Closing
+  closings limit = closings_of (unfinished plan board natives limit).state.natives
+
+  -- its notes, the finish and the closings last
+  notes_of_run : (limit : ℕ) → notes_of (run plan board natives limit) ≡ notes_of (unfinished plan board natives limit) ++ Finished (end_of_run limit).0 ∷ map Closed (closings limit)
   notes_of_run limit =
-      let p = unfinished plan board limit in
-      all_of_two p.told (finish_segments p.end) ∙ ap (λ e. notes_of p ++ all_of (finish_segments e)) (end_of_run limit).1
+      let p = unfinished plan board natives limit in
+      ap (λ e. all_of (p.told ++ finish_segments e p.state.natives)) (end_of_run limit).1 ∙ all_of_more p.told (finish (end_of_run limit).0 p.state.natives)
 
-  -- a note of the run other than the finish
-  may_come : (limit : ℕ) (before : List Note) (note : Note) → ((e : End) → note ≡ Finished e → ⊥) → At (notes_of (run plan board limit)) before note → May plan board before note
-  may_come limit before note other at =
-      elim (comes_or_last (May plan board) [] (notes_of (unfinished plan board limit)) (Finished (end_of_run limit).0) before note at.0 (ends_all limit).comes (sym (notes_of_run limit) ∙ at.1)) [
-        | inl may ↦ may
-        | inr last ↦ absurd (other (end_of_run limit).0 last.0)
-      ]
+  -- how the notes of the run end, and that each before may come where it is
+  pub record Notes (limit : ℕ) : Type 0 where
+    pub end : End
+    pub notes : notes_of (run plan board natives limit) ≡ notes_of (unfinished plan board natives limit) ++ finish end (run plan board natives limit).state.natives
+    pub comes : Comes (May plan board natives) [] (notes_of (unfinished plan board natives limit))
 
-  may_choose_at : (limit : ℕ) (before : List Note) (number : ℕ) (a : Activation) (r : ℤ) → At (notes_of (run plan board limit)) before (Chosen number a r) → MayChoose plan board before number a r
-  may_choose_at limit before number a r at = may_come limit before (Chosen number a r) (λ e is. absurd cc) at
+  pub run_notes : (limit : ℕ) → Notes limit
+  run_notes limit = record { end = (end_of_run limit).0; notes = notes_of_run limit; comes = (ends_all limit).comes }
 
-  pub run_is_counted : (limit : ℕ) → IsCounted (notes_of (run plan board limit))
+  -- a note of the run that does not come with the finish
+  may_come : (limit : ℕ) (before : List Note) (note : Note) → ComesBefore note → At (notes_of (run plan board natives limit)) before note → May plan board natives before note
+  may_come limit before note early at =
+      comes_before (May plan board natives) [] (notes_of (unfinished plan board natives limit)) (end_of_run limit).0 (closings limit) before note at.0 (ends_all limit).comes early (sym (notes_of_run limit) ∙ at.1)
+
+  -- a finish of the run
+  finish_at : (limit : ℕ) (before : List Note) (e : End) (after : List Note) → notes_of (run plan board natives limit) ≡ before ++ Finished e ∷ after
+      → (e ≡ (end_of_run limit).0) × ((before ≡ notes_of (unfinished plan board natives limit)) × (after ≡ map Closed (closings limit)))
+  finish_at limit before e after is =
+      comes_last (May plan board natives) [] (notes_of (unfinished plan board natives limit)) (end_of_run limit).0 (closings limit) before e after (ends_all limit).comes (λ may. may) (sym (notes_of_run limit) ∙ is)
+
+  may_choose_at : (limit : ℕ) (before : List Note) (number : ℕ) (a : Activation) (r : ℤ) → At (notes_of (run plan board natives limit)) before (Chosen number a r) → MayChoose plan board natives before number a r
+  may_choose_at limit before number a r at = may_come limit before (Chosen number a r) tt at
+
+  pub run_is_counted : (limit : ℕ) → IsCounted (notes_of (run plan board natives limit))
   run_is_counted limit = record {
-    activations = λ before a at. may_come limit before (Triggered a) (λ e is. absurd cc) at;
+    activations = λ before a at. may_come limit before (Triggered a) tt at;
     cycles = λ before number a r at. (may_choose_at limit before number a r at).counted;
   }
 
-  pub run_acts_on_pending : (limit : ℕ) → ActsOnPending plan.floor (notes_of (run plan board limit))
+  pub run_acts_on_pending : (limit : ℕ) → ActsOnPending plan.floor (notes_of (run plan board natives limit))
   run_acts_on_pending limit = record {
     pending = λ before number a r at. (may_choose_at limit before number a r at).pending;
     once = λ before number a r at. (may_choose_at limit before number a r at).once;
     enough = λ before number a r at. (may_choose_at limit before number a r at).enough;
   }
 
-  pub run_executes_in_turn : (limit : ℕ) → ExecutesInTurn (notes_of (run plan board limit))
+  pub run_executes_in_turn : (limit : ℕ) → ExecutesInTurn (notes_of (run plan board natives limit))
   run_executes_in_turn limit = record {
     choices = λ before number a r at. (may_choose_at limit before number a r at).in_turn;
-    ends = λ before steps found budget at. may_come limit before (Ended steps found budget) (λ e is. absurd cc) at;
-    invalids = λ before number at. may_come limit before (Invalid number) (λ e is. absurd cc) at;
+    ends = λ before steps found budget at. may_come limit before (Ended steps found budget) tt at;
+    native_ends = λ before asks at. may_come limit before (NativeEnded asks) tt at;
+    invalids = λ before number at. may_come limit before (Invalid number) tt at;
+    refusals = λ before ask refusal at. may_come limit before (Refused ask refusal) tt at;
   }
 
-  pub run_finishes : (limit : ℕ) → IsFinished (run plan board limit)
+  pub run_finishes : (limit : ℕ) → IsFinished (run plan board natives limit)
   run_finishes limit = record {
     end = (end_of_run limit).0;
     ends = (end_of_run limit).1;
-    last = (notes_of (unfinished plan board limit), notes_of_run limit);
-    once = λ before e after is.
-        elim (comes_or_last (May plan board) [] (notes_of (unfinished plan board limit)) (Finished (end_of_run limit).0) before (Finished e) after (ends_all limit).comes (sym (notes_of_run limit) ∙ is)) [
-          | inl may ↦ absurd may
-          | inr last ↦ last.1
-        ];
+    last = (notes_of (unfinished plan board natives limit), notes_of_run limit);
+    once = λ before e after is. (finish_at limit before e after is).1.1;
   }
 
-  -- the finish is no choice
-  choices_of_run : (limit : ℕ) → length (chosen_in (notes_of (run plan board limit))) ≡ length (chosen_in (notes_of (unfinished plan board limit)))
+  -- neither the finish is a choice nor a closing
+  choices_of_run : (limit : ℕ) → length (chosen_in (notes_of (run plan board natives limit))) ≡ length (chosen_in (notes_of (unfinished plan board natives limit)))
   choices_of_run limit =
-      let notes = notes_of (unfinished plan board limit) in
-      ap (λ l. length (chosen_in l)) (notes_of_run limit) ∙ ap length (chosen_then notes (Finished (end_of_run limit).0 ∷ []) ∙ append-nil (chosen_in notes))
+      let notes = notes_of (unfinished plan board natives limit) in
+      ap (λ l. length (chosen_in l)) (notes_of_run limit) ∙ ap length (chosen_then notes (Finished (end_of_run limit).0 ∷ map Closed (closings limit)) ∙ ap (λ l. chosen_in notes ++ l) (closed_unchosen (closings limit)) ∙ append-nil (chosen_in notes))
 
-  pub run_keeps_limit : (limit : ℕ) → KeepsLimit plan limit (run plan board limit)
+  pub run_keeps_limit : (limit : ℕ) → KeepsLimit plan limit (run plan board natives limit)
   run_keeps_limit limit =
       let all = ends_all limit in
       let same = sym (choices_of_run limit) in
@@ -298,41 +317,31 @@ module _ (plan : Plan) (board : Blackboard) where
         exhausted = all.exhausted;
       }
 
-  pub run_chooses : (limit : ℕ) (before : List Note) (number : ℕ) (a : Activation) (r : ℤ) → At (notes_of (run plan board limit)) before (Chosen number a r) → IsChosenAfter plan (run plan board (number - 1)) before a r
+  pub run_chooses : (limit : ℕ) (before : List Note) (number : ℕ) (a : Activation) (r : ℤ) → At (notes_of (run plan board natives limit)) before (Chosen number a r) → IsChosenAfter plan (run plan board natives (number - 1)) before a r
   run_chooses limit before number a r at = (may_choose_at limit before number a r at).choice
 
   -- ---- what the events ask for
 
   -- the run up to its finish answers the events that it tells
-  goes_all : (limit : ℕ) → GoesOn plan (unfinished plan board limit)
+  goes_all : (limit : ℕ) → GoesOn plan (unfinished plan board natives limit)
   goes_all limit =
-      let first : State = first_state plan board in
-      let p = start plan board in
+      let first : State = first_state plan board natives in
+      let p = start plan board natives in
       goes_then plan p (cycles plan 0 limit) p.end refl (reports_board plan first) (λ s. cycles_go plan 0 limit s)
 
-  pub run_is_answered : (limit : ℕ) → IsAnswered plan (notes_of (run plan board limit))
+  pub run_is_answered : (limit : ℕ) → IsAnswered plan (notes_of (run plan board natives limit))
   run_is_answered limit =
-      let p = unfinished plan board limit in
-      let end = end_of_run limit in
-      let goes = goes_all limit in
-      let comes = goes.comes [] refl in
       record {
         choices = λ before cycle a r at.
-            elim (comes_or_last (MayAsk plan) [] (notes_of p) (Finished end.0) before (Chosen cycle a r) at.0 comes (sym (notes_of_run limit) ∙ at.1)) [
-              | inl may ↦ may
-              | inr last ↦ absurd cc
-            ];
+            comes_before (MayAsk plan) [] (notes_of (unfinished plan board natives limit)) (end_of_run limit).0 (closings limit) before (Chosen cycle a r) at.0 ((goes_all limit).comes [] refl) tt (sym (notes_of_run limit) ∙ at.1);
         finish = λ before e at. at_finish limit before e at.0 at.1;
       }
     where
-      at_finish : (limit : ℕ) (before : List Note) (e : End) (after : List Note) → notes_of (run plan board limit) ≡ before ++ Finished e ∷ after
+      at_finish : (limit : ℕ) (before : List Note) (e : End) (after : List Note) → notes_of (run plan board natives limit) ≡ before ++ Finished e ∷ after
           → (owed : List (ℕ × ℕ)) × (answered_in before ++ owed ≡ asked_for plan (events_in before)) × MayOwe e owed
       at_finish limit before e after is =
           let end = end_of_run limit in
-          let none : after ≡ [] = (run_finishes limit).once before e after is in
-          let same : notes_of (unfinished plan board limit) ++ Finished end.0 ∷ [] ≡ before ++ Finished e ∷ [] = sym (notes_of_run limit) ∙ is ∙ ap (λ l. before ++ Finished e ∷ l) none in
-          let parts = same_last (notes_of (unfinished plan board limit)) before (Finished end.0) (Finished e) same in
-          let is_end : end.0 ≡ e = same_end end.0 e parts.1 in
+          let parts = finish_at limit before e after is in
           let left = (goes_all limit).owes end.0 end.1 in
-          subst (λ ns. (owed : List (ℕ × ℕ)) × (answered_in ns ++ owed ≡ asked_for plan (events_in ns)) × MayOwe e owed) parts.0
-          (left.0, left.1, subst (λ f. MayOwe f left.0) is_end left.2)
+          subst (λ ns. (owed : List (ℕ × ℕ)) × (answered_in ns ++ owed ≡ asked_for plan (events_in ns)) × MayOwe e owed) (sym parts.1.0)
+          (left.0, left.1, subst (λ f. MayOwe f left.0) (sym parts.0) left.2)

@@ -24,19 +24,23 @@ use Rattle.bb_trace.specs.Source.{Source}
 use Rattle.bb_trace.specs.declared.end.End.{End}
 use Rattle.bb_trace.specs.declared.end.End.TheVariants as finishes
 use Rattle.bb_trace.specs.declared.note.Note.{Note}
-use Rattle.bb_trace.specs.declared.note.Note.TheVariants.{Board, Triggered, Declined, Obviated, Retriggered, Chosen, Invalid, Ended, Finished}
+use Rattle.bb_trace.specs.declared.note.Note.TheVariants.{Board, Triggered, Declined, Obviated, Retriggered, Chosen, Invalid, Ended, Refused, NativeEnded, Finished, Closed}
+use Rattle.bb_trace.specs.Ask.{Ask}
+use Rattle.bb_trace.specs.Native.{Native}
+use Rattle.bb_trace.specs.Roster.{after_act_at, asks_at, place_of}
+use Rattle.bb_trace.specs.Sight.{sight_of}
 use Rattle.bb_trace.specs.Plan.{Plan}
 use Rattle.bb_run.specs.declared.execution.Verdict.{Verdict}
 use Rattle.bb_run.specs.declared.execution.Verdict.TheVariants as verdicts
-use Rattle.bb_run.specs.declared.state.State.{State}
-use Rattle.bb_run.specs.State.{with_agenda, with_board}
+use Rattle.bb_run.specs.State.{State, with_agenda, with_board, with_natives}
 use Rattle.bb_run.specs.Told.{Response, Stretch, telling, idle, over, after_told, and_then, and_then_unless, segment}
 use Rattle.bb_run.specs.Asking.{attempt, end_by, entry_of}
 use Rattle.bb_run.specs.Processing.{events_in, processing, processing_all, reported, response}
-use Rattle.bb_run.specs.Run.{rating, choice, wait, wait_for, quiet, with_notes_taken, answered, execution, acting, validity, chosen_with, if_valid, cycle, if_chosen, cycles}
+use Rattle.bb_run.specs.Run.{rating, choice, wait, wait_for, quiet, with_notes_taken, answered, calling, each_applied, execution, acting, validity, chosen_with, if_valid, cycle, if_chosen, cycles}
 use Rattle.bb_run.specs.Foci.{with_foci}
 use Rattle.bb_run.specs.Order.{all_of, notes_of, chosen_in, after_note, pending_after, without}
 use Rattle.bb_run.specs.Phases.{Phase, outside, rested, inside, after_in, phase_after, IsQuiet}
+use Rattle.bb_run.proofs.AskRule.{HoldsOfAsks, asks_hold}
 use Rattle.bb_run.proofs.OrderLemmas.{Comes, comes_none, comes_one, comes_then}
 use Rattle.bb_run.proofs.OrderlyParts.{all_of_two, IsEarly, early_end, IsEarlyVerdict, early_verdict}
 use Rattle.bb_run.proofs.PendingLemmas.{All-last, all_rebased, chosen_then}
@@ -44,7 +48,7 @@ use Rattle.bb_run.proofs.ResponseRule.{HoldsOfParts, holds}
 use Rattle.bb_run.proofs.OrderlyRuns.{Begins, begins_next}
 use Rattle.bb_run.proofs.CountLemmas.{cycle_chooses, wait_silent}
 
-module _ (plan : Plan) (board : Blackboard) where
+module _ (plan : Plan) (board : Blackboard) (natives : List Native) where
   -- ---- where a run is
 
   abbrev pub IsOne : Activation → Type 0
@@ -73,11 +77,14 @@ module _ (plan : Plan) (board : Blackboard) where
 
   -- a note may come where the run is
   abbrev pub MayStand : List Note → Note → Type 0
-  MayStand before (Board note) = (phase_after before ≡ inside) ⊎ IsQuiet plan board before note
+  MayStand before (Board note) = (phase_after before ≡ inside) ⊎ IsQuiet plan board natives before note
   MayStand before (Chosen cycle a r) = (phase_after before ≡ outside) ⊎ (phase_after before ≡ rested)
   MayStand before (Ended steps found allowed) = phase_after before ≡ inside
+  MayStand before (NativeEnded asks) = phase_after before ≡ inside
   MayStand before (Invalid number) = phase_after before ≡ inside
+  MayStand before (Refused ask refusal) = phase_after before ≡ inside
   MayStand before (Finished end) = ⊥
+  MayStand before (Closed closing) = ⊥
   MayStand before _ = ⊤
 
   -- notes after these, with what they leave
@@ -193,11 +200,53 @@ module _ (plan : Plan) (board : Blackboard) where
       subst (λ l. Moves past l outside (with_notes_taken s) (Some (end_by stop))) (sym (append-nil notes))
       (record { comes = board_comes past s.board.world.notes s.agenda at; leaves = λ none. absurd cc; early = early_end stop })
 
-  acts_by : (act : Act) (a : Activation) (s : State) (past : List Note) → IsAt past inside s.agenda → TellsTo past outside (reported plan (execution act a s))
-  acts_by (acts.Code body) a s past at =
+  -- ---- the call of a native
+
+  -- the notes of asks leave a cycle open
+  abbrev Inside : State → Response → Type 0
+  Inside s r = (past : List Note) → IsAt past inside s.agenda → Moves past r.told inside r.state r.end
+
+  inside_then : (r : Response) (next : State → Response) (after : Phase) (end : Option End) → r.end ≡ end → (past : List Note) → Moves past r.told inside r.state r.end
+      → (IsAt (past ++ r.told) inside r.state.agenda → Moves (past ++ r.told) (next r.state).told after (next r.state).state (next r.state).end)
+      → let p = and_then_unless end r next in Moves past p.told after p.state p.end
+  inside_then r next after (Some e) is past first rest = record { comes = first.comes; leaves = λ none. absurd (let no : Some e ≡ None = sym is ∙ none in cc); early = first.early }
+  inside_then r next after None is past first rest =
+      let q = next r.state in moves_more past r.told q.told after q.state q.end first.comes (rest (first.leaves is))
+
+  -- after its notes are told
+  noted_inside : (s : State) (past : List Note) → IsAt past inside s.agenda → Moves past (map Board s.board.world.notes ++ []) inside (with_notes_taken s) None
+  noted_inside s past at =
+      let notes = map Board s.board.world.notes in
+      let there = board_leaves past s.board.world.notes s.agenda at in
+      subst (λ l. Moves past l inside (with_notes_taken s) None) (sym (append-nil notes))
+      (record { comes = board_comes past s.board.world.notes s.agenda at; leaves = λ none. record { phase_is = there.phase_is; pending = there.pending; known = there.known }; early = tt })
+
+  ask_parts : (asks : List Ask) → HoldsOfAsks asks Inside
+  ask_parts asks = record {
+    nothing = λ s past at. moves_none past inside s None tt at;
+    changed = λ s ask b is past at. noted_inside (with_board s b) past at;
+    refused = λ s number refusal past at. moves_one past (Refused number refusal) inside s at.phase_is (at_next past inside s.agenda s.agenda (Refused number refusal) at refl at.known);
+    full = λ s ask there is past at. moves_none past inside s (Some finishes.Full) tt at;
+    no_memory = λ s ask is past at. moves_none past inside s (Some finishes.Full) tt at;
+    further = λ s r next first rest past at. inside_then r next inside r.end refl past (first past at) (rest (past ++ r.told));
+  }
+
+  calls : (place : Option ℕ) (a : Activation) (s : State) (past : List Note) → IsAt past inside s.agenda → let r = calling place a s in Moves past r.told outside r.state r.end
+  calls None a s past at = record { comes = comes_none MayStand past; leaves = λ none. absurd cc; early = tt }
+  calls (Some place) a s past at =
+      let seen = sight_of s.board in
+      let asks = asks_at s.natives place a.unit seen in
+      let t = with_natives s (after_act_at s.natives place a.unit seen) in
+      let r = each_applied 1 asks t in
+      let note : Note = NativeEnded (length asks) in
+      inside_then r (λ u. telling (note ∷ []) u None) outside r.end refl past (asks_hold asks Inside (ask_parts asks) t past at)
+      (λ there. moves_one (past ++ r.told) note outside r.state there.phase_is (at_next (past ++ r.told) inside r.state.agenda r.state.agenda note there refl there.known))
+
+  acts_by : (name : List ℕ) (act : Act) (a : Activation) (s : State) (past : List Note) → IsAt past inside s.agenda → TellsTo past outside (reported plan (execution name act a s))
+  acts_by name (acts.Code body) a s past at =
       let e = attempt body.code (entry_of a.unit None) s.board in
       reports past outside (answered body.code (with_board s e.1) e.0) (executes body.code (with_board s e.1) e.0 past at)
-  acts_by acts.Native a s past at = reports past outside (execution acts.Native a s) (record { comes = comes_none MayStand past; leaves = λ none. absurd cc; early = tt })
+  acts_by name acts.Native a s past at = let place = place_of s.natives name in reports past outside (calling place a s) (calls place a s past at)
 
   -- each place within a list has its item
   within_some : {X : Type 0} (xs : List X) (i : ℕ) → i < length xs → slice_get xs i ≡ None → ⊥
@@ -207,7 +256,7 @@ module _ (plan : Plan) (board : Blackboard) where
 
   acts_at : (source : Option Source) (a : Activation) (s : State) (past : List Note) → slice_get plan.sources a.source ≡ source → IsOne a → IsAt past inside s.agenda → TellsTo past outside (acting plan source a s)
   acts_at None a s past is one at = absurd (within_some plan.sources a.source one is)
-  acts_at (Some source) a s past is one at = acts_by source.act a s past at
+  acts_at (Some source) a s past is one at = acts_by source.name source.act a s past at
 
   -- where no cycle is open
   abbrev IsFree : List Note → Type 0
@@ -296,7 +345,7 @@ module _ (plan : Plan) (board : Blackboard) where
       }
 
   -- quiescence in its turn
-  quiet_may : (told : List (List Note)) (made : ℕ) (s : State) (past : List Note) → Begins plan board told made s → SoFar told made past → choice plan s ≡ None → IsAt past outside s.agenda → IsQuiet plan board past (happened quiescence)
+  quiet_may : (told : List (List Note)) (made : ℕ) (s : State) (past : List Note) → Begins plan board natives told made s → SoFar told made past → choice plan s ≡ None → IsAt past outside s.agenda → IsQuiet plan board natives past (happened quiescence)
   quiet_may told made s past begins far none at = record {
     is = refl;
     phase = at.phase_is;
@@ -310,7 +359,7 @@ module _ (plan : Plan) (board : Blackboard) where
     nothing = none;
   }
 
-  quiet_moves : (s : State) (past : List Note) → IsQuiet plan board past (happened quiescence) → IsAt past outside s.agenda → TellsTo past rested (quiet plan s)
+  quiet_moves : (s : State) (past : List Note) → IsQuiet plan board natives past (happened quiescence) → IsAt past outside s.agenda → TellsTo past rested (quiet plan s)
   quiet_moves s past may at =
       let note : Note = Board (happened quiescence) in
       let r = response plan quiescence s in
@@ -328,7 +377,7 @@ module _ (plan : Plan) (board : Blackboard) where
     after_quiet None is goes at = ends_none (past ++ notes_of (wait plan s)) (Some finishes.Quiescence) (λ e. at.phase_is)
     after_quiet (Some a) is goes at = lasts a rested (inr at.phase_is) at is goes
 
-    after_wait : (c : Option Activation) → choice plan s ≡ c → (choice plan s ≡ None → IsQuiet plan board past (happened quiescence)) → IsAt past outside s.agenda → TellsLast past (and_then (wait plan s) next)
+    after_wait : (c : Option Activation) → choice plan s ≡ c → (choice plan s ≡ None → IsQuiet plan board natives past (happened quiescence)) → IsAt past outside s.agenda → TellsLast past (and_then (wait plan s) next)
     after_wait None is may at =
         let same : wait plan s ≡ quiet plan s = ap (wait_for plan s) is in
         let told : TellsTo past rested (wait plan s) = subst (TellsTo past rested) (sym same) (quiet_moves s past (may is) at) in
@@ -342,7 +391,7 @@ module _ (plan : Plan) (board : Blackboard) where
         ends_then past outside p next p.end refl told
         (λ ended later. subst (λ c. TellsLast (past ++ notes_of p) (if_chosen p.state c (λ x. follows x p.state))) (sym (ap (choice plan) there ∙ is)) (lasts a outside (inl later.phase_is) later (ap (choice plan) there ∙ is) ended))
 
-  pub all_cycles : (made left : ℕ) (told : List (List Note)) (past : List Note) (s : State) → Begins plan board told made s → SoFar told made past → IsAt past outside s.agenda → TellsLast past (cycles plan made left s)
+  pub all_cycles : (made left : ℕ) (told : List (List Note)) (past : List Note) (s : State) → Begins plan board natives told made s → SoFar told made past → IsAt past outside s.agenda → TellsLast past (cycles plan made left s)
   unfolding cycles
   all_cycles made zero told past s begins far at =
       after_wait s past (λ a t. over finishes.Limit t) (λ a phase free there is goes. ends_none (past ++ notes_of (wait plan s)) (Some finishes.Limit) (λ e. absurd cc))
@@ -354,5 +403,5 @@ module _ (plan : Plan) (board : Blackboard) where
       (λ a phase free there is goes.
       let p = cycle plan (made + 1) a t in
       ends_then later outside p (cycles plan (made + 1) left) p.end refl (cycle_moves (made + 1) a t later phase free there is)
-      (λ on at'. all_cycles (made + 1) left (told ++ ((wait plan s).told ++ p.told)) (later ++ notes_of p) p.state (begins_next plan board told made s a begins goes is on) (so_far_next told made past a s t far) at'))
+      (λ on at'. all_cycles (made + 1) left (told ++ ((wait plan s).told ++ p.told)) (later ++ notes_of p) p.state (begins_next plan board natives told made s a begins goes is on) (so_far_next told made past a s t far) at'))
       (choice plan s) refl (λ none. quiet_may told made s past begins far none at) at

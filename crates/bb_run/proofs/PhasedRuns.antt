@@ -1,21 +1,23 @@
 -- Each run goes by its phases, after what its blackboard had noted.
-use Rattle.std.proofs.Common.{◌≡◌, ◌⊎◌, inl, inr, ℕ, ◌+◌, List, [], ◌∷◌, ◌++◌, length, map, Option, Some, None, refl, sym, ap, ◌∙◌, arith}
+use Rattle.std.proofs.Common.{◌≡◌, ℕ, ◌+◌, List, [], ◌∷◌, ◌++◌, length, map, Option, Some, None, refl, sym, ap, ◌∙◌, arith}
 use Rattle.std.proofs.lemmas.List.{append-nil}
 use Rattle.bb_trace.specs.Board.{Board as Blackboard}
 use Rattle.bb_trace.specs.declared.end.End.{End}
 use Rattle.bb_trace.specs.declared.end.End.TheVariants as finishes
 use Rattle.bb_trace.specs.declared.note.Note.{Note}
-use Rattle.bb_trace.specs.declared.note.Note.TheVariants.{Board, Chosen, Invalid, Ended, Finished}
+use Rattle.bb_trace.specs.declared.note.Note.TheVariants.{Board, Chosen, Invalid, Ended, Refused, NativeEnded, Finished}
+use Rattle.bb_trace.specs.Native.{Native}
+use Rattle.bb_trace.specs.Roster.{closings_of}
 use Rattle.bb_trace.specs.Plan.{Plan}
-use Rattle.bb_run.specs.declared.state.State.{State}
+use Rattle.bb_run.specs.State.{State}
 use Rattle.bb_run.specs.Told.{Response, Stretch, after_told, and_then_unless}
 use Rattle.bb_run.specs.Processing.{events_in, processing_all}
-use Rattle.bb_run.specs.Run.{first_state, noted, cycles, finish_segments, unfinished, run}
+use Rattle.bb_run.specs.Run.{first_state, noted, cycles, finish, finish_segments, unfinished, run}
 use Rattle.bb_run.specs.Foci.{setting_of}
 use Rattle.bb_run.specs.Order.{At, all_of, notes_of}
 use Rattle.bb_run.specs.Phases.{outside, rested, phase_after, GoesByPhases}
-use Rattle.bb_run.proofs.OrderLemmas.{comes_or_last, same_last}
-use Rattle.bb_run.proofs.OrderlyParts.{all_of_two}
+use Rattle.bb_run.proofs.OrderLemmas.{ComesBefore, comes_before, comes_last}
+use Rattle.bb_run.proofs.OrderlyParts.{all_of_more}
 use Rattle.bb_run.proofs.OrderlyRuns.{Begins, run_finishes}
 use Rattle.bb_run.proofs.PhaseLemmas.{MayStand, SoFar, TellsLast, all_cycles, at_first, ends_then, processes_all}
 use Rattle.bb_run.proofs.CountLemmas.{events_silent}
@@ -25,13 +27,10 @@ after_first : (notes : List Note) (q : Stretch) (next : State → Stretch) (end 
 after_first notes q next (Some e) = refl
 after_first notes q next None = refl
 
-same_end : (d e : End) → Finished d ≡ Finished e → e ≡ d
-same_end d e is = cc
-
-module _ (plan : Plan) (board : Blackboard) (limit : ℕ) where
+module _ (plan : Plan) (board : Blackboard) (natives : List Native) (limit : ℕ) where
   -- what is told first
   abbrev first : Response
-  first = noted (first_state plan board) [] None
+  first = noted (first_state plan board natives) [] None
 
   -- its events
   abbrev processed : Stretch
@@ -42,69 +41,59 @@ module _ (plan : Plan) (board : Blackboard) (limit : ℕ) where
   later = and_then_unless processed.end processed (cycles plan 0 limit)
 
   -- whatever the limit, it begins so
-  begins : processed.end ≡ None → Begins plan board (first.told ∷ processed.told) 0 processed.state
+  begins : processed.end ≡ None → Begins plan board natives (first.told ∷ processed.told) 0 processed.state
   begins goes = λ left any is.
       let same : any ≡ left = omega (arith, is) in
       after_first first.told processed (cycles plan 0 any) processed.end
       ∙ ap (λ e. after_told (first.told ∷ []) (and_then_unless e processed (cycles plan 0 any))) goes
       ∙ ap (λ n. after_told (first.told ∷ processed.told) (cycles plan 0 n processed.state)) same
 
-  begun : unfinished plan board limit ≡ after_told (first.told ∷ []) later
+  begun : unfinished plan board natives limit ≡ after_told (first.told ∷ []) later
   begun = after_first first.told processed (cycles plan 0 limit) processed.end
 
   -- it made no cycle
-  so_far : SoFar plan board (first.told ∷ processed.told) 0 (notes_of processed)
+  so_far : SoFar plan board natives (first.told ∷ processed.told) 0 (notes_of processed)
   so_far = record {
     notes = ap (λ l. l ++ notes_of processed) (append-nil (map Board board.world.notes));
     count = ap (λ l. length l) (events_silent plan (events_in first.told) first.state);
   }
 
-  ends : TellsLast plan board [] later
+  ends : TellsLast plan board natives [] later
   ends =
-      ends_then plan board [] outside processed (cycles plan 0 limit) processed.end refl (processes_all plan board (events_in first.told) [] outside first.state (at_first plan board (setting_of plan) first.state.agenda.foci))
-      (λ goes at. all_cycles plan board 0 limit (first.told ∷ processed.told) (notes_of processed) processed.state (begins goes) so_far at)
+      ends_then plan board natives [] outside processed (cycles plan 0 limit) processed.end refl (processes_all plan board natives (events_in first.told) [] outside first.state (at_first plan board natives (setting_of plan) first.state.agenda.foci))
+      (λ goes at. all_cycles plan board natives 0 limit (first.told ∷ processed.told) (notes_of processed) processed.state (begins goes) so_far at)
 
   abbrev rest : List (List Note)
-  rest = later.told ++ finish_segments later.end
+  rest = later.told ++ finish_segments later.end later.state.natives
 
   abbrev end : End
-  end = (run_finishes plan board limit).end
+  end = (run_finishes plan board natives limit).end
 
   later_ends : later.end ≡ Some end
-  later_ends = sym (ap (λ u. u.end) begun) ∙ (run_finishes plan board limit).ends
+  later_ends = sym (ap (λ u. u.end) begun) ∙ (run_finishes plan board natives limit).ends
 
-  notes_are : all_of rest ≡ notes_of later ++ Finished end ∷ []
-  notes_are = all_of_two later.told (finish_segments later.end) ∙ ap (λ e. notes_of later ++ all_of (finish_segments e)) later_ends
+  notes_are : all_of rest ≡ notes_of later ++ finish end later.state.natives
+  notes_are = ap (λ e. all_of (later.told ++ finish_segments e later.state.natives)) later_ends ∙ all_of_more later.told (finish end later.state.natives)
 
-  -- a note after the first segment may come there, or it is the finish
-  comes_there : (before : List Note) (note : Note) (at : At (all_of rest) before note) → MayStand plan board before note ⊎ ((note ≡ Finished end) × (at.0 ≡ []))
-  comes_there before note at = comes_or_last (MayStand plan board) [] (notes_of later) (Finished end) before note at.0 ends.comes (sym notes_are ∙ at.1)
-
-  stands : (before : List Note) (note : Note) → At (all_of rest) before note → ((e : End) → note ≡ Finished e → ⊥) → MayStand plan board before note
-  stands before note at other =
-      elim (comes_there before note at) [
-        | inl may ↦ may
-        | inr last ↦ absurd (other end last.0)
-      ]
+  -- a note after the first segment that does not come with the finish
+  stands : (before : List Note) (note : Note) → At (all_of rest) before note → ComesBefore note → MayStand plan board natives before note
+  stands before note at early = comes_before (MayStand plan board natives) [] (notes_of later) end (closings_of later.state.natives) before note at.0 ends.comes early (sym notes_are ∙ at.1)
 
   finish_at : (before : List Note) → At (all_of rest) before (Finished finishes.Quiescence) → phase_after before ≡ rested
   finish_at before at =
-      elim (comes_there before (Finished finishes.Quiescence) at) [
-        | inl may ↦ absurd may
-        | inr last ↦
-            let same : notes_of later ++ Finished end ∷ [] ≡ before ++ Finished finishes.Quiescence ∷ [] = sym notes_are ∙ at.1 ∙ ap (λ l. before ++ Finished finishes.Quiescence ∷ l) last.1 in
-            let parts = same_last (notes_of later) before (Finished end) (Finished finishes.Quiescence) same in
-            let quiet' : later.end ≡ Some finishes.Quiescence = later_ends ∙ ap (λ e. Some e) (sym (same_end end finishes.Quiescence parts.1)) in
-            ap phase_after (sym parts.0) ∙ ends.quiet_end quiet'
-      ]
+      let parts = comes_last (MayStand plan board natives) [] (notes_of later) end (closings_of later.state.natives) before finishes.Quiescence at.0 ends.comes (λ may. may) (sym notes_are ∙ at.1) in
+      let quiet' : later.end ≡ Some finishes.Quiescence = later_ends ∙ ap (λ e. Some e) (sym parts.0) in
+      ap phase_after parts.1.0 ∙ ends.quiet_end quiet'
 
-  pub run_goes_by_phases : GoesByPhases plan board (run plan board limit)
+  pub run_goes_by_phases : GoesByPhases plan board natives (run plan board natives limit)
   run_goes_by_phases = record {
     rest = rest;
-    begins = ap (λ u. u.told ++ finish_segments u.end) begun ∙ ap (λ l. l ∷ rest) (append-nil (map Board board.world.notes));
-    notes = λ before note at. stands before (Board note) at (λ e is. absurd cc);
-    choices = λ before cycle a r at. stands before (Chosen cycle a r) at (λ e is. absurd cc);
-    ends = λ before steps found budget at. stands before (Ended steps found budget) at (λ e is. absurd cc);
-    invalids = λ before number at. stands before (Invalid number) at (λ e is. absurd cc);
+    begins = ap (λ u. u.told ++ finish_segments u.end u.state.natives) begun ∙ ap (λ l. l ∷ rest) (append-nil (map Board board.world.notes));
+    notes = λ before note at. stands before (Board note) at tt;
+    choices = λ before cycle a r at. stands before (Chosen cycle a r) at tt;
+    ends = λ before steps found budget at. stands before (Ended steps found budget) at tt;
+    native_ends = λ before asks at. stands before (NativeEnded asks) at tt;
+    invalids = λ before number at. stands before (Invalid number) at tt;
+    refusals = λ before ask refusal at. stands before (Refused ask refusal) at tt;
     finish = finish_at;
   }

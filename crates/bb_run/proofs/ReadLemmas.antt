@@ -14,19 +14,46 @@ use Rattle.bb_verify.specs.Budget.{budget}
 use Rattle.bb_verify.specs.declared.checked.TheConstants.{FOUND_LIMIT}
 use Rattle.bb_machine.specs.Entry.{Entry}
 use Rattle.bb_trace.specs.Board.{Board as Blackboard}
+use Rattle.bb_trace.specs.Event.{Event}
 use Rattle.bb_trace.specs.Law.{HasSoundCodes}
 use Rattle.bb_trace.specs.Questions.{IsQuestion}
 use Rattle.bb_trace.specs.Reaction.{Reaction}
 use Rattle.bb_trace.specs.Source.{Source}
 use Rattle.bb_trace.specs.declared.end.End.{End}
 use Rattle.bb_trace.specs.Plan.{Plan}
-use Rattle.bb_run.specs.declared.state.State.{State}
+use Rattle.bb_run.specs.State.{State}
 use Rattle.bb_run.specs.Told.{Response, and_then_unless}
 use Rattle.bb_run.specs.Asking.{attempt, entry_of}
+use Rattle.bb_run.specs.Processing.{response}
 use Rattle.bb_run.specs.Run.{validity}
 use Rattle.bb_run.specs.Causes.{IsAsked, code_of}
 use Rattle.bb_run.specs.Reads.{AsksByReading, LeavesBoard}
 use Rattle.bb_run.proofs.ResponseRule.{HoldsOfParts, OfPlan, holds}
+
+-- no native answers to an event
+module _ (plan : Plan) where
+  abbrev SameNatives : State → Response → Type 0
+  SameNatives s r = r.state.natives ≡ s.natives
+
+  same_then : (s : State) (r : Response) (next : State → Response) (end : Option End) → SameNatives s r → SameNatives r.state (next r.state) → SameNatives s (and_then_unless end r next)
+  same_then s r next (Some e) first rest = first
+  same_then s r next None first rest = rest ∙ first
+
+  native_parts : HoldsOfParts plan SameNatives
+  native_parts = record {
+    nothing = λ s. refl;
+    full = λ s is. refl;
+    stopped = λ s code entry stop of came. refl;
+    went_on = λ s code entry r of same. same;
+    triggered = λ s source unit base under. refl;
+    declined = λ s source unit. refl;
+    obviated = λ s number. refl;
+    rebased = λ s number base. refl;
+    further = λ s r next first rest. same_then s r next r.end first rest;
+  }
+
+  pub same_natives : (event : Event) (s : State) → (response plan event s).state.natives ≡ s.natives
+  same_natives event s = holds plan SameNatives native_parts event s
 
 module _ (plan : Plan) (reading : AsksByReading plan) where
   -- a response leaves the blackboard as it was
@@ -60,6 +87,7 @@ module _ (plan : Plan) (reading : AsksByReading plan) where
   pub run_reads : LeavesBoard plan
   run_reads = record {
     events = λ event s. holds plan Leaves response_parts event s;
+    natives = same_natives plan;
     choices = λ source a board there. validity_leaves source source.revalidate a board there refl;
   }
 

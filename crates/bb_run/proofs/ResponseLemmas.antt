@@ -10,7 +10,7 @@ use Rattle.bb_trace.specs.Reaction.{Reaction}
 use Rattle.bb_trace.specs.Source.{Source}
 use Rattle.bb_trace.specs.declared.end.End.{End}
 use Rattle.bb_trace.specs.declared.note.Note.{Note}
-use Rattle.bb_run.specs.declared.state.State.{State}
+use Rattle.bb_run.specs.State.{State}
 use Rattle.bb_run.specs.Told.{Response, after_told, and_then, and_then_unless, idle}
 use Rattle.bb_run.specs.Processing.{reacting_to, reacting_to_each, response_by, source_response}
 use Rattle.bb_run.specs.proving.Telling.{IsResponse}

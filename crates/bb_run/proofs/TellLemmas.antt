@@ -17,11 +17,10 @@ use Rattle.bb_run.specs.declared.cycles.Decision.TheVariants.{Act, Over}
 use Rattle.bb_trace.specs.Plan.{Plan}
 use Rattle.bb_trace.specs.Board.{Board as Blackboard}
 use Rattle.bb_run.specs.declared.execution.Verdict.{Verdict}
-use Rattle.bb_run.specs.declared.state.State.{State}
 use Rattle.bb_run.specs.declared.teller.Teller.{Teller}
 use Rattle.bb_run.specs.Told.{Response, Stretch, after_told, and_then, and_then_unless, idle, over, segment, telling}
 use Rattle.bb_run.specs.Processing.{event_in, events_in, processing, processing_all, reported}
-use Rattle.bb_run.specs.State.{with_board}
+use Rattle.bb_run.specs.State.{State, with_board}
 use Rattle.bb_run.specs.Run.{acting, choice, chosen_with, cycle, cycle_of, cycles, if_chosen, if_valid, quiet, rating, validity, wait, wait_for}
 use Rattle.bb_run.specs.proving.Telling.{CutIn, Finishes, IsResponse, Leaves, Makes, MakesBy, Place, Same, IsTold, Validates, Waited, decision_after, decision_by, option_list}
 use Rattle.bb_run.proofs.SegmentLemmas.{told_nothing, told_then, cut_then, cut_before}

@@ -1,74 +1,66 @@
 -- No run is stuck, and each execution keeps its budget.
-use Rattle.std.proofs.Common.{◌≡◌, ◌⊎◌, ◌≤◌, inl, inr, ℕ, zero, suc, ◌+◌, ◌-◌, ℤ, List, [], ◌∷◌, ◌++◌, Option, Some, None, Result, Ok, Err, refl, sym, ap, subst, ◌∙◌, arith}
-use Rattle.std.specs.Prelude.{true, All, Contains, filter, map, option_and_then, slice_get}
+use Rattle.std.proofs.Common.{◌≡◌, ◌≤◌, inl, inr, ℕ, zero, suc, ◌+◌, ◌-◌, ℤ, List, [], ◌∷◌, ◌++◌, length, Option, Some, None, Result, Ok, Err, refl, sym, subst, ◌∙◌, arith}
+use Rattle.std.specs.Prelude.{All, Contains, map, option_and_then, slice_get}
 use Rattle.std.proofs.lemmas.List.Elements.{All-append, All-cons, All-contains, All-filter, All-head, All-nil, All-tail, All-weaker}
-use Rattle.std.proofs.lemmas.Option.{slice_get_within, get_or_from_slice_get}
 use Rattle.bb_schema.specs.Schema.{Schema}
 use Rattle.bb_schema.specs.Fits as schemas
 use Rattle.bb_code.specs.Code.{IsCode}
 use Rattle.bb_verify.specs.Accepted.{Checked}
 use Rattle.bb_verify.specs.Budget.{budget}
 use Rattle.bb_verify.specs.declared.checked.TheConstants.{FOUND_LIMIT}
-use Rattle.bb_machine.proofs.Laws.{activation_fits, activation_lasts, activation_never_stuck, activation_reads, activation_schema, activation_within_budget, was_outlives}
+use Rattle.bb_machine.proofs.Laws.{activation_fits, activation_lasts, activation_never_stuck, activation_schema, activation_within_budget, was_outlives}
 use Rattle.bb_machine.specs.Answer.{Answer}
 use Rattle.bb_machine.specs.Answer.TheVariants as answers
 use Rattle.bb_machine.specs.Fits.{Fits}
-use Rattle.bb_machine.specs.Kinds.{WasOf}
 use Rattle.bb_machine.specs.NeverWrong.{Begins, KeepsBudget as KeepsOwnBudget, NeverStuck}
 use Rattle.bb_machine.specs.Outcome.{Outcome}
 use Rattle.bb_machine.specs.Stop.{Stop}
 use Rattle.bb_machine.specs.Stop.TheVariants as stops
 use Rattle.bb_agenda.specs.declared.activation.Activation.{Activation}
 use Rattle.bb_agenda.specs.Agenda.{pending_of}
-use Rattle.bb_agenda.specs.Changes.{other_than, with_executed, with_obviated}
+use Rattle.bb_agenda.specs.Changes.{other_than}
 use Rattle.bb_agenda.proofs.Laws.{chosen_some, pending_executed, pending_obviated}
 use Rattle.bb_trace.specs.Act.{Act}
 use Rattle.bb_trace.specs.Act.TheVariants as acts
-use Rattle.bb_trace.specs.Board.{Board as Blackboard, with_world}
-use Rattle.bb_trace.specs.BoardNote.{Note as BoardNote}
+use Rattle.bb_trace.specs.Board.{Board as Blackboard}
 use Rattle.bb_trace.specs.BoardNote.TheVariants.{Event as happened}
 use Rattle.bb_trace.specs.Event.{Event}
 use Rattle.bb_trace.specs.Event.TheVariants.{Quiescence as quiescence}
-use Rattle.bb_trace.specs.Events.{unit_of}
 use Rattle.bb_trace.specs.Law.{HasSoundCodes, IsMade}
-use Rattle.bb_trace.specs.Match.{any_match}
-use Rattle.bb_trace.specs.Reaction.{Reaction}
+use Rattle.bb_trace.specs.Closing.{Closing}
+use Rattle.bb_trace.specs.Native.{Native}
+use Rattle.bb_trace.specs.Roster.{after_act_at, asks_at, closings_of, place_of}
+use Rattle.bb_trace.specs.Sight.{sight_of}
+use Rattle.bb_trace.proofs.Laws.{acted_place}
 use Rattle.bb_trace.specs.Source.{Source}
-use Rattle.bb_trace.specs.World.{after_take}
 use Rattle.bb_trace.specs.declared.end.End.{End}
 use Rattle.bb_trace.specs.declared.end.End.TheVariants as finishes
 use Rattle.bb_trace.specs.declared.note.Note.{Note}
-use Rattle.bb_trace.specs.declared.note.Note.TheVariants.{Board, Chosen, Invalid, Ended, Finished}
+use Rattle.bb_trace.specs.declared.note.Note.TheVariants.{Board, Chosen, Invalid, Ended, Finished, Closed}
 use Rattle.bb_trace.specs.Plan.{Plan}
 use Rattle.bb_run.specs.declared.execution.Verdict.{Verdict}
 use Rattle.bb_run.specs.declared.execution.Verdict.TheVariants as verdicts
-use Rattle.bb_run.specs.declared.state.State.{State}
-use Rattle.bb_run.specs.State.{with_board}
-use Rattle.bb_run.specs.Told.{Response, Stretch, Told, telling, idle, over, after_told, and_then, and_then_unless, segment}
-use Rattle.bb_run.specs.Asking.{attempt, end_by, entry_of, reply_by}
-use Rattle.bb_run.specs.Processing.{events_in, processing_all, reported, response}
+use Rattle.bb_run.specs.State.{State, with_board, with_natives}
+use Rattle.bb_run.specs.Told.{Response, Stretch, over, after_told, and_then, segment}
+use Rattle.bb_run.specs.Asking.{attempt, entry_of, reply_by}
+use Rattle.bb_run.specs.Processing.{response}
 use Rattle.bb_run.specs.Order.{At, all_of, notes_of}
-use Rattle.bb_run.specs.Causes.{IsPart}
-use Rattle.bb_run.specs.Run.{rating, choice, quiet, wait, wait_for, with_notes_taken, noted, answered, execution, acting, verdict_by, verdict_of, validity, chosen_with, if_valid, cycle, if_chosen, cycles, first_state, start, finish_segments, unfinished, run}
+use Rattle.bb_run.specs.Causes.{IsPart, LacksNative}
+use Rattle.bb_run.specs.Run.{rating, choice, wait, wait_for, noted, answered, calling, each_applied, executing, execution, acting, verdict_by, verdict_of, validity, chosen_with, if_valid, cycle, if_chosen, cycles, first_state, start, finish, finish_segments, unfinished, run}
 use Rattle.bb_run.specs.Unstuck.{AsksFor, BeginsFor, FitsPlan, IsEventOf, IsReady, IsWellMade, KeepsBudget, NotStuck, SuitsSource}
-use Rattle.bb_run.proofs.EntryLemmas.{begins_with, code_within, fits_do, fits_revalidate, noted_events}
+use Rattle.bb_run.proofs.EntryLemmas.{begins_with, code_within, fits_do, fits_revalidate}
+use Rattle.bb_run.proofs.AskRule.{asks_hold}
 use Rattle.bb_run.proofs.OrderlyRuns.{run_chooses}
 use Rattle.bb_run.proofs.ReadLemmas.{plan_reads, run_reads}
-use Rattle.bb_run.proofs.UnstuckParts.{GoesWell, Waits, all_answer, obviate_begins, processes_all, require_begins, retrigger_begins, well_idle, well_one, well_over, well_segment, well_then, well_weaker}
+use Rattle.bb_run.proofs.UnstuckParts.{GoesWell, well_idle, well_one, well_over, well_segment, well_then}
+use Rattle.bb_run.proofs.UnstuckStates as states
+use Rattle.bb_run.proofs.UnstuckStates.{AskGoes, answer_to, ask_parts, event_asks, is_ready, native_ends, reports, there_at, well_noted}
 
 -- all notes of segments
 all_told : (P : Note → Type 0) (segments : List (List Note)) → All (All P) segments → All P (all_of segments)
 all_told P [] all = All-nil P
 all_told P (segment' ∷ more) all =
     All-append P segment' (all_of more) (All-head (All P) segment' more all) (all_told P more (All-tail (All P) segment' more all))
-
--- what a blackboard noted keeps every budget
-board_notes : (notes : List BoardNote) (more : List Note) → All KeepsBudget more → All KeepsBudget (map Board notes ++ more)
-board_notes [] more all = all
-board_notes (note ∷ notes) more all = All-cons KeepsBudget (Board note) (map Board notes ++ more) tt (board_notes notes more all)
-
-there_at : {X : Type 0} (xs : List X) (i : ℕ) (x : X) → slice_get xs i ≡ Some x → Contains xs x
-there_at xs i x is = (i, slice_get_within xs i x is, get_or_from_slice_get xs i x x is)
 
 -- the answer of a revalidation ends no run
 no_end : (answer : Answer) (end : End) → verdict_of answer ≡ verdicts.Over end → ⊥
@@ -78,79 +70,18 @@ no_end answers.Done end is = absurd cc
 no_end answers.Declined end is = absurd cc
 no_end (answers.Rated base) end is = absurd cc
 
-module _ (plan : Plan) (sound : IsWellMade plan) where
-  abbrev Ready : State → Type 0
-  Ready = IsReady plan
+module _ (plan : Plan) (sound : IsWellMade plan) (natives : List Native) where
+  abbrev pub Ready : State → Type 0
+  Ready = states.Ready plan sound natives
+
+  abbrev Given : Type 0
+  Given = ¬ LacksNative plan natives
 
   abbrev pub GoesOn : Stretch → Type 0
-  GoesOn = GoesWell (All KeepsBudget) Ready
+  GoesOn = GoesWell Given (All KeepsBudget) Ready
 
-  -- ---- events are processed
-
-  waits_in : (s : State) (ready : Ready s) → Waits plan sound s.board ready.board s
-  waits_in s ready = record { board = refl; waiting = ready.waiting }
-
-  ready_of : (b : Blackboard) (fits : FitsPlan plan b) (s : State) → Waits plan sound b fits s → Ready s
-  ready_of b fits s w = record {
-    board = subst (FitsPlan plan) (sym w.board) fits;
-    waiting = subst (λ (x : Blackboard). All (SuitsSource plan x) (pending_of s.agenda)) (sym w.board) w.waiting;
-  }
-
-  answer_to : (event : Event) (s : State) → Ready s → IsEventOf plan.schema s.board event → GoesWell KeepsBudget Ready (response plan event s)
-  answer_to event s ready here =
-      well_weaker KeepsBudget (Waits plan sound s.board ready.board) Ready (response plan event s) (ready_of s.board ready.board)
-      (all_answer plan sound s.board ready.board event here s (waits_in s ready))
-
-  processes : (list : List Event) (s : State) → All (IsEventOf plan.schema s.board) list → Ready s → GoesOn (processing_all plan list s)
-  processes list s here ready =
-      well_weaker (All KeepsBudget) (Waits plan sound s.board ready.board) Ready (processing_all plan list s) (ready_of s.board ready.board)
-      (processes_all plan sound s.board ready.board list s here (waits_in s ready))
-
-  -- what sources ask about an event
-  module _ (s : State) (event : Event) (ready : Ready s) (here : IsEventOf plan.schema s.board event) where
-    reacts : (source : Source) (reaction : Reaction) (a : Activation) → Contains (pending_of s.agenda) a → slice_get plan.sources a.source ≡ Some source
-        → (source.obviate ≡ Some reaction) ⊎ (source.retrigger ≡ Some reaction) → any_match plan.schema reaction.clauses event ≡ true
-        → Begins reaction.code.part reaction.code.frames reaction.code.code (entry_of a.unit (Some (unit_of event))) s.board
-    reacts source reaction a waits at (inl is) matched =
-        let suits = All-contains (SuitsSource plan s.board) (pending_of s.agenda) a ready.waiting waits in
-        obviate_begins plan sound s.board ready.board event here source (there_at plan.sources a.source source at) reaction is matched a (suits source at)
-    reacts source reaction a waits at (inr is) matched =
-        let suits = All-contains (SuitsSource plan s.board) (pending_of s.agenda) a ready.waiting waits in
-        retrigger_begins plan sound s.board ready.board event here source (there_at plan.sources a.source source at) reaction is matched a (suits source at)
-
-    pub event_asks : AsksFor plan s event
-    event_asks = record {
-      require = λ source code there' is matched. require_begins plan sound s.board ready.board event here source there' code is matched;
-      react = reacts;
-      leaves = (answer_to event s ready here).state;
-    }
-
-  -- ---- what was noted is told, and its events are processed
-
-  taken_fits : (b : Blackboard) → FitsPlan plan b → FitsPlan plan (with_world b (after_take b.world))
-  taken_fits b f = record {
-    schema = f.schema;
-    world = record {
-      units = f.world.units;
-      layout = f.world.layout;
-      links = f.world.links;
-      ends = f.world.ends;
-      singular = f.world.singular;
-      pairs = f.world.pairs;
-      spaces = f.world.spaces;
-      notes = refl;
-    };
-  }
-
-  taken_ready : (s : State) → Ready s → Ready (with_notes_taken s)
-  taken_ready s ready = record { board = taken_fits s.board ready.board; waiting = ready.waiting }
-
-  reports_noted : (s : State) (more : List Note) (end : Option End) → Ready s → All KeepsBudget more → events_in more ≡ [] → NotStuck end → GoesOn (reported plan (noted s more end))
-  reports_noted s more end ready fine none not =
-      let r = noted s more end in
-      let well : GoesWell KeepsBudget Ready r = record { told = board_notes s.board.world.notes more fine; end = not; state = taken_ready s ready } in
-      well_then (All KeepsBudget) Ready (segment r) (processing_all plan (events_in r.told)) end refl (well_segment Ready r well)
-      (processes (events_in r.told) r.state (noted_events plan.schema sound.schema s.board s.board.world.notes more ready.board.world.notes none))
+  abbrev pub IsWell : Response → Type 0
+  IsWell = states.IsWell plan sound natives
 
   -- ---- an execution for an activation
 
@@ -204,18 +135,19 @@ module _ (plan : Plan) (sound : IsWellMade plan) where
             };
             waiting = All-weaker (SuitsSource plan s.board) (SuitsSource plan after)
                 (λ x own other there'. was_outlives plan.schema s.board.world after.world other.class x.unit (activation_lasts n c.code entry s.board) (own other there')) (pending_of s.agenda) ready.waiting;
+            places = ready.places;
           }
 
-      told_by : (r : Result Outcome Stop) → (attempt c.code (entry_of a.unit None) s.board).0 ≡ r → NeverStuck r → KeepsOwnBudget c.code r → GoesOn (reported plan (answered c.code (with_board s (attempt c.code (entry_of a.unit None) s.board).1) r))
-      told_by (Ok o) came not kept =
-          reports_noted (with_board s (attempt c.code (entry_of a.unit None) s.board).1) (Ended o.steps o.found (budget c.code o.found) ∷ []) None left_ready
-          (All-cons KeepsBudget (Ended o.steps o.found (budget c.code o.found)) [] kept (All-nil KeepsBudget)) refl tt
-      told_by (Err (stops.Full steps found)) came not kept = reports_noted (with_board s (attempt c.code (entry_of a.unit None) s.board).1) [] (Some finishes.Full) left_ready (All-nil KeepsBudget) refl tt
-      told_by (Err (stops.Stuck reason steps found)) came not kept = absurd not
-      told_by (Err stops.Memory) came not kept = reports_noted (with_board s (attempt c.code (entry_of a.unit None) s.board).1) [] (Some finishes.Full) left_ready (All-nil KeepsBudget) refl tt
+      told_by : (r : Result Outcome Stop) → NeverStuck r → KeepsOwnBudget c.code r → IsWell (answered c.code (with_board s (attempt c.code (entry_of a.unit None) s.board).1) r)
+      told_by (Ok o) not kept =
+          well_noted plan sound natives (with_board s (attempt c.code (entry_of a.unit None) s.board).1) (Ended o.steps o.found (budget c.code o.found) ∷ []) None left_ready
+          (All-cons KeepsBudget (Ended o.steps o.found (budget c.code o.found)) [] kept (All-nil KeepsBudget)) refl (λ given. tt)
+      told_by (Err (stops.Full steps found)) not kept = well_noted plan sound natives (with_board s (attempt c.code (entry_of a.unit None) s.board).1) [] (Some finishes.Full) left_ready (All-nil KeepsBudget) refl (λ given. tt)
+      told_by (Err (stops.Stuck reason steps found)) not kept = absurd not
+      told_by (Err stops.Memory) not kept = well_noted plan sound natives (with_board s (attempt c.code (entry_of a.unit None) s.board).1) [] (Some finishes.Full) left_ready (All-nil KeepsBudget) refl (λ given. tt)
 
-      executes : GoesOn (reported plan (answered c.code (with_board s (attempt c.code (entry_of a.unit None) s.board).1) (attempt c.code (entry_of a.unit None) s.board).0))
-      executes = told_by (attempt c.code (entry_of a.unit None) s.board).0 refl never within
+      executes : IsWell (executing c.code a s)
+      executes = told_by (attempt c.code (entry_of a.unit None) s.board).0 never within
 
       -- a verdict on the activation
       verdict_by_reply : (r : Result Outcome Stop) → NeverStuck r → (end : End) → verdict_by (reply_by r) ≡ verdicts.Over end → NotStuck (Some end)
@@ -224,9 +156,28 @@ module _ (plan : Plan) (sound : IsWellMade plan) where
       verdict_by_reply (Err (stops.Stuck reason steps found)) not end is' = absurd not
       verdict_by_reply (Err stops.Memory) not end is' = let same : finishes.Full ≡ end = cc in subst (λ x. NotStuck (Some x)) same tt
 
-    acts_by : (act : Act) → source.act ≡ act → GoesOn (reported plan (execution act a s))
+    -- ---- a native is called
+
+    calls : (place : Option ℕ) → source.act ≡ acts.Native → place_of s.natives source.name ≡ place → IsWell (calling place a s)
+    calls None native none = record {
+      well = record {
+        told = All-nil KeepsBudget;
+        end = λ given. absurd (given (source, there, native, sym (ready.places source.name) ∙ none));
+        state = ready;
+      };
+      events = All-nil (IsEventOf plan.schema s.board);
+    }
+    calls (Some place) native at' =
+        let seen = sight_of s.board in
+        let asks = asks_at s.natives place a.unit seen in
+        let t = with_natives s (after_act_at s.natives place a.unit seen) in
+        let called : Ready t = record { board = ready.board; waiting = ready.waiting; places = λ name. acted_place s.natives place a.unit seen name ∙ ready.places name } in
+        let r = each_applied 1 asks t in
+        native_ends plan sound natives (length asks) r r.end refl (asks_hold asks (AskGoes plan sound natives) (ask_parts plan sound natives asks) t called).is
+
+    pub acts_by : (act : Act) → source.act ≡ act → IsWell (execution source.name act a s)
     acts_by (acts.Code c) is = executes c (codes c (inl is)) (act_begins c is)
-    acts_by acts.Native is = absurd (sound.acts (source, there, is))
+    acts_by acts.Native is = calls (place_of s.natives source.name) is refl
 
     verdict_fine : (code : Option Checked) → source.revalidate ≡ code → (end : End) → (validity code a s.board).0 ≡ verdicts.Over end → NotStuck (Some end)
     verdict_fine None is end over' = absurd cc
@@ -236,137 +187,153 @@ module _ (plan : Plan) (sound : IsWellMade plan) where
   -- ---- a cycle
 
   -- the verdict on an activation, by its source
-  verdict_is_fine : (source : Option Source) (a : Activation) (s : State) → slice_get plan.sources a.source ≡ source → Ready s → SuitsSource plan s.board a
+  pub verdict_is_fine : (source : Option Source) (a : Activation) (s : State) → slice_get plan.sources a.source ≡ source → Ready s → SuitsSource plan s.board a
       → (end : End) → (validity (option_and_then (λ t. t.revalidate) source) a s.board).0 ≡ verdicts.Over end → NotStuck (Some end)
   verdict_is_fine None a s at ready suits end over' = absurd cc
   verdict_is_fine (Some source) a s at ready suits end over' = verdict_fine source a s at ready suits source.revalidate refl end over'
 
-  same_board : (source : Option Source) (a : Activation) (b : Blackboard) → slice_get plan.sources a.source ≡ source → (validity (option_and_then (λ t. t.revalidate) source) a b).1 ≡ b
+  pub same_board : (source : Option Source) (a : Activation) (b : Blackboard) → slice_get plan.sources a.source ≡ source → (validity (option_and_then (λ t. t.revalidate) source) a b).1 ≡ b
   same_board None a b is = refl
   same_board (Some source) a b is = (run_reads plan (plan_reads plan sound.codes)).choices source a b (there_at plan.sources a.source source is)
 
-  acts_at : (source : Option Source) (a : Activation) (s : State) → slice_get plan.sources a.source ≡ source → Ready s → SuitsSource plan s.board a → GoesOn (acting plan source a s)
-  acts_at None a s at ready suits = well_idle (All KeepsBudget) Ready s ready
-  acts_at (Some source) a s at ready suits = acts_by source a s at ready suits source.act refl
+  pub acts_at : (source : Option Source) (a : Activation) (s : State) → slice_get plan.sources a.source ≡ source → Ready s → SuitsSource plan s.board a → GoesOn (acting plan source a s)
+  acts_at None a s at ready suits = well_idle Given (All KeepsBudget) Ready s ready
+  acts_at (Some source) a s at ready suits = reports plan sound natives (execution source.name source.act a s) (acts_by source a s at ready suits source.act refl)
 
-  chooses : (number : ℕ) (a : Activation) (r : ℤ) (v : Verdict) (t : State) → Ready t → ((end : End) → v ≡ verdicts.Over end → NotStuck (Some end)) → GoesWell KeepsBudget Ready (chosen_with number a r v t)
+  pub chooses : (number : ℕ) (a : Activation) (r : ℤ) (v : Verdict) (t : State) → Ready t → ((end : End) → v ≡ verdicts.Over end → NotStuck (Some end)) → GoesWell Given KeepsBudget Ready (chosen_with number a r v t)
   chooses number a r verdicts.Valid t ready fine =
-      well_one KeepsBudget Ready (Chosen number a r) (chosen_with number a r verdicts.Valid t).state tt (record {
+      well_one Given KeepsBudget Ready (Chosen number a r) (chosen_with number a r verdicts.Valid t).state tt (record {
         board = ready.board;
         waiting = subst (All (SuitsSource plan t.board)) (sym (pending_executed t.agenda a.number)) (All-filter (other_than a.number) (SuitsSource plan t.board) (pending_of t.agenda) ready.waiting);
+        places = ready.places;
       })
   chooses number a r verdicts.Invalid t ready fine = record {
     told = All-cons KeepsBudget (Chosen number a r) (Invalid a.number ∷ []) tt (All-cons KeepsBudget (Invalid a.number) [] tt (All-nil KeepsBudget));
-    end = tt;
+    end = λ given. tt;
     state = record {
       board = ready.board;
       waiting = subst (All (SuitsSource plan t.board)) (sym (pending_obviated t.agenda a.number)) (All-filter (other_than a.number) (SuitsSource plan t.board) (pending_of t.agenda) ready.waiting);
+      places = ready.places;
     };
   }
   chooses number a r (verdicts.Over end) t ready fine = record {
     told = All-cons KeepsBudget (Chosen number a r) [] tt (All-nil KeepsBudget);
-    end = fine end refl;
+    end = λ given. fine end refl;
     state = ready;
   }
 
   goes_if_valid : (number : ℕ) (a : Activation) (r : ℤ) (v : Verdict) (t : State) (source : Option Source) → slice_get plan.sources a.source ≡ source → SuitsSource plan t.board a → Ready (chosen_with number a r v t).state
       → GoesOn (acting plan (if_valid v source) a (chosen_with number a r v t).state)
   goes_if_valid number a r verdicts.Valid t source at suits ready = acts_at source a (chosen_with number a r verdicts.Valid t).state at ready suits
-  goes_if_valid number a r verdicts.Invalid t source at suits ready = well_idle (All KeepsBudget) Ready (chosen_with number a r verdicts.Invalid t).state ready
-  goes_if_valid number a r (verdicts.Over end) t source at suits ready = well_idle (All KeepsBudget) Ready (chosen_with number a r (verdicts.Over end) t).state ready
+  goes_if_valid number a r verdicts.Invalid t source at suits ready = well_idle Given (All KeepsBudget) Ready (chosen_with number a r verdicts.Invalid t).state ready
+  goes_if_valid number a r (verdicts.Over end) t source at suits ready = well_idle Given (All KeepsBudget) Ready (chosen_with number a r (verdicts.Over end) t).state ready
 
   -- the same state, on an equal blackboard
-  ready_on : (s : State) (b : Blackboard) → b ≡ s.board → Ready s → Ready (with_board s b)
+  pub ready_on : (s : State) (b : Blackboard) → b ≡ s.board → Ready s → Ready (with_board s b)
   ready_on s b same ready = record {
     board = subst (FitsPlan plan) (sym same) ready.board;
     waiting = subst (λ (x : Blackboard). All (SuitsSource plan x) (pending_of s.agenda)) (sym same) ready.waiting;
+    places = ready.places;
   }
 
-  cycle_goes : (number : ℕ) (a : Activation) (s : State) → Ready s → SuitsSource plan s.board a → GoesOn (cycle plan number a s)
+  pub cycle_goes : (number : ℕ) (a : Activation) (s : State) → Ready s → SuitsSource plan s.board a → GoesOn (cycle plan number a s)
   cycle_goes number a s ready suits =
       let source = slice_get plan.sources a.source in
       let v = validity (option_and_then (λ t. t.revalidate) source) a s.board in
       let t = with_board s v.1 in
       let same : v.1 ≡ s.board = same_board source a s.board refl in
       let r = chosen_with number a (rating plan s a) v.0 t in
-      well_then (All KeepsBudget) Ready (segment r) (acting plan (if_valid v.0 source) a) r.end refl
-      (well_segment Ready r (chooses number a (rating plan s a) v.0 t (ready_on s v.1 same ready) (verdict_is_fine source a s refl ready suits)))
+      well_then Given (All KeepsBudget) Ready (segment r) (acting plan (if_valid v.0 source) a) r.end refl
+      (well_segment Given Ready r (chooses number a (rating plan s a) v.0 t (ready_on s v.1 same ready) (verdict_is_fine source a s refl ready suits)))
       (goes_if_valid number a (rating plan s a) v.0 t source refl (subst (λ (x : Blackboard). SuitsSource plan x a) (sym same) suits))
 
   -- ---- the whole run
 
-  waits_for : (s : State) (c : Option Activation) → Ready s → GoesOn (wait_for plan s c)
+  pub waits_for : (s : State) (c : Option Activation) → Ready s → GoesOn (wait_for plan s c)
   waits_for s None ready =
-      let q = answer_to quiescence s ready refl in
+      let q = answer_to plan sound natives quiescence s ready refl in
       let note : List Note = Board (happened quiescence) ∷ [] in
-      well_segment Ready (after_told note (response plan quiescence s)) (record {
+      well_segment Given Ready (after_told note (response plan quiescence s)) (record {
         told = All-cons KeepsBudget (Board (happened quiescence)) (response plan quiescence s).told tt q.told;
         end = q.end;
         state = q.state;
       })
-  waits_for s (Some a) ready = well_idle (All KeepsBudget) Ready s ready
+  waits_for s (Some a) ready = well_idle Given (All KeepsBudget) Ready s ready
 
   last : (t : State) (c : Option Activation) → Ready t → GoesOn (if_chosen t c (λ a. over finishes.Limit t))
-  last t None ready = well_over (All KeepsBudget) Ready finishes.Quiescence t tt ready
-  last t (Some a) ready = well_over (All KeepsBudget) Ready finishes.Limit t tt ready
+  last t None ready = well_over Given (All KeepsBudget) Ready finishes.Quiescence t (λ given. tt) ready
+  last t (Some a) ready = well_over Given (All KeepsBudget) Ready finishes.Limit t (λ given. tt) ready
 
-  suits_chosen : (t : State) (a : Activation) → choice plan t ≡ Some a → Ready t → SuitsSource plan t.board a
+  pub suits_chosen : (t : State) (a : Activation) → choice plan t ≡ Some a → Ready t → SuitsSource plan t.board a
   suits_chosen t a is ready = All-contains (SuitsSource plan t.board) (pending_of t.agenda) a ready.waiting (chosen_some (rating plan t) plan.floor (pending_of t.agenda) a is).waits
 
   next_cycle : (made left : ℕ) (t : State) (c : Option Activation) → choice plan t ≡ c → ((s : State) → Ready s → GoesOn (cycles plan (made + 1) left s)) → Ready t
       → GoesOn (if_chosen t c (λ a. and_then (cycle plan (made + 1) a t) (cycles plan (made + 1) left)))
-  next_cycle made left t None is rest ready = well_over (All KeepsBudget) Ready finishes.Quiescence t tt ready
+  next_cycle made left t None is rest ready = well_over Given (All KeepsBudget) Ready finishes.Quiescence t (λ given. tt) ready
   next_cycle made left t (Some a) is rest ready =
       let p = cycle plan (made + 1) a t in
-      well_then (All KeepsBudget) Ready p (cycles plan (made + 1) left) p.end refl (cycle_goes (made + 1) a t ready (suits_chosen t a is ready)) (rest p.state)
+      well_then Given (All KeepsBudget) Ready p (cycles plan (made + 1) left) p.end refl (cycle_goes (made + 1) a t ready (suits_chosen t a is ready)) (rest p.state)
 
   cycles_go : (made left : ℕ) (s : State) → Ready s → GoesOn (cycles plan made left s)
   unfolding cycles
   cycles_go made zero s ready =
       let p = wait plan s in
-      well_then (All KeepsBudget) Ready p (λ t. if_chosen t (choice plan t) (λ a. over finishes.Limit t)) p.end refl (waits_for s (choice plan s) ready) (last p.state (choice plan p.state))
+      well_then Given (All KeepsBudget) Ready p (λ t. if_chosen t (choice plan t) (λ a. over finishes.Limit t)) p.end refl (waits_for s (choice plan s) ready) (last p.state (choice plan p.state))
   cycles_go made (suc left) s ready =
       let p = wait plan s in
-      well_then (All KeepsBudget) Ready p (λ t. if_chosen t (choice plan t) (λ a. and_then (cycle plan (made + 1) a t) (cycles plan (made + 1) left))) p.end refl (waits_for s (choice plan s) ready)
+      well_then Given (All KeepsBudget) Ready p (λ t. if_chosen t (choice plan t) (λ a. and_then (cycle plan (made + 1) a t) (cycles plan (made + 1) left))) p.end refl (waits_for s (choice plan s) ready)
       (next_cycle made left p.state (choice plan p.state) refl (λ t. cycles_go (made + 1) left t))
 
   module _ (board : Blackboard) (limit : ℕ) (fits : FitsPlan plan board) where
-    first_ready : Ready (first_state plan board)
-    first_ready = record { board = fits; waiting = All-nil (SuitsSource plan board) }
+    pub first_ready : Ready (first_state plan board natives)
+    first_ready = record { board = fits; waiting = All-nil (SuitsSource plan board); places = λ name. refl }
 
-    goes : GoesOn (unfinished plan board limit)
+    pub first_well : IsWell (noted (first_state plan board natives) [] None)
+    first_well = well_noted plan sound natives (first_state plan board natives) [] None first_ready (All-nil KeepsBudget) refl (λ given. tt)
+
+    goes : GoesOn (unfinished plan board natives limit)
     goes =
-        let p = start plan board in
-        well_then (All KeepsBudget) Ready p (cycles plan 0 limit) p.end refl (reports_noted (first_state plan board) [] None first_ready (All-nil KeepsBudget) refl tt) (cycles_go 0 limit p.state)
+        let p = start plan board natives in
+        well_then Given (All KeepsBudget) Ready p (cycles plan 0 limit) p.end refl (reports plan sound natives (noted (first_state plan board natives) [] None) first_well) (cycles_go 0 limit p.state)
 
-    finish_keeps : (end : Option End) → All (All KeepsBudget) (finish_segments end)
-    finish_keeps None = All-nil (All KeepsBudget)
-    finish_keeps (Some end) = All-cons (All KeepsBudget) (Finished end ∷ []) [] (All-cons KeepsBudget (Finished end) [] tt (All-nil KeepsBudget)) (All-nil (All KeepsBudget))
+    closings_keep : (closings : List Closing) → All KeepsBudget (map Closed closings)
+    closings_keep [] = All-nil KeepsBudget
+    closings_keep (c ∷ cs) = All-cons KeepsBudget (Closed c) (map Closed cs) tt (closings_keep cs)
 
-    pub run_not_stuck : NotStuck (run plan board limit).end
-    run_not_stuck = goes.end
+    finish_keeps : (end : Option End) (ns : List Native) → All (All KeepsBudget) (finish_segments end ns)
+    finish_keeps None ns = All-nil (All KeepsBudget)
+    finish_keeps (Some end) ns = All-cons (All KeepsBudget) (finish end ns) [] (All-cons KeepsBudget (Finished end) (map Closed (closings_of ns)) tt (closings_keep (closings_of ns))) (All-nil (All KeepsBudget))
 
-    pub run_keeps_budgets : All KeepsBudget (notes_of (run plan board limit))
+    pub run_not_stuck : ¬ LacksNative plan natives → NotStuck (run plan board natives limit).end
+    run_not_stuck given = goes.end given
+
+    pub run_keeps_budgets : All KeepsBudget (notes_of (run plan board natives limit))
     run_keeps_budgets =
-        let p = unfinished plan board limit in
-        all_told KeepsBudget (p.told ++ finish_segments p.end) (All-append (All KeepsBudget) p.told (finish_segments p.end) goes.told (finish_keeps p.end))
+        let p = unfinished plan board natives limit in
+        let last = finish_segments p.end p.state.natives in
+        all_told KeepsBudget (p.told ++ last) (All-append (All KeepsBudget) p.told last goes.told (finish_keeps p.end p.state.natives))
 
-    pub run_ready : Ready (run plan board limit).state
-    run_ready = goes.state
+    pub run_ready : IsReady plan (run plan board natives limit).state
+    run_ready = is_ready plan sound natives (run plan board natives limit).state goes.state
 
-  pub run_begins : (board : Blackboard) (limit : ℕ) (before : List Note) (number : ℕ) (a : Activation) (r : ℤ) → FitsPlan plan board → At (notes_of (run plan board limit)) before (Chosen number a r)
-      → BeginsFor plan (run plan board (number - 1)).state a
+  pub run_begins : (board : Blackboard) (limit : ℕ) (before : List Note) (number : ℕ) (a : Activation) (r : ℤ) → FitsPlan plan board → At (notes_of (run plan board natives limit)) before (Chosen number a r)
+      → BeginsFor plan (run plan board natives (number - 1)).state a
   run_begins board limit before number a r fits at =
-      let s = (run plan board (number - 1)).state in
-      let ready = run_ready board (number - 1) fits in
-      let chosen' = run_chooses plan board limit before number a r at in
+      let s = (run plan board natives (number - 1)).state in
+      let ready = (goes board (number - 1) fits).state in
+      let chosen' = run_chooses plan board natives limit before number a r at in
       begins_for s a ready (All-contains (SuitsSource plan s.board) (pending_of s.agenda) a ready.waiting chosen'.best.waits)
     where
       begins_for : (s : State) (a : Activation) → Ready s → SuitsSource plan s.board a → BeginsFor plan s a
       begins_for s a ready suits source code there' (inl is) = act_begins source a s there' ready suits code is
       begins_for s a ready suits source code there' (inr is) = revalidation_begins source a s there' ready suits code is
 
+-- what sources ask about an event in a state that is ready
+pub state_asks : (plan : Plan) (s : State) (event : Event) → IsWellMade plan → IsReady plan s → IsEventOf plan.schema s.board event → AsksFor plan s event
+state_asks plan s event made ready here = event_asks plan made s.natives s event (record { board = ready.board; waiting = ready.waiting; places = λ name. refl }) here
+
 -- what a call that runs a blackboard of the plan's schema answers
-pub finish_not_stuck : (plan : Plan) (board : Blackboard) (limit : ℕ) (end : End) → IsWellMade plan → board.schema ≡ plan.schema → Fits board.schema board.world → (run plan board limit).end ≡ Some end → NotStuck (Some end)
-finish_not_stuck plan board limit end made same fits is =
-    subst NotStuck is (run_not_stuck plan made board limit (record { schema = same; world = subst (λ (x : Schema). Fits x board.world) same fits }))
+pub finish_not_stuck : (plan : Plan) (board : Blackboard) (natives : List Native) (limit : ℕ) (end : End) → IsWellMade plan → ¬ LacksNative plan natives → board.schema ≡ plan.schema → Fits board.schema board.world
+    → (run plan board natives limit).end ≡ Some end → NotStuck (Some end)
+finish_not_stuck plan board natives limit end made given same fits is =
+    subst NotStuck is (run_not_stuck plan made natives board limit (record { schema = same; world = subst (λ (x : Schema). Fits x board.world) same fits }) given)

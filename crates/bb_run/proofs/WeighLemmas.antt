@@ -1,6 +1,6 @@
 -- The agenda has the foci of the blackboard, at each choice as at the end.
-use Rattle.std.proofs.Common.{◌≡◌, ◌<◌, ◌≤◌, ◌⊎◌, inl, inr, ℕ, zero, suc, ◌+◌, ℤ, Bool, true, false, cond, List, [], ◌∷◌, ◌++◌, length, slice_get, Option, Some, None, option_map, Result, Ok, Err, refl, sym, ap, subst, ◌∙◌, arith}
-use Rattle.std.specs.Prelude.{◌||◌, Contains, option_and_then, is_some}
+use Rattle.std.proofs.Common.{◌≡◌, ◌<◌, ◌≤◌, inl, inr, ℕ, zero, suc, ◌+◌, ℤ, Bool, true, false, cond, List, [], ◌∷◌, ◌++◌, length, slice_get, Option, Some, None, Result, Ok, Err, refl, sym, ap, subst, ◌∙◌, arith}
+use Rattle.std.specs.Prelude.{◌||◌, Contains, option_and_then}
 use Rattle.std.specs.List.{fold, list_any, range_with_len}
 use Rattle.std.specs.Option.{option_map_or}
 use Rattle.std.specs.Ordering.{nat_cmp, eq_by_cmp}
@@ -18,9 +18,7 @@ use Rattle.bb_agenda.specs.Agenda.{pending_of}
 use Rattle.bb_agenda.specs.Chosen.{chosen}
 use Rattle.bb_agenda.specs.Foci.{Foci, Setting}
 use Rattle.bb_agenda.specs.Rating.{rating as rated, rating_in}
-use Rattle.bb_agenda.specs.Changes.{with_executed, with_obviated}
 use Rattle.bb_code.specs.Code.{Code}
-use Rattle.bb_verify.specs.Accepted.{Checked}
 use Rattle.bb_verify.specs.Budget.{budget}
 use Rattle.bb_verify.specs.declared.checked.TheConstants.{FOUND_LIMIT}
 use Rattle.bb_machine.specs.Outcome.{Outcome}
@@ -30,7 +28,6 @@ use Rattle.bb_machine.specs.Units.{Units, is_live, class_of, value_of}
 use Rattle.bb_classes.specs.declared.value.Value.{Value}
 use Rattle.bb_machine.proofs.Laws.{activation_named, activation_schema, no_class, same_class, same_value}
 use Rattle.bb_trace.specs.Event.{Event}
-use Rattle.bb_trace.specs.Event.TheVariants.{Quiescence as quiescence}
 use Rattle.bb_trace.specs.Events.{unit_of}
 use Rattle.bb_trace.specs.Board.{Board as Blackboard}
 use Rattle.bb_trace.specs.BoardNote.{Note as BoardNote}
@@ -39,23 +36,28 @@ use Rattle.bb_trace.specs.Act.{Act}
 use Rattle.bb_trace.specs.Act.TheVariants as acts
 use Rattle.bb_trace.specs.Source.{Source}
 use Rattle.bb_trace.specs.declared.end.End.{End}
-use Rattle.bb_trace.specs.declared.note.Note.{Note}
-use Rattle.bb_trace.specs.declared.end.End.TheVariants as finishes
+use Rattle.bb_trace.specs.Ask.{Ask}
+use Rattle.bb_trace.specs.Native.{Native}
+use Rattle.bb_trace.specs.Roster.{after_act_at, asks_at, place_of}
+use Rattle.bb_trace.specs.Sight.{sight_of}
+use Rattle.bb_trace.specs.declared.note.Note.TheVariants.{NativeEnded}
+use Rattle.bb_trace.proofs.Laws.{applied_leads}
 use Rattle.bb_trace.specs.Plan.{Plan}
 use Rattle.bb_run.specs.declared.execution.Verdict.{Verdict}
 use Rattle.bb_run.specs.declared.execution.Verdict.TheVariants as verdicts
-use Rattle.bb_run.specs.declared.state.State.{State}
-use Rattle.bb_run.specs.State.{with_board}
-use Rattle.bb_run.specs.Told.{Response, Told, over, and_then, and_then_unless, segment}
+use Rattle.bb_run.specs.State.{State, with_board, with_natives}
+use Rattle.bb_run.specs.Told.{Response, telling, and_then_unless}
 use Rattle.bb_run.specs.Asking.{attempt, entry_of}
-use Rattle.bb_run.specs.Foci.{focus_from, text_in, number_in, truth_in, focus_of, foci_on, told_unit, told_note, told_notes, told_all, first_agenda}
-use Rattle.bb_run.specs.Processing.{events_in, processing, processing_all, reported, response}
+use Rattle.bb_run.specs.Foci.{focus_from, text_in, number_in, truth_in, focus_of, foci_on, told_unit, told_note, told_notes, first_agenda}
+use Rattle.bb_run.specs.Processing.{response}
 use Rattle.bb_run.specs.Reads.{AsksByReading}
-use Rattle.bb_run.specs.Run.{rating, choice, wait, wait_for, with_notes_taken, noted, answered, execution, acting, validity, chosen_with, if_valid, cycle, if_chosen, cycles, first_state, start, unfinished, run}
+use Rattle.bb_run.specs.Run.{rating, choice, wait_for, with_notes_taken, noted, answered, calling, each_applied, execution, validity, chosen_with, cycle, first_state, start, run}
 use Rattle.bb_run.specs.Weighed.{KnowsFoci, NumbersGiven}
 use Rattle.bb_run.proofs.FociLemmas.{fold_range}
 use Rattle.bb_run.proofs.ReadLemmas.{run_reads}
+use Rattle.bb_run.proofs.AskRule.{HoldsOfAsks, asks_hold}
 use Rattle.bb_run.proofs.ResponseRule.{HoldsOfParts, holds}
+use Rattle.bb_run.proofs.StateRule.{IsKept, cycle_keeps, kept_then, run_keeps, start_keeps, wait_keeps}
 
 -- ---- what the agenda is told of one unit
 
@@ -251,10 +253,6 @@ module _ (plan : Plan) (reading : AsksByReading plan) where
   abbrev Knows : State → Type 0
   Knows = KnowsFoci plan
 
-  knows_then : {X : Type 0} (p : Told X) (next : State → Told X) (end : Option End) → Knows p.state → ((s : State) → Knows s → Knows (next s).state) → Knows (and_then_unless end p next).state
-  knows_then p next (Some e) first rest = first
-  knows_then p next None first rest = rest p.state first
-
   -- ---- what answers to an event
 
   pub responds : (event : Event) (s : State) → Knows s → Knows (response plan event s).state
@@ -262,29 +260,46 @@ module _ (plan : Plan) (reading : AsksByReading plan) where
       let same = response_foci plan event s in
       knows_same plan s (response plan event s).state ((run_reads plan reading).events event s) same.0 same.1 k
 
-  processes_all : (events : List Event) (s : State) → Knows s → Knows (processing_all plan events s).state
-  unfolding processing_all
-  processes_all [] s k = k
-  processes_all (event ∷ events) s k = let p = processing plan event s in knows_then p (processing_all plan events) p.end (responds event s k) (processes_all events)
-
-  reports : (r : Response) → Knows r.state → Knows (reported plan r).state
-  reports r k = knows_then (segment r) (processing_all plan (events_in r.told)) r.end k (processes_all (events_in r.told))
-
-  -- ---- a cycle
+  -- ---- an execution
 
   answers : (code : Code) (s : State) (b : Blackboard) (r : Result Outcome Stop) → Knows s → b.schema ≡ s.board.schema → NotesChanges s.board.world b.world → Knows (answered code (with_board s b) r).state
   answers code s b (Ok o) k schema changes = knows_noted plan s b k schema changes
   answers code s b (Err stop) k schema changes = knows_noted plan s b k schema changes
 
-  executes : (act : Act) (a : Activation) (s : State) → Knows s → Knows (execution act a s).state
-  executes (acts.Code body) a s k =
+  -- the asks of a native
+  abbrev KnowsStill : State → Response → Type 0
+  KnowsStill s r = Knows s → Knows r.state
+
+  still_then : (s : State) (r : Response) (next : State → Response) (end : Option End) → KnowsStill s r → KnowsStill r.state (next r.state) → KnowsStill s (and_then_unless end r next)
+  still_then s r next (Some e) first rest k = first k
+  still_then s r next None first rest k = rest (first k)
+
+  ask_parts : (asks : List Ask) → HoldsOfAsks asks KnowsStill
+  ask_parts asks = record {
+    nothing = λ s k. k;
+    changed = λ s ask b is k. let leads = applied_leads ask s.board b is in knows_noted plan s b k leads.schema leads.named;
+    refused = λ s number refusal k. k;
+    full = λ s ask there is k. k;
+    no_memory = λ s ask is k. k;
+    further = λ s r next first rest. still_then s r next r.end first rest;
+  }
+
+  calls : (place : Option ℕ) (a : Activation) (s : State) → Knows s → Knows (calling place a s).state
+  calls None a s k = k
+  calls (Some place) a s k =
+      let seen = sight_of s.board in
+      let asks = asks_at s.natives place a.unit seen in
+      let t = with_natives s (after_act_at s.natives place a.unit seen) in
+      let r = each_applied 1 asks t in
+      kept_then plan Knows r (λ u. telling (NativeEnded (length asks) ∷ []) u None) r.end (asks_hold asks KnowsStill (ask_parts asks) t (knows_same plan s t refl refl refl k)) (λ u known. known)
+
+  executes : (name : List ℕ) (act : Act) (a : Activation) (s : State) → Knows s → Knows (execution name act a s).state
+  executes name (acts.Code body) a s k =
       let e = attempt body.code (entry_of a.unit None) s.board in
       answers body.code s e.1 e.0 k (activation_schema (budget body.code FOUND_LIMIT) body.code (entry_of a.unit None) s.board) (activation_named (budget body.code FOUND_LIMIT) body.code (entry_of a.unit None) s.board)
-  executes acts.Native a s k = k
+  executes name acts.Native a s k = calls (place_of s.natives name) a s k
 
-  acts_at : (source : Option Source) (a : Activation) (s : State) → Knows s → Knows (acting plan source a s).state
-  acts_at None a s k = k
-  acts_at (Some source) a s k = reports (execution source.act a s) (executes source.act a s k)
+  -- ---- a choice
 
   chooses : (number : ℕ) (a : Activation) (r : ℤ) (v : Verdict) (s : State) → Knows s → Knows (chosen_with number a r v s).state
   chooses number a r verdicts.Valid s k = knows_same plan s (chosen_with number a r verdicts.Valid s).state refl refl refl k
@@ -299,38 +314,23 @@ module _ (plan : Plan) (reading : AsksByReading plan) where
   same_board None a b is = refl
   same_board (Some source) a b is = (run_reads plan reading).choices source a b (there_at plan.sources a.source source is)
 
-  pub cycle_knows : (number : ℕ) (a : Activation) (s : State) → Knows s → Knows (cycle plan number a s).state
-  cycle_knows number a s k =
-      let source = slice_get plan.sources a.source in
-      let v = validity (option_and_then (λ t. t.revalidate) source) a s.board in
-      let t = with_board s v.1 in
-      let p = segment (chosen_with number a (rating plan s a) v.0 t) in
-      knows_then p (acting plan (if_valid v.0 source) a) p.end
-      (chooses number a (rating plan s a) v.0 t (knows_same plan s t (same_board source a s.board refl) refl refl k))
-      (acts_at (if_valid v.0 source) a)
+  -- ---- each part of a run
 
-  -- ---- the whole run
+  kept : IsKept plan Knows
+  kept = record {
+    events = responds;
+    executes = executes;
+    asks = λ source a s is k. knows_same plan s (with_board s (validity (option_and_then (λ t. t.revalidate) source) a s.board).1) (same_board source a s.board is) refl refl k;
+    chooses = chooses;
+  }
+
+  pub cycle_knows : (number : ℕ) (a : Activation) (s : State) → Knows s → Knows (cycle plan number a s).state
+  cycle_knows number a s k = cycle_keeps plan Knows kept number a s k
 
   pub waits : (s : State) (c : Option Activation) → Knows s → Knows (wait_for plan s c).state
-  waits s None k = responds quiescence s k
-  waits s (Some a) k = k
+  waits s c k = wait_keeps plan Knows kept s c k
 
-  goes_if : (t : State) (c : Option Activation) (next : Activation → Told (List Note)) → Knows t → ((a : Activation) → Knows (next a).state) → Knows (if_chosen t c next).state
-  goes_if t None next k rest = k
-  goes_if t (Some a) next k rest = rest a
-
-  cycles_know : (made left : ℕ) (s : State) → Knows s → Knows (cycles plan made left s).state
-  unfolding cycles
-  cycles_know made zero s k =
-      let p = wait plan s in
-      knows_then p (λ t. if_chosen t (choice plan t) (λ a. over finishes.Limit t)) p.end (waits s (choice plan s) k)
-      (λ t known. goes_if t (choice plan t) (λ a. over finishes.Limit t) known (λ a. known))
-  cycles_know made (suc left) s k =
-      let p = wait plan s in
-      knows_then p (λ t. if_chosen t (choice plan t) (λ a. and_then (cycle plan (made + 1) a t) (cycles plan (made + 1) left))) p.end (waits s (choice plan s) k)
-      (λ t known.
-      goes_if t (choice plan t) (λ a. and_then (cycle plan (made + 1) a t) (cycles plan (made + 1) left)) known
-      (λ a. let c = cycle plan (made + 1) a t in knows_then c (cycles plan (made + 1) left) c.end (cycle_knows (made + 1) a t known) (cycles_know (made + 1) left)))
+  -- ---- the whole run
 
   -- the foci of the blackboard that the run begins with
   first_right : (board : Blackboard) → NumbersGiven board → (q : ℕ) → get (first_agenda plan board).foci q ≡ focus_of board.schema board.world.units q
@@ -341,14 +341,15 @@ module _ (plan : Plan) (reading : AsksByReading plan) where
         | inr le ↦ all_right board.schema u u.next q fin.empty (get-empty nat_cmp q ∙ sym (none_there board.schema u q (is_live u q) refl (given q) le))
       ]
 
-  pub start_knows : (board : Blackboard) → NumbersGiven board → Knows (start plan board).state
-  start_knows board given =
-      let first = first_state plan board in
-      reports (noted first [] None) (record {
-        taken = refl;
-        each = λ q. notes_right board.schema board.world.units q board.world.notes first.agenda.foci (λ others. first_right board given q);
-        setting = refl;
-      })
+  first_knows : (board : Blackboard) (natives : List Native) → NumbersGiven board → Knows (noted (first_state plan board natives) [] None).state
+  first_knows board natives given = record {
+    taken = refl;
+    each = λ q. notes_right board.schema board.world.units q board.world.notes (first_agenda plan board).foci (λ others. first_right board given q);
+    setting = refl;
+  }
 
-  pub run_knows_foci : (board : Blackboard) (limit : ℕ) → NumbersGiven board → Knows (run plan board limit).state
-  run_knows_foci board limit given = let p = start plan board in knows_then p (cycles plan 0 limit) p.end (start_knows board given) (cycles_know 0 limit)
+  pub start_knows : (board : Blackboard) (natives : List Native) → NumbersGiven board → Knows (start plan board natives).state
+  start_knows board natives given = start_keeps plan Knows kept board natives (first_knows board natives given)
+
+  pub run_knows_foci : (board : Blackboard) (natives : List Native) (limit : ℕ) → NumbersGiven board → Knows (run plan board natives limit).state
+  run_knows_foci board natives limit given = run_keeps plan Knows kept board natives (first_knows board natives given) limit

@@ -1,23 +1,37 @@
 -- The whole run is told, its finish last, or it is cut short.
-use Rattle.std.proofs.Common.{◌≡◌, ℕ, false, List, [], ◌∷◌, ◌++◌, length, take, Option, Some, Result, Ok, Err, refl, subst, sym, ap, ◌∙◌}
+use Rattle.std.proofs.Common.{◌≡◌, ℕ, false, List, [], ◌∷◌, ◌++◌, length, map, take, Option, Some, Result, Ok, Err, refl, subst, sym, ap, ◌∙◌}
 use Rattle.std.specs.Io.KnownBytes.{Appends}
 use Rattle.std.proofs.Math.Seq.{take-append_seam}
+use Rattle.std.proofs.lemmas.List.{append-nil, nil_from_length}
 use Rattle.bb_trace.specs.declared.end.End.{End}
 use Rattle.bb_run.specs.declared.finish.Finish.{Finish}
 use Rattle.bb_run.specs.declared.finish.Finish.TheVariants as finishes
 use Rattle.bb_trace.specs.declared.halt.Halt.{Halt}
 use Rattle.bb_trace.specs.declared.halt.Halt.TheVariants as halts
 use Rattle.bb_trace.specs.declared.note.Note.{Note}
-use Rattle.bb_trace.specs.declared.note.Note.TheVariants.{Finished}
+use Rattle.bb_trace.specs.declared.note.Note.TheVariants.{Closed, Finished}
+use Rattle.bb_trace.specs.Closing.{Closing}
+use Rattle.bb_trace.specs.Roster.{closings_of}
 use Rattle.bb_trace.specs.Plan.{Plan}
+use Rattle.bb_run.specs.State.{State}
 use Rattle.bb_run.specs.Finish.{WritesFront, end_of, is_write}
 use Rattle.bb_run.specs.Told.{Stretch}
-use Rattle.bb_run.specs.Run.{finish_segments, with_finish}
+use Rattle.bb_run.specs.Run.{finish, finish_segments, with_finish}
 use Rattle.bb_trace.specs.TraceText.{segment_text, trace_text}
 use Rattle.bb_run.specs.proving.Telling.{CutIn, HasWritten, Place, IsTold, Writes, WroteFirst, WroteFront, WroteUntil, at_page}
 use Rattle.bb_trace.specs.Page.{Flushes}
 use Rattle.bb_trace.proofs.Laws.{appends_none}
 use Rattle.bb_run.proofs.SegmentLemmas.{segment_added, all_written, page_cut, stays, until_later}
+
+-- ---- the last notes
+
+-- nothing is left to move
+pub all_moved : {A B : Type 0} (f : A → B) (front total : List B) (items : List A) → length items ≡ 0 → front ++ map f items ≡ total → front ≡ total
+all_moved f front total items none so_far = sym (append-nil front) ∙ ap (λ xs. front ++ map f xs) (sym (nil_from_length items none)) ∙ so_far
+
+-- the end, and what the natives that are left said at their close
+pub last_is : (end : End) (s t : State) (said : List Closing) (notes : List Note) → s ≡ t → said ≡ closings_of s.natives → notes ≡ Finished end ∷ map Closed said → notes ≡ finish end t.natives
+last_is end s t said notes same closes is = is ∙ ap (λ cs. Finished end ∷ map Closed cs) (closes ∙ ap (λ (u : State). closings_of u.natives) same)
 
 -- ---- the whole run
 
@@ -30,25 +44,28 @@ pub none_written : (plan : Plan) (taken : Option (List ℕ)) (segments : List (L
 none_written plan taken segments = record { first = []; rest = segments; all = refl; appended = appends_none taken }
 
 module _ (plan : Plan) (taken : Option (List ℕ)) (first : List ℕ) (here : Place) (p : Stretch) (end : End) where
-  -- the last segment is the finish
-  finished : p.end ≡ Some end → (with_finish p).told ≡ p.told ++ (Finished end ∷ []) ∷ []
-  finished is = ap (λ e. p.told ++ finish_segments e) is
+  -- the last segment is the finish, and the closings
+  abbrev pub last : List Note
+  last = finish end p.state.natives
 
-  pub run_written : (given : Option (List ℕ)) (page new : List ℕ) (r : Result (Unit {0}) Halt) → first ≡ [] → p.end ≡ Some end → IsTold plan (at_page taken first) here p.told → page ≡ here.page ++ segment_text plan (Finished end ∷ [])
+  finished : p.end ≡ Some end → (with_finish p).told ≡ p.told ++ last ∷ []
+  finished is = ap (λ e. p.told ++ finish_segments e p.state.natives) is
+
+  pub run_written : (given : Option (List ℕ)) (page new : List ℕ) (r : Result (Unit {0}) Halt) → first ≡ [] → p.end ≡ Some end → IsTold plan (at_page taken first) here p.told → page ≡ here.page ++ segment_text plan last
       → Flushes here.taken given page new r → Writes plan taken given (with_finish p).told r
   run_written given page new (Ok x) empty is told grown f =
-      let so_far = segment_added plan taken here.taken here.page page p.told (Finished end ∷ []) grown (told taken [] (nothing_written plan taken first empty)) in
-      subst (λ w. Appends taken given (trace_text plan w)) (sym (finished is)) (all_written plan taken given (at_page here.taken page) (p.told ++ (Finished end ∷ []) ∷ []) so_far f.0)
+      let so_far = segment_added plan taken here.taken here.page page p.told last grown (told taken [] (nothing_written plan taken first empty)) in
+      subst (λ w. Appends taken given (trace_text plan w)) (sym (finished is)) (all_written plan taken given (at_page here.taken page) (p.told ++ last ∷ []) so_far f.0)
   run_written given page new (Err halts.Memory) empty is told grown f = absurd f
   run_written given page new (Err halts.Write) empty is told grown f =
-      let so_far = segment_added plan taken here.taken here.page page p.told (Finished end ∷ []) grown (told taken [] (nothing_written plan taken first empty)) in
-      subst (λ w. WroteFront plan taken given w) (sym (finished is)) (page_cut plan taken given (at_page here.taken page) (p.told ++ (Finished end ∷ []) ∷ []) f.0 so_far f.1)
+      let so_far = segment_added plan taken here.taken here.page page p.told last grown (told taken [] (nothing_written plan taken first empty)) in
+      subst (λ w. WroteFront plan taken given w) (sym (finished is)) (page_cut plan taken given (at_page here.taken page) (p.told ++ last ∷ []) f.0 so_far f.1)
 
   pub run_cut_last : first ≡ [] → IsTold plan (at_page taken first) here p.told → WroteFirst plan taken here.taken (with_finish p).told
-  run_cut_last empty told = stays plan taken here p.told (finish_segments p.end) (told taken [] (nothing_written plan taken first empty))
+  run_cut_last empty told = stays plan taken here p.told (finish_segments p.end p.state.natives) (told taken [] (nothing_written plan taken first empty))
 
 pub run_cut : (plan : Plan) (taken : Option (List ℕ)) (first : List ℕ) (here : Place) (p : Stretch) (halt : Halt) → first ≡ [] → CutIn plan (at_page taken first) here p.told halt → WroteUntil plan taken here.taken (with_finish p).told halt
-run_cut plan taken first here p halt empty cut = until_later plan taken here.taken p.told (finish_segments p.end) halt (cut taken [] (nothing_written plan taken first empty))
+run_cut plan taken first here p halt empty cut = until_later plan taken here.taken p.told (finish_segments p.end p.state.natives) halt (cut taken [] (nothing_written plan taken first empty))
 
 -- ---- what is said of a run that was cut short
 

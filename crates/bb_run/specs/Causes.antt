@@ -1,5 +1,5 @@
 -- Why a run ends full or stuck.
-use Rattle.std.specs.Prelude.{◌≡◌, ◌⊎◌, ℕ, ⊤, true, Contains, Option, Some, Err, option_map}
+use Rattle.std.specs.Prelude.{◌≡◌, ◌⊎◌, ℕ, ⊤, true, Contains, List, Option, Some, None, Err, option_map}
 use Rattle.bb_agenda.specs.Agenda.{is_full}
 use Rattle.bb_verify.specs.Accepted.{Checked}
 use Rattle.bb_machine.specs.Entry.{Entry}
@@ -9,6 +9,12 @@ use Rattle.bb_machine.specs.Stuck.{Stuck}
 use Rattle.bb_machine.specs.Stuck.TheVariants.{Missing}
 use Rattle.bb_machine.specs.Units.{is_full as no_unit_left}
 use Rattle.bb_trace.specs.Act.TheVariants as acts
+use Rattle.bb_trace.specs.Applied.{applied}
+use Rattle.bb_trace.specs.Ask.{Ask}
+use Rattle.bb_trace.specs.Denial.TheVariants as denials
+use Rattle.bb_trace.specs.Native.{Native}
+use Rattle.bb_trace.specs.Roster.{after_act_at, asks_at, place_of}
+use Rattle.bb_trace.specs.Sight.{Sight}
 use Rattle.bb_trace.specs.Board.{Board as Blackboard, with_world}
 use Rattle.bb_trace.specs.World.{after_take}
 use Rattle.bb_trace.specs.Reaction.{Reaction}
@@ -16,7 +22,7 @@ use Rattle.bb_trace.specs.Source.{Source}
 use Rattle.bb_trace.specs.declared.end.End.{End}
 use Rattle.bb_trace.specs.declared.end.End.TheVariants as ends
 use Rattle.bb_trace.specs.Plan.{Plan}
-use Rattle.bb_run.specs.declared.state.State.{State}
+use Rattle.bb_run.specs.State.{State}
 use Rattle.bb_run.specs.Asking.{attempt}
 
 -- the code of a reaction
@@ -46,9 +52,27 @@ pub record WasStopped (plan : Plan) (board : Blackboard) (stop : Stop) : Type 0 
   pub left : let after = (attempt code.code entry before).1 in
       (board ≡ after) ⊎ (board ≡ with_world after (after_take after.world))
 
--- a source has a native for its act, and there are none
-abbrev pub LacksNative : Plan → Type 0
-LacksNative plan = (source : Source) × Contains plan.sources source × (source.act ≡ acts.Native)
+-- an ask that a native made for a source asks for a unit, and no unit can be created
+pub record WasDenied (plan : Plan) (s : State) : Type 0 where
+  pub source : Source
+  pub one : Contains plan.sources source
+  pub native : source.act ≡ acts.Native
+  -- the natives before it was called, and its place among them
+  pub before : List Native
+  pub place : ℕ
+  pub place_is : place_of before source.name ≡ Some place
+  pub unit : ℕ
+  pub seen : Sight
+  pub after : s.natives ≡ after_act_at before place unit seen
+  pub ask : Ask
+  pub asked : Contains (asks_at before place unit seen) ask
+  pub came : applied ask s.board ≡ Err denials.Full
+
+-- a source has a native for its act, and there is none of its name
+abbrev pub LacksNative : Plan → List Native → Type 0
+LacksNative plan natives =
+    (source : Source) × Contains plan.sources source × (source.act ≡ acts.Native)
+    × (place_of natives source.name ≡ None)
 
 -- why a run ends in this state
 pub data Cause (plan : Plan) (s : State) : End → Type 0 where
@@ -57,11 +81,13 @@ pub data Cause (plan : Plan) (s : State) : End → Type 0 where
   -- it is full where no unit can be created, and its last execution was stopped for that
   of_units : (steps found : ℕ) → WasStopped plan s.board (stops.Full steps found)
       → no_unit_left s.board.world.units ≡ true → Cause plan s ends.Full
+  -- the same where a native asked for a unit
+  of_ask : WasDenied plan s → no_unit_left s.board.world.units ≡ true → Cause plan s ends.Full
   -- it is stuck where its last execution was
   of_execution : (reason : Stuck) (steps found : ℕ) → WasStopped plan s.board (stops.Stuck reason steps found)
       → Cause plan s (ends.Stuck reason)
-  -- it is stuck where there is no code to execute
-  of_native : LacksNative plan → Cause plan s (ends.Stuck Missing)
+  -- it is stuck where there is no native to call
+  of_native : LacksNative plan s.natives → Cause plan s (ends.Stuck Missing)
 
 -- a run that ends full or stuck has a cause for it
 abbrev pub HasCause : Plan → State → Option End → Type 0

@@ -1,34 +1,34 @@
 -- What comes after a choice.
-use Rattle.std.specs.Prelude.{◌≡◌, List, [], ◌∷◌, ◌++◌, slice_get, Option, Some, None}
+use Rattle.std.specs.Prelude.{◌≡◌, ℕ, List, [], ◌∷◌, ◌++◌, slice_get, Option, Some, None}
 use Rattle.bb_agenda.specs.declared.activation.Activation.{Activation}
 use Rattle.bb_agenda.specs.Changes.{with_executed}
-use Rattle.bb_trace.specs.Act.{Act}
 use Rattle.bb_trace.specs.Source.{Source}
 use Rattle.bb_trace.specs.declared.end.End.{End}
 use Rattle.bb_trace.specs.declared.note.Note.{Note}
-use Rattle.bb_trace.specs.declared.note.Note.TheVariants.{Invalid, Finished}
+use Rattle.bb_trace.specs.declared.note.Note.TheVariants.{Invalid}
+use Rattle.bb_trace.specs.Native.{Native}
 use Rattle.bb_trace.specs.Plan.{Plan}
 use Rattle.bb_run.specs.declared.execution.Verdict.{Verdict}
 use Rattle.bb_run.specs.declared.execution.Verdict.TheVariants as verdicts
-use Rattle.bb_run.specs.declared.state.State.{State}
-use Rattle.bb_run.specs.State.{with_board, with_agenda}
+use Rattle.bb_run.specs.State.{State, with_board, with_agenda}
 use Rattle.bb_run.specs.Told.{Response, telling, over}
-use Rattle.bb_run.specs.Run.{execution, validity}
+use Rattle.bb_run.specs.Run.{execution, finish, validity}
 
 -- what is told upon a choice: what the execution of an act for its unit tells, or that the activation is invalid
-abbrev pub upon_verdict : Verdict → Act → Activation → State → Response
-upon_verdict verdicts.Valid act a s = execution act a (with_agenda s (with_executed s.agenda a.number))
-upon_verdict verdicts.Invalid act a s = telling (Invalid a.number ∷ []) s None
-upon_verdict (verdicts.Over end) act a s = over end s
+abbrev pub upon_verdict : Verdict → Source → Activation → State → Response
+upon_verdict verdicts.Valid source a s =
+    execution source.name source.act a (with_agenda s (with_executed s.agenda a.number))
+upon_verdict verdicts.Invalid source a s = telling (Invalid a.number ∷ []) s None
+upon_verdict (verdicts.Over end) source a s = over end s
 
 -- by the verdict on the activation
 abbrev pub upon_choice : Source → Activation → State → Response
-upon_choice source a s = let v = validity source.revalidate a s.board in upon_verdict v.0 source.act a (with_board s v.1)
+upon_choice source a s = let v = validity source.revalidate a s.board in upon_verdict v.0 source a (with_board s v.1)
 
--- the finish, where the run ends so
-abbrev pub finish_by : Option End → List Note
-finish_by None = []
-finish_by (Some end) = Finished end ∷ []
+-- the finish and the closings, where the run ends so
+abbrev pub finish_by : Option End → List Native → List Note
+finish_by None natives = []
+finish_by (Some end) natives = finish end natives
 
 -- an activation was chosen in this state, and these notes come after the choice
 pub record IsFollowed (plan : Plan) (s : State) (a : Activation) (after : List Note) : Type 0 where
@@ -37,4 +37,4 @@ pub record IsFollowed (plan : Plan) (s : State) (a : Activation) (after : List N
   pub source_is : slice_get plan.sources a.source ≡ Some source
   -- its notes upon the choice come first, and the finish where the run ends in them
   pub rest : List Note
-  pub begins : let told = upon_choice source a s in after ≡ (told.told ++ finish_by told.end) ++ rest
+  pub begins : let told = upon_choice source a s in after ≡ (told.told ++ finish_by told.end told.state.natives) ++ rest

@@ -20,6 +20,8 @@ pub mod Phases
 pub mod Executed
 -- why a run ends full or stuck
 pub mod Causes
+-- the events that a run processes, and the states in which it does
+pub mod Processed
 -- why no run is stuck
 pub mod Unstuck
 -- what leaves the blackboard as it was
@@ -40,6 +42,14 @@ pub use Rattle.bb_trace.specs.declared.plan.TheConstants as Limits
 pub use Rattle.bb_trace.specs.Board
 pub use Rattle.bb_trace.specs.Load
 pub use Rattle.bb_trace.specs.UnitsFaults
+-- of bb_native: natives, what they see and ask, and what becomes of that
+pub use Rattle.bb_trace.specs.Native
+pub use Rattle.bb_trace.specs.Roster
+pub use Rattle.bb_trace.specs.Sight
+pub use Rattle.bb_trace.specs.Ask
+pub use Rattle.bb_trace.specs.Closing
+pub use Rattle.bb_trace.specs.Refusals
+pub use Rattle.bb_trace.specs.Applied
 -- of bb_rules: sources, and how they are made
 pub use Rattle.bb_trace.specs.Classes
 pub use Rattle.bb_trace.specs.Law

@@ -1,7 +1,7 @@
 -- What every run is like. Most of it is read off the notes alone.
 use Rattle.std.specs.Prelude.{◌≡◌, ◌⊎◌, ℕ, ◌+◌, ◌≤◌, ◌<◌, ℤ, ◌≤ℤ◌, Bool, true, false, ◌==◌, Some, None}
 use Rattle.std.specs.Prelude.{List, [], ◌∷◌, ◌++◌, length, map, filter, Contains}
-use Rattle.std.specs.List.{count_by, flat_map, fold, list_any}
+use Rattle.std.specs.List.{AllZip, count_by, flat_map, fold, list_any}
 use Rattle.bb_agenda.specs.declared.activation.Activation.{Activation}
 use Rattle.bb_agenda.specs.Agenda.{pending_of}
 use Rattle.bb_agenda.specs.Changes.{other_than, rebased}
@@ -10,10 +10,14 @@ use Rattle.bb_trace.specs.declared.end.End.{End}
 use Rattle.bb_trace.specs.declared.end.End.TheVariants as ends
 use Rattle.bb_trace.specs.declared.note.Note.{Note}
 use Rattle.bb_trace.specs.declared.note.Note.TheVariants.{Triggered, Obviated, Retriggered, Chosen}
-use Rattle.bb_trace.specs.declared.note.Note.TheVariants.{Invalid, Ended, Finished}
+use Rattle.bb_trace.specs.declared.note.Note.TheVariants.{Invalid, Ended, Refused, NativeEnded, Finished, Closed}
+use Rattle.bb_trace.specs.Closing.{Closing}
+use Rattle.bb_trace.specs.Native.{Native}
+use Rattle.bb_trace.specs.Refusal.{Refusal}
+use Rattle.bb_trace.specs.Roster.{closings_of}
 use Rattle.bb_trace.specs.Plan.{Plan}
 use Rattle.bb_run.specs.Told.{Stretch}
-use Rattle.bb_run.specs.Run.{choice, rating}
+use Rattle.bb_run.specs.Run.{choice, finish, rating}
 
 -- ---- what notes tell
 
@@ -48,8 +52,14 @@ gone_by _ = []
 -- the note tells that a cycle is over: its execution has ended, or its activation was invalid
 abbrev pub is_end : Note → Bool
 is_end (Ended steps found budget) = true
+is_end (NativeEnded asks) = true
 is_end (Invalid number) = true
 is_end _ = false
+
+-- what a note tells that a native said at its close
+abbrev pub closed_by : Note → List Closing
+closed_by (Closed closing) = closing ∷ []
+closed_by _ = []
 
 -- all activations that notes tell to be new
 abbrev pub triggered_in : List Note → List Activation
@@ -62,6 +72,10 @@ chosen_in notes = flat_map chosen_by notes
 -- the numbers of all activations that are no longer pending
 abbrev pub gone_in : List Note → List ℕ
 gone_in notes = flat_map gone_by notes
+
+-- all that notes tell that natives said at their close
+abbrev pub closed_in : List Note → List Closing
+closed_in notes = flat_map closed_by notes
 
 -- the number of cycles that are over
 abbrev pub ends_in : List Note → ℕ
@@ -117,21 +131,38 @@ pub record ExecutesInTurn (notes : List Note) : Type 0 where
   -- where a cycle is over one choice more was made than cycles were over before
   pub ends : (before : List Note) (steps found budget : ℕ) → At notes before (Ended steps found budget)
       → ends_in before + 1 ≡ length (chosen_in before)
+  pub native_ends : (before : List Note) (asks : ℕ) → At notes before (NativeEnded asks)
+      → ends_in before + 1 ≡ length (chosen_in before)
   pub invalids : (before : List Note) (number : ℕ) → At notes before (Invalid number)
+      → ends_in before + 1 ≡ length (chosen_in before)
+  -- the same where an ask is refused
+  pub refusals : (before : List Note) (ask : ℕ) (refusal : Refusal) → At notes before (Refused ask refusal)
       → ends_in before + 1 ≡ length (chosen_in before)
 
 -- ---- how every run ends
 
--- the run has an end, which it tells last and once
+-- the run has an end, which it tells once, and after it what each native says at its close, in order
 pub record IsFinished (run : Stretch) : Type 0 where
   pub end : End
   -- the run ends so
   pub ends : run.end ≡ Some end
-  -- its last note tells that
-  pub last : (before : List Note) × (notes_of run ≡ before ++ Finished end ∷ [])
-  -- nothing comes after a finish
+  -- its last notes tell that and the closings
+  pub last : (before : List Note) × (notes_of run ≡ before ++ finish end run.state.natives)
+  -- nothing but the closings comes after a finish
   pub once : (before : List Note) (e : End) (after : List Note) → notes_of run ≡ before ++ Finished e ∷ after
-      → after ≡ []
+      → after ≡ map Closed (closings_of run.state.natives)
+
+-- a native is another one, but for what it holds
+abbrev pub IsLike : Native → Native → Type 0
+IsLike native left = (held : List ℤ) × (left ≡ record native { held = held })
+
+-- each of the natives that were handed in is closed once, in order
+pub record ClosesEach (natives : List Native) (run : Stretch) : Type 0 where
+  -- those that are left are those that were handed in, but for what they hold
+  pub left : AllZip IsLike natives run.state.natives
+  -- they are closed in order, and nothing else is closed
+  pub closings : closed_in (notes_of run) ≡ closings_of run.state.natives
+  pub names : map (λ (c : Closing). c.name) (closed_in (notes_of run)) ≡ map (λ (n : Native). n.name) natives
 
 -- the run makes so many cycles at most, and its end tells why not more
 pub record KeepsLimit (plan : Plan) (limit : ℕ) (run : Stretch) : Type 0 where
@@ -149,7 +180,7 @@ pub record KeepsLimit (plan : Plan) (limit : ℕ) (run : Stretch) : Type 0 where
 -- after these notes an activation is chosen in the last state of a run, and its line prints this rating
 pub record IsChosenAfter (plan : Plan) (run : Stretch) (before : List Note) (a : Activation) (r : ℤ) : Type 0 where
   -- that run tells these notes, and then ends by its limit
-  pub told : notes_of run ≡ before ++ Finished ends.Limit ∷ []
+  pub told : notes_of run ≡ before ++ finish ends.Limit run.state.natives
   -- what is pending in its last state is what is pending by the notes
   pub agenda : pending_of run.state.agenda ≡ pending_after before
   -- the activation is the choice in that state
@@ -168,4 +199,4 @@ pub record IsChosenAfter (plan : Plan) (run : Stretch) (before : List Note) (a :
 abbrev pub Extends : Stretch → Stretch → Type 0
 Extends run longer =
     (longer ≡ run) ⊎ ((run.end ≡ Some ends.Limit) × ((front : List (List Note)) × ((rest : List (List Note)) ×
-    ((run.told ≡ front ++ (Finished ends.Limit ∷ []) ∷ []) × (longer.told ≡ front ++ rest)))))
+    ((run.told ≡ front ++ finish ends.Limit run.state.natives ∷ []) × (longer.told ≡ front ++ rest)))))

@@ -9,9 +9,11 @@ use Rattle.bb_trace.specs.BoardNote.{Note as BoardNote}
 use Rattle.bb_trace.specs.BoardNote.TheVariants.{Event as happened}
 use Rattle.bb_trace.specs.declared.end.End.TheVariants as finishes
 use Rattle.bb_trace.specs.declared.note.Note.{Note}
-use Rattle.bb_trace.specs.declared.note.Note.TheVariants.{Board, Chosen, Invalid, Ended, Finished}
+use Rattle.bb_trace.specs.declared.note.Note.TheVariants.{Board, Chosen, Invalid, Ended, Refused, NativeEnded, Finished}
+use Rattle.bb_trace.specs.Native.{Native}
+use Rattle.bb_trace.specs.Refusal.{Refusal}
 use Rattle.bb_trace.specs.Plan.{Plan}
-use Rattle.bb_run.specs.declared.state.State.{State}
+use Rattle.bb_run.specs.State.{State}
 use Rattle.bb_run.specs.Told.{Stretch, after_told}
 use Rattle.bb_run.specs.Run.{choice, cycles, unfinished}
 use Rattle.bb_run.specs.Order.{At, all_of, chosen_in, pending_after}
@@ -38,6 +40,7 @@ after_in phase (Board note) = after_board_note phase note
 after_in phase (Chosen cycle a r) = inside
 after_in phase (Invalid number) = outside
 after_in phase (Ended steps found budget) = outside
+after_in phase (NativeEnded asks) = outside
 after_in phase _ = phase
 
 -- the phase after these notes
@@ -45,12 +48,13 @@ abbrev pub phase_after : List Note → Phase
 phase_after notes = fold after_in outside notes
 
 -- every run that makes so many cycles or more tells these segments first, and goes on from this state
-abbrev pub Reaches : Plan → Blackboard → (told : List (List Note)) → (made : ℕ) → State → Type 0
-Reaches plan board told made s =
-    (left : ℕ) → unfinished plan board (made + left) ≡ after_told told (cycles plan made left s)
+abbrev pub Reaches : Plan → Blackboard → List Native → (told : List (List Note)) → (made : ℕ) → State → Type 0
+Reaches plan board natives told made s =
+    (left : ℕ) → unfinished plan board natives (made + left) ≡ after_told told (cycles plan made left s)
 
 -- quiescence comes in its turn
-pub record IsQuiet (plan : Plan) (board : Blackboard) (before : List Note) (note : BoardNote) : Type 0 where
+pub record IsQuiet (plan : Plan) (board : Blackboard) (natives : List Native) (before : List Note) (note : BoardNote)
+    : Type 0 where
   pub is : note ≡ happened quiescence
   -- no cycle is open, and quiescence has not come since the last
   pub phase : phase_after before ≡ outside
@@ -58,26 +62,31 @@ pub record IsQuiet (plan : Plan) (board : Blackboard) (before : List Note) (note
   pub told : List (List Note)
   pub notes : all_of told ≡ map Board board.world.notes ++ before
   pub state : State
-  pub there : Reaches plan board told (length (chosen_in before)) state
+  pub there : Reaches plan board natives told (length (chosen_in before)) state
   -- what is pending in it is what is pending by the notes, and none of that can be chosen
   pub pending : pending_of state.agenda ≡ pending_after before
   pub nothing : choice plan state ≡ None
 
 -- what the blackboard had noted is told first; after that the run goes by its phases
-pub record GoesByPhases (plan : Plan) (board : Blackboard) (run : Stretch) : Type 0 where
+pub record GoesByPhases (plan : Plan) (board : Blackboard) (natives : List Native) (run : Stretch) : Type 0 where
   pub rest : List (List Note)
   -- the first segment is what had been noted
   pub begins : run.told ≡ map Board board.world.notes ∷ rest
   -- after it a note of the blackboard comes in a cycle, or is quiescence in its turn
   pub notes : (before : List Note) (note : BoardNote) → At (all_of rest) before (Board note)
-      → (phase_after before ≡ inside) ⊎ IsQuiet plan board before note
+      → (phase_after before ≡ inside) ⊎ IsQuiet plan board natives before note
   -- a cycle begins where none is open
   pub choices : (before : List Note) (cycle : ℕ) (a : Activation) (r : ℤ) → At (all_of rest) before (Chosen cycle a r)
       → (phase_after before ≡ outside) ⊎ (phase_after before ≡ rested)
   -- what is over was open
   pub ends : (before : List Note) (steps found budget : ℕ) → At (all_of rest) before (Ended steps found budget)
       → phase_after before ≡ inside
+  pub native_ends : (before : List Note) (asks : ℕ) → At (all_of rest) before (NativeEnded asks)
+      → phase_after before ≡ inside
   pub invalids : (before : List Note) (number : ℕ) → At (all_of rest) before (Invalid number)
+      → phase_after before ≡ inside
+  -- an ask is refused in a cycle alone
+  pub refusals : (before : List Note) (ask : ℕ) (refusal : Refusal) → At (all_of rest) before (Refused ask refusal)
       → phase_after before ≡ inside
   -- a run finishes by quiescence only where quiescence came, and nothing was chosen after it
   pub finish : (before : List Note) → At (all_of rest) before (Finished finishes.Quiescence)

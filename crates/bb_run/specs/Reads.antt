@@ -7,7 +7,7 @@ use Rattle.bb_trace.specs.Board.{Board as Blackboard}
 use Rattle.bb_trace.specs.Event.{Event}
 use Rattle.bb_trace.specs.Source.{Source}
 use Rattle.bb_trace.specs.Plan.{Plan}
-use Rattle.bb_run.specs.declared.state.State.{State}
+use Rattle.bb_run.specs.State.{State}
 use Rattle.bb_run.specs.Causes.{IsAsked}
 use Rattle.bb_run.specs.Processing.{response}
 use Rattle.bb_run.specs.Run.{validity}
@@ -18,8 +18,10 @@ AsksByReading plan =
     (source : Source) (code : Checked) → Contains plan.sources source → IsAsked source code
     → has_no_writes code.code ≡ true
 
--- then what answers to an event, and what is asked about a choice, leaves the blackboard as it was
+-- then what answers to an event, and what is asked about a choice, leaves the blackboard as it was, and no native
+-- answers to an event
 pub record LeavesBoard (plan : Plan) : Type 0 where
   pub events : (event : Event) (s : State) → (response plan event s).state.board ≡ s.board
+  pub natives : (event : Event) (s : State) → (response plan event s).state.natives ≡ s.natives
   pub choices : (source : Source) (a : Activation) (board : Blackboard) → Contains plan.sources source
       → (validity source.revalidate a board).1 ≡ board

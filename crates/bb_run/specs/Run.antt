@@ -1,6 +1,6 @@
 -- The run of the blackboard machine (the control cycle of the GBBopen Agenda Shell).
-use Rattle.std.specs.Prelude.{ℕ, zero, suc, ◌+◌, ℤ, List, [], ◌∷◌, ◌++◌, map, Option, Some, None, option_and_then}
-use Rattle.std.specs.Prelude.{Result, Ok, Err, slice_get}
+use Rattle.std.specs.Prelude.{ℕ, zero, suc, ◌+◌, ℤ, List, [], ◌∷◌, ◌++◌, length, map, Option, Some, None}
+use Rattle.std.specs.Prelude.{option_and_then, Result, Ok, Err, slice_get}
 use Rattle.bb_trace.specs.Event.TheVariants.{Quiescence as quiescence}
 use Rattle.bb_trace.specs.BoardNote.TheVariants.{Event as happened}
 use Rattle.bb_trace.specs.Board.{Board as Blackboard, with_world}
@@ -21,17 +21,24 @@ use Rattle.bb_machine.specs.Stuck.TheVariants.{Missing}
 use Rattle.bb_trace.specs.Act.{Act}
 use Rattle.bb_trace.specs.Act.TheVariants as acts
 use Rattle.bb_trace.specs.Source.{Source}
+use Rattle.bb_trace.specs.Ask.{Ask}
+use Rattle.bb_trace.specs.Applied.{applied}
+use Rattle.bb_trace.specs.Denial.{Denial}
+use Rattle.bb_trace.specs.Denial.TheVariants as denials
+use Rattle.bb_trace.specs.Native.{Native}
+use Rattle.bb_trace.specs.Roster.{after_act_at, asks_at, closings_of, place_of}
+use Rattle.bb_trace.specs.Sight.{sight_of}
 use Rattle.bb_trace.specs.declared.end.End.{End}
 use Rattle.bb_trace.specs.declared.end.End.TheVariants as finishes
 use Rattle.bb_trace.specs.declared.note.Note.{Note}
-use Rattle.bb_trace.specs.declared.note.Note.TheVariants.{Board, Chosen, Invalid, Ended, Finished}
+use Rattle.bb_trace.specs.declared.note.Note.TheVariants.{Board, Chosen, Invalid, Ended, Refused, NativeEnded}
+use Rattle.bb_trace.specs.declared.note.Note.TheVariants.{Finished, Closed}
 use Rattle.bb_trace.specs.Plan.{Plan}
-use Rattle.bb_run.specs.declared.state.State.{State}
 use Rattle.bb_run.specs.declared.asking.Reply.{Reply}
 use Rattle.bb_run.specs.declared.asking.Reply.TheVariants as replies
 use Rattle.bb_run.specs.declared.execution.Verdict.{Verdict}
 use Rattle.bb_run.specs.declared.execution.Verdict.TheVariants as verdicts
-use Rattle.bb_run.specs.State.{with_board, with_agenda}
+use Rattle.bb_run.specs.State.{State, with_board, with_agenda, with_natives}
 use Rattle.bb_run.specs.Foci.{foci_on, told_notes, with_foci, rated_source, first_agenda}
 use Rattle.bb_run.specs.Told.{Response, Stretch, telling, idle, over, after_told, and_then, segment}
 use Rattle.bb_run.specs.Asking.{attempt, end_by, entry_of, reply_by}
@@ -60,7 +67,7 @@ wait plan s = wait_for plan s (choice plan s)
 
 -- the blackboard's notes are taken, and the agenda is told of the units that they name; no rating here goes by that
 abbrev pub with_notes_taken : State → State
-with_notes_taken s = record {
+with_notes_taken s = record s {
   board = with_world s.board (after_take s.board.world);
   agenda = with_foci s.agenda (told_notes s.board.schema s.board.world.units s.board.world.notes s.agenda.foci);
 }
@@ -74,16 +81,43 @@ abbrev pub answered : Code → State → Result Outcome Stop → Response
 answered code s (Ok o) = noted s (Ended o.steps o.found (budget code o.found) ∷ []) None
 answered code s (Err stop) = noted s [] (Some (end_by stop))
 
--- a source's act is executed for an activation; a native that is not there is missing
-abbrev pub execution : Act → Activation → State → Response
-execution (acts.Code body) a s =
-    let e = attempt body.code (entry_of a.unit None) s.board in answered body.code (with_board s e.1) e.0
-execution acts.Native a s = over (finishes.Stuck Missing) s
+-- what comes of an ask of this number: the blackboard after it, a refusal, or, where no unit can be created, the run is
+-- over; an execution of the definitions has all memory it needs
+abbrev pub upon_ask : (number : ℕ) → Result Blackboard Denial → State → Response
+upon_ask number (Ok board) s = noted (with_board s board) [] None
+upon_ask number (Err (denials.Refused refusal)) s = telling (Refused number refusal ∷ []) s None
+upon_ask number (Err denials.Full) s = over finishes.Full s
+upon_ask number (Err denials.Memory) s = over finishes.Full s
+
+-- asks are applied in order, with numbers from this one on
+unfoldable pub each_applied : (number : ℕ) → List Ask → State → Response
+each_applied number [] s = idle s
+each_applied number (ask ∷ more) s =
+    and_then (upon_ask number (applied ask s.board) s) (each_applied (number + 1) more)
+
+-- the native at a place is called, its asks are applied, and it is told how many there were; one that is not there is
+-- missing
+abbrev pub calling : Option ℕ → Activation → State → Response
+calling None a s = over (finishes.Stuck Missing) s
+calling (Some place) a s =
+    let seen = sight_of s.board in
+    let asks = asks_at s.natives place a.unit seen in
+    and_then (each_applied 1 asks (with_natives s (after_act_at s.natives place a.unit seen)))
+    (λ t. telling (NativeEnded (length asks) ∷ []) t None)
+
+-- a code is executed for an activation
+abbrev pub executing : Code → Activation → State → Response
+executing code a s = let e = attempt code (entry_of a.unit None) s.board in answered code (with_board s e.1) e.0
+
+-- the act of the source of a name is executed for an activation
+abbrev pub execution : (name : List ℕ) → Act → Activation → State → Response
+execution name (acts.Code body) a s = executing body.code a s
+execution name acts.Native a s = calling (place_of s.natives name) a s
 
 -- the source at the activation's place acts; each pending activation has one
 abbrev pub acting : Plan → Option Source → Activation → State → Stretch
 acting plan None a s = idle s
-acting plan (Some source) a s = reported plan (execution source.act a s)
+acting plan (Some source) a s = reported plan (execution source.name source.act a s)
 
 -- what the answer of a revalidation says: an activation is still of use unless it is no
 abbrev pub verdict_of : Answer → Verdict
@@ -138,26 +172,30 @@ cycles plan made (suc left) s =
     (λ a. and_then (cycle plan (made + 1) a t) (cycles plan (made + 1) left)))
 
 -- the state that a run begins with
-abbrev pub first_state : Plan → Blackboard → State
-first_state plan board = record { board = board; agenda = first_agenda plan board }
+abbrev pub first_state : Plan → Blackboard → List Native → State
+first_state plan board natives = record { board = board; agenda = first_agenda plan board; natives = natives }
 
 -- what the first units' creation noted is told, and its events are processed
-abbrev pub start : Plan → Blackboard → Stretch
-start plan board = reported plan (noted (first_state plan board) [] None)
+abbrev pub start : Plan → Blackboard → List Native → Stretch
+start plan board natives = reported plan (noted (first_state plan board natives) [] None)
+
+-- the end is told, and what each native says at its close, in order
+abbrev pub finish : End → List Native → List Note
+finish end natives = Finished end ∷ map Closed (closings_of natives)
 
 -- the segment that tells the end, if there is one
-abbrev pub finish_segments : Option End → List (List Note)
-finish_segments None = []
-finish_segments (Some end) = (Finished end ∷ []) ∷ []
+abbrev pub finish_segments : Option End → List Native → List (List Note)
+finish_segments None natives = []
+finish_segments (Some end) natives = finish end natives ∷ []
 
 -- the same, with its end told last
 abbrev pub with_finish : Stretch → Stretch
-with_finish p = telling (p.told ++ finish_segments p.end) p.state p.end
+with_finish p = telling (p.told ++ finish_segments p.end p.state.natives) p.state p.end
 
 -- the start, and then at most so many cycles
-abbrev pub unfinished : Plan → Blackboard → (limit : ℕ) → Stretch
-unfinished plan board limit = and_then (start plan board) (cycles plan 0 limit)
+abbrev pub unfinished : Plan → Blackboard → List Native → (limit : ℕ) → Stretch
+unfinished plan board natives limit = and_then (start plan board natives) (cycles plan 0 limit)
 
 -- the whole run from a blackboard's first state, with at most so many cycles
-abbrev pub run : Plan → Blackboard → (limit : ℕ) → Stretch
-run plan board limit = with_finish (unfinished plan board limit)
+abbrev pub run : Plan → Blackboard → List Native → (limit : ℕ) → Stretch
+run plan board natives limit = with_finish (unfinished plan board natives limit)

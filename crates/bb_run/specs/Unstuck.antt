@@ -21,19 +21,17 @@ use Rattle.bb_trace.specs.declared.end.End.TheVariants as ends
 use Rattle.bb_trace.specs.declared.note.Note.{Note}
 use Rattle.bb_trace.specs.declared.note.Note.TheVariants.{Ended}
 use Rattle.bb_trace.specs.Plan.{Plan}
-use Rattle.bb_run.specs.declared.state.State.{State}
+use Rattle.bb_run.specs.State.{State}
 use Rattle.bb_run.specs.Asking.{entry_of}
-use Rattle.bb_run.specs.Causes.{LacksNative}
 use Rattle.bb_run.specs.Processing.{response}
 
 -- ---- what a run needs
 
--- the sources of a plan were made under its schema, of sound codes, and each has a code for its act
+-- the sources of a plan were made under its schema, of sound codes
 pub record IsWellMade (plan : Plan) : Type 0 where
   pub schema : schemas.Fits plan.schema
   pub made : All (IsMade plan.schema) plan.sources
   pub codes : All HasSoundCodes plan.sources
-  pub acts : ¬ LacksNative plan
 
 -- a blackboard is one of the plan's schema, and fits it
 pub record FitsPlan (plan : Plan) (board : Blackboard) : Type 0 where
@@ -63,6 +61,10 @@ BeginsFor plan s a =
 -- an event is one of a blackboard: its unit was created, and is of its class if it is live; or it is quiescence
 abbrev pub IsEventOf : Schema → Blackboard → Event → Type 0
 IsEventOf s board event = is_event_of s board.world.units event ≡ true
+
+-- an event is processed in a state that is ready, and is one of its blackboard
+abbrev pub IsReadyFor : Plan → Event × State → Type 0
+IsReadyFor plan visit = IsReady plan visit.1 × IsEventOf plan.schema visit.1.board visit.0
 
 -- what sources ask about an event begins with what fits its part
 pub record AsksFor (plan : Plan) (s : State) (event : Event) : Type 0 where

@@ -4,7 +4,7 @@ use Rattle.std.specs.FinMap.{get}
 use Rattle.bb_machine.specs.Units.{is_live}
 use Rattle.bb_trace.specs.Board.{Board as Blackboard}
 use Rattle.bb_trace.specs.Plan.{Plan}
-use Rattle.bb_run.specs.declared.state.State.{State}
+use Rattle.bb_run.specs.State.{State}
 use Rattle.bb_run.specs.Foci.{focus_of, setting_of}
 
 -- the agenda has the foci of the blackboard, and no others

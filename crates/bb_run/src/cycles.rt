@@ -1,25 +1,29 @@
 //! The run of the blackboard machine, in parts as its definition is. `run_texts` calls `run`.
 
-ghost use Rattle.std.specs.Prelude.{◌≡◌, [], All, Some, IfOk, IfSome, false, option_and_then, option_map, slice_get};
+ghost use Rattle.std.specs.Prelude.{◌≡◌, [], ◌∷◌, All, Some, IfOk, IfSome, false, map, option_and_then, option_map};
+ghost use Rattle.std.specs.Prelude.{slice_get};
 ghost use Rattle.std.specs.Io.KnownBytes.{Appends};
 ghost use Rattle.bb_run.specs.Foci.{first_agenda};
 ghost use Rattle.bb_trace.specs.Law.{IsMade};
 ghost use Rattle.bb_trace.specs.Page.{stopped_by_write};
 ghost use Rattle.bb_trace.specs.TraceText.{trace_text};
+ghost use Rattle.bb_trace.specs.declared.note.Note.TheVariants.{Closed as ClosedNote, Finished};
 ghost use Rattle.bb_run.specs.Causes.{LacksNative};
 ghost use Rattle.bb_run.specs.Finish.{WritesFront, end_of, is_write};
 ghost use Rattle.bb_run.specs.Run.{acting, choice, cycle, cycles, if_valid, run, start, unfinished};
 ghost use Rattle.bb_run.specs.Unstuck.{NotStuck};
 ghost use Rattle.bb_run.specs.proving.Knowing.{Knows, MayKnow};
+ghost use Rattle.bb_run.specs.proving.Seen.{seen};
 ghost use Rattle.bb_run.specs.proving.Telling.{Finishes, Makes, Same, Waits, Writes, at};
 
-use crate::execution::{Verdict, execute, take_choice, take_noted, validate};
+use crate::execution::{Verdict, execute, take_choice, validate};
 use crate::finish::Finish;
 use crate::foci::{rated_sources, tell_all};
-use crate::state::State;
+use crate::noting::take_noted;
+use crate::state::{Start, State};
 use crate::teller::Teller;
 use bb_agenda::{Activation, Agenda};
-use bb_trace::{Board, End, Halt, Note, Out, Page, Plan, Question, Source};
+use bb_trace::{Board, Closed, End, Halt, NativeSource, Note, Out, Page, Plan, Question, Source};
 use std::alloc::{AllocError, Global};
 
 /// What comes before a cycle: an activation is chosen, or the run is over.
@@ -30,9 +34,9 @@ pub(crate) enum Decision {
 }
 
 // The agenda rates by the foci that it was told of, and these are the blackboard's.
-fn choose(plan: &Plan, state: &State) -> Option<Activation>
-    requires knows { Knows plan.now state.now }
-    ensures { result ≡ choice plan.now state.now }
+fn choose<N: NativeSource>(plan: &Plan, state: &State<N>) -> Option<Activation>
+    requires knows { Knows plan.now (seen N.meaning state.now) }
+    ensures { result ≡ choice plan.now (seen N.meaning state.now) }
 {
     let number = state.agenda.choose(plan.floor())?;
     Some(state.agenda.activation(number))
@@ -65,11 +69,16 @@ fn if_valid(verdict: Verdict, source: Option<&Source>) -> Option<&Source>
 impl<O: Out> Teller<'_, O> {
     // Chooses an activation, after quiescence where none can be chosen at once. The run is over where none can be
     // chosen after it either.
-    fn decide(&mut self, plan: &Plan, state: &mut State) -> Result<Decision, Halt>
+    fn decide<N: NativeSource>(
+        &mut self,
+        plan: &Plan,
+        state: &mut State<N>,
+    ) -> Result<Decision, Halt>
         requires open { O.has_failed self.old.out.now ≡ false }
-        requires knows { Knows plan.now state.old }
+        requires knows { Knows plan.now (seen N.meaning state.old) }
         ensures same { Same self.old self.new }
-        ensures waited { Waits plan.now (at O.taken self.old) (at O.taken self.new) state.old state.new result }
+        ensures waited { Waits plan.now (at O.taken self.old) (at O.taken self.new)
+            (seen N.meaning state.old) (seen N.meaning state.new) result }
         ensures failed { O.has_failed self.new.out.now ≡ stopped_by_write result }
     {
         if let Some(activation) = choose(plan, state) {
@@ -85,38 +94,38 @@ impl<O: Out> Teller<'_, O> {
     }
 
     // Has a source act for an activation.
-    fn act(
+    fn act<N: NativeSource>(
         &mut self,
         plan: &Plan,
         source: &Source,
         activation: Activation,
-        state: &mut State,
+        state: &mut State<N>,
     ) -> Result<Option<End>, Halt>
         requires open { O.has_failed self.old.out.now ≡ false }
         ensures same { Same self.old self.new }
         ensures made { Makes plan.now (at O.taken self.old) (at O.taken self.new)
-            (acting plan.now (Some source.now) activation state.old) state.new result }
+            (acting plan.now (Some source.now) activation (seen N.meaning state.old)) (seen N.meaning state.new) result }
         ensures failed { O.has_failed self.new.out.now ≡ stopped_by_write result }
     {
         let mut notes = Vec::new(self.alloc());
-        let end = execute(&source.act, activation, state, &mut notes)?;
+        let end = execute(source, activation, state, &mut notes)?;
         self.report(plan, &notes, end, state)
     }
 
     // Makes a cycle: asks whether the activation is still of use, tells of the choice, takes it off what is pending,
     // and has its source act.
-    fn make_cycle(
+    fn make_cycle<N: NativeSource>(
         &mut self,
         plan: &Plan,
         number: u64,
         activation: Activation,
-        state: &mut State,
+        state: &mut State<N>,
     ) -> Result<Option<End>, Halt>
         requires open { O.has_failed self.old.out.now ≡ false }
-        requires knows { Knows plan.now state.old }
+        requires knows { Knows plan.now (seen N.meaning state.old) }
         ensures same { Same self.old self.new }
         ensures made { Makes plan.now (at O.taken self.old) (at O.taken self.new)
-            (cycle plan.now number activation state.old) state.new result }
+            (cycle plan.now number activation (seen N.meaning state.old)) (seen N.meaning state.new) result }
         ensures failed { O.has_failed self.new.out.now ≡ stopped_by_write result }
     {
         let source = source_at(plan.sources(), activation.source);
@@ -139,12 +148,17 @@ impl<O: Out> Teller<'_, O> {
     }
 
     // Makes cycles up to the limit, and returns the end of the run.
-    fn make_cycles(&mut self, plan: &Plan, limit: u64, state: &mut State) -> Result<End, Halt>
+    fn make_cycles<N: NativeSource>(
+        &mut self,
+        plan: &Plan,
+        limit: u64,
+        state: &mut State<N>,
+    ) -> Result<End, Halt>
         requires open { O.has_failed self.old.out.now ≡ false }
-        requires knows { Knows plan.now state.old }
+        requires knows { Knows plan.now (seen N.meaning state.old) }
         ensures same { Same self.old self.new }
         ensures made { Finishes plan.now (at O.taken self.old) (at O.taken self.new)
-            (cycles plan.now 0 limit state.old) state.new result }
+            (cycles plan.now 0 limit (seen N.meaning state.old)) (seen N.meaning state.new) result }
         ensures failed { O.has_failed self.new.out.now ≡ stopped_by_write result }
     {
         for made in 0..limit {
@@ -163,12 +177,17 @@ impl<O: Out> Teller<'_, O> {
     }
 
     // Tells what the first units' creation noted, and processes its events.
-    fn begin(&mut self, plan: &Plan, state: &mut State) -> Result<Option<End>, Halt>
+    fn begin<N: NativeSource>(
+        &mut self,
+        plan: &Plan,
+        state: &mut State<N>,
+    ) -> Result<Option<End>, Halt>
         requires open { O.has_failed self.old.out.now ≡ false }
         requires new { state.old.agenda ≡ first_agenda plan.now state.old.board }
         ensures same { Same self.old self.new }
         ensures made { Makes plan.now (at O.taken self.old) (at O.taken self.new)
-            (start plan.now state.old.board) state.new result }
+            (start plan.now state.old.board (map N.meaning state.old.roster.natives.items))
+            (seen N.meaning state.new) result }
         ensures failed { O.has_failed self.new.out.now ≡ stopped_by_write result }
     {
         let mut notes = Vec::new(self.alloc());
@@ -177,13 +196,19 @@ impl<O: Out> Teller<'_, O> {
     }
 
     // Makes the whole run but for its last segment.
-    fn run_unfinished(&mut self, plan: &Plan, limit: u64, state: &mut State) -> Result<End, Halt>
+    fn run_unfinished<N: NativeSource>(
+        &mut self,
+        plan: &Plan,
+        limit: u64,
+        state: &mut State<N>,
+    ) -> Result<End, Halt>
         requires open { O.has_failed self.old.out.now ≡ false }
         requires new { state.old.agenda ≡ first_agenda plan.now state.old.board }
         requires may { MayKnow plan.now state.old.board }
         ensures same { Same self.old self.new }
         ensures made { Finishes plan.now (at O.taken self.old) (at O.taken self.new)
-            (unfinished plan.now state.old.board limit) state.new result }
+            (unfinished plan.now state.old.board (map N.meaning state.old.roster.natives.items) limit)
+            (seen N.meaning state.new) result }
         ensures failed { O.has_failed self.new.out.now ≡ stopped_by_write result }
     {
         if let Some(end) = self.begin(plan, state)? {
@@ -192,23 +217,45 @@ impl<O: Out> Teller<'_, O> {
         self.make_cycles(plan, limit, state)
     }
 
-    // Makes the whole run, and writes all of its text.
-    fn make_run(&mut self, plan: &Plan, limit: u64, state: &mut State) -> Result<End, Halt>
+    // Makes the whole run, and writes all of its text. Each native is closed, whatever comes of it.
+    fn make_run<N: NativeSource>(
+        &mut self,
+        plan: &Plan,
+        limit: u64,
+        state: State<N>,
+    ) -> Result<End, Halt>
         requires open { O.has_failed self.old.out.now ≡ false }
-        requires new { state.old.agenda ≡ first_agenda plan.now state.old.board }
-        requires may { MayKnow plan.now state.old.board }
+        requires new { state.agenda ≡ first_agenda plan.now state.board }
+        requires may { MayKnow plan.now state.board }
         requires empty { self.old.page.now ≡ [] }
         ensures same { Same self.old self.new }
-        ensures end { IfOk result (λ end. (run plan.now state.old.board limit).end ≡ Some end) }
+        ensures end { IfOk result (λ end.
+            (run plan.now state.board (map N.meaning state.roster.natives.items) limit).end ≡ Some end) }
         ensures written { Writes plan.now (O.taken self.old.out.now) (O.taken self.new.out.now)
-            (run plan.now state.old.board limit).told result }
+            (run plan.now state.board (map N.meaning state.roster.natives.items) limit).told result }
         ensures failed { O.has_failed self.new.out.now ≡ stopped_by_write result }
     {
-        let end = self.run_unfinished(plan, limit, state)?;
-        self.page.add_segment(plan, &[Note::Finished(end)])?;
+        let mut state = state;
+        let made = self.run_unfinished(plan, limit, &mut state);
+        let closed = state.close();
+        let end = made?;
+        let notes = last_notes(self.alloc(), end, closed)?;
+        self.page.add_segment(plan, &notes)?;
         self.page.flush(self.out)?;
         Ok(end)
     }
+}
+
+// The notes of the last segment: the end of the run, and what each native said at its close.
+fn last_notes(alloc: Global, end: End, closed: Closed) -> Result<Vec<Note>, AllocError>
+    ensures { IfOk result (λ notes. notes.items ≡ Finished end ∷ map ClosedNote closed) }
+{
+    let mut notes = Vec::new(alloc);
+    notes.push(Note::Finished(end))?;
+    for closing in closed.into_vec() {
+        notes.push(Note::Closed(closing))?;
+    }
+    Ok(notes)
 }
 
 // The agenda that a run begins with: nothing is pending, and it was told of the foci that the blackboard has.
@@ -225,46 +272,70 @@ fn first_agenda(alloc: Global, plan: &Plan, board: &Board) -> Result<Agenda, All
 }
 
 // Makes the whole run, and writes all of its text.
-fn write_run<O: Out>(
+fn write_run<N: NativeSource, O: Out>(
     alloc: Global,
     plan: &Plan,
-    board: Board,
+    start: Start<N>,
     limit: u64,
     out: &mut O,
 ) -> Result<End, Halt>
     requires open { O.has_failed out.old ≡ false }
-    ensures end { IfOk result (λ end. (run plan.now board limit).end ≡ Some end) }
-    ensures written { Writes plan.now (O.taken out.old) (O.taken out.new) (run plan.now board limit).told result }
+    ensures end { IfOk result (λ end.
+        (run plan.now start.board (map N.meaning start.roster.natives.items) limit).end ≡ Some end) }
+    ensures written { Writes plan.now (O.taken out.old) (O.taken out.new)
+        (run plan.now start.board (map N.meaning start.roster.natives.items) limit).told result }
     ensures failed { O.has_failed out.new ≡ stopped_by_write result }
 {
+    let Start { board, roster } = start;
+    let agenda = match first_agenda(alloc, plan, &board) {
+        Ok(agenda) => agenda,
+        Err(_) => {
+            drop(roster.close_all());
+            return Err(Halt::Memory);
+        }
+    };
     let mut page = Page::new(alloc);
-    let agenda = first_agenda(alloc, plan, &board)?;
-    let mut state = State { board, agenda };
     let mut teller = Teller {
         page: &mut page,
         out,
     };
-    teller.make_run(plan, limit, &mut state)
+    let state = State {
+        board,
+        agenda,
+        roster,
+    };
+    teller.make_run(plan, limit, state)
 }
 
-/// Runs a blackboard from its first state, at most `limit` cycles, and writes the trace. `Memory`: memory ran out.
+/// Runs a blackboard from its first state with the natives that were handed in, at most `limit` cycles, and writes the
+/// trace. At its end each native is closed once, in order, also where the run was cut short. `Memory`: memory ran out.
 /// `Write`: the output failed. A run is not stuck where its sources were made under the plan's schema, of codes that the
-/// verifier accepted under it, each has a code for its act, and the blackboard is one of that schema.
-pub fn run<O: Out>(alloc: Global, plan: &Plan, board: Board, limit: u32, out: &mut O) -> Finish
+/// verifier accepted under it, each has a code for its act or there is a native of its name, and the blackboard is one
+/// of that schema.
+pub fn run<N: NativeSource, O: Out>(
+    alloc: Global,
+    plan: &Plan,
+    start: Start<N>,
+    limit: u32,
+    out: &mut O,
+) -> Finish
     requires open { O.has_failed out.old ≡ false }
-    ensures finish { IfSome (end_of result) (λ end. (run plan.now board limit).end ≡ Some end) }
+    ensures finish { IfSome (end_of result) (λ end.
+        (run plan.now start.board (map N.meaning start.roster.natives.items) limit).end ≡ Some end) }
     ensures text { IfSome (end_of result) (λ _. Appends (O.taken out.old) (O.taken out.new)
-        (trace_text plan.now (run plan.now board limit).told)) }
-    ensures front { WritesFront plan.now (run plan.now board limit) result (O.taken out.old) (O.taken out.new) }
+        (trace_text plan.now (run plan.now start.board (map N.meaning start.roster.natives.items) limit).told)) }
+    ensures front { WritesFront plan.now (run plan.now start.board (map N.meaning start.roster.natives.items) limit)
+        result (O.taken out.old) (O.taken out.new) }
     ensures failed { O.has_failed out.new ≡ is_write result }
-    ensures unstuck { All (IsMade plan.now.schema) plan.now.sources → ¬ LacksNative plan.now →
-        board.schema ≡ plan.now.schema → NotStuck (end_of result) }
+    ensures unstuck { All (IsMade plan.now.schema) plan.now.sources →
+        ¬ LacksNative plan.now (map N.meaning start.roster.natives.items) →
+        start.board.schema ≡ plan.now.schema → NotStuck (end_of result) }
 {
     // What holds of any schema, plan and blackboard.
     plan.schema().fits();
     let _ = plan.sources();
-    board.fits();
-    match write_run(alloc, plan, board, u64::from(limit), out) {
+    start.board.fits();
+    match write_run(alloc, plan, start, u64::from(limit), out) {
         Ok(end) => Finish::from(end),
         Err(Halt::Memory) => Finish::Memory,
         Err(Halt::Write) => Finish::Write,

@@ -1,20 +1,20 @@
 //! What a cycle does with its activation: whether it is still of use, and the execution of its source's act. A cycle
 //! (cycles.rt) has the notes told.
 
-ghost use Rattle.std.specs.Prelude.{◌≡◌, ◌++◌, IfOk, Option, map, option_map};
+ghost use Rattle.std.specs.Prelude.{◌≡◌, IfOk, option_map};
 ghost use Rattle.bb_agenda.specs.Rating.{rating_in};
-ghost use Rattle.bb_trace.specs.Act.TheVariants.{Code};
-ghost use Rattle.bb_trace.specs.declared.end.End.{End};
-ghost use Rattle.bb_trace.specs.declared.note.Note.TheVariants.{Board as BoardNote};
-ghost use Rattle.bb_run.specs.Run.{chosen_with, execution, noted, validity, verdict_by};
-ghost use Rattle.bb_run.specs.proving.Telling.{IsResponse, Validates, option_list};
+ghost use Rattle.bb_trace.specs.Act.TheVariants.{Native};
+ghost use Rattle.bb_run.specs.Run.{chosen_with, executing, execution, validity, verdict_by};
+ghost use Rattle.bb_run.specs.proving.Seen.{seen};
+ghost use Rattle.bb_run.specs.proving.Telling.{IsResponse, Validates};
 
 use crate::asking::{Reply, ask, attempt, entry_of};
-use crate::foci::tell_notes;
+use crate::calling::call;
+use crate::noting::take_noted;
 use crate::state::State;
 use bb_agenda::Activation;
 use bb_machine::{Answer, Stop, Stuck};
-use bb_trace::{Act, Board, BoardNote as Noted, End, Note, Question};
+use bb_trace::{Act, Board, End, NativeSource, Note, Question, Source};
 use bb_verify::Checked;
 use std::alloc::{AllocError, Global};
 
@@ -27,35 +27,6 @@ pub(crate) enum Verdict {
     Invalid,
     /// The revalidation came to no answer, so the run is over.
     Over(End),
-}
-
-// Appends what a blackboard noted, as notes of the run.
-fn add_board_notes(notes: &mut Vec<Note>, noted: Vec<Noted>) -> Result<(), AllocError>
-    ensures { IfOk result (λ _. notes.new.items ≡ notes.old.items ++ map BoardNote noted.items) }
-{
-    for note in noted {
-        notes.push(Note::Board(note))?;
-    }
-    Ok(())
-}
-
-/// Takes what the blackboard noted: tells the agenda of the units that it names, and appends it to the notes, and one
-/// note more if there is one.
-pub(crate) fn take_noted(
-    state: &mut State,
-    last: Option<Note>,
-    notes: &mut Vec<Note>,
-) -> Result<(), AllocError>
-    ensures { IfOk result (λ _. (end : Option End) →
-        IsResponse (noted state.old (option_list last) end) notes.old.items notes.new.items state.new end) }
-{
-    let noted = state.board.take_notes();
-    tell_notes(&mut state.agenda, &state.board, &noted)?;
-    add_board_notes(notes, noted)?;
-    if let Some(note) = last {
-        notes.push(note)?;
-    }
-    Ok(())
 }
 
 // What a reply to the question of a revalidation says.
@@ -90,16 +61,16 @@ pub(crate) fn validate(
 
 /// Appends what there is to tell of the choice of a cycle, with the verdict on it, and takes the activation off what is
 /// pending. Returns the end of the run where the verdict is that.
-pub(crate) fn take_choice(
+pub(crate) fn take_choice<N: NativeSource>(
     cycle: u64,
     activation: Activation,
     verdict: Verdict,
-    state: &mut State,
+    state: &mut State<N>,
     notes: &mut Vec<Note>,
 ) -> Result<Option<End>, AllocError>
     ensures { IfOk result (IsResponse
-        (chosen_with cycle activation (rating_in state.old.agenda activation) verdict state.old)
-        notes.old.items notes.new.items state.new) }
+        (chosen_with cycle activation (rating_in state.old.agenda activation) verdict (seen N.meaning state.old))
+        notes.old.items notes.new.items (seen N.meaning state.new)) }
 {
     let number = activation.number;
     let rating = state.agenda.rating_of(&activation);
@@ -122,32 +93,48 @@ pub(crate) fn take_choice(
     }
 }
 
-/// Executes a source's act for an activation, and appends what there is to tell of it. Returns the end of the run where
-/// the execution came to no answer.
-pub(crate) fn execute(
-    act: &Act,
+/// Executes the act of a source for an activation, and appends what there is to tell of it. Returns the end of the run
+/// where the execution came to no answer.
+pub(crate) fn execute<N: NativeSource>(
+    source: &Source,
     activation: Activation,
-    state: &mut State,
+    state: &mut State<N>,
     notes: &mut Vec<Note>,
 ) -> Result<Option<End>, AllocError>
-    ensures { IfOk result (IsResponse (execution act.now activation state.old)
-        notes.old.items notes.new.items state.new) }
+    ensures { IfOk result (IsResponse
+        (execution source.now.name source.now.act activation (seen N.meaning state.old))
+        notes.old.items notes.new.items (seen N.meaning state.new)) }
 {
-    match act {
+    match &source.act {
         Act::Code(code) => execute_code(code, activation, state, notes),
-        // No plan of an input has one: whoever makes a plan of it has no native for it.
-        Act::Native => Ok(Some(End::Stuck(Stuck::Missing))),
+        Act::Native => execute_native(source.name.as_str(), activation, state, notes),
     }
 }
 
-fn execute_code(
-    code: &Checked,
+// Calls the native of a name. It is missing where whoever handed natives in gave none of that name.
+fn execute_native<N: NativeSource>(
+    name: &str,
     activation: Activation,
-    state: &mut State,
+    state: &mut State<N>,
     notes: &mut Vec<Note>,
 ) -> Result<Option<End>, AllocError>
-    ensures { IfOk result (IsResponse (execution (Code code.now) activation state.old)
-        notes.old.items notes.new.items state.new) }
+    ensures { IfOk result (IsResponse (execution name.now Native activation (seen N.meaning state.old))
+        notes.old.items notes.new.items (seen N.meaning state.new)) }
+{
+    match state.roster.place(name) {
+        Some(place) => call(place, activation, state, notes),
+        None => Ok(Some(End::Stuck(Stuck::Missing))),
+    }
+}
+
+fn execute_code<N: NativeSource>(
+    code: &Checked,
+    activation: Activation,
+    state: &mut State<N>,
+    notes: &mut Vec<Note>,
+) -> Result<Option<End>, AllocError>
+    ensures { IfOk result (IsResponse (executing code.now.code activation (seen N.meaning state.old))
+        notes.old.items notes.new.items (seen N.meaning state.new)) }
 {
     let entry = entry_of(activation.unit, None);
     match attempt(*notes.allocator(), code, entry, &mut state.board) {

@@ -7,101 +7,124 @@ ghost use Rattle.bb_trace.specs.Event.{Event};
 ghost use Rattle.bb_trace.specs.declared.note.Note.{Note};
 ghost use Rattle.bb_trace.specs.declared.note.Note.TheVariants.{Chosen};
 ghost use Rattle.bb_trace.specs.Law.{HasSoundCodes};
+ghost use Rattle.bb_trace.specs.Native.{Native};
 ghost use Rattle.bb_trace.specs.Plan.{Plan};
-ghost use Rattle.bb_run.specs.declared.state.State.{State};
+ghost use Rattle.bb_run.specs.State.{State};
 ghost use Rattle.bb_run.specs.Run.{run};
 ghost use Rattle.bb_run.specs.Order.{notes_of, At, IsCounted, ActsOnPending, ExecutesInTurn, IsFinished, KeepsLimit};
-ghost use Rattle.bb_run.specs.Order.{Extends, IsChosenAfter};
+ghost use Rattle.bb_run.specs.Order.{ClosesEach, Extends, IsChosenAfter};
 ghost use Rattle.bb_run.specs.Asked.{IsAnswered};
 ghost use Rattle.bb_run.specs.Executed.{IsFollowed};
 ghost use Rattle.bb_run.specs.Phases.{GoesByPhases};
-ghost use Rattle.bb_run.specs.Causes.{HasCause};
+ghost use Rattle.bb_run.specs.Causes.{HasCause, LacksNative};
 ghost use Rattle.bb_run.specs.Reads.{AsksByReading, LeavesBoard};
 ghost use Rattle.bb_run.specs.Weighed.{KnowsFoci, NumbersGiven};
-ghost use Rattle.bb_run.specs.Unstuck.{AsksFor, BeginsFor, FitsPlan, IsEventOf, IsReady, IsWellMade};
+ghost use Rattle.bb_run.specs.Processed.{processed_in, ProcessesTold};
+ghost use Rattle.bb_run.specs.Unstuck.{AsksFor, BeginsFor, FitsPlan, IsEventOf, IsReady, IsReadyFor, IsWellMade};
 ghost use Rattle.bb_run.specs.Unstuck.{KeepsBudget, NotStuck};
 
-/// What every run is like, whatever the plan, the first state of the blackboard and the limit.
+/// What every run is like, whatever the plan, the first state of the blackboard, the natives and the limit.
 ///
 /// - `counted`: activations and cycles have the numbers from 1 on, in order.
 /// - `pending`: a cycle acts on an activation that is pending then, and prints a rating of at least the floor.
-/// - `executions`: the execution of a cycle ends before the next cycle.
+/// - `executions`: the execution of a cycle, of a code or of a native, ends before the next cycle; an ask is refused
+///   while one is open alone.
 /// - `phases`: a run begins with what its blackboard had noted. After that a note of the blackboard comes between a
 ///   choice and the end of its cycle, or it is quiescence, which comes where no cycle is open, not twice without a
 ///   choice between, and in a state in which nothing that is pending by the notes can be chosen: the one that every run
 ///   from this blackboard is in after these notes. A run that finishes by quiescence has told it, and made no choice
 ///   after it.
-/// - `finish`: a run has an end, and tells it last and once.
+/// - `finish`: a run has an end, which it tells once, and after it nothing but the closings of its natives.
+/// - `closed`: each native that was handed in is closed once, in order, as the run left it: the same but for what it
+///   holds.
 /// - `causes`: a run is full only where its agenda is full in its last state, or where no unit can be created there and
-///   its last execution was stopped for that; it is stuck only where its last execution was, or where a source has a
-///   native for its act.
+///   its last execution was stopped for that, or its last native asked for one; it is stuck only where its last
+///   execution was, or where a source has a native for its act and there is none of its name.
 /// - `limit`: a run makes no more cycles than its limit. Where it ends by that it made as many, and something can be
 ///   chosen still; where it ends in quiescence nothing can be chosen.
 /// - `answered`: sources are triggered as the events ask for it. At each choice, and at a finish by quiescence or by
 ///   the limit, all that the events before it ask for has come, in their order, source by source; at another finish
 ///   the first of it.
-/// - `reads`: what answers to an event changes the agenda alone, and what is asked about a choice changes nothing, where
-///   no code that a source asks writes.
+/// - `told`: a run processes the events that it tells, each once and in order; where it is full or stuck, the first of
+///   them.
+/// - `reads`: what answers to an event changes the agenda alone, and what is asked about a choice changes nothing,
+///   where no code that a source asks writes. No native answers to an event.
 /// - `asked`: no such code writes where the codes of the sources are sound, as those of every plan are.
 /// - `longer`: a longer limit changes nothing before the finish of a run that ends by its limit, and nothing at all of
 ///   another.
 /// - `choices`: up to the choice of a cycle a run is the run whose limit is one less, and in the last state of that
 ///   run the activation is chosen: nothing that is pending there is rated higher, and of equals it is the earliest.
 /// - `followed`: right after a choice comes what its source's act tells of the activation's unit, executed on the
-///   blackboard of that last state: what the blackboard notes, and the end of the execution, or the finish. Where the
-///   source's revalidation says no there, it is that the activation is invalid.
+///   blackboard and with the natives of that last state: what the blackboard notes, and the end of the execution, or
+///   the finish; of a native what each of its asks brings about, in order, with its number where it is refused, and
+///   how many there were. Where the source's revalidation says no there, it is that the activation is invalid.
 /// - `weighed`: in the last state of a run, and so at each choice, the agenda was told of the foci that the blackboard
 ///   then has, by which activations are rated, where no code that a source asks writes.
 ///
 /// Of a plan that is well made, and a blackboard that fits it, more holds: the sources were made under the schema, of
-/// codes that the verifier accepted under it, and each has a code for its act.
+/// codes that the verifier accepted under it.
 ///
-/// - `unstuck`: no run is stuck, whatever the reason.
+/// - `unstuck`: no run is stuck, whatever the reason, where each source without a code has a native of its name.
 /// - `budgets`: no execution makes more steps than the budget that its line tells.
-/// - `ready`: in the last state of a run, and so at each choice, the blackboard still fits, and the unit of each pending
-///   activation was created as one of its source's class, or it is that of quiescence.
+/// - `ready`: in the last state of a run, and so at each choice, the blackboard still fits, and the unit of each
+///   pending activation was created as one of its source's class, or it is that of quiescence.
+/// - `processes`: a run processes each event in a state that is ready, and the event is one of the blackboard then. So
+///   what `asks` says holds there.
 /// - `begins`: so what is executed for a chosen activation, its source's act and the revalidation, begins with a unit
 ///   that fits its part.
 /// - `asks`: in a state that is ready, what sources ask about an event of its blackboard begins with units that fit the
 ///   part too, and what answers to the event leaves a state that is ready.
 pub fn runs_are_orderly()
-    ensures counted { (plan : Plan) (board : Board) (limit : ℕ) → IsCounted (notes_of (run plan board limit)) }
-    ensures pending { (plan : Plan) (board : Board) (limit : ℕ) →
-        ActsOnPending plan.floor (notes_of (run plan board limit)) }
-    ensures executions { (plan : Plan) (board : Board) (limit : ℕ) →
-        ExecutesInTurn (notes_of (run plan board limit)) }
-    ensures phases { (plan : Plan) (board : Board) (limit : ℕ) →
-        GoesByPhases plan board (run plan board limit) }
-    ensures finish { (plan : Plan) (board : Board) (limit : ℕ) → IsFinished (run plan board limit) }
-    ensures causes { (plan : Plan) (board : Board) (limit : ℕ) →
-        HasCause plan (run plan board limit).state (run plan board limit).end }
-    ensures limit { (plan : Plan) (board : Board) (limit : ℕ) → KeepsLimit plan limit (run plan board limit) }
-    ensures answered { (plan : Plan) (board : Board) (limit : ℕ) →
-        IsAnswered plan (notes_of (run plan board limit)) }
+    ensures counted { (plan : Plan) (board : Board) (natives : List Native) (limit : ℕ) →
+        IsCounted (notes_of (run plan board natives limit)) }
+    ensures pending { (plan : Plan) (board : Board) (natives : List Native) (limit : ℕ) →
+        ActsOnPending plan.floor (notes_of (run plan board natives limit)) }
+    ensures executions { (plan : Plan) (board : Board) (natives : List Native) (limit : ℕ) →
+        ExecutesInTurn (notes_of (run plan board natives limit)) }
+    ensures phases { (plan : Plan) (board : Board) (natives : List Native) (limit : ℕ) →
+        GoesByPhases plan board natives (run plan board natives limit) }
+    ensures finish { (plan : Plan) (board : Board) (natives : List Native) (limit : ℕ) →
+        IsFinished (run plan board natives limit) }
+    ensures closed { (plan : Plan) (board : Board) (natives : List Native) (limit : ℕ) →
+        ClosesEach natives (run plan board natives limit) }
+    ensures causes { (plan : Plan) (board : Board) (natives : List Native) (limit : ℕ) →
+        HasCause plan (run plan board natives limit).state (run plan board natives limit).end }
+    ensures limit { (plan : Plan) (board : Board) (natives : List Native) (limit : ℕ) →
+        KeepsLimit plan limit (run plan board natives limit) }
+    ensures answered { (plan : Plan) (board : Board) (natives : List Native) (limit : ℕ) →
+        IsAnswered plan (notes_of (run plan board natives limit)) }
+    ensures told { (plan : Plan) (board : Board) (natives : List Native) (limit : ℕ) →
+        ProcessesTold (processed_in plan board natives limit) (run plan board natives limit) }
     ensures reads { (plan : Plan) → AsksByReading plan → LeavesBoard plan }
     ensures asked { (plan : Plan) → All HasSoundCodes plan.sources → AsksByReading plan }
-    ensures longer { (plan : Plan) (board : Board) (limit more : ℕ) →
-        Extends (run plan board limit) (run plan board (limit + more)) }
-    ensures choices { (plan : Plan) (board : Board) (limit : ℕ)
+    ensures longer { (plan : Plan) (board : Board) (natives : List Native) (limit more : ℕ) →
+        Extends (run plan board natives limit) (run plan board natives (limit + more)) }
+    ensures choices { (plan : Plan) (board : Board) (natives : List Native) (limit : ℕ)
         (before : List Note) (cycle : ℕ) (a : Activation) (r : ℤ) →
-        At (notes_of (run plan board limit)) before (Chosen cycle a r) →
-        IsChosenAfter plan (run plan board (cycle - 1)) before a r }
-    ensures followed { (plan : Plan) (board : Board) (limit : ℕ)
+        At (notes_of (run plan board natives limit)) before (Chosen cycle a r) →
+        IsChosenAfter plan (run plan board natives (cycle - 1)) before a r }
+    ensures followed { (plan : Plan) (board : Board) (natives : List Native) (limit : ℕ)
         (before after : List Note) (cycle : ℕ) (a : Activation) (r : ℤ) →
-        notes_of (run plan board limit) ≡ before ++ Chosen cycle a r ∷ after →
-        IsFollowed plan (run plan board (cycle - 1)).state a after }
-    ensures weighed { (plan : Plan) (board : Board) (limit : ℕ) → AsksByReading plan → NumbersGiven board →
-        KnowsFoci plan (run plan board limit).state }
-    ensures unstuck { (plan : Plan) (board : Board) (limit : ℕ) → IsWellMade plan → FitsPlan plan board →
-        NotStuck (run plan board limit).end }
-    ensures budgets { (plan : Plan) (board : Board) (limit : ℕ) → IsWellMade plan → FitsPlan plan board →
-        All KeepsBudget (notes_of (run plan board limit)) }
-    ensures ready { (plan : Plan) (board : Board) (limit : ℕ) → IsWellMade plan → FitsPlan plan board →
-        IsReady plan (run plan board limit).state }
-    ensures begins { (plan : Plan) (board : Board) (limit : ℕ)
+        notes_of (run plan board natives limit) ≡ before ++ Chosen cycle a r ∷ after →
+        IsFollowed plan (run plan board natives (cycle - 1)).state a after }
+    ensures weighed { (plan : Plan) (board : Board) (natives : List Native) (limit : ℕ) →
+        AsksByReading plan → NumbersGiven board →
+        KnowsFoci plan (run plan board natives limit).state }
+    ensures unstuck { (plan : Plan) (board : Board) (natives : List Native) (limit : ℕ) →
+        IsWellMade plan → FitsPlan plan board →
+        ¬ LacksNative plan natives → NotStuck (run plan board natives limit).end }
+    ensures budgets { (plan : Plan) (board : Board) (natives : List Native) (limit : ℕ) →
+        IsWellMade plan → FitsPlan plan board →
+        All KeepsBudget (notes_of (run plan board natives limit)) }
+    ensures ready { (plan : Plan) (board : Board) (natives : List Native) (limit : ℕ) →
+        IsWellMade plan → FitsPlan plan board →
+        IsReady plan (run plan board natives limit).state }
+    ensures processes { (plan : Plan) (board : Board) (natives : List Native) (limit : ℕ) →
+        IsWellMade plan → FitsPlan plan board → All (IsReadyFor plan) (processed_in plan board natives limit) }
+    ensures begins { (plan : Plan) (board : Board) (natives : List Native) (limit : ℕ)
         (before : List Note) (cycle : ℕ) (a : Activation) (r : ℤ) → IsWellMade plan → FitsPlan plan board →
-        At (notes_of (run plan board limit)) before (Chosen cycle a r) →
-        BeginsFor plan (run plan board (cycle - 1)).state a }
+        At (notes_of (run plan board natives limit)) before (Chosen cycle a r) →
+        BeginsFor plan (run plan board natives (cycle - 1)).state a }
     ensures asks { (plan : Plan) (s : State) (event : Event) → IsWellMade plan → IsReady plan s →
         IsEventOf plan.schema s.board event → AsksFor plan s event }
 {}

@@ -3,11 +3,13 @@
 #![tactic(auto)]
 
 mod asking;
+mod calling;
 mod cycles;
 mod execution;
 mod finish;
 mod foci;
 mod laws;
+mod noting;
 mod processing;
 mod reacting;
 mod state;
@@ -15,9 +17,11 @@ mod teller;
 mod triggering;
 
 pub use bb_trace::{
-    Act, Board, Classes, End, Out, Pipe, Plan, RuleFault, SOURCE_LIMIT, SharedSchema, Source,
-    Stuck, UnitsFault, put_all,
+    Act, Ask, Board, Classes, Closed, Closing, Denial, DimValue, End, NativeSource, Node,
+    OperandKind, Out, Pattern, Pipe, Plan, Query, Refusal, Relation, Roster, RuleFault,
+    SOURCE_LIMIT, SharedSchema, Source, Stuck, UnitsFault, View, close_each, put_all,
 };
 pub use cycles::run;
 pub use finish::Finish;
 pub use laws::runs_are_orderly;
+pub use state::Start;

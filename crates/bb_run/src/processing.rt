@@ -2,13 +2,14 @@
 
 ghost use Rattle.std.specs.Prelude.{◌≡◌, ◌<◌, ◌≤◌, IfOk, length};
 ghost use Rattle.bb_run.specs.Processing.{if_triggered, obviated_by, reacting, rerated_by, response, source_response};
+ghost use Rattle.bb_run.specs.proving.Seen.{seen};
 ghost use Rattle.bb_run.specs.proving.Telling.{IsResponse};
 
 use crate::reacting::{obviate_all, retrigger_all};
 use crate::state::State;
 use crate::triggering::{activate, require};
 use bb_schema::Schema;
-use bb_trace::{End, Event, Note, Plan, Source};
+use bb_trace::{End, Event, NativeSource, Note, Plan, Source};
 use std::alloc::AllocError;
 
 /// A source and its place among the sources of a plan.
@@ -19,16 +20,17 @@ struct Placed<'a> {
 }
 
 // Has a source obviate its pending activations, if the event is one for that.
-fn obviate(
+fn obviate<N: NativeSource>(
     schema: &Schema,
     placed: Placed<'_>,
     event: Event,
-    state: &mut State,
+    state: &mut State<N>,
     notes: &mut Vec<Note>,
 ) -> Result<Option<End>, AllocError>
     ensures { IfOk result (IsResponse
-        (reacting schema.now event placed.entry.place obviated_by placed.entry.source.now.obviate state.old)
-        notes.old.items notes.new.items state.new) }
+        (reacting schema.now event placed.entry.place obviated_by placed.entry.source.now.obviate
+        (seen N.meaning state.old))
+        notes.old.items notes.new.items (seen N.meaning state.new)) }
 {
     match &placed.source.obviate {
         Some(reaction) if reaction.clauses.match_any(schema, event) => {
@@ -39,16 +41,17 @@ fn obviate(
 }
 
 // Has a source rate its pending activations anew, if the event is one for that.
-fn retrigger(
+fn retrigger<N: NativeSource>(
     schema: &Schema,
     placed: Placed<'_>,
     event: Event,
-    state: &mut State,
+    state: &mut State<N>,
     notes: &mut Vec<Note>,
 ) -> Result<Option<End>, AllocError>
     ensures { IfOk result (IsResponse
-        (reacting schema.now event placed.entry.place rerated_by placed.entry.source.now.retrigger state.old)
-        notes.old.items notes.new.items state.new) }
+        (reacting schema.now event placed.entry.place rerated_by placed.entry.source.now.retrigger
+        (seen N.meaning state.old))
+        notes.old.items notes.new.items (seen N.meaning state.new)) }
 {
     match &placed.source.retrigger {
         Some(reaction) if reaction.clauses.match_any(schema, event) => {
@@ -59,16 +62,16 @@ fn retrigger(
 }
 
 // Has an event trigger a source, if one of its clauses names the event.
-fn trigger(
+fn trigger<N: NativeSource>(
     schema: &Schema,
     placed: Placed<'_>,
     event: Event,
-    state: &mut State,
+    state: &mut State<N>,
     notes: &mut Vec<Note>,
 ) -> Result<Option<End>, AllocError>
     ensures { IfOk result (IsResponse
-        (if_triggered schema.now event placed.entry.place placed.entry.source.now state.old)
-        notes.old.items notes.new.items state.new) }
+        (if_triggered schema.now event placed.entry.place placed.entry.source.now (seen N.meaning state.old))
+        notes.old.items notes.new.items (seen N.meaning state.new)) }
 {
     let source = placed.source;
     if !source.triggers.match_any(schema, event) {
@@ -81,16 +84,16 @@ fn trigger(
 }
 
 // Has a source respond to an event.
-fn source_responds(
+fn source_responds<N: NativeSource>(
     schema: &Schema,
     placed: Placed<'_>,
     event: Event,
-    state: &mut State,
+    state: &mut State<N>,
     notes: &mut Vec<Note>,
 ) -> Result<Option<End>, AllocError>
     ensures { IfOk result (IsResponse
-        (source_response schema.now event placed.entry.place placed.entry.source.now state.old)
-        notes.old.items notes.new.items state.new) }
+        (source_response schema.now event placed.entry.place placed.entry.source.now (seen N.meaning state.old))
+        notes.old.items notes.new.items (seen N.meaning state.new)) }
 {
     if let Some(end) = obviate(schema, placed, event, state, notes)? {
         return Ok(Some(end));
@@ -103,13 +106,14 @@ fn source_responds(
 
 /// Processes an event: each source in order obviates and retriggers its pending activations, and is triggered, and the
 /// notes tell of it. Returns the end of the run where it ends in that.
-pub(crate) fn respond(
+pub(crate) fn respond<N: NativeSource>(
     plan: &Plan,
     event: Event,
-    state: &mut State,
+    state: &mut State<N>,
     notes: &mut Vec<Note>,
 ) -> Result<Option<End>, AllocError>
-    ensures { IfOk result (IsResponse (response plan.now event state.old) notes.old.items notes.new.items state.new) }
+    ensures { IfOk result (IsResponse (response plan.now event (seen N.meaning state.old))
+        notes.old.items notes.new.items (seen N.meaning state.new)) }
 {
     let sources = plan.sources();
     for (place, source) in sources.iter().enumerate() {

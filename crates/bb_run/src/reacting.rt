@@ -4,13 +4,14 @@ ghost use Rattle.std.specs.Prelude.{◌≡◌, IfOk, None};
 ghost use Rattle.bb_agenda.specs.Agenda.{pending_for};
 ghost use Rattle.bb_machine.specs.Answer.TheVariants.{Rated};
 ghost use Rattle.bb_run.specs.Processing.{obviated_by, reacting_to, reacting_to_each, rerated_by};
+ghost use Rattle.bb_run.specs.proving.Seen.{seen};
 ghost use Rattle.bb_run.specs.proving.Telling.{IsResponse};
 
 use crate::asking::{Reply, ask, entry_of};
 use crate::state::State;
 use bb_agenda::{Activation, Agenda};
 use bb_machine::Answer;
-use bb_trace::{End, Event, Note, Reaction};
+use bb_trace::{End, Event, NativeSource, Note, Reaction};
 use std::alloc::{AllocError, Global};
 
 // What is pending of the source at a place, in order.
@@ -25,15 +26,15 @@ fn waiting_for(alloc: Global, agenda: &Agenda, place: u16) -> Result<Vec<Activat
 }
 
 // Asks whether a pending activation is needless, and obviates it if so.
-fn obviate_one(
+fn obviate_one<N: NativeSource>(
     reaction: &Reaction,
     event: Event,
     activation: Activation,
-    state: &mut State,
+    state: &mut State<N>,
     notes: &mut Vec<Note>,
 ) -> Result<Option<End>, AllocError>
-    ensures { IfOk result (IsResponse (reacting_to event obviated_by reaction.now activation state.old)
-        notes.old.items notes.new.items state.new) }
+    ensures { IfOk result (IsResponse (reacting_to event obviated_by reaction.now activation (seen N.meaning state.old))
+        notes.old.items notes.new.items (seen N.meaning state.new)) }
 {
     let entry = entry_of(activation.unit, Some(event.unit()));
     match ask(*notes.allocator(), &reaction.code, entry, &mut state.board)? {
@@ -49,14 +50,14 @@ fn obviate_one(
 }
 
 // Gives a pending activation another base.
-fn rerate(
+fn rerate<N: NativeSource>(
     activation: Activation,
     base: i64,
-    state: &mut State,
+    state: &mut State<N>,
     notes: &mut Vec<Note>,
 ) -> Result<(), AllocError>
-    ensures { IfOk result (λ _. IsResponse (rerated_by activation (Rated base) state.old)
-        notes.old.items notes.new.items state.new None) }
+    ensures { IfOk result (λ _. IsResponse (rerated_by activation (Rated base) (seen N.meaning state.old))
+        notes.old.items notes.new.items (seen N.meaning state.new) None) }
 {
     let number = activation.number;
     state.agenda.rerate(number, base)?;
@@ -65,15 +66,15 @@ fn rerate(
 }
 
 // Asks whether a pending activation gets another base, and gives it that if so.
-fn retrigger_one(
+fn retrigger_one<N: NativeSource>(
     reaction: &Reaction,
     event: Event,
     activation: Activation,
-    state: &mut State,
+    state: &mut State<N>,
     notes: &mut Vec<Note>,
 ) -> Result<Option<End>, AllocError>
-    ensures { IfOk result (IsResponse (reacting_to event rerated_by reaction.now activation state.old)
-        notes.old.items notes.new.items state.new) }
+    ensures { IfOk result (IsResponse (reacting_to event rerated_by reaction.now activation (seen N.meaning state.old))
+        notes.old.items notes.new.items (seen N.meaning state.new)) }
 {
     let entry = entry_of(activation.unit, Some(event.unit()));
     match ask(*notes.allocator(), &reaction.code, entry, &mut state.board)? {
@@ -87,16 +88,17 @@ fn retrigger_one(
 }
 
 /// Obviates those pending activations of the source at a place that an event makes needless.
-pub(crate) fn obviate_all(
+pub(crate) fn obviate_all<N: NativeSource>(
     reaction: &Reaction,
     event: Event,
     place: u16,
-    state: &mut State,
+    state: &mut State<N>,
     notes: &mut Vec<Note>,
 ) -> Result<Option<End>, AllocError>
     ensures { IfOk result (IsResponse
-        (reacting_to_each event obviated_by reaction.now (pending_for state.old.agenda place) state.old)
-        notes.old.items notes.new.items state.new) }
+        (reacting_to_each event obviated_by reaction.now (pending_for state.old.agenda place)
+        (seen N.meaning state.old))
+        notes.old.items notes.new.items (seen N.meaning state.new)) }
 {
     for activation in waiting_for(*notes.allocator(), &state.agenda, place)? {
         if let Some(end) = obviate_one(reaction, event, activation, state, notes)? {
@@ -107,16 +109,17 @@ pub(crate) fn obviate_all(
 }
 
 /// Gives those pending activations of the source at a place another base that an event rates anew.
-pub(crate) fn retrigger_all(
+pub(crate) fn retrigger_all<N: NativeSource>(
     reaction: &Reaction,
     event: Event,
     place: u16,
-    state: &mut State,
+    state: &mut State<N>,
     notes: &mut Vec<Note>,
 ) -> Result<Option<End>, AllocError>
     ensures { IfOk result (IsResponse
-        (reacting_to_each event rerated_by reaction.now (pending_for state.old.agenda place) state.old)
-        notes.old.items notes.new.items state.new) }
+        (reacting_to_each event rerated_by reaction.now (pending_for state.old.agenda place)
+        (seen N.meaning state.old))
+        notes.old.items notes.new.items (seen N.meaning state.new)) }
 {
     for activation in waiting_for(*notes.allocator(), &state.agenda, place)? {
         if let Some(end) = retrigger_one(reaction, event, activation, state, notes)? {

@@ -5,11 +5,12 @@ ghost use Rattle.bb_trace.specs.Page.{stopped_by_write};
 ghost use Rattle.bb_run.specs.Processing.{event_in, events_in, processing, processing_all, reported};
 ghost use Rattle.bb_run.specs.Run.{quiet};
 ghost use Rattle.bb_run.specs.Told.{telling};
+ghost use Rattle.bb_run.specs.proving.Seen.{seen};
 ghost use Rattle.bb_run.specs.proving.Telling.{Makes, Same, Tells, at, option_list};
 
 use crate::processing::respond;
 use crate::state::State;
-use bb_trace::{BoardNote as Noted, End, Event, Halt, Note, Out, Page, Plan};
+use bb_trace::{BoardNote as Noted, End, Event, Halt, NativeSource, Note, Out, Page, Plan};
 use std::alloc::Global;
 
 /// Who tells the run: the page, and where it is written.
@@ -47,11 +48,16 @@ impl<O: Out> Teller<'_, O> {
     }
 
     /// Processes an event.
-    fn process(&mut self, plan: &Plan, event: Event, state: &mut State) -> Result<Option<End>, Halt>
+    fn process<N: NativeSource>(
+        &mut self,
+        plan: &Plan,
+        event: Event,
+        state: &mut State<N>,
+    ) -> Result<Option<End>, Halt>
         requires open { O.has_failed self.old.out.now ≡ false }
         ensures same { Same self.old self.new }
         ensures made { Makes plan.now (at O.taken self.old) (at O.taken self.new)
-            (processing plan.now event state.old) state.new result }
+            (processing plan.now event (seen N.meaning state.old)) (seen N.meaning state.new) result }
         ensures failed { O.has_failed self.new.out.now ≡ stopped_by_write result }
     {
         let mut notes = Vec::new(self.alloc());
@@ -61,16 +67,16 @@ impl<O: Out> Teller<'_, O> {
     }
 
     /// Processes the events that notes tell, one after another, until the run ends.
-    fn process_all(
+    fn process_all<N: NativeSource>(
         &mut self,
         plan: &Plan,
         notes: &[Note],
-        state: &mut State,
+        state: &mut State<N>,
     ) -> Result<Option<End>, Halt>
         requires open { O.has_failed self.old.out.now ≡ false }
         ensures same { Same self.old self.new }
         ensures made { Makes plan.now (at O.taken self.old) (at O.taken self.new)
-            (processing_all plan.now (events_in notes.now) state.old) state.new result }
+            (processing_all plan.now (events_in notes.now) (seen N.meaning state.old)) (seen N.meaning state.new) result }
         ensures failed { O.has_failed self.new.out.now ≡ stopped_by_write result }
     {
         for note in notes {
@@ -85,11 +91,15 @@ impl<O: Out> Teller<'_, O> {
     }
 
     /// Tells of quiescence, and processes it.
-    pub(crate) fn quiesce(&mut self, plan: &Plan, state: &mut State) -> Result<Option<End>, Halt>
+    pub(crate) fn quiesce<N: NativeSource>(
+        &mut self,
+        plan: &Plan,
+        state: &mut State<N>,
+    ) -> Result<Option<End>, Halt>
         requires open { O.has_failed self.old.out.now ≡ false }
         ensures same { Same self.old self.new }
         ensures made { Makes plan.now (at O.taken self.old) (at O.taken self.new)
-            (quiet plan.now state.old) state.new result }
+            (quiet plan.now (seen N.meaning state.old)) (seen N.meaning state.new) result }
         ensures failed { O.has_failed self.new.out.now ≡ stopped_by_write result }
     {
         let mut notes = Vec::new(self.alloc());
@@ -100,17 +110,17 @@ impl<O: Out> Teller<'_, O> {
     }
 
     /// Tells the notes of a response, and processes their events unless the run ended in it.
-    pub(crate) fn report(
+    pub(crate) fn report<N: NativeSource>(
         &mut self,
         plan: &Plan,
         notes: &[Note],
         end: Option<End>,
-        state: &mut State,
+        state: &mut State<N>,
     ) -> Result<Option<End>, Halt>
         requires open { O.has_failed self.old.out.now ≡ false }
         ensures same { Same self.old self.new }
         ensures made { Makes plan.now (at O.taken self.old) (at O.taken self.new)
-            (reported plan.now (telling notes.now state.old end)) state.new result }
+            (reported plan.now (telling notes.now (seen N.meaning state.old) end)) (seen N.meaning state.new) result }
         ensures failed { O.has_failed self.new.out.now ≡ stopped_by_write result }
     {
         self.tell(plan, notes)?;

@@ -4,25 +4,26 @@ ghost use Rattle.std.specs.Prelude.{◌≡◌, IfOk, None};
 ghost use Rattle.bb_run.specs.Asking.{asking, entry_of};
 ghost use Rattle.bb_run.specs.Processing.{activating, required_by};
 ghost use Rattle.bb_trace.specs.Events.{unit_of};
+ghost use Rattle.bb_run.specs.proving.Seen.{seen};
 ghost use Rattle.bb_run.specs.proving.Telling.{IsResponse};
 
 use crate::asking::{Reply, ask, entry_of};
 use crate::state::State;
 use bb_agenda::{Activation, AddFault};
 use bb_machine::Answer;
-use bb_trace::{End, Event, Note, Question};
+use bb_trace::{End, Event, NativeSource, Note, Question};
 use std::alloc::AllocError;
 
 /// Gives the source at a place an activation for an event, with this base.
-pub(crate) fn activate(
+pub(crate) fn activate<N: NativeSource>(
     event: Event,
     place: u16,
     base: i64,
-    state: &mut State,
+    state: &mut State<N>,
     notes: &mut Vec<Note>,
 ) -> Result<Option<End>, AllocError>
-    ensures { IfOk result (IsResponse (activating event place base state.old)
-        notes.old.items notes.new.items state.new) }
+    ensures { IfOk result (IsResponse (activating event place base (seen N.meaning state.old))
+        notes.old.items notes.new.items (seen N.meaning state.new)) }
 {
     let unit = event.unit();
     match state.agenda.add(place, unit, base) {
@@ -41,16 +42,16 @@ pub(crate) fn activate(
 }
 
 /// Asks the requirement of the source at a place whether an event gives it an activation.
-pub(crate) fn require(
+pub(crate) fn require<N: NativeSource>(
     code: &Question,
     event: Event,
     place: u16,
-    state: &mut State,
+    state: &mut State<N>,
     notes: &mut Vec<Note>,
 ) -> Result<Option<End>, AllocError>
     ensures { IfOk result (IsResponse
-        (asking code.now.code (entry_of (unit_of event) None) (required_by event place) state.old)
-        notes.old.items notes.new.items state.new) }
+        (asking code.now.code (entry_of (unit_of event) None) (required_by event place) (seen N.meaning state.old))
+        notes.old.items notes.new.items (seen N.meaning state.new)) }
 {
     let unit = event.unit();
     match ask(

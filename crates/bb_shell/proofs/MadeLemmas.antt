@@ -33,7 +33,7 @@ use Rattle.bb_shell.specs.declared.fitting.Unfit.TheVariants as unfits
 use Rattle.bb_shell.specs.declared.input_fault.InputFault.{InputFault}
 use Rattle.bb_shell.specs.declared.input_fault.InputFault.TheVariants as inputs
 use Rattle.bb_shell.specs.Accepting.{accepted_code, accepted_part, accepted_reaction, accepted_act, accepted_first, accepted_later, accepted_codes, accepted_draft, accepted_source, codes_of, draft_of, header_of, in_source}
-use Rattle.bb_shell.specs.Fitting.{fitted, is_native, names_of, source_after}
+use Rattle.bb_shell.specs.Fitting.{fitted, lacks_native, names_of, source_after}
 use Rattle.bb_shell.specs.Sources.{codes_in, given, in_input, resolved_source, sources_for}
 
 pub ok_of : {X E F : Type 0} (f : E → F) (r : Result X E) (x : X) → map_err f r ≡ Ok x → r ≡ Ok x
@@ -118,26 +118,26 @@ module _ (s : Schema) where
 
 -- ---- sources that fit together
 
-module _ (P : Source → Type 0) where
-  after_keeps : (before : List Source) (x : Source) (after : List Source) → All P before → P x → source_after before x ≡ Ok after → All P after
+module _ (natives : List (List ℕ)) (P : Source → Type 0) where
+  after_keeps : (before : List Source) (x : Source) (after : List Source) → All P before → P x → source_after natives before x ≡ Ok after → All P after
   after_keeps before x after all here h =
       let count = length before in
       let whole : Result (List Source) Unfit = Ok (before ++ x ∷ []) in
-      let native : Result (List Source) Unfit = if is_native x.act then Err (unfits.Source x.name (rules.Native count)) else whole in
+      let native : Result (List Source) Unfit = if lacks_native natives x then Err (unfits.Source x.name (rules.Native count)) else whole in
       let limit : Result (List Source) Unfit = if nat_le SOURCE_LIMIT count then Err (unfits.Source x.name (rules.Limit count)) else native in
       let one = guard_ok (list_any (bytes_eq x.name) (names_of before)) (unfits.Source x.name (rules.Twice count)) limit after h in
       let two = guard_ok (nat_le SOURCE_LIMIT count) (unfits.Source x.name (rules.Limit count)) native after one.1 in
-      let three = guard_ok (is_native x.act) (unfits.Source x.name (rules.Native count)) whole after two.1 in
+      let three = guard_ok (lacks_native natives x) (unfits.Source x.name (rules.Native count)) whole after two.1 in
       subst (All P) (same_ok (before ++ x ∷ []) after three.1) (All-append P before (x ∷ []) all (All-cons P x [] here (All-nil P)))
 
-  all_fit : (before xs after : List Source) → All P before → All P xs → try_fold source_after before xs ≡ Ok after → All P after
+  all_fit : (before xs after : List Source) → All P before → All P xs → try_fold (source_after natives) before xs ≡ Ok after → All P after
   unfolding try_fold
   all_fit before [] after all rest h = subst (All P) (same_ok before after h) all
   all_fit before (x ∷ xs) after all rest h =
-      let one = bind_ok (source_after before x) (λ t. try_fold source_after t xs) after h in
+      let one = bind_ok (source_after natives before x) (λ t. try_fold (source_after natives) t xs) after h in
       all_fit one.0 xs after (after_keeps before x one.0 all (All-head P x xs rest) one.1) (All-tail P x xs rest) one.2
 
-  pub fitted_keeps : (xs after : List Source) → All P xs → fitted xs ≡ Ok after → All P after
+  pub fitted_keeps : (xs after : List Source) → All P xs → fitted natives xs ≡ Ok after → All P after
   fitted_keeps xs after all h = all_fit [] xs after (All-nil P) all h
 
 -- ---- all sources of an input
@@ -146,18 +146,18 @@ all_any : {X : Type 0} (xs : List X) → All (λ _. Unit {0}) xs
 all_any [] = All-nil (λ _. Unit {0})
 all_any (x ∷ xs) = All-cons (λ _. Unit {0}) x xs tt (all_any xs)
 
-pub sources_made : (s : Schema) (codes : List (SourceDraft Code)) (sources : List Source) → sources_for s codes ≡ Ok sources → All (IsMade s) sources
+pub sources_made : (natives : List (List ℕ)) (s : Schema) (codes : List (SourceDraft Code)) (sources : List Source) → sources_for natives s codes ≡ Ok sources → All (IsMade s) sources
 unfolding sources_for
-sources_made s codes sources h =
-    let drafts = bind_ok (try_map (accepted_source s) codes) (λ ds. try_map (resolved_source s) ds >>= λ rs. map_err in_input (fitted rs)) sources h in
-    let resolved = bind_ok (try_map (resolved_source s) drafts.0) (λ rs. map_err in_input (fitted rs)) sources drafts.2 in
+sources_made natives s codes sources h =
+    let drafts = bind_ok (try_map (accepted_source s) codes) (λ ds. try_map (resolved_source s) ds >>= λ rs. map_err in_input (fitted natives rs)) sources h in
+    let resolved = bind_ok (try_map (resolved_source s) drafts.0) (λ rs. map_err in_input (fitted natives rs)) sources drafts.2 in
     let accepted = All-try_map (λ _. Unit {0}) (AreAccepted s) (accepted_source s) (λ draft made _ is. source_are s draft made is) codes drafts.0 (all_any codes) drafts.1 in
     let made = All-try_map (AreAccepted s) (IsMade s) (resolved_source s) (λ draft source are is. source_made_of s draft source (ok_of (inputs.Rule draft.name) (source_of s draft) source is) are) drafts.0 resolved.0 accepted resolved.1 in
-    fitted_keeps (IsMade s) resolved.0 sources made (ok_of in_input (fitted resolved.0) sources resolved.2)
+    fitted_keeps natives (IsMade s) resolved.0 sources made (ok_of in_input (fitted natives resolved.0) sources resolved.2)
 
 -- those of an input's texts too
-pub given_made : (s : Schema) (texts bundle : List ℕ) (sources : List Source) → given s texts bundle ≡ Ok sources → All (IsMade s) sources
+pub given_made : (natives : List (List ℕ)) (s : Schema) (texts bundle : List ℕ) (sources : List Source) → given natives s texts bundle ≡ Ok sources → All (IsMade s) sources
 unfolding given
-given_made s texts bundle sources h =
-    let one = bind_ok (codes_in s texts bundle) (sources_for s) sources h in
-    sources_made s one.0 sources one.2
+given_made natives s texts bundle sources h =
+    let one = bind_ok (codes_in s texts bundle) (sources_for natives s) sources h in
+    sources_made natives s one.0 sources one.2

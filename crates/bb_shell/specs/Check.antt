@@ -11,10 +11,10 @@ use Rattle.bb_shell.specs.declared.input_fault.InputFault.{InputFault}
 use Rattle.bb_shell.specs.declared.input_fault.InputFault.TheVariants as inputs
 
 -- the sources of an input's texts, or the first refusal
-unfoldable pub sources_in : (schema sources bundle : List ℕ) → Result (List Source) InputFault
-sources_in schema sources bundle = do
+unfoldable pub sources_in : (natives : List (List ℕ)) → (schema sources bundle : List ℕ) → Result (List Source) InputFault
+sources_in natives schema sources bundle = do
   s ← map_err inputs.Schema (schema_of schema)
-  given s sources bundle
+  given natives s sources bundle
 
 -- there are sources, and the lines on them were written so
 abbrev pub WritesCheck : Result (List Source) InputFault → Done → (taken given : Option (List ℕ)) → Type 0

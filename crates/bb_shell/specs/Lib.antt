@@ -36,6 +36,13 @@ pub use Rattle.bb_run.specs.TraceText
 pub use Rattle.bb_bundle.specs.Written as BundleText
 pub use Rattle.bb_bundle.specs.declared.source_code.SourceDraft
 pub use Rattle.bb_code.specs.Code
+-- of bb_native: natives, what they see and ask, and what a roster of them means
+pub use Rattle.bb_run.specs.Native
+pub use Rattle.bb_run.specs.Roster
+pub use Rattle.bb_run.specs.Sight
+pub use Rattle.bb_run.specs.Ask
+pub use Rattle.bb_run.specs.Closing
+pub use Rattle.bb_classes.specs.declared.value.Value
 -- of bb_rules: what sources were made of
 pub use Rattle.bb_run.specs.Law
 pub use Rattle.bb_run.specs.Source

@@ -14,10 +14,11 @@ pub record Meaning : Type 0 where
   -- the first units and their links, with what was noted of them
   pub board : Board
 
--- the schema, the first units, and the sources of both texts, in this order
-unfoldable pub meaning : (schema units sources bundle : List ℕ) → (floor : ℤ) → Result Meaning InputFault
-meaning schema units sources bundle floor = do
+-- the schema, the first units, and the sources of both texts, in this order, where natives of these names are there
+unfoldable pub meaning :
+    (natives : List (List ℕ)) → (schema units sources bundle : List ℕ) → (floor : ℤ) → Result Meaning InputFault
+meaning natives schema units sources bundle floor = do
   s ← map_err inputs.Schema (schema_of schema)
   board ← map_err inputs.Units (loaded (new_board s) units)
-  made ← given s sources bundle
+  made ← given natives s sources bundle
   Ok (record { plan = record { schema = s; sources = made; floor = floor }; board = board })

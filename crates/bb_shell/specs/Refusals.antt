@@ -40,6 +40,22 @@ lang_place (langs.Twice place) = Some place
 lang_place (langs.Limit place) = Some place
 lang_place langs.Memory = None
 
+-- where the fault of a source of a text is; nowhere where memory ran out
+abbrev pub compile_place : CompileFault → Option Place
+compile_place (compiles.At flaw place) = Some place
+compile_place compiles.Memory = None
+
+-- where in the text of sources an input is at fault, where it is there
+abbrev pub source_place : InputFault → Option Place
+source_place (inputs.Schema fault) = None
+source_place (inputs.Units fault) = None
+source_place (inputs.Lang fault) = lang_place fault
+source_place (inputs.Compile name fault) = compile_place fault
+source_place (inputs.Bundle fault) = None
+source_place (inputs.Verify name part fault) = None
+source_place (inputs.Rule name fault) = None
+source_place inputs.Memory = None
+
 -- a place, `LINE:COLUMN`, and a number
 abbrev pub place_text : Place → (number : ℕ) → List ℕ
 place_text place number = decimal place.line ++ codes ":" ++ decimal place.column ++ codes " " ++ decimal number

@@ -28,11 +28,11 @@ in_input (unfits.Source name fault) = Rule name fault
 in_input unfits.Memory = Memory
 
 -- all of them: each is accepted, then each is resolved, then each has to fit those before it
-unfoldable pub sources_for : Schema → List (SourceDraft Code) → Result (List Source) InputFault
-sources_for s codes = do
+unfoldable pub sources_for : (natives : List (List ℕ)) → Schema → List (SourceDraft Code) → Result (List Source) InputFault
+sources_for natives s codes = do
   accepted' ← try_map (accepted_source s) codes
   resolved ← try_map (resolved_source s) accepted'
-  map_err in_input (fitted resolved)
+  map_err in_input (fitted natives resolved)
 
 -- the codes of a source that is text; a fault is told with the source's name
 abbrev pub compiled_source : Schema → SourceText → Result (SourceDraft Code) InputFault
@@ -52,7 +52,7 @@ codes_in s sources bundle = do
   Ok (compiled' ++ bundled)
 
 -- the sources that both texts mean: all codes are there before one is verified
-unfoldable pub given : Schema → (sources bundle : List ℕ) → Result (List Source) InputFault
-given s sources bundle = do
+unfoldable pub given : (natives : List (List ℕ)) → Schema → (sources bundle : List ℕ) → Result (List Source) InputFault
+given natives s sources bundle = do
   codes ← codes_in s sources bundle
-  sources_for s codes
+  sources_for natives s codes

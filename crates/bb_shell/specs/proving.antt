@@ -1,4 +1,2 @@
--- how a shell is stored
-pub mod Codes
 -- what comes of the sources of an input, one after another
 pub mod Gathering

@@ -1,8 +1,10 @@
 //! The check of an input: its sources are verified and made, nothing is run, and what their parts cost is written.
 //! Programs (bb_main) call `check_texts`.
 
-ghost use Rattle.std.specs.Prelude.{◌≡◌, ◌⊎◌, false, IfErr, IfOk, OnErr};
+ghost use Rattle.std.specs.Prelude.{◌≡◌, ◌⊎◌, true, false, map, IfErr, IfOk, OnErr};
 ghost use Rattle.bb_basis.specs.Results.{Gives};
+ghost use Rattle.bb_run.specs.Roster.{all_open};
+ghost use Rattle.bb_shell.specs.Fitting.{names_in, native_names};
 ghost use Rattle.bb_shell.specs.Check.{WritesCheck, sources_in};
 ghost use Rattle.bb_shell.specs.Written.{is_cut};
 
@@ -11,34 +13,40 @@ use crate::given::given;
 use crate::input_fault::InputFault;
 use crate::texts::read_schema;
 use crate::written::{Done, write};
-use bb_run::{Out, Source};
+use bb_run::{Closing, NativeSource, Out, Roster, Source};
 use std::alloc::Global;
 
 /// Reads a schema and sources, as text and of a bundle, verifies all codes of all of them, and writes what the parts of
 /// each source cost, and how many sources there are. It refuses as `run_texts` does where it reads no units; then
-/// nothing is written. `Memory`: memory ran out.
-pub fn check_texts<O: Out>(
+/// nothing is written. Each native is closed once, in order, and none is called. `Memory`: memory ran out.
+pub fn check_texts<N: NativeSource, O: Out>(
     alloc: Global,
     schema: &str,
     sources: &str,
     bundle: &str,
+    natives: Vec<N>,
     out: &mut O,
 ) -> Result<Done, InputFault>
-    requires { O.has_failed out.old ≡ false }
+    requires open { O.has_failed out.old ≡ false }
+    requires natives { all_open (map N.meaning natives.items) ≡ true }
 
     // At `Ok` the sources are those of the texts, and the output took the lines on them, at `Write` a front of these.
     ensures text { IfOk result (λ done.
-        WritesCheck (sources_in schema.now sources.now bundle.now) done (O.taken out.old) (O.taken out.new)) }
+        WritesCheck (sources_in (native_names (map N.meaning natives.items)) schema.now sources.now bundle.now)
+        done (O.taken out.old) (O.taken out.new)) }
 
     // `Write` tells that the output has failed.
     ensures failed { IfOk result (λ done. O.has_failed out.new ≡ is_cut done) }
 
     // At `Err` it is the first refusal, and the output is as it was.
     ensures refused { IfErr result (λ e. (e ≡ InputFault.Memory)
-        ⊎ (sources_in schema.now sources.now bundle.now ≡ Err e)) }
+        ⊎ (sources_in (native_names (map N.meaning natives.items)) schema.now sources.now bundle.now ≡ Err e)) }
     ensures quiet { OnErr result (out.new ≡ out.old) }
 {
-    let checked = read_sources(alloc, schema, sources, bundle)?;
+    let roster = Roster::new(alloc, natives)?;
+    let read = read_sources(alloc, roster.handed_in(), schema, sources, bundle);
+    drop(roster.close_all());
+    let checked = read?;
     let text = check_text(alloc, checked.as_slice())?;
     Ok(write(text.as_str(), out))
 }
@@ -46,12 +54,14 @@ pub fn check_texts<O: Out>(
 #[tactic(auto, unfolding(crate::specs::Check::sources_in))]
 fn read_sources(
     alloc: Global,
+    natives: &[Closing],
     schema: &str,
     sources: &str,
     bundle: &str,
 ) -> Result<Vec<Source>, InputFault>
-    ensures { Gives InputFault.Memory (λ v. v.items) result (sources_in schema.now sources.now bundle.now) }
+    ensures { Gives InputFault.Memory (λ v. v.items) result
+        (sources_in (names_in natives.now) schema.now sources.now bundle.now) }
 {
     let schema = read_schema(alloc, schema)?;
-    given(alloc, &schema, sources, bundle)
+    given(alloc, natives, &schema, sources, bundle)
 }

@@ -1,7 +1,8 @@
 //! The bundle of an input's sources that are text. Programs (bb_main) call `compile_texts`.
 
-ghost use Rattle.std.specs.Prelude.{◌≡◌, ◌⊎◌, false, IfErr, IfOk, OnErr};
+ghost use Rattle.std.specs.Prelude.{◌≡◌, ◌⊎◌, true, false, map, IfErr, IfOk, OnErr};
 ghost use Rattle.bb_basis.specs.Results.{Gives};
+ghost use Rattle.bb_run.specs.Roster.{all_open};
 ghost use Rattle.bb_shell.specs.Compile.{IsReadAgain, WritesBundle, bundle_in};
 ghost use Rattle.bb_shell.specs.Written.{is_cut};
 
@@ -10,19 +11,21 @@ use crate::input_fault::InputFault;
 use crate::texts::read_schema;
 use crate::written::{Done, write};
 use bb_bundle::{SourceCode, bundle};
-use bb_run::Out;
+use bb_run::{NativeSource, Out, close_each};
 use std::alloc::Global;
 
 /// Reads a schema and a text of sources, compiles these, and writes them as a bundle. It refuses as `run_texts` does
 /// where it reads neither units nor a bundle, and verifies nothing: schema, text, then source by source; then nothing
-/// is written. `Memory`: memory ran out.
-pub fn compile_texts<O: Out>(
+/// is written. Each native is closed once, in order, and none is called. `Memory`: memory ran out.
+pub fn compile_texts<N: NativeSource, O: Out>(
     alloc: Global,
     schema: &str,
     sources: &str,
+    natives: Vec<N>,
     out: &mut O,
 ) -> Result<Done, InputFault>
-    requires { O.has_failed out.old ≡ false }
+    requires open { O.has_failed out.old ≡ false }
+    requires natives { all_open (map N.meaning natives.items) ≡ true }
 
     // At `Ok` the output took the text of a bundle of the sources of the text, at `Write` a front of it.
     ensures text { IfOk result (λ done.
@@ -38,6 +41,7 @@ pub fn compile_texts<O: Out>(
     ensures refused { IfErr result (λ e. (e ≡ InputFault.Memory) ⊎ (bundle_in schema.now sources.now ≡ Err e)) }
     ensures quiet { OnErr result (out.new ≡ out.old) }
 {
+    close_each(natives);
     let codes = read_codes(alloc, schema, sources)?;
     let text = bundle(alloc, codes.as_slice())?;
     Ok(write(text.as_str(), out))

@@ -1,15 +1,16 @@
 //! The sources that run together. `Shell::new` and `run_texts` have each fit those before it.
 
-ghost use Rattle.std.specs.Prelude.{◌≡◌, ◌≤◌, ◌<◌, ◌∷◌, ◌++◌, [], false, length, vec_len, OnErr, OnOk};
+ghost use Rattle.std.specs.Prelude.{◌≡◌, ◌≤◌, ◌<◌, ◌∷◌, ◌++◌, [], false, length, vec_len, OnErr, OnOk, position};
 ghost use Rattle.std.specs.List.{list_any};
 ghost use Rattle.std.specs.Str.{bytes_eq};
 ghost use Rattle.std.specs.Vec.{vec_capacity};
 ghost use Rattle.bb_basis.specs.Results.{Gives};
+ghost use Rattle.bb_run.specs.Closing.{Closing};
 ghost use Rattle.bb_shell.specs.declared.fitting.Unfit.TheVariants.{Memory as OutOfMemory};
-ghost use Rattle.bb_shell.specs.Fitting.{fitted, is_native, names_of, source_after};
+ghost use Rattle.bb_shell.specs.Fitting.{fitted, has_native, is_native, lacks_native, names_in, names_of, source_after};
 
 use bb_basis::{Names, Text};
-use bb_run::{Act, RuleFault, SOURCE_LIMIT, Source};
+use bb_run::{Act, Closing, RuleFault, SOURCE_LIMIT, Source};
 use std::alloc::{AllocError, Global};
 use std::marker::Model;
 
@@ -51,6 +52,33 @@ fn is_native(act: &Act) -> bool
     matches!(act, Act::Native)
 }
 
+// The place of the first native of a name.
+fn place_of(natives: &[Closing], name: &str) -> Option<usize>
+    ensures { result ≡ position (λ (c : Closing). bytes_eq c.name name.now) natives.now }
+{
+    natives
+        .iter()
+        .position(|native| native.name.as_str() == name)
+}
+
+// Whether there is a native of a name.
+fn has_native(natives: &[Closing], name: &str) -> bool
+    ensures { result ≡ has_native (names_in natives.now) name.now }
+{
+    place_of(natives, name).is_some()
+}
+
+// Whether a source needs a native that is not there.
+fn lacks_native(natives: &[Closing], source: &Source) -> bool
+    ensures { result ≡ lacks_native (names_in natives.now) source.now }
+{
+    if !is_native(&source.act) {
+        return false;
+    }
+    let is_there = has_native(natives, source.name.as_str());
+    !is_there
+}
+
 // Why a source does not fit, by its name.
 fn refuse(source: Source, fault: RuleFault) -> Unfit
     ensures { result ≡ Unfit.Source source.name fault }
@@ -87,12 +115,13 @@ fn make_room(
 // Adds a source with its name, if it fits those before it. An error changes nothing.
 fn fit(
     alloc: Global,
+    natives: &[Closing],
     names: &mut Names,
     sources: &mut Vec<Source>,
     source: Source,
 ) -> Result<(), Unfit>
     requires { names.old ≡ names_of sources.old.items }
-    ensures after { Gives OutOfMemory (λ _. sources.new.items) result (source_after sources.old.items source) }
+    ensures after { Gives OutOfMemory (λ _. sources.new.items) result (source_after (names_in natives.now) sources.old.items source) }
     ensures names { OnOk result (names.new ≡ names_of sources.new.items) }
     ensures few { OnOk result (length sources.new.items ≤ SOURCE_LIMIT) }
     ensures same_names { OnErr result (names.new ≡ names.old) }
@@ -105,7 +134,7 @@ fn fit(
     if sources.len() >= SOURCE_LIMIT {
         return Err(refuse(source, RuleFault::Limit { place }));
     }
-    if is_native(&source.act) {
+    if lacks_native(natives, &source) {
         return Err(refuse(source, RuleFault::Native { place }));
     }
     match make_room(alloc, names, sources, source.name.as_str()) {
@@ -128,12 +157,17 @@ impl Together {
         }
     }
 
-    /// Adds a source, which has to fit those before it: no other has its name, they are 256 at most, and it is no native
-    /// source.
-    pub(crate) fn add(&mut self, alloc: Global, source: Source) -> Result<(), Unfit>
-        ensures { Gives OutOfMemory (λ _. self.new) result (source_after self.old source) }
+    /// Adds a source, which has to fit those before it: no other has its name, they are 256 at most, and a native that
+    /// it needs is there.
+    pub(crate) fn add(
+        &mut self,
+        alloc: Global,
+        natives: &[Closing],
+        source: Source,
+    ) -> Result<(), Unfit>
+        ensures { Gives OutOfMemory (λ _. self.new) result (source_after (names_in natives.now) self.old source) }
     {
-        fit(alloc, &mut self.names, &mut self.sources, source)
+        fit(alloc, natives, &mut self.names, &mut self.sources, source)
     }
 
     /// The sources.
@@ -146,12 +180,16 @@ impl Together {
 }
 
 /// All sources in order, where each fits those before it.
-pub(crate) fn fit_all(alloc: Global, sources: Vec<Source>) -> Result<Together, Unfit>
-    ensures { Gives OutOfMemory (λ t. t) result (fitted sources.items) }
+pub(crate) fn fit_all(
+    alloc: Global,
+    natives: &[Closing],
+    sources: Vec<Source>,
+) -> Result<Together, Unfit>
+    ensures { Gives OutOfMemory (λ t. t) result (fitted (names_in natives.now) sources.items) }
 {
     let mut together = Together::new(alloc);
     for source in sources {
-        together.add(alloc, source)?;
+        together.add(alloc, natives, source)?;
     }
     Ok(together)
 }

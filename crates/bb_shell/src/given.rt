@@ -4,13 +4,14 @@
 ghost use Rattle.std.specs.Prelude.{◌≡◌, ◌≤◌, length, IfOk};
 ghost use Rattle.bb_basis.specs.Results.{Gives, map_err};
 ghost use Rattle.bb_bundle.specs.Bundle.{sources_of};
+ghost use Rattle.bb_shell.specs.Fitting.{names_in};
 ghost use Rattle.bb_shell.specs.Sources.{codes_in, given};
 
 use crate::compiled::compiled_text;
 use crate::input_fault::InputFault;
 use crate::sources::sources_for;
 use bb_bundle::{BundleFault, SourceCode, unbundle};
-use bb_run::{SOURCE_LIMIT, Source};
+use bb_run::{Closing, SOURCE_LIMIT, Source};
 use bb_schema::Schema;
 use std::alloc::Global;
 
@@ -19,15 +20,16 @@ use std::alloc::Global;
 #[tactic(auto, unfolding(crate::specs::Sources::given))]
 pub(crate) fn given(
     alloc: Global,
+    natives: &[Closing],
     schema: &Schema,
     sources: &str,
     bundle: &str,
 ) -> Result<Vec<Source>, InputFault>
-    ensures given { Gives InputFault.Memory (λ v. v.items) result (given schema.now sources.now bundle.now) }
+    ensures given { Gives InputFault.Memory (λ v. v.items) result (given (names_in natives.now) schema.now sources.now bundle.now) }
     ensures few { IfOk result (λ v. length v.items ≤ SOURCE_LIMIT) }
 {
     let codes = codes_in(alloc, schema, sources, bundle)?;
-    sources_for(alloc, schema, codes)
+    sources_for(alloc, natives, schema, codes)
 }
 
 // The codes of both texts.

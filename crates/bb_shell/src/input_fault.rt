@@ -1,8 +1,10 @@
 //! Why an input is refused, and the line that tells it. `run_texts` returns it, and programs (bb_main) write its line.
+//! The sentence that says it to people is in `sentence`.
 
 ghost use Rattle.std.specs.Prelude.{◌≡◌, IfOk, string_bytes};
 ghost use Rattle.bb_shell.specs.declared.input_fault.InputFault.TheVariants.{Memory as OutOfMemory};
-ghost use Rattle.bb_shell.specs.Refusals.{bundle_text, compile_text, fault_number, lang_place, lang_text, refusal_text};
+ghost use Rattle.bb_shell.specs.Refusals.{bundle_text, compile_place, compile_text, fault_number};
+ghost use Rattle.bb_shell.specs.Refusals.{lang_place, lang_text, refusal_text, source_place};
 
 use bb_basis::Text;
 use bb_bundle::BundleFault;
@@ -12,32 +14,25 @@ use bb_run::{RuleFault, UnitsFault};
 use bb_schema::SchemaFault;
 use bb_verify::{Part, VerifyFault};
 use std::alloc::{AllocError, AllocFailed, Global};
-use thiserror::Error;
 
 /// Why an input is refused: the first step that refuses it, and its fault.
-#[derive(Debug, Drop, Error)]
+#[derive(Debug, Drop)]
 pub enum InputFault {
     /// The schema's document means none.
-    #[error("{0}")]
     Schema(SchemaFault),
     /// The first units can't be created.
-    #[error("{0}")]
     Units(UnitsFault),
     /// The sources that are text can't be read.
-    #[error("{0}")]
     Lang(LangFault),
     /// A source that is text has no code.
-    #[error("{fault}")]
     Compile {
         /// The name of the source.
         name: Text,
         fault: CompileFault,
     },
     /// The bundle spells no sources.
-    #[error("{0}")]
     Bundle(BundleFault),
     /// A code of a source is not accepted.
-    #[error("a code is not accepted")]
     Verify {
         /// The name of the source.
         name: Text,
@@ -45,14 +40,12 @@ pub enum InputFault {
         fault: VerifyFault,
     },
     /// A source does not fit the schema or the other sources.
-    #[error("{fault}")]
     Rule {
         /// The name of the source.
         name: Text,
         fault: RuleFault,
     },
     /// Memory ran out.
-    #[error("out of memory")]
     Memory,
 }
 
@@ -86,6 +79,17 @@ impl InputFault {
             InputFault::Verify { .. } => 6,
             InputFault::Rule { .. } => 7,
             InputFault::Memory => 8,
+        }
+    }
+
+    /// Where in the text of sources the fault is, where it is one of that text.
+    pub fn place(&self) -> Option<Place>
+        ensures { result ≡ source_place self.now }
+    {
+        match self {
+            InputFault::Lang(fault) => lang_place(*fault),
+            InputFault::Compile { name: _, fault } => compile_place(*fault),
+            _ => None,
         }
     }
 
@@ -133,6 +137,16 @@ fn lang_place(fault: LangFault) -> Option<Place>
         | LangFault::Twice { place }
         | LangFault::Limit { place } => Some(place),
         LangFault::Memory => None,
+    }
+}
+
+// Where the fault of a source of a text is.
+fn compile_place(fault: CompileFault) -> Option<Place>
+    ensures { result ≡ compile_place fault }
+{
+    match fault {
+        CompileFault::At { place, .. } => Some(place),
+        CompileFault::Memory => None,
     }
 }
 

@@ -10,21 +10,28 @@ mod compiled;
 mod fitting;
 mod given;
 mod input_fault;
+mod report;
+mod sentence;
 mod shell;
 mod sources;
 mod texts;
 mod written;
 
+pub use bb_basis::{Items, Memory, Text};
 pub use bb_bundle::BundleFault;
 pub use bb_judge::{CompileFault, Flaw as TextFlaw};
 pub use bb_lang::{LangFault, Place};
 pub use bb_run::{
-    Board, End, Finish, Out, Pipe, RuleFault, Source, Stuck, UnitsFault, put_all, runs_are_orderly,
+    Ask, Board, Closed, Closing, DimValue, End, Finish, NativeSource, Node, OperandKind, Out,
+    Pattern, Pipe, Query, Relation, Roster, RuleFault, Source, Stuck, UnitsFault, View, close_each,
+    put_all, runs_are_orderly,
 };
+pub use bb_schema::{UnitId, Value};
 pub use bb_verify::{Flaw, Part, VerifyFault};
 pub use check::check_texts;
 pub use compile::compile_texts;
 pub use input_fault::InputFault;
+pub use report::Report;
 pub use shell::Shell;
 pub use texts::run_texts;
 pub use written::Done;

@@ -2,7 +2,7 @@
 
 ghost use Rattle.std.specs.Prelude.{◌≡◌, ◌≤◌, length, IfOk, Ok, Err};
 ghost use Rattle.bb_basis.specs.Results.{Gives};
-ghost use Rattle.bb_shell.specs.Fitting.{source_after};
+ghost use Rattle.bb_shell.specs.Fitting.{names_in, source_after};
 ghost use Rattle.bb_shell.specs.Sources.{resolved_source, sources_for};
 ghost use Rattle.bb_shell.specs.proving.Gathering.{gathered_as, gathering, with_draft};
 
@@ -11,7 +11,7 @@ use crate::fitting::{Together, Unfit};
 use crate::input_fault::InputFault;
 use bb_basis::Text;
 use bb_bundle::{SourceCode, SourceDraft};
-use bb_run::{RuleFault, SOURCE_LIMIT, Source};
+use bb_run::{Closing, RuleFault, SOURCE_LIMIT, Source};
 use bb_schema::Schema;
 use bb_verify::Checked;
 use std::alloc::{AllocError, Global};
@@ -31,13 +31,14 @@ pub(crate) enum Gathered {
 /// fit those before it. The first step that refuses one tells why, and no source is kept behind one that does not fit.
 pub(crate) fn sources_for(
     alloc: Global,
+    natives: &[Closing],
     schema: &Schema,
     codes: Vec<SourceCode>,
 ) -> Result<Vec<Source>, InputFault>
-    ensures given { Gives InputFault.Memory (λ v. v.items) result (sources_for schema.now codes.items) }
+    ensures given { Gives InputFault.Memory (λ v. v.items) result (sources_for (names_in natives.now) schema.now codes.items) }
     ensures few { IfOk result (λ v. length v.items ≤ SOURCE_LIMIT) }
 {
-    match gather_all(alloc, schema, codes)? {
+    match gather_all(alloc, natives, schema, codes)? {
         Gathered::Fit(together) => Ok(together.into_sources()),
         Gathered::Unfit(Unfit::Source { name, fault }) => Err(InputFault::Rule { name, fault }),
         Gathered::Unfit(Unfit::Memory) => Err(InputFault::Memory),
@@ -47,15 +48,16 @@ pub(crate) fn sources_for(
 
 fn gather_all(
     alloc: Global,
+    natives: &[Closing],
     schema: &Schema,
     codes: Vec<SourceCode>,
 ) -> Result<Gathered, InputFault>
-    ensures { Gives InputFault.Memory gathered_as result (gathering schema.now codes.items) }
+    ensures { Gives InputFault.Memory gathered_as result (gathering (names_in natives.now) schema.now codes.items) }
 {
     let mut gathered = Gathered::Fit(Together::new(alloc));
     for code in codes {
         let draft = accept(alloc, schema, code.into_draft())?;
-        gathered = gather(alloc, schema, gathered, draft)?;
+        gathered = gather(alloc, natives, schema, gathered, draft)?;
     }
     Ok(gathered)
 }
@@ -63,15 +65,16 @@ fn gather_all(
 // What comes of one source more.
 fn gather(
     alloc: Global,
+    natives: &[Closing],
     schema: &Schema,
     gathered: Gathered,
     draft: SourceDraft<Checked>,
 ) -> Result<Gathered, AllocError>
-    ensures { IfOk result (λ g. gathered_as g ≡ with_draft schema.now (gathered_as gathered) draft) }
+    ensures { IfOk result (λ g. gathered_as g ≡ with_draft (names_in natives.now) schema.now (gathered_as gathered) draft) }
 {
     match gathered {
-        Gathered::Fit(together) => gather_fit(alloc, schema, together, draft),
-        Gathered::Unfit(unfit) => gather_unfit(alloc, schema, unfit, draft),
+        Gathered::Fit(together) => gather_fit(alloc, natives, schema, together, draft),
+        Gathered::Unfit(unfit) => gather_unfit(alloc, natives, schema, unfit, draft),
         Gathered::Unresolved(fault) => {
             drop(draft);
             Ok(Gathered::Unresolved(fault))
@@ -82,14 +85,15 @@ fn gather(
 // What comes of one source more, where each before it fits.
 fn gather_fit(
     alloc: Global,
+    natives: &[Closing],
     schema: &Schema,
     together: Together,
     draft: SourceDraft<Checked>,
 ) -> Result<Gathered, AllocError>
-    ensures { IfOk result (λ g. gathered_as g ≡ with_draft schema.now (Ok (Ok together)) draft) }
+    ensures { IfOk result (λ g. gathered_as g ≡ with_draft (names_in natives.now) schema.now (Ok (Ok together)) draft) }
 {
     match resolve(alloc, schema, draft)? {
-        Ok(source) => join(alloc, together, source),
+        Ok(source) => join(alloc, natives, together, source),
         Err(fault) => Ok(Gathered::Unresolved(fault)),
     }
 }
@@ -97,11 +101,12 @@ fn gather_fit(
 // What comes of one source more, where one before it does not fit.
 fn gather_unfit(
     alloc: Global,
+    natives: &[Closing],
     schema: &Schema,
     unfit: Unfit,
     draft: SourceDraft<Checked>,
 ) -> Result<Gathered, AllocError>
-    ensures { IfOk result (λ g. gathered_as g ≡ with_draft schema.now (Ok (Err unfit)) draft) }
+    ensures { IfOk result (λ g. gathered_as g ≡ with_draft (names_in natives.now) schema.now (Ok (Err unfit)) draft) }
 {
     match resolve(alloc, schema, draft)? {
         Ok(source) => {
@@ -129,10 +134,15 @@ fn resolve(
 }
 
 // Adds a source to those that run together, if it fits them.
-fn join(alloc: Global, mut together: Together, source: Source) -> Result<Gathered, AllocError>
-    ensures { IfOk result (λ g. gathered_as g ≡ Ok (source_after together source)) }
+fn join(
+    alloc: Global,
+    natives: &[Closing],
+    mut together: Together,
+    source: Source,
+) -> Result<Gathered, AllocError>
+    ensures { IfOk result (λ g. gathered_as g ≡ Ok (source_after (names_in natives.now) together source)) }
 {
-    match together.add(alloc, source) {
+    match together.add(alloc, natives, source) {
         Ok(()) => Ok(Gathered::Fit(together)),
         Err(Unfit::Memory) => Err(AllocError),
         Err(unfit) => Ok(Gathered::Unfit(unfit)),

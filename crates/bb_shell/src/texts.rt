@@ -1,13 +1,15 @@
 //! A run from the texts of its schema, first units and sources. Programs (bb_main) call it.
 
-ghost use Rattle.std.specs.Prelude.{◌≡◌, ◌⊎◌, true, false, All, IfOk, IfErr, IfSome, OnErr, Ok, Err, Some};
+ghost use Rattle.std.specs.Prelude.{◌≡◌, ◌⊎◌, true, false, map, All, IfOk, IfErr, IfSome, OnErr, Ok, Err, Some};
 ghost use Rattle.std.specs.Io.KnownBytes.{Appends};
 ghost use Rattle.bb_basis.specs.Results.{Gives, map_err};
 ghost use Rattle.bb_schema.specs.Reading.{schema_of};
 ghost use Rattle.bb_run.specs.Board.{is_fresh, new_board};
 ghost use Rattle.bb_run.specs.Load.{loaded};
 ghost use Rattle.bb_run.specs.Law.{IsMade};
+ghost use Rattle.bb_run.specs.Roster.{all_open};
 ghost use Rattle.bb_run.specs.Finish.{WritesFront, end_of, is_write};
+ghost use Rattle.bb_shell.specs.Fitting.{names_in, native_names};
 ghost use Rattle.bb_shell.specs.Meaning.{Meaning, meaning};
 ghost use Rattle.bb_run.specs.Run.{run};
 ghost use Rattle.bb_run.specs.TraceText.{trace_text};
@@ -15,36 +17,44 @@ ghost use Rattle.bb_run.specs.Unstuck.{NotStuck};
 
 use crate::given::given;
 use crate::input_fault::InputFault;
-use bb_run::{Board, Finish, Out, Plan, SharedSchema, UnitsFault, run};
+use bb_run::{
+    Board, Closing, Finish, NativeSource, Out, Plan, Roster, SharedSchema, Start, UnitsFault, run,
+};
 use bb_schema::{Schema, SchemaFault};
 use std::alloc::Global;
 
 /// Runs a schema, its first units, the sources that are text and then those of a bundle, with at most `limit` cycles
 /// and no activation rated below `floor`, and writes the trace. An input is refused at the first step that refuses it,
 /// in this order: schema, units, the text of sources, their compiling, bundle, codes, rules; then nothing is written.
-/// `Memory` as a refusal and as a finish: memory ran out.
-pub fn run_texts<O: Out>(
+/// Each native is closed once, in order, at each answer, whether it was called or not. `Memory` as a refusal and as a
+/// finish: memory ran out.
+pub fn run_texts<N: NativeSource, O: Out>(
     alloc: Global,
     schema: &str,
     units: &str,
     sources: &str,
     bundle: &str,
+    natives: Vec<N>,
     limit: u32,
     floor: i64,
     out: &mut O,
 ) -> Result<Finish, InputFault>
-    requires { O.has_failed out.old ≡ false }
+    requires open { O.has_failed out.old ≡ false }
+    requires natives { all_open (map N.meaning natives.items) ≡ true }
 
     // At `Ok` the input has a meaning, the finish is that of its run, and the output took the text of its trace.
-    ensures finish { IfOk result (λ f. (m : Meaning) × (meaning schema.now units.now sources.now bundle.now floor ≡ Ok m)
-        × IfSome (end_of f) (λ end. (run m.plan m.board limit).end ≡ Some end)) }
-    ensures text { IfOk result (λ f. (m : Meaning) × (meaning schema.now units.now sources.now bundle.now floor ≡ Ok m)
+    ensures finish { IfOk result (λ f. (m : Meaning)
+        × (meaning (native_names (map N.meaning natives.items)) schema.now units.now sources.now bundle.now floor ≡ Ok m)
+        × IfSome (end_of f) (λ end. (run m.plan m.board (map N.meaning natives.items) limit).end ≡ Some end)) }
+    ensures text { IfOk result (λ f. (m : Meaning)
+        × (meaning (native_names (map N.meaning natives.items)) schema.now units.now sources.now bundle.now floor ≡ Ok m)
         × IfSome (end_of f) (λ _. Appends (O.taken out.old) (O.taken out.new)
-        (trace_text m.plan (run m.plan m.board limit).told))) }
+        (trace_text m.plan (run m.plan m.board (map N.meaning natives.items) limit).told))) }
 
     // At `Memory` the output took the text of the first segments of the run, at `Write` the front of its trace.
-    ensures front { IfOk result (λ f. (m : Meaning) × (meaning schema.now units.now sources.now bundle.now floor ≡ Ok m)
-        × WritesFront m.plan (run m.plan m.board limit) f (O.taken out.old) (O.taken out.new)) }
+    ensures front { IfOk result (λ f. (m : Meaning)
+        × (meaning (native_names (map N.meaning natives.items)) schema.now units.now sources.now bundle.now floor ≡ Ok m)
+        × WritesFront m.plan (run m.plan m.board (map N.meaning natives.items) limit) f (O.taken out.old) (O.taken out.new)) }
 
     // No run of an input is stuck.
     ensures unstuck { IfOk result (λ f. NotStuck (end_of f)) }
@@ -54,16 +64,31 @@ pub fn run_texts<O: Out>(
 
     // At `Err` it is the first refusal, and the output is as it was.
     ensures refused { IfErr result (λ e. (e ≡ InputFault.Memory)
-        ⊎ (meaning schema.now units.now sources.now bundle.now floor ≡ Err e)) }
+        ⊎ (meaning (native_names (map N.meaning natives.items)) schema.now units.now sources.now bundle.now floor ≡ Err e)) }
     ensures quiet { OnErr result (out.new ≡ out.old) }
 {
-    let (plan, board) = read_input(alloc, schema, units, sources, bundle, floor)?;
-    Ok(run(alloc, &plan, board, limit, out))
+    let roster = Roster::new(alloc, natives)?;
+    match read_input(
+        alloc,
+        roster.handed_in(),
+        schema,
+        units,
+        sources,
+        bundle,
+        floor,
+    ) {
+        Ok((plan, board)) => Ok(run(alloc, &plan, Start { board, roster }, limit, out)),
+        Err(fault) => {
+            drop(roster.close_all());
+            Err(fault)
+        }
+    }
 }
 
 // What an input means. Its sources were made under its schema, of codes that the verifier accepted under it.
 fn read_input(
     alloc: Global,
+    natives: &[Closing],
     schema: &str,
     units: &str,
     sources: &str,
@@ -71,12 +96,12 @@ fn read_input(
     floor: i64,
 ) -> Result<(Plan, Board), InputFault>
     ensures means { Gives InputFault.Memory (λ i. record { plan = i.0; board = i.1 }) result
-        (meaning schema.now units.now sources.now bundle.now floor) }
+        (meaning (names_in natives.now) schema.now units.now sources.now bundle.now floor) }
     ensures made { IfOk result (λ i. All (IsMade i.0.schema) i.0.sources) }
 {
     let schema = read_schema(alloc, schema)?;
     let (shared, board) = first_board(alloc, schema, units)?;
-    let sources = given(alloc, shared.get(), sources, bundle)?;
+    let sources = given(alloc, natives, shared.get(), sources, bundle)?;
     Ok((Plan::new(shared, sources, floor), board))
 }
 

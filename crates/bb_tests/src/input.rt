@@ -1,6 +1,7 @@
 //! What the tests of refusals hand in, and what comes of it.
 
-use bb_shell::{Pipe, run_texts};
+use crate::natives::no_natives;
+use bb_shell::{Pipe, Report, run_texts};
 use std::alloc::Global;
 use std::test::Fail;
 
@@ -43,6 +44,8 @@ pub(crate) struct Outcome {
     pub refusal: String,
     /// The number of the refusal, `None` where there was none.
     pub number: Option<u8>,
+    /// Its report, empty where there was none.
+    pub report: String,
 }
 
 /// Runs an input over an output in memory.
@@ -54,6 +57,7 @@ pub(crate) fn run_input(alloc: Global, input: Input<'_>) -> Result<Outcome, Fail
         input.units,
         input.sources,
         input.bundle,
+        no_natives(alloc),
         input.limit,
         input.floor,
         &mut out,
@@ -63,10 +67,19 @@ pub(crate) fn run_input(alloc: Global, input: Input<'_>) -> Result<Outcome, Fail
         Ok(_) => Ok(Outcome {
             refusal: String::new(alloc),
             number: None,
+            report: String::new(alloc),
         }),
-        Err(fault) => Ok(Outcome {
-            refusal: fault.line(alloc)?,
-            number: Some(fault.number()),
-        }),
+        Err(fault) => {
+            let sources = input.sources;
+            let report = Report {
+                fault: &fault,
+                sources,
+            };
+            Ok(Outcome {
+                refusal: fault.line(alloc)?,
+                number: Some(fault.number()),
+                report: report.to_string(alloc)?,
+            })
+        }
     }
 }

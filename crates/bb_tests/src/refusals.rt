@@ -6,11 +6,11 @@ use std::alloc::Global;
 use std::test::Fail;
 
 /// A source whose code is not accepted.
-const NOT_ACCEPTED: &str =
+pub(crate) const NOT_ACCEPTED: &str =
     "source hail note 1\nwhen create note\ndo 4242430101000000000000000000022e2e\n";
 
 /// A text of a source on a class that is not there.
-const NOT_COMPILED: &str = "source echo on word { when create word; rate 1; native; }";
+pub(crate) const NOT_COMPILED: &str = "source echo on word { when create word; rate 1; native; }";
 
 /// The number of an input's refusal, or 0, and its line.
 fn numbered_refusal(alloc: Global, input: Input<'_>) -> Result<String, Fail> {

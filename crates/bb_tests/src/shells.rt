@@ -1,10 +1,11 @@
 //! A shell that a host makes of a blackboard and sources, and runs.
 
 use crate::input::{HAIL, NOTE_SCHEMA, ONE_NOTE};
+use crate::natives::{Teller, no_natives};
 use bb_bundle::{ActDraft, SourceCode, SourceDraft, unbundle};
 use bb_code::Code;
 use bb_schema::Schema;
-use bb_shell::{Board, Finish, Part, Pipe, RuleFault, Shell, Source};
+use bb_shell::{Board, Finish, Part, Pipe, Roster, RuleFault, Shell, Source};
 use bb_verify::{Checked, verify};
 use std::alloc::Global;
 use std::test::Fail;
@@ -61,6 +62,11 @@ fn hails(alloc: Global, schema: &Schema, count: u8) -> Result<Vec<Source>, Fail>
     Ok(sources)
 }
 
+/// A roster of no natives.
+fn no_roster(alloc: Global) -> Result<Roster<Teller>, Fail> {
+    Ok(Roster::new(alloc, no_natives(alloc))?)
+}
+
 /// A blackboard with one note.
 fn one_note(alloc: Global) -> Result<Board, Fail> {
     let mut board = Board::new(alloc, Schema::read(alloc, NOTE_SCHEMA)?)?;
@@ -72,7 +78,7 @@ fn one_note(alloc: Global) -> Result<Board, Fail> {
 fn trace(alloc: Global, floor: i64) -> Result<Vec<u8>, Fail> {
     let board = one_note(alloc)?;
     let sources = hails(alloc, board.schema(), 1)?;
-    let shell = Shell::new(alloc, board, sources, floor)?;
+    let shell = Shell::new(alloc, board, sources, no_roster(alloc)?, floor)?;
     let mut out = Pipe::new(Vec::new(alloc));
     match shell.run(alloc, 100, &mut out) {
         Finish::Quiescence => Ok(out.into_inner()),
@@ -84,8 +90,12 @@ fn trace(alloc: Global, floor: i64) -> Result<Vec<u8>, Fail> {
 fn refusal(alloc: Global, count: u8) -> Result<Option<RuleFault>, Fail> {
     let board = one_note(alloc)?;
     let sources = hails(alloc, board.schema(), count)?;
-    match Shell::new(alloc, board, sources, 0) {
-        Ok(_shell) => Ok(None),
+    match Shell::new(alloc, board, sources, no_roster(alloc)?, 0) {
+        Ok(shell) => {
+            let mut out = Pipe::new(Vec::new(alloc));
+            shell.run(alloc, 0, &mut out);
+            Ok(None)
+        }
         Err(fault) => Ok(Some(fault)),
     }
 }

@@ -17,6 +17,17 @@ pub use Rattle.bb_board.specs.ChangeKind
 pub use Rattle.bb_board.specs.Event
 pub use Rattle.bb_board.specs.Note as BoardNote
 pub use Rattle.bb_board.specs.Said
+pub use Rattle.bb_board.specs.Outlives
+-- of bb_native: what a native means, sees and asks, what becomes of an ask, and what a roster of natives means
+pub use Rattle.bb_native.specs.Native
+pub use Rattle.bb_native.specs.Roster
+pub use Rattle.bb_native.specs.Sight
+pub use Rattle.bb_native.specs.Refusals
+pub use Rattle.bb_native.specs.Applied
+pub use Rattle.bb_native.specs.declared.ask.Ask
+pub use Rattle.bb_native.specs.declared.closing.Closing
+pub use Rattle.bb_native.specs.declared.refusal.Refusal
+pub use Rattle.bb_native.specs.declared.denial.Denial
 -- of bb_rules: sources, how they are made, and which events trigger them
 pub use Rattle.bb_rules.specs.Match
 pub use Rattle.bb_rules.specs.Law

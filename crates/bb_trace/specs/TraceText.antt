@@ -17,12 +17,14 @@ use Rattle.bb_board.specs.Said.{Said}
 use Rattle.bb_board.specs.Said.TheVariants as saids
 use Rattle.bb_agenda.specs.declared.activation.Activation.{Activation}
 use Rattle.bb_state.specs.Reasons.{reason_number}
+use Rattle.bb_native.specs.declared.closing.Closing.{Closing}
+use Rattle.bb_native.specs.Refusals.{refusal_number}
 use Rattle.bb_rules.specs.declared.source.Source.{Source}
 use Rattle.bb_trace.specs.declared.end.End.{End}
 use Rattle.bb_trace.specs.declared.end.End.TheVariants as ends
 use Rattle.bb_trace.specs.declared.note.Note.{Note}
 use Rattle.bb_trace.specs.declared.note.Note.TheVariants.{Board, Triggered, Declined, Obviated, Retriggered}
-use Rattle.bb_trace.specs.declared.note.Note.TheVariants.{Chosen, Invalid, Ended, Finished}
+use Rattle.bb_trace.specs.declared.note.Note.TheVariants.{Chosen, Invalid, Ended, Refused, NativeEnded, Finished, Closed}
 use Rattle.bb_trace.specs.Plan.{Plan}
 
 -- the name of a class, empty where there is none
@@ -107,6 +109,18 @@ abbrev pub ended_text : (steps found budget : ℕ) → List ℕ
 ended_text steps found budget =
     codes "end steps " ++ decimal steps ++ codes " found " ++ decimal found ++ codes " budget " ++ decimal budget
 
+-- an ask that was refused, and the number of the reason
+abbrev pub refused_text : (ask number : ℕ) → List ℕ
+refused_text ask number = codes "refused ask " ++ decimal ask ++ codes " " ++ decimal number
+
+-- the end of a native's execution
+abbrev pub native_ended_text : (asks : ℕ) → List ℕ
+native_ended_text asks = codes "end native " ++ decimal asks
+
+-- a native that was closed, and what it said
+abbrev pub closed_text : Closing → List ℕ
+closed_text c = codes "closed " ++ c.name ++ codes " " ++ signed_decimal c.number
+
 -- the end of the run
 abbrev pub end_text : End → List ℕ
 end_text ends.Quiescence = codes "finish quiescence"
@@ -125,7 +139,10 @@ note_text plan (Retriggered number base) =
 note_text plan (Chosen cycle a r) = choice_text plan.sources cycle a r
 note_text plan (Invalid number) = codes "invalid " ++ decimal number
 note_text plan (Ended steps found budget) = ended_text steps found budget
+note_text plan (Refused ask refusal) = refused_text ask (refusal_number refusal)
+note_text plan (NativeEnded asks) = native_ended_text asks
 note_text plan (Finished end) = end_text end
+note_text plan (Closed closing) = closed_text closing
 
 -- a note's line, with its line feed
 abbrev pub line : Plan → Note → List ℕ

@@ -1,5 +1,5 @@
 //! What a run tells: its notes, their lines, and the page on which the lines wait to be written. Crates above take the
-//! parts of blackboards and sources that a run is made of from here too.
+//! parts of blackboards, natives and sources that a run is made of from here too.
 #![tactic(auto)]
 
 mod end;
@@ -11,6 +11,10 @@ mod page;
 mod plan;
 
 pub use bb_board::{Board, Event, Note as BoardNote, SharedSchema, UnitsFault};
+pub use bb_native::{
+    Ask, Closed, Closing, Denial, DimValue, NativeSource, Node, OperandKind, Pattern, Query,
+    Refusal, Relation, Roster, View, apply, close_each,
+};
 pub use bb_rules::{Act, Classes, Clauses, Question, Reaction, RuleFault, Source};
 pub use bb_state::Stuck;
 pub use end::End;

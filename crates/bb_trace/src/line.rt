@@ -3,14 +3,17 @@
 ghost use Rattle.std.specs.Prelude.{◌≡◌, ◌++◌, ◌∷◌, [], OnOk, string_bytes};
 ghost use Rattle.bb_board.specs.Note.TheVariants.{Said as says};
 ghost use Rattle.bb_trace.specs.declared.end.End.TheVariants as ends;
-ghost use Rattle.bb_trace.specs.TraceText.{board_note_text, change_text, choice_text, decline_text, end_text, ended_text};
-ghost use Rattle.bb_trace.specs.TraceText.{event_text, line, numbered_text, said_text, slot_name, source_name, trigger_text, value_text};
+ghost use Rattle.bb_native.specs.Refusals.{refusal_number};
+ghost use Rattle.bb_trace.specs.TraceText.{board_note_text, change_text, choice_text, closed_text, decline_text, end_text, ended_text};
+ghost use Rattle.bb_trace.specs.TraceText.{event_text, line, numbered_text, refused_text, said_text, slot_name, source_name, trigger_text};
+ghost use Rattle.bb_trace.specs.TraceText.{value_text};
 
 use crate::end::End;
 use crate::note::Note;
 use crate::plan::Plan;
 use bb_agenda::Activation;
 use bb_board::{Change, Event, Said};
+use bb_native::{Closing, Refusal};
 use bb_rules::Source;
 use bb_schema::{ClassId, Schema, SlotId, UnitId, Value};
 use bb_state::Stuck;
@@ -44,7 +47,10 @@ pub(crate) fn add_note(
             found,
             budget,
         } => add_end(text, *steps, *found, *budget),
+        Note::Refused { ask, refusal } => add_refused(text, *ask, *refusal),
+        Note::NativeEnded { asks } => writeln!(text, "end native {asks}"),
         Note::Finished(end) => add_finish(text, *end),
+        Note::Closed(closing) => add_closed(text, closing),
     }
 }
 
@@ -269,4 +275,28 @@ fn add_stuck(text: &mut String, reason: Stuck) -> Result<(), AllocError>
 {
     let number = reason.number();
     writeln!(text, "finish stuck {number}")
+}
+
+fn add_refused(text: &mut String, ask: u64, refusal: Refusal) -> Result<(), AllocError>
+    ensures { OnOk result (string_bytes text.new
+        ≡ string_bytes text.old ++ (refused_text ask (refusal_number refusal) ++ 10 ∷ [])) }
+{
+    let number = refusal.number();
+    add_refused_number(text, ask, number)
+}
+
+fn add_refused_number(text: &mut String, ask: u64, number: u8) -> Result<(), AllocError>
+    ensures { OnOk result (string_bytes text.new
+        ≡ string_bytes text.old ++ (refused_text ask number ++ 10 ∷ [])) }
+{
+    writeln!(text, "refused ask {ask} {number}")
+}
+
+fn add_closed(text: &mut String, closing: &Closing) -> Result<(), AllocError>
+    ensures { OnOk result (string_bytes text.new
+        ≡ string_bytes text.old ++ (closed_text closing.now ++ 10 ∷ [])) }
+{
+    let name = closing.name.as_str();
+    let number = closing.number;
+    writeln!(text, "closed {name} {number}")
 }

@@ -2,6 +2,7 @@
 
 use crate::end::End;
 use bb_agenda::Activation;
+use bb_native::{Closing, Refusal};
 use bb_schema::UnitId;
 
 /// What a run tells: what the blackboard noted, and the steps of control.
@@ -41,6 +42,17 @@ pub enum Note {
         found: u32,
         budget: u128,
     },
+    /// An ask of a native, by its number from 1, was refused.
+    Refused {
+        ask: u64,
+        refusal: Refusal,
+    },
+    /// The end of a native's execution, with the number of its asks.
+    NativeEnded {
+        asks: u64,
+    },
     /// The end of the run.
     Finished(End),
+    /// A native was closed, after the end of the run.
+    Closed(Closing),
 }

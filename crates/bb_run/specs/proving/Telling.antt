@@ -16,7 +16,7 @@ use Rattle.bb_run.specs.declared.cycles.Decision.TheVariants.{Act, Over}
 use Rattle.bb_trace.specs.Plan.{Plan}
 use Rattle.bb_run.specs.declared.asking.Reply.{Reply}
 use Rattle.bb_run.specs.declared.execution.Verdict.{Verdict}
-use Rattle.bb_run.specs.declared.state.State.{State}
+use Rattle.bb_run.specs.State.{State}
 use Rattle.bb_run.specs.declared.teller.Teller.{Teller}
 use Rattle.bb_run.specs.Told.{Response, Stretch}
 use Rattle.bb_run.specs.Asking.{reply_by}

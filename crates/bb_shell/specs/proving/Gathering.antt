@@ -1,5 +1,5 @@
 -- What comes of the sources of an input where each goes through all steps before the next one. No public clause cites it.
-use Rattle.std.specs.Prelude.{List, [], Result, Ok, Err}
+use Rattle.std.specs.Prelude.{ℕ, List, [], Result, Ok, Err}
 use Rattle.bb_basis.specs.Results.{◌>>=◌, map_err, try_fold}
 use Rattle.bb_schema.specs.Schema.{Schema}
 use Rattle.bb_verify.specs.Accepted.{Checked}
@@ -24,21 +24,21 @@ gathered_as (gathereds.Unfit unfit) = Ok (Err unfit)
 gathered_as (gathereds.Unresolved fault) = Err fault
 
 -- with one source more, whose codes are accepted
-abbrev pub with_draft : Schema → Gathering → SourceDraft Checked → Gathering
-with_draft s g draft = do
+abbrev pub with_draft : (natives : List (List ℕ)) → Schema → Gathering → SourceDraft Checked → Gathering
+with_draft natives s g draft = do
   fit ← g
   source ← resolved_source s draft
-  Ok (fit >>= λ sources. source_after sources source)
+  Ok (fit >>= λ sources. source_after natives sources source)
 
 -- the same of one whose codes are still to be accepted
-abbrev pub with_code : Schema → Gathering → SourceDraft Code → Result Gathering InputFault
-with_code s g code = do
+abbrev pub with_code : (natives : List (List ℕ)) → Schema → Gathering → SourceDraft Code → Result Gathering InputFault
+with_code natives s g code = do
   draft ← accepted_source s code
-  Ok (with_draft s g draft)
+  Ok (with_draft natives s g draft)
 
 -- all of them
-abbrev pub gathering : Schema → List (SourceDraft Code) → Result Gathering InputFault
-gathering s codes = try_fold (with_code s) (Ok (Ok [])) codes
+abbrev pub gathering : (natives : List (List ℕ)) → Schema → List (SourceDraft Code) → Result Gathering InputFault
+gathering natives s codes = try_fold (with_code natives s) (Ok (Ok [])) codes
 
 -- what that says in the end
 abbrev pub ended : Gathering → Result (List Source) InputFault

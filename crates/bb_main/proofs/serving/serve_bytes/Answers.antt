@@ -1,24 +1,23 @@
-use Rattle.std.proofs.Common.{◌⊎◌, inl, Ok, Err, w64, ℤ, subst}
-use Rattle.std.proofs.lemmas.Int.{to_z-of_z}
+use Rattle.std.proofs.Common.{◌⊎◌, inl, Ok, Err, map}
 use Rattle.bb_main.specs.Input.{texts_of}
-use Rattle.bb_main.specs.Serve.{Answer, CutShort, Delivers, answer_to_sections}
+use Rattle.bb_main.specs.Serve.{Answer, CutShort, Delivers}
 use Rattle.bb_main.proofs.ServeLemmas.{answer-from}
 use Rattle.bb_main.proofs.StatusLemmas.{refusal_status}
 use Rattle.bb_main.proofs.serving.serve_bytes.Goals as goal
 
 pub returns-in-Ok-clause-answer : goal.returns-in-Ok-clause-answer
 returns-in-Ok-clause-answer g c =
-    let delivers : Answer → Type 0 = λ a. Delivers a (g.O.Out.taken c.args.writer.now) (g.O.Out.taken c.serve_sections.new.writer) c.serve_sections.result ⊎ CutShort a (g.O.Out.taken c.args.writer.now) (g.O.Out.taken c.serve_sections.new.writer) c.serve_sections.result in
+    let natives = map g.N.NativeSource.meaning c.args.natives.items in
+    let options = c.args.options in
+    let delivers : Answer → Type 0 = λ a. Delivers a (g.O.Out.taken c.args.writer.now) (g.O.Out.taken c.serve_sections.new.writer) c.serve_sections.result.status ⊎ CutShort a (g.O.Out.taken c.args.writer.now) (g.O.Out.taken c.serve_sections.new.writer) c.serve_sections.result.status in
     let cut = texts_of (Ok c.in-Ok.sections) in
-    let same = to_z-of_z w64 c.args.floor c.ranges.floor in
-    answer-from c.args.bytes.now c.args.mode c.args.limit c.args.floor cut delivers c.in-Ok.ensures
-    (subst (λ (z : ℤ). delivers (answer_to_sections c.args.mode c.args.limit z cut)) same c.serve_sections.ensures.answer)
+    answer-from natives c.args.bytes.now options.mode options.limit options.floor cut delivers c.in-Ok.ensures c.serve_sections.ensures.answer
 
 pub returns-in-Err-clause-answer : goal.returns-in-Err-clause-answer
 returns-in-Err-clause-answer g c =
-    let delivers : Answer → Type 0 = λ a. Delivers a (g.O.Out.taken c.args.writer.now) (g.O.Out.taken c.write_refusal.new.writer) c.write_refusal.result ⊎ CutShort a (g.O.Out.taken c.args.writer.now) (g.O.Out.taken c.write_refusal.new.writer) c.write_refusal.result in
-    answer-from c.args.bytes.now c.args.mode c.args.limit c.args.floor (texts_of (Err c.in-Err.fault)) delivers c.in-Err.ensures (inl (rw c.line.ensures at c.write_refusal.ensures.answer))
+    let delivers : Answer → Type 0 = λ a. Delivers a (g.O.Out.taken c.args.writer.now) (g.O.Out.taken c.refuse_input.new.writer) c.refuse_input.result.status ⊎ CutShort a (g.O.Out.taken c.args.writer.now) (g.O.Out.taken c.refuse_input.new.writer) c.refuse_input.result.status in
+    answer-from (map g.N.NativeSource.meaning c.args.natives.items) c.args.bytes.now c.args.options.mode c.args.options.limit c.args.options.floor (texts_of (Err c.in-Err.fault)) delivers c.in-Err.ensures (inl (rw c.line.ensures at c.refuse_input.ensures.answer))
 
 pub returns-in-Err-clause-unstuck : goal.returns-in-Err-clause-unstuck
 returns-in-Err-clause-unstuck g c =
-    refusal_status c.line.result.now (g.O.Out.taken c.args.writer.now) (g.O.Out.taken c.write_refusal.new.writer) c.write_refusal.result (inl c.write_refusal.ensures.answer)
+    refusal_status c.line.result.now (g.O.Out.taken c.args.writer.now) (g.O.Out.taken c.refuse_input.new.writer) c.refuse_input.result.status (inl c.refuse_input.ensures.answer)

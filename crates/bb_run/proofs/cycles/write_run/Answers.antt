@@ -1,9 +1,8 @@
-use Rattle.std.proofs.lemmas.Result.{err_from_is_err_and}
+use Rattle.std.proofs.Common.{map}
 use Rattle.bb_run.specs.Run.{run}
 use Rattle.bb_run.proofs.WholeLemmas.{none_written}
 use Rattle.bb_run.proofs.cycles.write_run.Goals as goal
 
-pub returns-in_err-agenda-clause-written : goal.returns-in_err-agenda-clause-written
-returns-in_err-agenda-clause-written g c =
-    let p = err_from_is_err_and c.from_residual.result c.from_residual.ensures.1 in
-    rw (p.1, p.2) (none_written c.args.plan.now (g.O.Out.taken c.args.out.now) (run c.args.plan.now c.args.board c.args.limit).told)
+pub returns-in-Err-clause-written : goal.returns-in-Err-clause-written
+returns-in-Err-clause-written g c =
+    none_written c.args.plan.now (g.O.Out.taken c.args.out.now) (run c.args.plan.now c.args.start.board (map g.N.NativeSource.meaning c.args.start.roster.natives.items) c.args.limit).told

@@ -6,29 +6,30 @@ use Rattle.bb_trace.specs.declared.note.Note.TheVariants.{Ended}
 use Rattle.bb_run.specs.Asking.{attempt}
 use Rattle.bb_run.specs.State.{with_board}
 use Rattle.bb_run.specs.Run.{noted}
+use Rattle.bb_run.specs.proving.Seen.{seen}
 use Rattle.bb_run.specs.proving.Telling.{Attempts, IsResponse}
 use Rattle.bb_run.proofs.ExecutionLemmas.{execution_noted}
 use Rattle.bb_run.proofs.execution.execute_code.Goals as goal
 
 pub returns-in_ok-take_noted-in-Ok : goal.returns-in_ok-take_noted-in-Ok
-returns-in_ok-take_noted-in-Ok c =
+returns-in_ok-take_noted-in-Ok g c =
     let o = c.in-Ok.outcome in
-    let s = with_board c.args.state.now c.attempt.new.board in
+    let s = with_board (seen g.N.NativeSource.meaning c.args.state.now) c.attempt.new.board in
     let old = c.args.notes.now.items in
     let new = c.take_noted.new.notes.items in
-    let t = c.take_noted.new.state in
-    execution_noted old new c.args.state.now t None c.attempt.new.board c.args.code.now c.args.activation c.entry_of-entry.result (Ok o) c.entry_of-entry.ensures c.in-Ok.ensures.attempted.0 c.in-Ok.ensures.attempted.1
+    let t = (seen g.N.NativeSource.meaning c.take_noted.new.state) in
+    execution_noted old new (seen g.N.NativeSource.meaning c.args.state.now) t None c.attempt.new.board c.args.code.now c.args.activation c.entry_of-entry.result (Ok o) c.entry_of-entry.ensures c.in-Ok.ensures.attempted.0 c.in-Ok.ensures.attempted.1
     (subst (λ b. IsResponse (noted s (Ended o.steps o.found b ∷ []) None) old new t None) c.budget.ensures (c.in_ok-take_noted-in-Ok.ensures None))
 
 pub returns-in_ok-take_noted-in-Err-Full : goal.returns-in_ok-take_noted-in-Err-Full
-returns-in_ok-take_noted-in-Err-Full c =
+returns-in_ok-take_noted-in-Err-Full g c =
     let came = subst (λ (r : Stop). Attempts (attempt c.args.code.now.code c.entry_of-entry.result c.args.state.now.board) (Err r) c.attempt.new.board) c.in-Err-Full.field-0-is c.in-Err-Full.ensures.attempted in
-    execution_noted c.args.notes.now.items c.take_noted-in-Err-Full.new.notes.items c.args.state.now c.take_noted-in-Err-Full.new.state (Some ends.Full) c.attempt.new.board
+    execution_noted c.args.notes.now.items c.take_noted-in-Err-Full.new.notes.items (seen g.N.NativeSource.meaning c.args.state.now) (seen g.N.NativeSource.meaning c.take_noted-in-Err-Full.new.state) (Some ends.Full) c.attempt.new.board
     c.args.code.now c.args.activation c.entry_of-entry.result (Err (stops.Full c.in-Err-Full.field-0-0 c.in-Err-Full.field-0-1)) c.entry_of-entry.ensures came.0 came.1 (c.in_ok-take_noted-in-Err-Full.ensures (Some ends.Full))
 
 pub returns-in_ok-take_noted-in-Err-Stuck : goal.returns-in_ok-take_noted-in-Err-Stuck
-returns-in_ok-take_noted-in-Err-Stuck c =
+returns-in_ok-take_noted-in-Err-Stuck g c =
     let came = subst (λ (r : Stop). Attempts (attempt c.args.code.now.code c.entry_of-entry.result c.args.state.now.board) (Err r) c.attempt.new.board) c.in-Err-Stuck.field-0-is c.in-Err-Stuck.ensures.attempted in
-    rw c.in-Err-Stuck.reason-is (execution_noted c.args.notes.now.items c.take_noted-in-Err-Stuck.new.notes.items c.args.state.now c.take_noted-in-Err-Stuck.new.state (Some (ends.Stuck c.in-Err-Stuck.reason)) c.attempt.new.board
+    rw c.in-Err-Stuck.reason-is (execution_noted c.args.notes.now.items c.take_noted-in-Err-Stuck.new.notes.items (seen g.N.NativeSource.meaning c.args.state.now) (seen g.N.NativeSource.meaning c.take_noted-in-Err-Stuck.new.state) (Some (ends.Stuck c.in-Err-Stuck.reason)) c.attempt.new.board
     c.args.code.now c.args.activation c.entry_of-entry.result (Err (stops.Stuck c.in-Err-Stuck.reason c.in-Err-Stuck.field-0-1 c.in-Err-Stuck.field-0-2)) c.entry_of-entry.ensures came.0 came.1
     (c.in_ok-take_noted-in-Err-Stuck.ensures (Some (ends.Stuck c.in-Err-Stuck.reason))))

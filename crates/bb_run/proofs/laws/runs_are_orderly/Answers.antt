@@ -2,9 +2,12 @@ use Rattle.bb_run.proofs.OrderlyRuns.{run_is_counted, run_acts_on_pending, run_e
 use Rattle.bb_run.proofs.LimitLemmas.{run_extends}
 use Rattle.bb_run.proofs.ExecutedLemmas.{run_is_followed}
 use Rattle.bb_run.proofs.PhasedRuns.{run_goes_by_phases}
+use Rattle.bb_run.proofs.ClosedLemmas.{run_closes_each}
 use Rattle.bb_run.proofs.CauseLemmas.{run_has_cause}
 use Rattle.bb_run.proofs.ReadLemmas.{plan_reads, run_reads}
-use Rattle.bb_run.proofs.UnstuckRuns.{event_asks, run_begins, run_keeps_budgets, run_not_stuck, run_ready}
+use Rattle.bb_run.proofs.UnstuckRuns.{run_begins, run_keeps_budgets, run_not_stuck, run_ready, state_asks}
+use Rattle.bb_run.proofs.ProcessedLemmas.{run_processes}
+use Rattle.bb_run.proofs.VisitLemmas.{run_processes_told}
 use Rattle.bb_run.proofs.WeighLemmas.{run_knows_foci}
 use Rattle.bb_run.proofs.laws.runs_are_orderly.Goals as goal
 
@@ -15,18 +18,21 @@ returns c = record {
   executions = run_executes_in_turn;
   phases = run_goes_by_phases;
   finish = run_finishes;
+  closed = run_closes_each;
   causes = run_has_cause;
   limit = run_keeps_limit;
   answered = run_is_answered;
   reads = run_reads;
   asked = plan_reads;
-  longer = λ plan board limit more. run_extends plan board limit more;
+  told = run_processes_told;
+  longer = λ plan board natives limit more. run_extends plan board natives limit more;
   choices = run_chooses;
   followed = run_is_followed;
-  weighed = λ plan board limit reading given. run_knows_foci plan reading board limit given;
-  unstuck = λ plan board limit made fits. run_not_stuck plan made board limit fits;
-  budgets = λ plan board limit made fits. run_keeps_budgets plan made board limit fits;
-  ready = λ plan board limit made fits. run_ready plan made board limit fits;
-  begins = λ plan board limit before cycle a r made fits at. run_begins plan made board limit before cycle a r fits at;
-  asks = λ plan s event made ready here. event_asks plan made s event ready here;
+  weighed = λ plan board natives limit reading given. run_knows_foci plan reading board natives limit given;
+  unstuck = λ plan board natives limit made fits given. run_not_stuck plan made natives board limit fits given;
+  budgets = λ plan board natives limit made fits. run_keeps_budgets plan made natives board limit fits;
+  ready = λ plan board natives limit made fits. run_ready plan made natives board limit fits;
+  processes = λ plan board natives limit made fits. run_processes plan made natives board limit fits;
+  begins = λ plan board natives limit before cycle a r made fits at. run_begins plan made natives board limit before cycle a r fits at;
+  asks = λ plan s event made ready here. state_asks plan s event made ready here;
 }

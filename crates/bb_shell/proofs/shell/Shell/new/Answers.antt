@@ -1,12 +1,30 @@
-use Rattle.std.proofs.Common.{subst, sym, ◌∙◌, ap}
+use Rattle.std.proofs.Common.{ℕ, ℤ, rules, w64, List, map, Ok, Err, subst}
+use Rattle.std.proofs.lemmas.Int.{to_z-of_z}
 use Rattle.std.specs.Prelude.{All}
+use Rattle.bb_basis.specs.Results.{Gives}
 use Rattle.bb_run.specs.Plan.{Plan}
-use Rattle.bb_run.specs.Source.{Source}
+use Rattle.bb_run.specs.RuleFault.TheVariants.{Memory}
 use Rattle.bb_shell.specs.Fitting.{HasAct}
-use Rattle.bb_shell.proofs.UnstuckLemmas.{fitted_acts}
+use Rattle.bb_shell.specs.Shell.{shell_of}
+use Rattle.bb_shell.proofs.UnstuckLemmas.{names_told}
 use Rattle.bb_shell.proofs.shell.Shell.new.Goals as goal
 
-pub invariant_of-result : goal.invariant_of-result
-invariant_of-result c =
-    let acts : All HasAct c.into_sources.result.items = subst (All HasAct) (sym c.into_sources.ensures.sources) (fitted_acts c.args.sources.items c.in-Ok.together c.in-Ok.ensures) in
-    (sym c.in_ok-schema.ensures ∙ sym (ap (λ (p : Plan). p.schema) c.new.ensures), subst (λ (p : Plan). All HasAct p.sources) (sym c.new.ensures) acts)
+pub invariant_of-result-clause-of_schema : goal.invariant_of-result-clause-of_schema
+invariant_of-result-clause-of_schema g c = c.in-Ok.ensures.of_schema
+
+pub invariant_of-result-clause-acted : goal.invariant_of-result-clause-acted
+invariant_of-result-clause-acted g c =
+    let names = names_told (map g.N.NativeSource.meaning c.args.roster.natives.items) c.handed_in.result.now c.handed_in.ensures in
+    subst (λ (ns : List (List ℕ)). All (HasAct ns) c.in-Ok.plan.sources) names c.in-Ok.ensures.acts
+
+pub returns-in-Ok-clause-shell : goal.returns-in-Ok-clause-shell
+returns-in-Ok-clause-shell g c =
+    let names = names_told (map g.N.NativeSource.meaning c.args.roster.natives.items) c.handed_in.result.now c.handed_in.ensures in
+    let gives = λ (ns : List (List ℕ)) (floor : ℤ). Gives Memory (λ (p : Plan). record { plan = p; board = c.args.board }) (Ok c.in-Ok.plan) (shell_of ns c.args.board c.args.sources.items floor) in
+    subst (λ (ns : List (List ℕ)). gives ns c.args.floor) names (subst (gives _) (to_z-of_z w64 c.args.floor (search rules)) c.in-Ok.ensures.shell)
+
+pub returns-in-Err-clause-shell : goal.returns-in-Err-clause-shell
+returns-in-Err-clause-shell g c =
+    let names = names_told (map g.N.NativeSource.meaning c.args.roster.natives.items) c.handed_in.result.now c.handed_in.ensures in
+    let gives = λ (ns : List (List ℕ)) (floor : ℤ). Gives Memory (λ (p : Plan). record { plan = p; board = c.args.board }) (Err c.in-Err.fault) (shell_of ns c.args.board c.args.sources.items floor) in
+    subst (λ (ns : List (List ℕ)). gives ns c.args.floor) names (subst (gives _) (to_z-of_z w64 c.args.floor (search rules)) c.in-Err.ensures.shell)

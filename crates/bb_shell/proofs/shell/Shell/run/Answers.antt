@@ -1,11 +1,8 @@
-use Rattle.std.proofs.Common.{subst, sym}
-use Rattle.std.specs.Prelude.{All}
-use Rattle.bb_run.specs.Law.{IsMade}
-use Rattle.bb_shell.specs.Meaning.{Meaning}
+use Rattle.std.proofs.Common.{map}
 use Rattle.bb_shell.proofs.UnstuckLemmas.{no_native}
 use Rattle.bb_shell.proofs.shell.Shell.run.Goals as goal
 
 pub returns-clause-unstuck : goal.returns-clause-unstuck
 returns-clause-unstuck g c = λ made.
-    c.run.ensures.unstuck (subst (λ (m : Meaning). All (IsMade m.plan.schema) m.plan.sources) (sym c.self.view_is) made)
-    (no_native c.self.inside.plan c.self.invariant.1) c.self.invariant.0
+    c.run.ensures.unstuck made
+    (no_native c.args.self.plan (map g.N.NativeSource.meaning c.args.self.roster.natives.items) c.args.self.acted) c.args.self.of_schema

@@ -1,0 +1,2 @@
+-- what a call is answered
+pub mod Served

@@ -1,0 +1,19 @@
+-- What a call of the library is answered: what the program answers to these bytes without natives.
+use Rattle.std.specs.Prelude.{◌≡◌, ◌==◌, ◌⊎◌, ℕ, ℤ, List, [], Option, Some, None, if◌then◌else◌}
+use Rattle.bb_main.specs.Mode.{Mode}
+use Rattle.bb_main.specs.Mode.TheVariants as modes
+use Rattle.bb_main.specs.Serve.{CutShort, Delivers, answer}
+
+abbrev pub mode_of : ℕ → Option Mode
+mode_of number =
+    if number == 0 then Some modes.Run
+    else if number == 1 then Some modes.Check
+    else if number == 2 then Some modes.Compile
+    else None
+
+-- the answer to some bytes is delivered, or cut short where memory ran out; no mode is answered by status 2 alone
+abbrev pub IsServed : Option Mode → (limit : ℕ) → (floor : ℤ) → (input given : List ℕ) → (status : ℕ) → Type 0
+IsServed None limit floor input given status = (status ≡ 2) × (given ≡ [])
+IsServed (Some mode) limit floor input given status =
+    Delivers (answer [] input mode limit floor) (Some []) (Some given) status
+    ⊎ CutShort (answer [] input mode limit floor) (Some []) (Some given) status

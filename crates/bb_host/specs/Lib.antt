@@ -1,0 +1,2 @@
+-- what the pricer asks
+pub mod Pricer

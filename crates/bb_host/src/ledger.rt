@@ -1,0 +1,50 @@
+//! Where this host has the trace written: a writer, and the number of lines so far.
+
+use bb_shell::{Out, Pipe};
+use std::io::Write;
+
+/// A writer that counts lines. To the shell it is the pipe that it holds.
+#[derive(Drop)]
+pub(crate) struct Ledger<W: Write> {
+    pipe: Pipe<W>,
+    lines: u64,
+}
+
+impl<W: Write> Ledger<W> {
+    ghost use Rattle.std.specs.Prelude.{◌≡◌, false};
+
+    /// Writes to a writer from now on.
+    pub(crate) fn new(writer: W) -> Ledger<W>
+        ensures { result.pipe.failed ≡ false }
+    {
+        Ledger {
+            pipe: Pipe::new(writer),
+            lines: 0,
+        }
+    }
+
+    /// The number of lines that were written.
+    pub(crate) fn lines(&self) -> u64 {
+        self.lines
+    }
+}
+
+impl<W: Write> Out for Ledger<W> {
+    ghost taken = { λ l. W.contents l.pipe.writer };
+
+    ghost has_failed = { λ l. l.pipe.failed };
+
+    fn put(&mut self, bytes: &[u8]) -> usize {
+        let count = self.pipe.put(bytes);
+        self.lines = self.lines.saturating_add(line_feeds(&bytes[..count]));
+        count
+    }
+
+    fn failed(&self) -> bool {
+        self.pipe.failed()
+    }
+}
+
+fn line_feeds(bytes: &[u8]) -> u64 {
+    bytes.iter().filter(|byte| **byte == b'\n').count() as u64
+}

@@ -1,0 +1,107 @@
+//! Tests of what the program says of refused inputs, also where standard error takes less or nothing.
+
+use crate::input::Intake;
+use crate::section_fault::SectionFault;
+use crate::serving::program;
+use bb_options::{Mode, Options};
+use bb_shell::Pipe;
+use std::io;
+use std::io::{Error, ErrorKind, Read, Write};
+use std::test::Fail;
+
+/// Whether the program refuses an input of this reader by that line, and says that beside it, as far as there is room
+/// for it on standard error.
+fn refuses<R: Read + Drop>(
+    rt: &HostRuntime,
+    reader: R,
+    room: usize,
+    line: &str,
+    report: &[u8],
+) -> bool {
+    let options = Options {
+        mode: Mode::Run,
+        limit: 100,
+        floor: 0,
+    };
+    let mut reader = Intake::new(reader);
+    let mut writer = Pipe::new(Vec::new(rt.alloc()));
+    let mut errors = Errors {
+        taken: Vec::new(rt.alloc()),
+        room,
+    };
+    let status = program(rt.alloc(), options, &mut reader, &mut writer, &mut errors);
+    let told = writer.into_inner();
+    status == 2 && told.as_slice() == line.as_bytes() && errors.taken.as_slice() == report
+}
+
+/// Keeps what it takes, and fails where there is no room.
+#[derive(Drop)]
+struct Errors {
+    taken: Vec<u8>,
+    room: usize,
+}
+
+impl Write for Errors {
+    fn write(&mut self, buf: &[u8]) -> io::Result<usize> {
+        let count = buf.len().min(self.room);
+        if count == 0 {
+            return Err(Error::from(ErrorKind::Other));
+        }
+        self.taken.extend_from_slice(&buf[..count])?;
+        self.room -= count;
+        Ok(count)
+    }
+
+    fn flush(&mut self) -> io::Result<()> {
+        Ok(())
+    }
+}
+
+/// Can't be read.
+#[derive(Drop)]
+struct Unreadable;
+
+impl Read for Unreadable {
+    fn read(&mut self, _buf: &mut [u8]) -> io::Result<usize> {
+        Err(Error::from(ErrorKind::Other))
+    }
+}
+
+#[test]
+fn said_refusals(rt: HostRuntime) {
+    for (input, line, report) in [
+        (
+            b"%schema\n{}\n%sources\n?\n".as_slice(),
+            "refused lang 1:1 1\n",
+            "bb: sources, line 1, column 1: this begins no token: the language has no such character, or a text has no end in its line or another escape\n  | ?\n  | ^\n",
+        ),
+        (
+            b"{}".as_slice(),
+            "refused input sections\n",
+            "bb: input: its first line is not `%schema`, or a header line is out of order or there twice\n",
+        ),
+        (
+            b"%schema\n\xff".as_slice(),
+            "refused input utf8\n",
+            "bb: input: it is not UTF-8\n",
+        ),
+    ] {
+        let report = report.as_bytes();
+        let front = &report[..report.len().min(10)];
+        assert!(rt; refuses(&rt, input, 1000, line, report), "{line}");
+        assert!(rt; refuses(&rt, input, 10, line, front), "{line}");
+        assert!(rt; refuses(&rt, input, 0, line, b""), "{line}");
+    }
+}
+
+#[test]
+fn said_of_readers(rt: HostRuntime) -> Result<(), Fail> {
+    let report = b"bb: input: it could not be read\n";
+    assert!(rt; refuses(&rt, Unreadable, 100, "refused input read\n", report));
+    let sentence = SectionFault::Limit.to_string(rt.alloc())?;
+    assert_eq!(rt;
+        sentence.as_str(),
+        "input: it has more than 16,777,216 bytes"
+    );
+    Ok(())
+}

@@ -1,0 +1,77 @@
+//! The refusal of an input: the line that tells it is written, and what there is to say of it is answered. What serves
+//! an input (`serving`) ends with these.
+
+ghost use Rattle.std.specs.Prelude.{◌≡◌, ◌≢◌, ◌==◌, ◌⊎◌, true, false, map, IsNone};
+ghost use Rattle.bb_shell.specs.Roster.{all_open};
+ghost use Rattle.bb_shell.specs.Refusals.{refusal_text};
+ghost use Rattle.bb_main.specs.Serve.{CutShort, Delivers, refusal};
+ghost use Rattle.bb_main.specs.declared.serving.TheConstants.{REFUSED, WRITE};
+
+use crate::served::Served;
+use crate::serving::{MEMORY, REFUSED, WRITE};
+use bb_shell::{NativeSource, Out, Report, close_each, put_all};
+use std::alloc::Global;
+use std::fmt::Display;
+
+/// Writes the line by which the sections of an input are refused.
+pub(crate) fn refuse<O: Out>(alloc: Global, report: Report<'_>, writer: &mut O) -> Served
+    requires { O.has_failed writer.old ≡ false }
+    ensures answer { let a = refusal (refusal_text report.entry.fault.now) in
+        Delivers a (O.taken writer.old) (O.taken writer.new) result.status
+        ⊎ CutShort a (O.taken writer.old) (O.taken writer.new) result.status }
+    ensures failed { O.has_failed writer.new ≡ (result.status == WRITE) }
+    ensures silent { result.status ≢ REFUSED → IsNone result.report }
+{
+    match report.fault.line(alloc) {
+        Ok(line) => answer(alloc, line.as_str(), report, writer),
+        Err(_) => Served::quiet(MEMORY),
+    }
+}
+
+/// Closes the natives, in order, and writes the line of a refusal. That wants no memory.
+pub(crate) fn refuse_input<D: Display + Drop, N: NativeSource, O: Out>(
+    alloc: Global,
+    line: &str,
+    reason: D,
+    natives: Vec<N>,
+    writer: &mut O,
+) -> Served
+    requires natives { all_open (map N.meaning natives.items) ≡ true }
+    requires open { O.has_failed writer.old ≡ false }
+    ensures answer { Delivers (refusal line.now) (O.taken writer.old) (O.taken writer.new) result.status }
+    ensures failed { O.has_failed writer.new ≡ (result.status == WRITE) }
+    ensures silent { result.status ≢ REFUSED → IsNone result.report }
+{
+    close_each(natives);
+    answer(alloc, line, reason, writer)
+}
+
+/// Writes the line of a refusal, and then makes a text of the reason. Only that text wants memory.
+fn answer<D: Display + Drop, O: Out>(alloc: Global, line: &str, reason: D, writer: &mut O) -> Served
+    requires { O.has_failed writer.old ≡ false }
+    ensures answer { Delivers (refusal line.now) (O.taken writer.old) (O.taken writer.new) result.status }
+    ensures failed { O.has_failed writer.new ≡ (result.status == WRITE) }
+    ensures silent { result.status ≢ REFUSED → IsNone result.report }
+{
+    let status = write_refusal(line, writer);
+    if status != REFUSED {
+        return Served::quiet(status);
+    }
+    Served {
+        status,
+        report: reason.to_string(alloc).ok(),
+    }
+}
+
+/// Writes the line of a refusal. It wants no memory.
+fn write_refusal<O: Out>(line: &str, writer: &mut O) -> u8
+    requires { O.has_failed writer.old ≡ false }
+    ensures answer { Delivers (refusal line.now) (O.taken writer.old) (O.taken writer.new) result }
+    ensures failed { O.has_failed writer.new ≡ (result == WRITE) }
+{
+    if put_all(writer, line.as_bytes()) && put_all(writer, b"\n") {
+        REFUSED
+    } else {
+        WRITE
+    }
+}

@@ -1,0 +1,67 @@
+-- The asks of a native are applied one after another, and what there is to tell of its call.
+use Rattle.std.proofs.Common.{◌≡◌, ℕ, ◌+◌, List, [], ◌∷◌, ◌++◌, length, Option, None, Some, refl, subst, sym, ap, ◌∙◌}
+use Rattle.bb_agenda.specs.declared.activation.Activation.{Activation}
+use Rattle.bb_trace.specs.Ask.{Ask}
+use Rattle.bb_trace.specs.Applied.{applied}
+use Rattle.bb_trace.specs.Native.{Native}
+use Rattle.bb_trace.specs.Roster.{after_act_at, asks_at}
+use Rattle.bb_trace.specs.Sight.{sight_of}
+use Rattle.bb_trace.specs.declared.end.End.{End}
+use Rattle.bb_trace.specs.declared.note.Note.{Note}
+use Rattle.bb_trace.specs.declared.note.Note.TheVariants.{NativeEnded}
+use Rattle.bb_run.specs.State.{State, with_natives}
+use Rattle.bb_run.specs.Told.{Response, and_then, idle, telling}
+use Rattle.bb_run.specs.Run.{calling, each_applied, upon_ask}
+use Rattle.bb_run.specs.proving.Telling.{IsResponse}
+use Rattle.bb_run.proofs.ResponseLemmas.{HasNoted, nothing_noted, nothing_told, part_made, part_over, rest_made}
+
+-- ---- asks, one after another
+
+-- nothing was noted yet of what comes of them
+pub asks_begin : (old : List Note) (s : State) (all items : List Ask) → items ≡ all → HasNoted old old (each_applied 1 all s) (each_applied (0 + 1) items s)
+asks_begin old s all items is = subst (λ xs. HasNoted old old (each_applied 1 all s) (each_applied 1 xs s)) (sym is) (nothing_noted old (each_applied 1 all s))
+
+module _ (old now : List Note) (whole : Response) (number : ℕ) (s : State) where
+  at_ask : (items : List Ask) (ask : Ask) (more : List Ask) → items ≡ ask ∷ more → HasNoted old now whole (each_applied number items s)
+      → HasNoted old now whole (and_then (upon_ask number (applied ask s.board) s) (each_applied (number + 1) more))
+  unfolding each_applied
+  at_ask items ask more is h = subst (HasNoted old now whole) (ap (λ xs. each_applied number xs s) is) h
+
+  module _ (items : List Ask) (ask : Ask) (more : List Ask) (new : List Note) (t : State) (o : Option End) (is : items ≡ ask ∷ more)
+      (h : HasNoted old now whole (each_applied number items s)) (r : IsResponse (upon_ask number (applied ask s.board) s) now new t o) where
+    pub ask_over : (end : End) → o ≡ Some end → IsResponse whole old new t (Some end)
+    ask_over end some =
+        part_over old now new whole (upon_ask number (applied ask s.board) s) (each_applied (number + 1) more) t end (at_ask items ask more is h) (subst (IsResponse (upon_ask number (applied ask s.board) s) now new t) some r)
+
+    pub ask_made : o ≡ None → HasNoted old new whole (each_applied (number + 1) more t)
+    ask_made none =
+        part_made old now new whole (upon_ask number (applied ask s.board) s) (each_applied (number + 1) more) t (at_ask items ask more is h) (subst (IsResponse (upon_ask number (applied ask s.board) s) now new t) none r)
+
+  pub asks_done : (items : List Ask) → items ≡ [] → HasNoted old now whole (each_applied number items s) → IsResponse whole old now s None
+  unfolding each_applied
+  asks_done items is h = rest_made old now now whole (idle s) s None (subst (HasNoted old now whole) (ap (λ xs. each_applied number xs s) is) h) (nothing_told now s)
+
+-- ---- a call
+
+module _ (old mid : List Note) (s t : State) (place : ℕ) (a : Activation) (asks : List Ask) (natives : List Native) (o : Option End)
+    (asked : asks ≡ asks_at s.natives place a.unit (sight_of s.board)) (left : natives ≡ after_act_at s.natives place a.unit (sight_of s.board))
+    (r : IsResponse (each_applied 1 asks (with_natives s natives)) old mid t o) where
+  abbrev ends : State → Response
+  ends u = telling (NativeEnded (length (asks_at s.natives place a.unit (sight_of s.board))) ∷ []) u None
+
+  abbrev applies : Response
+  applies = each_applied 1 (asks_at s.natives place a.unit (sight_of s.board)) (with_natives s (after_act_at s.natives place a.unit (sight_of s.board)))
+
+  made_so : IsResponse applies old mid t o
+  made_so =
+      let by : List Ask → List Native → Response = λ xs ns. each_applied 1 xs (with_natives s ns) in
+      subst (λ q. IsResponse q old mid t o) (ap (λ xs. by xs natives) asked ∙ ap (by (asks_at s.natives place a.unit (sight_of s.board))) left) r
+
+  pub call_over : (end : End) → o ≡ Some end → IsResponse (calling (Some place) a s) old mid t (Some end)
+  call_over end some = part_over old old mid (calling (Some place) a s) applies ends t end (nothing_noted old (calling (Some place) a s)) (subst (IsResponse applies old mid t) some made_so)
+
+  pub call_made : (new : List Note) (count : ℕ) → o ≡ None → count ≡ length asks → new ≡ mid ++ NativeEnded count ∷ [] → IsResponse (calling (Some place) a s) old new t None
+  call_made new count none counted is =
+      let here = part_made old old mid (calling (Some place) a s) applies ends t (nothing_noted old (calling (Some place) a s)) (subst (IsResponse applies old mid t) none made_so) in
+      rest_made old mid new (calling (Some place) a s) (ends t) t None here
+      (record { notes = is ∙ ap (λ n. mid ++ NativeEnded n ∷ []) (counted ∙ ap length asked); state = refl; end = refl })

@@ -1,0 +1,229 @@
+-- States that are ready: events are processed in them, and the asks of natives leave them so.
+use Rattle.std.proofs.Common.{◌≡◌, ◌⊎◌, ◌≤◌, ◌<◌, inl, inr, ℕ, ◌+◌, ◌-◌, List, [], ◌∷◌, ◌++◌, Option, Some, None, Ok, refl, sym, ap, subst, ◌∙◌, arith}
+use Rattle.std.specs.Prelude.{true, All, Contains, map, slice_get}
+use Rattle.std.proofs.lemmas.List.{append-nil}
+use Rattle.std.proofs.lemmas.List.Elements.{All-append, All-cons, All-contains, All-nil, All-weaker}
+use Rattle.std.proofs.lemmas.Option.{slice_get_within, get_or_from_slice_get}
+use Rattle.bb_schema.specs.Schema.{Schema}
+use Rattle.bb_schema.specs.Fits as schemas
+use Rattle.bb_verify.specs.Budget.{budget}
+use Rattle.bb_machine.proofs.Laws.{was_outlives}
+use Rattle.bb_machine.specs.Fits.{Fits}
+use Rattle.bb_trace.specs.Outlives.{Outlives}
+use Rattle.bb_machine.specs.Units.{Units}
+use Rattle.bb_machine.specs.NeverWrong.{Begins}
+use Rattle.bb_agenda.specs.declared.activation.Activation.{Activation}
+use Rattle.bb_agenda.specs.Agenda.{pending_of}
+use Rattle.bb_trace.specs.Board.{Board as Blackboard, with_world}
+use Rattle.bb_trace.specs.BoardNote.{Note as BoardNote}
+use Rattle.bb_trace.specs.Event.{Event}
+use Rattle.bb_trace.specs.Events.{unit_of}
+use Rattle.bb_trace.specs.Match.{any_match}
+use Rattle.bb_trace.specs.Reaction.{Reaction}
+use Rattle.bb_trace.specs.Applied.{applied}
+use Rattle.bb_trace.specs.Ask.{Ask}
+use Rattle.bb_trace.specs.Native.{Native}
+use Rattle.bb_trace.specs.Roster.{place_of}
+use Rattle.bb_trace.proofs.Laws.{applied_fits, applied_leads}
+use Rattle.bb_trace.specs.Source.{Source}
+use Rattle.bb_trace.specs.World.{after_take}
+use Rattle.bb_trace.specs.declared.end.End.{End}
+use Rattle.bb_trace.specs.declared.end.End.TheVariants as finishes
+use Rattle.bb_trace.specs.declared.note.Note.{Note}
+use Rattle.bb_trace.specs.declared.note.Note.TheVariants.{Board, Refused, NativeEnded}
+use Rattle.bb_trace.specs.Plan.{Plan}
+use Rattle.bb_run.specs.State.{State, with_board}
+use Rattle.bb_run.specs.Told.{Response, Stretch, telling, idle, over, and_then_unless, segment}
+use Rattle.bb_run.specs.Asking.{entry_of}
+use Rattle.bb_run.specs.Processing.{events_in, processing_all, reported, response}
+use Rattle.bb_run.specs.Causes.{LacksNative}
+use Rattle.bb_run.specs.Run.{with_notes_taken, noted}
+use Rattle.bb_run.specs.Unstuck.{AsksFor, FitsPlan, IsEventOf, IsReady, IsWellMade, KeepsBudget, NotStuck, SuitsSource}
+use Rattle.bb_run.proofs.EntryLemmas.{event_lasts, noted_events}
+use Rattle.bb_run.proofs.AskRule.{HoldsOfAsks}
+use Rattle.bb_run.proofs.PaidLemmas.{events_two}
+use Rattle.bb_run.proofs.UnstuckParts.{GoesWell, Waits, all_answer, obviate_begins, processes_all, require_begins, retrigger_begins, well_one, well_segment, well_then, well_weaker}
+
+-- what a blackboard noted keeps every budget
+pub board_notes : (notes : List BoardNote) (more : List Note) → All KeepsBudget more → All KeepsBudget (map Board notes ++ more)
+board_notes [] more all = all
+board_notes (note ∷ notes) more all = All-cons KeepsBudget (Board note) (map Board notes ++ more) tt (board_notes notes more all)
+
+pub there_at : {X : Type 0} (xs : List X) (i : ℕ) (x : X) → slice_get xs i ≡ Some x → Contains xs x
+there_at xs i x is = (i, slice_get_within xs i x is, get_or_from_slice_get xs i x x is)
+
+module _ (plan : Plan) (sound : IsWellMade plan) (natives : List Native) where
+  -- a state is ready, and has the natives that were handed in
+  pub record Ready (s : State) : Type 0 where
+    pub board : FitsPlan plan s.board
+    pub waiting : All (SuitsSource plan s.board) (pending_of s.agenda)
+    pub places : (name : List ℕ) → place_of s.natives name ≡ place_of natives name
+
+  pub is_ready : (s : State) → Ready s → IsReady plan s
+  is_ready s ready = record { board = ready.board; waiting = ready.waiting }
+
+  abbrev pub Given : Type 0
+  Given = ¬ LacksNative plan natives
+
+  abbrev pub GoesOn : Stretch → Type 0
+  GoesOn = GoesWell Given (All KeepsBudget) Ready
+
+  -- ---- events are processed
+
+  waits_in : (s : State) (ready : Ready s) → Waits plan sound Given s.board ready.board s.natives s
+  waits_in s ready = record { board = refl; natives_are = refl; waiting = ready.waiting }
+
+  ready_of : (b : Blackboard) (fits : FitsPlan plan b) (ns : List Native) → ((name : List ℕ) → place_of ns name ≡ place_of natives name) → (s : State) → Waits plan sound Given b fits ns s → Ready s
+  ready_of b fits ns places s w = record {
+    board = subst (FitsPlan plan) (sym w.board) fits;
+    waiting = subst (λ (x : Blackboard). All (SuitsSource plan x) (pending_of s.agenda)) (sym w.board) w.waiting;
+    places = λ name. ap (λ ms. place_of ms name) w.natives_are ∙ places name;
+  }
+
+  pub answer_to : (event : Event) (s : State) → Ready s → IsEventOf plan.schema s.board event → GoesWell Given KeepsBudget Ready (response plan event s)
+  answer_to event s ready here =
+      well_weaker Given KeepsBudget (Waits plan sound Given s.board ready.board s.natives) Ready (response plan event s) (ready_of s.board ready.board s.natives ready.places)
+      (all_answer plan sound Given s.board ready.board s.natives event here s (waits_in s ready))
+
+  pub processes : (list : List Event) (s : State) → All (IsEventOf plan.schema s.board) list → Ready s → GoesOn (processing_all plan list s)
+  processes list s here ready =
+      well_weaker Given (All KeepsBudget) (Waits plan sound Given s.board ready.board s.natives) Ready (processing_all plan list s) (ready_of s.board ready.board s.natives ready.places)
+      (processes_all plan sound Given s.board ready.board s.natives list s here (waits_in s ready))
+
+  -- what sources ask about an event
+  module _ (s : State) (event : Event) (ready : Ready s) (here : IsEventOf plan.schema s.board event) where
+    reacts : (source : Source) (reaction : Reaction) (a : Activation) → Contains (pending_of s.agenda) a → slice_get plan.sources a.source ≡ Some source
+        → (source.obviate ≡ Some reaction) ⊎ (source.retrigger ≡ Some reaction) → any_match plan.schema reaction.clauses event ≡ true
+        → Begins reaction.code.part reaction.code.frames reaction.code.code (entry_of a.unit (Some (unit_of event))) s.board
+    reacts source reaction a waits at (inl is) matched =
+        let suits = All-contains (SuitsSource plan s.board) (pending_of s.agenda) a ready.waiting waits in
+        obviate_begins plan sound Given s.board ready.board s.natives event here source (there_at plan.sources a.source source at) reaction is matched a (suits source at)
+    reacts source reaction a waits at (inr is) matched =
+        let suits = All-contains (SuitsSource plan s.board) (pending_of s.agenda) a ready.waiting waits in
+        retrigger_begins plan sound Given s.board ready.board s.natives event here source (there_at plan.sources a.source source at) reaction is matched a (suits source at)
+
+    pub event_asks : AsksFor plan s event
+    event_asks = record {
+      require = λ source code there' is matched. require_begins plan sound Given s.board ready.board s.natives event here source there' code is matched;
+      react = reacts;
+      leaves = is_ready (response plan event s).state (answer_to event s ready here).state;
+    }
+
+  -- ---- what was noted is told, and its events are processed
+
+  taken_fits : (b : Blackboard) → FitsPlan plan b → FitsPlan plan (with_world b (after_take b.world))
+  taken_fits b f = record {
+    schema = f.schema;
+    world = record {
+      units = f.world.units;
+      layout = f.world.layout;
+      links = f.world.links;
+      ends = f.world.ends;
+      singular = f.world.singular;
+      pairs = f.world.pairs;
+      spaces = f.world.spaces;
+      notes = refl;
+    };
+  }
+
+  taken_ready : (s : State) → Ready s → Ready (with_notes_taken s)
+  taken_ready s ready = record { board = taken_fits s.board ready.board; waiting = ready.waiting; places = ready.places }
+
+  -- a response goes well, and its events are of the blackboard that it leaves
+  pub record IsWell (r : Response) : Type 0 where
+    pub well : GoesWell Given KeepsBudget Ready r
+    pub events : All (IsEventOf plan.schema r.state.board) (events_in r.told)
+
+  pub reports : (r : Response) → IsWell r → GoesOn (reported plan r)
+  reports r is = well_then Given (All KeepsBudget) Ready (segment r) (processing_all plan (events_in r.told)) r.end refl (well_segment Given Ready r is.well) (processes (events_in r.told) r.state is.events)
+
+  pub well_noted : (s : State) (more : List Note) (end : Option End) → Ready s → All KeepsBudget more → events_in more ≡ [] → (Given → NotStuck end) → IsWell (noted s more end)
+  well_noted s more end ready fine none not = record {
+    well = record { told = board_notes s.board.world.notes more fine; end = not; state = taken_ready s ready };
+    events = noted_events plan.schema sound.schema s.board s.board.world.notes more ready.board.world.notes none;
+  }
+
+  -- ---- the asks of a native
+
+  -- what asks leave, and that the events which they noted are of the blackboard then
+  pub record AskLeaves (s : State) (r : Response) : Type 0 where
+    pub is : IsWell r
+    pub outlives : Outlives s.board.world.units r.state.board.world.units
+
+  abbrev pub AskGoes : State → Response → Type 0
+  AskGoes s r = Ready s → AskLeaves s r
+
+  same_units : (u : Units) → Outlives u u
+  same_units u = record { next = (let le : u.next ≤ u.next = omega arith in le); classes = λ n class lt is. is }
+
+  outlives_both : (u v w : Units) → Outlives u v → Outlives v w → Outlives u w
+  outlives_both u v w p q = record {
+    next = (let one = p.next in let two = q.next in let le : u.next ≤ w.next = omega (arith, one, two) in le);
+    classes = λ n class lt is. p.classes n class lt (q.classes n class (let one = p.next in let less : n < v.next = omega (arith, lt, one) in less) is);
+  }
+
+  -- events go on being of the blackboard
+  events_last : (b c : Blackboard) (events : List Event) → Outlives b.world.units c.world.units → All (IsEventOf plan.schema b) events → All (IsEventOf plan.schema c) events
+  events_last b c events outlives all = All-weaker (IsEventOf plan.schema b) (IsEventOf plan.schema c) (λ e here. event_lasts plan.schema sound.schema b c e outlives here) events all
+
+  -- the blackboard after an ask
+  changed_ready : (s : State) (ask : Ask) (b : Blackboard) → applied ask s.board ≡ Ok b → Ready s → Ready (with_board s b)
+  changed_ready s ask b is ready =
+      let leads = applied_leads ask s.board b is in
+      let same : b.schema ≡ plan.schema = leads.schema ∙ ready.board.schema in
+      let fits = applied_fits ask s.board b (subst schemas.Fits (sym ready.board.schema) sound.schema) (subst (λ (x : Schema). Fits x s.board.world) (sym ready.board.schema) ready.board.world) is in
+      record {
+        board = record { schema = same; world = subst (λ (x : Schema). Fits x b.world) same fits };
+        waiting = All-weaker (SuitsSource plan s.board) (SuitsSource plan b)
+            (λ x own other there'. was_outlives plan.schema s.board.world b.world other.class x.unit leads.outlives (own other there')) (pending_of s.agenda) ready.waiting;
+        places = ready.places;
+      }
+
+  nothing_asked : (s : State) (r : Response) → r.told ≡ [] → r.state ≡ s → (Given → NotStuck r.end) → AskGoes s r
+  nothing_asked s r none same not ready = record {
+    is = record {
+      well = record { told = subst (All KeepsBudget) (sym none) (All-nil KeepsBudget); end = not; state = subst Ready (sym same) ready };
+      events = subst (λ l. All (IsEventOf plan.schema r.state.board) (events_in l)) (sym none) (All-nil (IsEventOf plan.schema r.state.board));
+    };
+    outlives = subst (λ (t : State). Outlives s.board.world.units t.board.world.units) (sym same) (same_units s.board.world.units);
+  }
+
+  asks_then : (s : State) (r : Response) (next : State → Response) (end : Option End) → r.end ≡ end → AskGoes s r → AskGoes r.state (next r.state) → AskGoes s (and_then_unless end r next)
+  asks_then s r next (Some e) is first rest ready = first ready
+  asks_then s r next None is first rest ready =
+      let q = next r.state in
+      let one = first ready in
+      let two = rest one.is.well.state in
+      record {
+        is = record {
+          well = record { told = All-append KeepsBudget r.told q.told one.is.well.told two.is.well.told; end = two.is.well.end; state = two.is.well.state };
+          events = subst (All (IsEventOf plan.schema q.state.board)) (sym (events_two r.told q.told))
+              (All-append (IsEventOf plan.schema q.state.board) (events_in r.told) (events_in q.told) (events_last r.state.board q.state.board (events_in r.told) two.outlives one.is.events) two.is.events);
+        };
+        outlives = outlives_both s.board.world.units r.state.board.world.units q.state.board.world.units one.outlives two.outlives;
+      }
+
+  pub ask_parts : (asks : List Ask) → HoldsOfAsks asks AskGoes
+  ask_parts asks = record {
+    nothing = λ s. nothing_asked s (idle s) refl refl (λ given. tt);
+    changed = λ s ask b is ready. record {
+      is = well_noted (with_board s b) [] None (changed_ready s ask b is ready) (All-nil KeepsBudget) refl (λ given. tt);
+      outlives = (applied_leads ask s.board b is).outlives;
+    };
+    refused = λ s number refusal ready. record {
+      is = record { well = well_one Given KeepsBudget Ready (Refused number refusal) s tt ready; events = All-nil (IsEventOf plan.schema s.board) };
+      outlives = same_units s.board.world.units;
+    };
+    full = λ s ask there came. nothing_asked s (over finishes.Full s) refl refl (λ given. tt);
+    no_memory = λ s ask came. nothing_asked s (over finishes.Full s) refl refl (λ given. tt);
+    further = λ s r next first rest. asks_then s r next r.end refl first rest;
+  }
+
+  pub native_ends : (asks : ℕ) (r : Response) (end : Option End) → r.end ≡ end → IsWell r → IsWell (and_then_unless end r (λ u. telling (NativeEnded asks ∷ []) u None))
+  native_ends asks r (Some e) is well = well
+  native_ends asks r None is it =
+      let note : Note = NativeEnded asks in
+      record {
+        well = record { told = All-append KeepsBudget r.told (note ∷ []) it.well.told (All-cons KeepsBudget note [] tt (All-nil KeepsBudget)); end = λ given. tt; state = it.well.state };
+        events = subst (All (IsEventOf plan.schema r.state.board)) (sym (events_two r.told (note ∷ []) ∙ append-nil (events_in r.told))) it.events;
+      }

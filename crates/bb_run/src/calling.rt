@@ -1,0 +1,83 @@
+//! What a cycle does where its source has a native for its act: the native is called, and its asks are applied to the
+//! blackboard one by one. An execution (execution.rt) is that.
+
+ghost use Rattle.std.specs.Prelude.{◌≡◌, ◌<◌, IfOk, Some, length, map};
+ghost use Rattle.bb_trace.specs.Applied.{applied};
+ghost use Rattle.bb_run.specs.Run.{calling, each_applied, upon_ask};
+ghost use Rattle.bb_run.specs.proving.Seen.{seen};
+ghost use Rattle.bb_run.specs.proving.Telling.{IsResponse};
+
+use crate::noting::take_noted;
+use crate::state::State;
+use bb_agenda::Activation;
+use bb_trace::{Ask, Denial, End, NativeSource, Note, View, apply};
+use std::alloc::AllocError;
+
+// Applies an ask of this number. A refused ask is told; where no unit can be created the run is over.
+fn apply_one<N: NativeSource>(
+    number: u64,
+    ask: Ask,
+    state: &mut State<N>,
+    notes: &mut Vec<Note>,
+) -> Result<Option<End>, AllocError>
+    ensures { IfOk result (IsResponse (upon_ask number (applied ask state.old.board) (seen N.meaning state.old))
+        notes.old.items notes.new.items (seen N.meaning state.new)) }
+{
+    match apply(*notes.allocator(), ask, &mut state.board) {
+        Ok(()) => {
+            take_noted(state, None, notes)?;
+            Ok(None)
+        }
+        Err(Denial::Refused(refusal)) => {
+            notes.push(Note::Refused {
+                ask: number,
+                refusal,
+            })?;
+            Ok(None)
+        }
+        Err(Denial::Full) => Ok(Some(End::Full)),
+        Err(Denial::Memory) => Err(AllocError),
+    }
+}
+
+// Applies asks in order, with numbers from 1 on, until the run is over.
+fn apply_each<N: NativeSource>(
+    asks: Vec<Ask>,
+    state: &mut State<N>,
+    notes: &mut Vec<Note>,
+) -> Result<Option<End>, AllocError>
+    ensures { IfOk result (IsResponse (each_applied 1 asks.items (seen N.meaning state.old))
+        notes.old.items notes.new.items (seen N.meaning state.new)) }
+{
+    let mut number = 0u64;
+    for ask in asks {
+        number += 1;
+        if let Some(end) = apply_one(number, ask, state, notes)? {
+            return Ok(Some(end));
+        }
+    }
+    Ok(None)
+}
+
+/// Calls the native at a place for the unit of an activation, applies what it asks, and appends what there is to tell of
+/// that. Returns the end of the run where it ends in that.
+pub(crate) fn call<N: NativeSource>(
+    place: usize,
+    activation: Activation,
+    state: &mut State<N>,
+    notes: &mut Vec<Note>,
+) -> Result<Option<End>, AllocError>
+    requires { place < length (map N.meaning state.old.roster.natives.items) }
+    ensures { IfOk result (IsResponse (calling (Some place) activation (seen N.meaning state.old))
+        notes.old.items notes.new.items (seen N.meaning state.new)) }
+{
+    let alloc = *notes.allocator();
+    let view = View::new(&state.board);
+    let asks = state.roster.act(alloc, place, activation.unit, &view)?;
+    let count = asks.len() as u64;
+    if let Some(end) = apply_each(asks, state, notes)? {
+        return Ok(Some(end));
+    }
+    notes.push(Note::NativeEnded { asks: count })?;
+    Ok(None)
+}

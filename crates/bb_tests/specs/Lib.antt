@@ -1,0 +1,2 @@
+-- what a native of the tests asks
+pub mod Asked

@@ -1,0 +1,226 @@
+//! Natives that a host writes: one whose asks are refused in turn, and such as tell their close, at each refusal of an
+//! input too.
+
+ghost use Rattle.std.specs.Prelude.{◌≡◌, true, map, IfOk};
+ghost use Rattle.bb_shell.specs.Roster.{all_open};
+
+use crate::input::{FIRST, HAIL, Input, NOTE_SCHEMA, ONE_NOTE};
+use bb_shell::{
+    Ask, Done, Finish, InputFault, Memory, NativeSource, Pipe, Text, UnitId, Value, View,
+    check_texts, compile_texts, run_texts,
+};
+use std::alloc::Global;
+use std::cell::Cell;
+use std::rc::Rc;
+use std::test::Fail;
+
+/// Has a number, and puts it behind those that were told before at its close.
+#[derive(Drop)]
+pub(crate) struct Teller {
+    number: u64,
+    told: Rc<Cell<u64>>,
+    is_open: bool,
+}
+
+impl NativeSource for Teller {
+    ghost use Rattle.std.specs.Prelude.{[], pos, codes};
+
+    ghost meaning = { λ teller. record {
+      name = codes "teller";
+      held = [];
+      is_open = teller.is_open;
+      asks = λ held unit seen. [];
+      next = λ held unit seen. held;
+      closing = λ held. pos 0;
+    } };
+
+    fn name(&self) -> &str {
+        "teller"
+    }
+
+    fn act(&mut self, alloc: Global, _unit: UnitId, _view: &View<'_>) -> Result<Vec<Ask>, Memory> {
+        Ok(Vec::new(alloc))
+    }
+
+    fn close(&mut self) -> i64 {
+        self.is_open = false;
+        let before = self.told.get();
+        self.told
+            .set(before.wrapping_mul(10).wrapping_add(self.number));
+        0
+    }
+}
+
+fn open_teller(number: u64, told: &Rc<Cell<u64>>) -> Result<Teller, Memory>
+    ensures { IfOk result (λ teller. teller.is_open ≡ true) }
+{
+    Ok(Teller {
+        number,
+        told: told.clone()?,
+        is_open: true,
+    })
+}
+
+/// No natives.
+pub(crate) fn no_natives(alloc: Global) -> Vec<Teller>
+    ensures { all_open (map ⟦<Teller as NativeSource>⟧.meaning result.items) ≡ true }
+{
+    Vec::new(alloc)
+}
+
+/// Two natives of one name.
+fn tellers(alloc: Global, told: &Rc<Cell<u64>>) -> Result<Vec<Teller>, Memory>
+    ensures { IfOk result (λ natives. all_open (map ⟦<Teller as NativeSource>⟧.meaning natives.items) ≡ true) }
+{
+    let mut natives = Vec::new(alloc);
+    natives.push(open_teller(1, told)?)?;
+    natives.push(open_teller(2, told)?)?;
+    Ok(natives)
+}
+
+/// Runs an input with two natives. Answers the number of its refusal, 0 where there is none, what the natives told at
+/// their close, and what was written.
+fn run_with(alloc: Global, input: Input<'_>) -> Result<(u8, u64, usize), Fail> {
+    let told = Rc::new(alloc, Cell::new(0u64))?;
+    let natives = tellers(alloc, &told)?;
+    let mut out = Pipe::new(Vec::new(alloc));
+    let answer = run_texts(
+        alloc,
+        input.schema,
+        input.units,
+        input.sources,
+        input.bundle,
+        natives,
+        input.limit,
+        input.floor,
+        &mut out,
+    );
+    let bytes: Vec<u8> = out.into_inner();
+    let number = match answer {
+        Ok(_) => 0,
+        Err(fault) => fault.number(),
+    };
+    Ok((number, told.get(), bytes.len()))
+}
+
+#[test]
+fn each_refusal_closes_all(rt: HostRuntime) -> Result<(), Fail> {
+    let alloc = rt.alloc();
+    let damaged = "source hail note 1\nwhen create note\ndo 42\n";
+    let alike = "source hail note 1\nwhen create note\nnative\n";
+    let inputs = [
+        (
+            1,
+            Input {
+                schema: "{",
+                ..FIRST
+            },
+        ),
+        (
+            2,
+            Input {
+                units: "{",
+                ..FIRST
+            },
+        ),
+        (
+            3,
+            Input {
+                sources: "source",
+                ..FIRST
+            },
+        ),
+        (
+            4,
+            Input {
+                sources: "source a on x { when create x; rate 1; do { } }",
+                ..FIRST
+            },
+        ),
+        (
+            5,
+            Input {
+                bundle: damaged,
+                ..FIRST
+            },
+        ),
+        (
+            7,
+            Input {
+                bundle: alike,
+                ..FIRST
+            },
+        ),
+    ];
+    for (number, input) in inputs {
+        let (given, told, written) = run_with(alloc, input)?;
+        assert_eq!(rt; given, number);
+        assert_eq!(rt; told, 12);
+        assert_eq!(rt; written, 0);
+    }
+    Ok(())
+}
+
+// No source is theirs, so they are never called.
+#[test]
+fn natives_without_a_source(rt: HostRuntime) -> Result<(), Fail> {
+    let alloc = rt.alloc();
+    let told = Rc::new(alloc, Cell::new(0u64))?;
+    let natives = tellers(alloc, &told)?;
+    let mut out = Pipe::new(Vec::new(alloc));
+    let finish = run_texts(
+        alloc,
+        NOTE_SCHEMA,
+        ONE_NOTE,
+        "",
+        HAIL,
+        natives,
+        100,
+        0,
+        &mut out,
+    )?;
+    assert!(rt; matches!(finish, Finish::Quiescence));
+    let expected = "create 1 note\n\
+        trigger 1 hail unit 1 rating 100\n\
+        cycle 1 act 1 hail unit 1 rating 100\n\
+        say \"hello\"\n\
+        end steps 3 found 0 budget 3\n\
+        quiescence\n\
+        finish quiescence\n\
+        closed teller 0\n\
+        closed teller 0\n";
+    assert!(rt; out.into_inner().as_slice() == expected.as_bytes());
+    assert_eq!(rt; told.get(), 12);
+    Ok(())
+}
+
+#[test]
+fn a_check_and_a_bundle_close_all(rt: HostRuntime) -> Result<(), Fail> {
+    let alloc = rt.alloc();
+    let told = Rc::new(alloc, Cell::new(0u64))?;
+    let natives = tellers(alloc, &told)?;
+    let mut out = Pipe::new(Vec::new(alloc));
+    let checked = check_texts(alloc, NOTE_SCHEMA, "", HAIL, natives, &mut out)?;
+    assert!(rt; matches!(checked, Done::Written));
+    assert_eq!(rt; told.get(), 12);
+    let natives = tellers(alloc, &told)?;
+    let compiled = compile_texts(alloc, NOTE_SCHEMA, "", natives, &mut out)?;
+    assert!(rt; matches!(compiled, Done::Written));
+    assert_eq!(rt; told.get(), 1212);
+    assert!(rt; out.into_inner().as_slice() == b"hail do ops 3 budget 3 3\nchecked 1\n".as_slice());
+    let natives = tellers(alloc, &told)?;
+    let mut none = Pipe::new(Vec::new(alloc));
+    match check_texts(alloc, "{", "", HAIL, natives, &mut none) {
+        Err(InputFault::Schema(_)) => {}
+        _ => return Err(Fail::from("the schema is refused")),
+    }
+    assert_eq!(rt; told.get(), 121_212);
+    let natives = tellers(alloc, &told)?;
+    match compile_texts(alloc, "{", "", natives, &mut none) {
+        Err(InputFault::Schema(_)) => {}
+        _ => return Err(Fail::from("the schema is refused")),
+    }
+    assert_eq!(rt; told.get(), 12_121_212);
+    assert!(rt; none.into_inner().as_slice() == b"".as_slice());
+    Ok(())
+}
