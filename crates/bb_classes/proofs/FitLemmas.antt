@@ -29,7 +29,7 @@ use Rattle.bb_classes.specs.LinkReading.{first_named, leads_back, link_after}
 use Rattle.bb_classes.specs.ClassReading.{focus, parent_number, inherited_slots, class_after}
 use Rattle.bb_classes.specs.Fits.{IsHeld, IsClass, IsDraft, StartsWith}
 use Rattle.bb_classes.specs.Values.{label_counts, is_label, value_fits}
-use Rattle.bb_document.specs.Intervals.{IsOrdered, HasOrderedDefaults}
+use Rattle.bb_document.specs.Defaults.{IsSound, HasSoundDefaults}
 use Rattle.bb_basis.proofs.AppendLemmas.{some_within, there_is, snoc_cases, snoc_old, snoc_new}
 use Rattle.bb_basis.proofs.PositionLemmas.{position_within}
 use Rattle.bb_basis.proofs.ListLemmas.{map-last}
@@ -82,14 +82,14 @@ label_value_held sets of given v h =
     let label = bind_ok (ok_or (option_and_then (λ (s : LabelSet). chosen_label s.values given) (slice_get sets set.0)) faults.Unknown) (λ label. Ok (values.Label set.0 label)) v set.2 in
     subst (IsHeld sets) (same_ok (values.Label set.0 label.0) v label.2) (label_held sets set.0 label.0 (label_found sets set.0 label.0 given (slice_get sets set.0) refl (ok_or_ok faults.Unknown _ label.0 label.1)))
 
-default_held : (sets : List LabelSet) (e : DefaultDeclaration) (v : Value) → IsOrdered e → is_long e ≡ false
+default_held : (sets : List LabelSet) (e : DefaultDeclaration) (v : Value) → IsSound e → is_long e ≡ false
     → default_value sets e ≡ Ok v → IsHeld sets v
 unfolding value_fits
-default_held sets (int_default z) v ordered short h = subst (IsHeld sets) (same_ok (values.Int z) v h) refl
-default_held sets (text_default t) v ordered short h = subst (IsHeld sets) (same_ok (values.Text t) v h) (le-leb (length t) TEXT_LIMIT (ltb-false TEXT_LIMIT (length t) short))
-default_held sets (bool_default b) v ordered short h = subst (IsHeld sets) (same_ok (values.Bool b) v h) refl
-default_held sets (label_default of given) v ordered short h = label_value_held sets of given v h
-default_held sets (interval_default low high) v ordered short h = subst (IsHeld sets) (same_ok (values.Interval low high) v h) ordered
+default_held sets (int_default z) v sound short h = subst (IsHeld sets) (same_ok (values.Int z) v h) sound
+default_held sets (text_default t) v sound short h = subst (IsHeld sets) (same_ok (values.Text t) v h) (le-leb (length t) TEXT_LIMIT (ltb-false TEXT_LIMIT (length t) short))
+default_held sets (bool_default b) v sound short h = subst (IsHeld sets) (same_ok (values.Bool b) v h) refl
+default_held sets (label_default of given) v sound short h = label_value_held sets of given v h
+default_held sets (interval_default low high) v sound short h = subst (IsHeld sets) (same_ok (values.Interval low high) v h) sound
 
 -- what each change by an entry of a kind keeps, all of them keep
 pub walk_keeps : {S A E : Type 0} (P : S → Type 0) (Q : A → Type 0) (f : S → A → Result S E)
@@ -129,16 +129,16 @@ grown sets owner old base g d well room made =
     }
 
 slot_keeps : (sets : List LabelSet) (owner old : ℕ) (base : List ℕ) (g h : ClassDraft) (e : SlotDeclaration)
-    → IsOrdered e.default → GrowsWell sets owner old base g → slot_after sets owner g e ≡ Ok h
+    → IsSound e.default → GrowsWell sets owner old base g → slot_after sets owner g e ≡ Ok h
     → GrowsWell sets owner old base h
 unfolding slot_after
-slot_keeps sets owner old base g h e ordered well made =
+slot_keeps sets owner old base g h e sound well made =
     let named = guard_ok (not (is_name e.name)) faults.Name _ h made in
     let fresh = guard_ok (has_slot_named g e.name) faults.Twice _ h named.1 in
     let value = bind_ok (default_value sets e.default) (λ value. if is_full g || is_long e.default then Err faults.Limit else Ok (with_slot g (record { name = e.name; owner = owner; content = contents.Default value }))) h fresh.1 in
     let room = guard_ok (is_full g || is_long e.default) faults.Limit (Ok (with_slot g (record { name = e.name; owner = owner; content = contents.Default value.0 }))) h value.2 in
     subst (GrowsWell sets owner old base) (same_ok _ h room.1)
-    (grown sets owner old base g (record { name = e.name; owner = owner; content = contents.Default value.0 }) well (or_parts _ _ room.0).0 (record { name = not_false (is_name e.name) named.0; owner = omega arith; default = default_held sets e.default value.0 ordered (or_parts _ _ room.0).1 value.1 }))
+    (grown sets owner old base g (record { name = e.name; owner = owner; content = contents.Default value.0 }) well (or_parts _ _ room.0).0 (record { name = not_false (is_name e.name) named.0; owner = omega arith; default = default_held sets e.default value.0 sound (or_parts _ _ room.0).1 value.1 }))
 
 link_keeps : (sets : List LabelSet) (all : List ClassDeclaration) (class : List ℕ) (owner old : ℕ) (base : List ℕ)
     (g h : ClassDraft) (e : LinkDeclaration) → GrowsWell sets owner old base g → link_after all class owner g e ≡ Ok h
@@ -241,9 +241,9 @@ joins sets s k g fit named room within is well =
     }
 
 pub class_keeps : (sets : List LabelSet) (all : List ClassDeclaration) (s t : SchemaDraft) (e : ClassDeclaration)
-    → HasOrderedDefaults e → ClassesFit sets s → class_after sets all s e ≡ Ok t → ClassesFit sets t
+    → HasSoundDefaults e → ClassesFit sets s → class_after sets all s e ≡ Ok t → ClassesFit sets t
 unfolding class_after
-class_keeps sets all s t e ordered fit made =
+class_keeps sets all s t e sound fit made =
     let named = guard_ok (not (is_name e.name)) faults.Name _ t made in
     let fresh = guard_ok (list_any (bytes_eq e.name) (map (λ (k : Class). k.name) s.classes)) faults.Twice _ t named.1 in
     let parent = bind_ok (parent_number s.classes e.parent) _ t fresh.1 in
@@ -253,15 +253,15 @@ class_keeps sets all s t e ordered fit made =
     let own = bind_ok (try_fold (link_after all e.name (length s.classes)) ordinary.0 e.links) _ t ordinary.2 in
     let within = parent_within s.classes e.parent parent.0 parent.1 in
     let P : ClassDraft → Type 0 = GrowsWell sets (length s.classes) (length s.slots) (inherited_slots s.classes parent.0) in
-    let one : P ordinary.0 = walk_keeps P (λ (d : SlotDeclaration). IsOrdered d.default) (slot_after sets (length s.classes)) (λ g h d. slot_keeps sets (length s.classes) (length s.slots) (inherited_slots s.classes parent.0) g h d) start ordinary.0 e.slots ordered (begins sets s parent.0 fit within) ordinary.1 in
+    let one : P ordinary.0 = walk_keeps P (λ (d : SlotDeclaration). IsSound d.default) (slot_after sets (length s.classes)) (λ g h d. slot_keeps sets (length s.classes) (length s.slots) (inherited_slots s.classes parent.0) g h d) start ordinary.0 e.slots sound (begins sets s parent.0 fit within) ordinary.1 in
     let two : P own.0 = try_fold_keeps P (link_after all e.name (length s.classes)) (λ g h d. link_keeps sets all e.name (length s.classes) (length s.slots) (inherited_slots s.classes parent.0) g h d) ordinary.0 own.0 e.links one own.1 in
     subst (ClassesFit sets) (same_ok _ t own.2) (joins sets s (record { name = e.name; parent = parent.0; slots = own.0.class_slots }) own.0 fit (rw (map-last (λ (k : Class). k.name) s.classes (record { name = e.name; parent = parent.0; slots = own.0.class_slots })) (one_more_name CLASS_LIMIT (map (λ (k : Class). k.name) s.classes) e.name fit.class_names named.0 fresh.0 (rw (length-map s.classes (λ (k : Class). k.name)) room.0))) (leb-false CLASS_LIMIT (length s.classes) room.0) within refl two)
 
 pub classes_fit : (sets : List LabelSet) (all entries : List ClassDeclaration) (t : SchemaDraft)
-    → All HasOrderedDefaults entries → try_fold (class_after sets all)
+    → All HasSoundDefaults entries → try_fold (class_after sets all)
     (record { classes = []; slots = [] }) entries ≡ Ok t → ClassesFit sets t
-classes_fit sets all entries t ordered made =
-    walk_keeps (ClassesFit sets) HasOrderedDefaults (class_after sets all) (λ s u e. class_keeps sets all s u e) (record { classes = []; slots = [] }) t entries ordered
+classes_fit sets all entries t sound made =
+    walk_keeps (ClassesFit sets) HasSoundDefaults (class_after sets all) (λ s u e. class_keeps sets all s u e) (record { classes = []; slots = [] }) t entries sound
     (record {
       few_classes = omega arith;
       few_slots = omega arith;
@@ -272,6 +272,6 @@ classes_fit sets all entries t ordered made =
       slots = All-nil (IsDraft sets 0);
     }) made
 
-pub focus_ordered : (others : List ClassDeclaration) → All HasOrderedDefaults others
-    → All HasOrderedDefaults (focus ∷ others)
-focus_ordered others all = All-cons HasOrderedDefaults focus others (All-from_recursion (λ d. IsOrdered d.default) focus.slots (tt, (tt, (tt, (tt, tt))))) all
+pub focus_sound : (others : List ClassDeclaration) → All HasSoundDefaults others
+    → All HasSoundDefaults (focus ∷ others)
+focus_sound others all = All-cons HasSoundDefaults focus others (All-from_recursion (λ d. IsSound d.default) focus.slots (tt, (tt, (refl, (tt, tt))))) all

@@ -12,7 +12,7 @@ use Rattle.bb_basis.proofs.NumberLemmas.{differs, turned}
 use Rattle.bb_basis.proofs.AppendLemmas.{some_within, there_is, snoc_cases, snoc_old, snoc_new}
 use Rattle.bb_basis.proofs.ResultLemmas.{bind_ok, guard_ok, same_ok, try_fold_keeps}
 use Rattle.bb_document.specs.Document.{SlotDeclaration, LinkDeclaration, ClassDeclaration}
-use Rattle.bb_document.specs.Intervals.{HasOrderedDefaults}
+use Rattle.bb_document.specs.Defaults.{HasSoundDefaults}
 use Rattle.bb_classes.specs.declared.read.classes.TheConstants.{CLASS_LIMIT}
 use Rattle.bb_classes.specs.declared.fault.SchemaFault.TheVariants as faults
 use Rattle.bb_classes.specs.declared.label_set.LabelSet.{LabelSet}
@@ -234,14 +234,14 @@ owned_after sets all s t e o fit made =
     subst (λ (u : SchemaDraft). OwnsDrafts u.classes u.slots) same (joined sets s class own.0 o.fit earlier (parent_within s.classes e.parent parent.0 parent.1) refl two o.owned)
 
 class_owns : (sets : List LabelSet) (all : List ClassDeclaration) (s t : SchemaDraft) (e : ClassDeclaration)
-    → HasOrderedDefaults e → Owned sets s → class_after sets all s e ≡ Ok t → Owned sets t
-class_owns sets all s t e ordered o made =
-    let fit = class_keeps sets all s t e ordered o.fit made in
+    → HasSoundDefaults e → Owned sets s → class_after sets all s e ≡ Ok t → Owned sets t
+class_owns sets all s t e sound o made =
+    let fit = class_keeps sets all s t e sound o.fit made in
     record { fit = fit; owned = owned_after sets all s t e o fit made }
 
 pub classes_own : (sets : List LabelSet) (all entries : List ClassDeclaration) (t : SchemaDraft)
-    → All HasOrderedDefaults entries → try_fold (class_after sets all)
+    → All HasSoundDefaults entries → try_fold (class_after sets all)
     (record { classes = []; slots = [] }) entries ≡ Ok t → OwnsDrafts t.classes t.slots
-classes_own sets all entries t ordered made =
-    (walk_keeps (Owned sets) HasOrderedDefaults (class_after sets all) (λ s u e. class_owns sets all s u e) (record { classes = []; slots = [] }) t entries ordered
-    (record { fit = classes_fit sets all [] (record { classes = []; slots = [] }) (All-nil HasOrderedDefaults) (try_fold_nil (class_after sets all) (record { classes = []; slots = [] })); owned = λ c n d lt at. absurd (omega (arith, lt)) }) made).owned
+classes_own sets all entries t sound made =
+    (walk_keeps (Owned sets) HasSoundDefaults (class_after sets all) (λ s u e. class_owns sets all s u e) (record { classes = []; slots = [] }) t entries sound
+    (record { fit = classes_fit sets all [] (record { classes = []; slots = [] }) (All-nil HasSoundDefaults) (try_fold_nil (class_after sets all) (record { classes = []; slots = [] })); owned = λ c n d lt at. absurd (omega (arith, lt)) }) made).owned

@@ -3,25 +3,25 @@ use Rattle.std.proofs.Common.{◌≡◌, List, ◌∷◌, [], Ok}
 use Rattle.std.specs.Prelude.{All}
 use Rattle.bb_basis.specs.Results.{try_fold}
 use Rattle.bb_document.specs.Document.{LabelSetDeclaration, ClassDeclaration}
-use Rattle.bb_document.specs.Intervals.{HasOrderedDefaults}
+use Rattle.bb_document.specs.Defaults.{HasSoundDefaults}
 use Rattle.bb_classes.specs.declared.label_set.LabelSet.{LabelSet}
 use Rattle.bb_classes.specs.LabelReading.{label_set_after}
 use Rattle.bb_classes.specs.Drafts.{SchemaDraft}
 use Rattle.bb_classes.specs.ClassReading.{focus, draft_of}
 use Rattle.bb_classes.specs.Fits.{IsWalked}
 use Rattle.bb_classes.proofs.SetLemmas.{label_sets_fit}
-use Rattle.bb_classes.proofs.FitLemmas.{classes_fit, focus_ordered}
+use Rattle.bb_classes.proofs.FitLemmas.{classes_fit, focus_sound}
 use Rattle.bb_classes.proofs.FocusLemmas.{walk_focus}
 use Rattle.bb_classes.proofs.OwnerLemmas.{classes_own}
 use Rattle.bb_classes.proofs.SlotNameLemmas.{classes_named}
 use Rattle.bb_classes.proofs.CouplingLemmas.{walk_pairs}
 
 pub walk_fits : (entries : List LabelSetDeclaration) (classes : List ClassDeclaration) (sets : List LabelSet)
-    (s : SchemaDraft) → All HasOrderedDefaults classes → try_fold label_set_after [] entries ≡ Ok sets
+    (s : SchemaDraft) → All HasSoundDefaults classes → try_fold label_set_after [] entries ≡ Ok sets
     → draft_of sets (focus ∷ classes) (focus ∷ classes) ≡ Ok s → IsWalked (record { label_sets = sets; draft = s })
-walk_fits entries classes sets s ordered named made =
+walk_fits entries classes sets s sound named made =
     let all = focus ∷ classes in
-    let fit = classes_fit sets all all s (focus_ordered classes ordered) made in
+    let fit = classes_fit sets all all s (focus_sound classes sound) made in
     let front = walk_focus sets all classes s made in
     record {
       label_sets = label_sets_fit entries sets named;
@@ -33,7 +33,7 @@ walk_fits entries classes sets s ordered named made =
       parents = fit.parents;
       heirs = fit.heirs;
       classes = fit.classes;
-      owned = classes_own sets all all s (focus_ordered classes ordered) made;
+      owned = classes_own sets all all s (focus_sound classes sound) made;
       slot_names = classes_named sets all all s made;
       slots = fit.slots;
       paired = walk_pairs sets all s made;

@@ -2,6 +2,8 @@
 pub mod Faults
 -- the kinds of values
 pub mod Kinds
+-- of bb_document: numbers of 64 bits
+pub use Rattle.bb_document.specs.Numbers
 -- which values a slot of a kind can hold
 pub mod Values
 -- parents, which class descends from which, and the slots of a class

@@ -3,7 +3,7 @@
 ghost use Rattle.std.specs.Prelude.{IfOk, All, map};
 ghost use Rattle.bb_basis.specs.Results.{Gives};
 ghost use Rattle.bb_document.specs.Document.{label_set_declaration, class_declaration};
-ghost use Rattle.bb_document.specs.Intervals.{HasOrderedDefaults};
+ghost use Rattle.bb_document.specs.Defaults.{HasSoundDefaults};
 ghost use Rattle.bb_classes.specs.declared.fault.SchemaFault.TheVariants.{Memory as OutOfMemory};
 ghost use Rattle.bb_classes.specs.Walk.{walk_of};
 ghost use Rattle.bb_classes.specs.Fits.{IsWalked};
@@ -48,7 +48,7 @@ impl Walked {
         label_sets: &[LabelSetEntry],
         classes: Vec<ClassEntry>,
     ) -> Result<Walked, SchemaFault>
-        requires { All HasOrderedDefaults (map class_declaration classes.items) }
+        requires { All HasSoundDefaults (map class_declaration classes.items) }
         ensures gives { Gives OutOfMemory (λ w. w) result
             (walk_of (map label_set_declaration label_sets.now) (map class_declaration classes.items)) }
         ensures fits { IfOk result IsWalked }

@@ -71,7 +71,11 @@ impl Value {
         ensures { result ≡ value_fits label_counts.now kind self.now }
     {
         match (kind, self) {
-            (Kind::Int, Value::Int(_)) => true,
+            (Kind::Int, Value::Int(number)) => {
+                // Read, so that the proof knows that it is of 64 bits.
+                let _number = *number;
+                true
+            }
             (Kind::Text, Value::Text(text)) => text.as_str().len() <= TEXT_LIMIT,
             (Kind::Bool, Value::Bool(_)) => true,
             (Kind::Label(set), Value::Label(of, label)) => {

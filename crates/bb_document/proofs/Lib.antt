@@ -1,2 +1,4 @@
+pub mod NumberLemmas
+pub mod Laws
 pub mod ShapeLemmas
-pub mod IntervalLemmas
+pub mod DefaultLemmas

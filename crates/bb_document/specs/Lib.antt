@@ -1,10 +1,12 @@
+-- numbers of 64 bits
+pub mod Numbers
 -- the form of JSON, piece by piece
 pub mod Shapes
 -- what a schema's document declares
 pub mod Document
 -- which JSON has the form of a schema's document, and what it declares
 pub mod Form
--- intervals in order, which the form asks for
-pub mod Intervals
+-- defaults of 64 bits and in order, which the form asks for
+pub mod Defaults
 -- what the document of first units declares, and which JSON has its form
 pub mod UnitsDocument

@@ -1,8 +1,10 @@
 -- The form of a JSON document, piece by piece.
 use Rattle.std.specs.Prelude.{ℕ, ℤ, Bool, false, List, [], ◌∷◌, Option, Some, None, option_and_then, option_map}
+use Rattle.std.specs.Prelude.{if◌then◌else◌}
 use Rattle.std.specs.List.{list_all, list_any}
 use Rattle.std.specs.Option.{option_map_or}
 use Rattle.std.specs.Str.{bytes_eq}
+use Rattle.bb_document.specs.Numbers.{is_i64}
 use Rattle.serde_json.specs.Data.{Data, Items, no_items, item, Members, no_members, member}
 use Rattle.serde_json.specs.Find.{get, as_bool, as_number, as_i64, as_str, as_array, as_object}
 
@@ -21,7 +23,7 @@ is_object_with keys d =
 
 -- a number that is an i64
 abbrev pub as_whole : Data → Option ℤ
-as_whole d = option_and_then as_i64 (as_number d)
+as_whole d = option_and_then (λ z. if is_i64 z then Some z else None) (option_and_then as_i64 (as_number d))
 
 -- the entries of an array
 abbrev pub as_list : Data → Option (List Data)

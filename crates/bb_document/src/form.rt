@@ -9,7 +9,7 @@ ghost use Rattle.serde_json.specs.View.{view};
 ghost use Rattle.bb_basis.specs.Results.{Gives};
 ghost use Rattle.bb_document.specs.Shapes.{as_whole};
 ghost use Rattle.bb_document.specs.Document.{default_declaration, declarations};
-ghost use Rattle.bb_document.specs.Intervals.{HasOrderedIntervals};
+ghost use Rattle.bb_document.specs.Defaults.{HaveSoundDefaults};
 ghost use Rattle.bb_document.specs.Form.{ends_of, as_interval, plain_default_of, label_default_of, default_of};
 ghost use Rattle.bb_document.specs.Form.{is_dim_kind, declarations_of, document_of};
 
@@ -32,7 +32,7 @@ impl Document {
     #[tactic(auto, unfolding(crate::specs::Form::document_of))]
     pub fn read(alloc: Global, text: &str) -> Result<Document, DocumentFault>
         ensures gives { Gives OutOfMemory declarations result (document_of text.now) }
-        ensures ordered { IfOk result (λ document. HasOrderedIntervals (declarations document)) }
+        ensures sound { IfOk result (λ document. HaveSoundDefaults (declarations document)) }
     {
         let value = json(alloc, text)?;
         document(alloc, &value)
@@ -326,8 +326,15 @@ fn int_or_zero(given: Option<&Value>) -> Option<i64>
 {
     match given {
         None => Some(0),
-        Some(value) => value.as_i64(),
+        Some(value) => whole(value),
     }
+}
+
+fn whole(value: &Value) -> Option<i64>
+    ensures { result ≡ as_whole (view value.now) }
+{
+    let number = value.as_i64()?;
+    Some(number)
 }
 
 fn text_or_empty<'a>(given: Option<&'a Value>) -> Option<&'a str>
@@ -364,8 +371,8 @@ pub(crate) fn interval(ends: &[Value]) -> Option<(i64, i64)>
 {
     match ends {
         [lo, hi] => {
-            let lo = lo.as_i64()?;
-            let hi = hi.as_i64()?;
+            let lo = whole(lo)?;
+            let hi = whole(hi)?;
             if lo > hi {
                 return None;
             }

@@ -27,7 +27,7 @@ module _ (s : Schema) (w : World) (fits : schemas.Fits s) (uf : units.Fits w.uni
   weaker (Ref c) (Ref d) v up has = (has.0, has.1, is_of_weaker s w fits c d has.0 up has.2)
   weaker (Ref c) (Old d) v up has = (has.0, has.1, was_of s w uf d has.0 (is_of_weaker s w fits c d has.0 up has.2))
   weaker (Old c) (Old d) v up has = (has.0, has.1, was_weaker s w fits c d has.0 up has.2)
-  weaker (Seq c) (Seq d) v up has = (has.0, has.1, All-weaker (WasOf s w c) (WasOf s w d) (λ n. was_weaker s w fits c d n up) has.0.rest has.2)
+  weaker (Seq c) (Seq d) v up has = (has.0, has.1, All-weaker (WasOf s w c) (WasOf s w d) (λ n. was_weaker s w fits c d n up) has.0.rest has.2, has.3)
   weaker Any l v up has = same Any l v up has
   weaker Int l v up has = same Int l v up has
   weaker Text l v up has = same Text l v up has

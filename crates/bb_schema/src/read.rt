@@ -4,7 +4,7 @@ ghost use Rattle.std.specs.Prelude.{◌≡◌, IfErr, IfOk, map};
 ghost use Rattle.bb_basis.specs.Results.{Gives, map_err};
 ghost use Rattle.bb_document.specs.Document.{declarations, space_declaration};
 ghost use Rattle.bb_document.specs.Form.{document_of};
-ghost use Rattle.bb_document.specs.Intervals.{HasOrderedIntervals};
+ghost use Rattle.bb_document.specs.Defaults.{HaveSoundDefaults};
 ghost use Rattle.bb_classes.specs.declared.fault.SchemaFault.TheVariants.{Memory as OutOfMemory};
 ghost use Rattle.bb_classes.specs.Fits.{IsWalked};
 ghost use Rattle.bb_schema.specs.Reading.{fault_of, bare_schema, schema_with_spaces, declared_schema, schema_of};
@@ -23,7 +23,7 @@ use std::alloc::Global;
 
 fn document(alloc: Global, text: &str) -> Result<Document, SchemaFault>
     ensures gives { Gives OutOfMemory declarations result (map_err fault_of (document_of text.now)) }
-    ensures ordered { IfOk result (λ document. HasOrderedIntervals (declarations document)) }
+    ensures sound { IfOk result (λ document. HaveSoundDefaults (declarations document)) }
 {
     match Document::read(alloc, text) {
         Ok(document) => Ok(document),
@@ -72,7 +72,7 @@ fn schema_with_spaces(
 /// The schema that the entries of a document mean. Their intervals are in order, as `Document::read` gives them.
 #[tactic(auto, unfolding(crate::specs::Reading::declared_schema))]
 fn declared_schema(alloc: Global, document: Document) -> Result<Schema, SchemaFault>
-    requires { HasOrderedIntervals (declarations document) }
+    requires { HaveSoundDefaults (declarations document) }
     ensures { Gives OutOfMemory (λ s. s) result (declared_schema (declarations document)) }
 {
     let Document {

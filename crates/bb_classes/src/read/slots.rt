@@ -1,6 +1,6 @@
 //! The ordinary slots of a class, read one entry after another.
 
-ghost use Rattle.std.specs.Prelude.{◌≡◌, map, option_map, option_and_then, slice_get, string_bytes};
+ghost use Rattle.std.specs.Prelude.{◌≡◌, map, option_map, string_bytes};
 ghost use Rattle.bb_basis.specs.Results.{Gives, try_fold};
 ghost use Rattle.bb_document.specs.Document.{default_declaration, slot_declaration};
 ghost use Rattle.bb_classes.specs.declared.fault.SchemaFault.TheVariants.{Memory as OutOfMemory};
@@ -25,13 +25,6 @@ fn chosen_label(labels: &Labels, given: &Option<String>) -> Option<LabelId>
     }
 }
 
-fn label_in(sets: &Table<LabelSet>, set: LabelSetId, given: &Option<String>) -> Option<LabelId>
-    ensures { result ≡
-        option_and_then (λ s. chosen_label s.values (option_map string_bytes given.now)) (slice_get sets.now set) }
-{
-    chosen_label(&sets.get(set as usize)?.values, given)
-}
-
 #[tactic(auto, unfolding(crate::specs::SlotReading::label_value))]
 fn label_value(
     sets: &Table<LabelSet>,
@@ -41,7 +34,8 @@ fn label_value(
     ensures { result ≡ label_value sets.now of.now (option_map string_bytes given.now) }
 {
     let set = sets.index_of(of).ok_or(SchemaFault::Unknown)?;
-    let label = label_in(sets, set, given).ok_or(SchemaFault::Unknown)?;
+    let labels = sets.get(set as usize).ok_or(SchemaFault::Unknown)?;
+    let label = chosen_label(&labels.values, given).ok_or(SchemaFault::Unknown)?;
     Ok(Value::Label(set, label))
 }
 

@@ -57,7 +57,7 @@ as_kind s w j k v is has = subst (λ (i : Kind). HasKind s w i v) (let e : k ≡
 
 kind_held : (s : Schema) (w : World) (slot : SlotKind) (kind : Kind) (v : Value) → dues.plain_kind slot ≡ Some kind → HasKind s w kind v → AsHeld s slot v
 unfolding value_fits
-kind_held s w held.Int kind v is has = let it = as_kind s w kinds.Int kind v is has in (slots.Int it.0, ap slot_value_of it.1, refl)
+kind_held s w held.Int kind v is has = let it = as_kind s w kinds.Int kind v is has in (slots.Int it.0, ap slot_value_of it.1, it.2)
 kind_held s w held.Text kind v is has = let it = as_kind s w kinds.Text kind v is has in (slots.Text it.0, ap slot_value_of it.1, it.2)
 kind_held s w held.Bool kind v is has = let it = as_kind s w kinds.Bool kind v is has in (slots.Bool it.0, ap slot_value_of it.1, refl)
 kind_held s w (held.Label set) kind v is has =

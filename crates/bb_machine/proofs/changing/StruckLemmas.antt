@@ -72,7 +72,7 @@ module _ (s : Schema) (w : World) (sf : schemas.Fits s) (uf : units.Fits w.units
   has_struck Interval x has = has
   has_struck (Ref c) x has = struck_by c x (related s c class) refl has
   has_struck (Old c) x has = (has.0, has.1, was_outlives s w after c has.0 (deleted_outlives w.units n) has.2)
-  has_struck (Seq c) x has = (has.0, has.1, All-weaker (WasOf s w c) (WasOf s after c) (λ k. was_outlives s w after c k (deleted_outlives w.units n)) has.0.rest has.2)
+  has_struck (Seq c) x has = (has.0, has.1, All-weaker (WasOf s w c) (WasOf s after c) (λ k. was_outlives s w after c k (deleted_outlives w.units n)) has.0.rest has.2, has.3)
 
   local_struck : (k : Kind) (o : Option Value) → LocalHas s w k o → LocalHas s after (struck s class k) o
   unfolding struck

@@ -35,6 +35,7 @@ use Rattle.bb_machine.proofs.LiveLemmas.{of_live}
 use Rattle.bb_machine.proofs.plain.LocalLemmas.{holds}
 use Rattle.bb_machine.proofs.MoveLemmas.{pushes}
 use Rattle.bb_machine.proofs.EdgeLemmas.{leads_either}
+use Rattle.bb_verify.specs.declared.checked.TheConstants.{FOUND_LIMIT}
 
 -- ---- the units of a sequence from the first live one on
 
@@ -96,19 +97,19 @@ unfolding next_unit next_in taken local_at store
 next_on b l place m q at inside = rw (at, inside) refl
 
 module _ (part : Part) (code : Code) (b : Board) (fits : Fits b.schema b.world) (m : Machine) (f : Frame) (suits : Suits b.schema b.world m f) (e : Option Frame × Option Frame) where
-  moved_suits : (l class : ℕ) (q : Sequence) → slice_get f.locals l ≡ Some (Seq class) → All (WasOf b.schema b.world class) q.rest → Suits b.schema b.world (moved l q m) f
-  moved_suits l class q is all = record {
-    locals = zip_put (LocalHas b.schema b.world) f.locals m.locals l (Seq class) None (Some (values.Seq q)) suits.locals is (q, refl, all);
+  moved_suits : (l class : ℕ) (q : Sequence) → slice_get f.locals l ≡ Some (Seq class) → All (WasOf b.schema b.world class) q.rest → nat_le q.found FOUND_LIMIT ≡ true → Suits b.schema b.world (moved l q m) f
+  moved_suits l class q is all few = record {
+    locals = zip_put (LocalHas b.schema b.world) f.locals m.locals l (Seq class) None (Some (values.Seq q)) suits.locals is (q, refl, all, few);
     stack = suits.stack;
   }
 
   -- what comes of the units from the first live one on
-  goes_by : (l place class found : ℕ) (next : Frame) → slice_get f.locals l ≡ Some (Seq class) → frames.push (Ref class) f ≡ Ok next → (ns : List ℕ) → Front b.world.units (WasOf b.schema b.world class) ns
+  goes_by : (l place class found : ℕ) (next : Frame) → slice_get f.locals l ≡ Some (Seq class) → frames.push (Ref class) f ≡ Ok next → nat_le found FOUND_LIMIT ≡ true → (ns : List ℕ) → Front b.world.units (WasOf b.schema b.world class) ns
       → (let left : Machine = moved l (first_of found ns).1 m in let r : Result Machine Halt = after_next place (first_of found ns).0 left in
       Suits b.schema b.world left f × ((Makes b.schema b.world left next r) ⊎ (r ≡ Ok (go_to place left))))
-  goes_by l place class found next is pushed [] front = (moved_suits l class (record { rest = []; found = found }) is (All-nil (WasOf b.schema b.world class)), inr refl)
-  goes_by l place class found next is pushed (n ∷ ns) front =
-      let left_suits = moved_suits l class (record { rest = ns; found = found }) is front.2 in
+  goes_by l place class found next is pushed few [] front = (moved_suits l class (record { rest = []; found = found }) is (All-nil (WasOf b.schema b.world class)) few, inr refl)
+  goes_by l place class found next is pushed few (n ∷ ns) front =
+      let left_suits = moved_suits l class (record { rest = ns; found = found }) is front.2 few in
       (left_suits, inl (pushes b.schema b.world (moved l (record { rest = ns; found = found }) m) f next (values.Unit n) (Ref class) pushed left_suits (n, refl, of_live b.schema b.world fits.units class n front.0 front.1)))
 
   pub next_safe : (l place : ℕ) → edges_of b.schema part code (ops.Next l place) f ≡ Ok e → IsSafe b.schema m.place (ops.Next l place) e (step code (ops.Next l place) (m, b))
@@ -124,6 +125,6 @@ module _ (part : Part) (code : Code) (b : Board) (fits : Fits b.schema b.world) 
       let at : slice_get m.locals l ≡ Some (Some (values.Seq held.2.0)) = held.1 ∙ ap (λ (v : Value). Some (Some v)) held.2.1 in
       let inside = still_there (length (set m.locals l None)) l (length m.locals) (slice_get_within m.locals l (Some held.0) held.1) (length-set m.locals l None) in
       let is = next_on b l place m held.2.0 at inside in
-      let goes = goes_by l place class.0 held.2.0.found next.0 (kind_at f l class.0 kind) next.1 (from_live b.world.units held.2.0.rest) (live_front b.world.units (WasOf b.schema b.world class.0) held.2.0.rest held.2.2) in
+      let goes = goes_by l place class.0 held.2.0.found next.0 (kind_at f l class.0 kind) next.1 held.2.3 (from_live b.world.units held.2.0.rest) (live_front b.world.units (WasOf b.schema b.world class.0) held.2.0.rest held.2.2) in
       subst (λ (r : Result Machine Halt). IsSafe b.schema m.place (ops.Next l place) e (keeps b r)) (sym is)
       (leads_either b fits m (ops.Next l place) place e (moved l (first_live b held.2.0).1 m) next.0 f (after_next place (first_live b held.2.0).0 (moved l (first_live b held.2.0).1 m)) refl edges refl goes.0 goes.1)

@@ -21,6 +21,8 @@ use Rattle.bb_step.specs.Arithmetic.{calculated, divided, compared, combined, bo
 use Rattle.bb_machine.specs.Kinds.{Suits}
 use Rattle.bb_machine.specs.proving.Moves.{Makes}
 use Rattle.bb_machine.proofs.MoveLemmas.{turns, combines}
+use Rattle.bb_code.specs.Code.{IsDivisor}
+use Rattle.bb_machine.proofs.plain.RangeLemmas.{calculated_i64, divided_i64, ordered_i64, bound_i64}
 
 -- ---- what each op makes of a stack
 
@@ -75,11 +77,11 @@ alone m v a rest is one = is ∙ ap (λ (u : Value). u ∷ rest) one
 module _ (s : Schema) (w : World) (m : Machine) (f g : Frame) (suits : Suits s w m f) where
   pub calculate_makes : (c : Calculation) → effects.combine kinds.Int kinds.Int f ≡ Ok g → Makes s w m g (calculate c m)
   calculate_makes c h = combines s w m f g kinds.Int kinds.Int (calculate c m) h suits
-      (λ v1 v2 rest is one other. (Int (calculated c one.0 other.0), (calculated c one.0 other.0, refl), calculate_on c m one.0 other.0 rest (both m v1 v2 (Int one.0) (Int other.0) rest is one.1 other.1)))
+      (λ v1 v2 rest is one other. (Int (calculated c one.0 other.0), (calculated c one.0 other.0, refl, calculated_i64 c one.0 other.0 one.2 other.2), calculate_on c m one.0 other.0 rest (both m v1 v2 (Int one.0) (Int other.0) rest is one.1 other.1)))
 
-  pub divide_makes : (d : Division) (n : ℤ) → effects.turn kinds.Int kinds.Int f ≡ Ok g → Makes s w m g (divide d n m)
-  divide_makes d n h = turns s w m f g kinds.Int kinds.Int (divide d n m) h suits
-      (λ v rest is one. (Int (divided d one.0 n), (divided d one.0 n, refl), divide_on d n m one.0 rest (alone m v (Int one.0) rest is one.1)))
+  pub divide_makes : (d : Division) (n : ℤ) → IsDivisor n → effects.turn kinds.Int kinds.Int f ≡ Ok g → Makes s w m g (divide d n m)
+  divide_makes d n divisor h = turns s w m f g kinds.Int kinds.Int (divide d n m) h suits
+      (λ v rest is one. (Int (divided d one.0 n), (divided d one.0 n, refl, divided_i64 d one.0 n divisor one.2), divide_on d n m one.0 rest (alone m v (Int one.0) rest is one.1)))
 
   pub compare_makes : (c : Comparison) → effects.combine kinds.Int kinds.Bool f ≡ Ok g → Makes s w m g (compare c m)
   compare_makes c h = combines s w m f g kinds.Int kinds.Bool (compare c m) h suits
@@ -99,8 +101,8 @@ module _ (s : Schema) (w : World) (m : Machine) (f g : Frame) (suits : Suits s w
 
   pub make_interval_makes : effects.combine kinds.Int kinds.Interval f ≡ Ok g → Makes s w m g (make_interval m)
   make_interval_makes h = combines s w m f g kinds.Int kinds.Interval (make_interval m) h suits
-      (λ v1 v2 rest is one other. (Interval (int_min one.0 other.0) (int_max one.0 other.0), (int_min one.0 other.0, int_max one.0 other.0, refl, check_order one.0 other.0), make_interval_on m one.0 other.0 rest (both m v1 v2 (Int one.0) (Int other.0) rest is one.1 other.1)))
+      (λ v1 v2 rest is one other. (Interval (int_min one.0 other.0) (int_max one.0 other.0), (int_min one.0 other.0, int_max one.0 other.0, refl, ordered_i64 one.0 other.0 one.2 other.2 (check_order one.0 other.0)), make_interval_on m one.0 other.0 rest (both m v1 v2 (Int one.0) (Int other.0) rest is one.1 other.1)))
 
   pub bound_makes : (e : Bound) → effects.turn kinds.Interval kinds.Int f ≡ Ok g → Makes s w m g (bound e m)
   bound_makes e h = turns s w m f g kinds.Interval kinds.Int (bound e m) h suits
-      (λ v rest is one. (Int (bound_of e (one.0, one.1)), (bound_of e (one.0, one.1), refl), bound_on e m one.0 one.1 rest (alone m v (Interval one.0 one.1) rest is one.2)))
+      (λ v rest is one. (Int (bound_of e (one.0, one.1)), (bound_of e (one.0, one.1), refl, bound_i64 e one.0 one.1 one.3), bound_on e m one.0 one.1 rest (alone m v (Interval one.0 one.1) rest is one.2)))

@@ -30,6 +30,10 @@ use Rattle.bb_machine.proofs.MoveLemmas.{pushes, makes_as}
 use Rattle.bb_machine.proofs.plain.PlainLemmas.{calculate_makes, divide_makes, compare_makes, eq_text_makes, negate_makes, combine_makes, make_interval_makes, bound_makes}
 use Rattle.bb_machine.proofs.plain.LocalLemmas.{load_makes, drop_makes, store_makes}
 use Rattle.bb_machine.proofs.EdgeLemmas.{leads_by}
+use Rattle.std.specs.Prelude.{FitsSigned}
+use Rattle.std.specs.Int.{w64}
+use Rattle.bb_classes.proofs.Laws.{fits_i64}
+use Rattle.bb_code.specs.Code.{IsDivisor}
 
 label_by : (name : Option (List ℕ)) → is_some name ≡ true → (x : List ℕ) × (name ≡ Some x)
 label_by None is = absurd cc
@@ -48,10 +52,10 @@ module _ (part : Part) (code : Code) (b : Board) (fits : Fits b.schema b.world) 
   abbrev pub Safe : Op → Type 0
   Safe op = edges_of b.schema part code op f ≡ Ok e → IsSafe b.schema m.place op e (step code op (m, b))
 
-  pub push_int_safe : (n : ℤ) → Safe (ops.PushInt n)
+  pub push_int_safe : (n : ℤ) → FitsSigned w64 n → Safe (ops.PushInt n)
   unfolding step effect
-  push_int_safe n h = leads_by b fits m (ops.PushInt n) e (frames.push kinds.Int f) (push (values.Int n) m) h
-      (λ g is. pushes b.schema b.world m f g (values.Int n) kinds.Int is suits (n, refl))
+  push_int_safe n small h = leads_by b fits m (ops.PushInt n) e (frames.push kinds.Int f) (push (values.Int n) m) h
+      (λ g is. pushes b.schema b.world m f g (values.Int n) kinds.Int is suits (n, refl, fits_i64 n small))
 
   pub push_bool_safe : (truth : Bool) → Safe (ops.PushBool truth)
   unfolding step effect
@@ -86,9 +90,9 @@ module _ (part : Part) (code : Code) (b : Board) (fits : Fits b.schema b.world) 
   unfolding step effect
   calculate_safe c h = leads_by b fits m (ops.Calculate c) e (effects.combine kinds.Int kinds.Int f) (calculate c m) h (λ g is. calculate_makes b.schema b.world m f g suits c is)
 
-  pub divide_safe : (d : Division) (n : ℤ) → Safe (ops.Divide d n)
+  pub divide_safe : (d : Division) (n : ℤ) → IsDivisor n → Safe (ops.Divide d n)
   unfolding step effect
-  divide_safe d n h = leads_by b fits m (ops.Divide d n) e (effects.turn kinds.Int kinds.Int f) (divide d n m) h (λ g is. divide_makes b.schema b.world m f g suits d n is)
+  divide_safe d n divisor h = leads_by b fits m (ops.Divide d n) e (effects.turn kinds.Int kinds.Int f) (divide d n m) h (λ g is. divide_makes b.schema b.world m f g suits d n divisor is)
 
   pub compare_safe : (c : Comparison) → Safe (ops.Compare c)
   unfolding step effect

@@ -38,6 +38,9 @@ use Rattle.bb_machine.proofs.MoveLemmas.{pops, pushes, makes_as}
 use Rattle.bb_machine.proofs.LiveLemmas.{is_live_of, class_at_of}
 use Rattle.bb_machine.proofs.UnitLemmas.{unit_was, pops_live, eq_unit_on}
 use Rattle.bb_machine.proofs.EdgeLemmas.{leads_by, leads_either}
+use Rattle.std.specs.Prelude.{nat_le}
+use Rattle.bb_verify.specs.declared.checked.TheConstants.{FOUND_LIMIT}
+use Rattle.bb_machine.proofs.plain.RangeLemmas.{found_i64}
 
 module _ (s : Schema) (w : World) (m : Machine) (f : Frame) (suits : Suits s w m f) where
   pub pops_two : (left : (Kind × Kind) × Frame) → frames.pop_two f ≡ Ok left → PopsTwo s w m left
@@ -68,7 +71,7 @@ label_is s w (Old c) set v is has = absurd cc
 label_is s w (Seq c) set v is has = absurd cc
 label_is s w (Label of) set v is has = (has.0, has.1 ∙ ap (λ t. values.Label t has.0) (same_ok of set is))
 
-sequence_is : (s : Schema) (w : World) (k : Kind) (class : ℕ) (v : Value) → dues.sequence_of k ≡ Ok class → HasKind s w k v → (q : Sequence) × (v ≡ values.Seq q)
+sequence_is : (s : Schema) (w : World) (k : Kind) (class : ℕ) (v : Value) → dues.sequence_of k ≡ Ok class → HasKind s w k v → (q : Sequence) × (v ≡ values.Seq q) × (nat_le q.found FOUND_LIMIT ≡ true)
 sequence_is s w Any class v is has = absurd cc
 sequence_is s w Int class v is has = absurd cc
 sequence_is s w Text class v is has = absurd cc
@@ -77,7 +80,7 @@ sequence_is s w Interval class v is has = absurd cc
 sequence_is s w (Label set) class v is has = absurd cc
 sequence_is s w (Ref c) class v is has = absurd cc
 sequence_is s w (Old c) class v is has = absurd cc
-sequence_is s w (Seq c) class v is has = (has.0, has.1)
+sequence_is s w (Seq c) class v is has = (has.0, has.1, has.3)
 
 eq_label_on : (m : Machine) (set a other b : ℕ) (rest : List Value) → m.stack ≡ values.Label other b ∷ values.Label set a ∷ rest → (set == other) ≡ true → eq_label m ≡ push (values.Bool (a == b)) (with_stack rest m)
 unfolding eq_label pop_two pop
@@ -149,7 +152,7 @@ module _ (part : Part) (code : Code) (b : Board) (fits : Fits b.schema b.world) 
       let q = sequence_is b.schema b.world one.0.0 class.0 p.value class.1 p.has in
       makes_as b.schema b.world m (with_stack p.rest m) g (push (values.Int (pos q.0.found)) (with_stack p.rest m)) (size m)
       (size_on m q.0 p.rest (p.stack ∙ ap (λ (v : Value). v ∷ p.rest) q.1)) refl
-      (pushes b.schema b.world (with_stack p.rest m) one.0.1 g (values.Int (pos q.0.found)) Int class.2 p.suits (pos q.0.found, refl))
+      (pushes b.schema b.world (with_stack p.rest m) one.0.1 g (values.Int (pos q.0.found)) Int class.2 p.suits (pos q.0.found, refl, found_i64 q.0.found q.2))
 
   pub size_safe : Safe ops.Size
   unfolding step effect

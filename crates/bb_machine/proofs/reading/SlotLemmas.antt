@@ -61,7 +61,7 @@ as_kind s w j k v is has = subst (λ (i : Kind). HasKind s w i v) (let e : j ≡
 -- what fits the kind of a slot has the kind that the verifier gives it
 kind_has : (s : Schema) (w : World) (kind : SlotKind) (k : Kind) (v : SlotValue) → dues.plain_kind kind ≡ Some k → value_fits (label_counts s.label_sets) kind v ≡ true → HasKind s w k (value_from v)
 unfolding value_fits
-kind_has s w slots.Int k (held.Int n) is fit = as_kind s w Int k (values.Int n) is (n, refl)
+kind_has s w slots.Int k (held.Int n) is fit = as_kind s w Int k (values.Int n) is (n, refl, fit)
 kind_has s w slots.Text k (held.Text t) is fit = as_kind s w Text k (values.Text t) is (t, refl, fit)
 kind_has s w slots.Bool k (held.Bool b) is fit = as_kind s w Truth k (values.Bool b) is (b, refl)
 kind_has s w (slots.Label set) k (held.Label of label) is fit =

@@ -1,5 +1,5 @@
 -- Ops that read slots, and queries, are safe.
-use Rattle.std.proofs.Common.{◌≡◌, ◌⊎◌, inl, inr, ℕ, true, false, List, ◌∷◌, length, take, drop, reverse, Option, Some, None, Result, Ok, refl, sym, ap, subst, ◌∙◌}
+use Rattle.std.proofs.Common.{◌≡◌, ◌≤◌, ◌⊎◌, inl, inr, ℕ, true, false, List, ◌∷◌, length, take, drop, reverse, Option, Some, None, Result, Ok, refl, sym, ap, subst, ◌∙◌}
 use Rattle.std.specs.Prelude.{All, slice_get, nat_lt}
 use Rattle.std.proofs.lemmas.List.Elements.{All-weaker}
 use Rattle.bb_basis.specs.Results.{◌>>=◌, ok_or}
@@ -13,7 +13,7 @@ use Rattle.bb_pattern.specs.declared.query.Query.{Query}
 use Rattle.bb_pattern.specs.declared.value.DimValue.{DimValue}
 use Rattle.bb_units.specs.Units.{is_live, value_of}
 use Rattle.bb_links.specs.Links.{ends}
-use Rattle.bb_step.specs.QueryAnswer.{answer}
+use Rattle.bb_step.specs.QueryAnswer.{answer, answers}
 use Rattle.bb_board.specs.Board.{Board}
 use Rattle.bb_board.specs.Fits.{Fits}
 use Rattle.bb_board.specs.May.{has_link}
@@ -49,6 +49,9 @@ use Rattle.bb_machine.proofs.reading.SlotLemmas.{reads, links_there, single_ther
 use Rattle.bb_machine.proofs.reading.PartnerLemmas.{links_lead}
 use Rattle.bb_machine.proofs.reading.FindLemmas.{query_right, operands_given, answers_are}
 use Rattle.bb_machine.proofs.EdgeLemmas.{leads_by, leads_either}
+use Rattle.bb_units.specs.declared.units.TheConstants.{UNIT_LIMIT}
+use Rattle.bb_world.proofs.Laws.{few_ends, few_pass}
+use Rattle.std.proofs.lemmas.Bool.{le-leb}
 
 get_on : (b : Board) (slot : ℕ) (m : Machine) (n : ℕ) (rest : List Value) (v : SlotValue) → m.stack ≡ values.Unit n ∷ rest → is_live b.world.units n ≡ true → value_of b.world.units n slot ≡ Some v
     → get b slot m ≡ push (value_from v) (with_stack rest m)
@@ -72,10 +75,10 @@ unfolding find
 find_on code b i m q ds at low right due = rw (at, pop_many_on (length q.kinds) m low, right, due) refl
 
 -- a sequence of units that were found
-found_makes : (s : Schema) (w : World) (m : Machine) (f g : Frame) (units : List ℕ) (class : ℕ) → frames.push (Seq class) f ≡ Ok g → Suits s w m f → All (WasOf s w class) units → Makes s w m g (push_found units m)
+found_makes : (s : Schema) (w : World) (m : Machine) (f g : Frame) (units : List ℕ) (class : ℕ) → frames.push (Seq class) f ≡ Ok g → Suits s w m f → All (WasOf s w class) units → length units ≤ UNIT_LIMIT → Makes s w m g (push_found units m)
 unfolding push_found
-found_makes s w m f g units class h suits are =
-    let made = pushes s w m f g (values.Seq (whole units)) (Seq class) h suits (whole units, refl, are) in
+found_makes s w m f g units class h suits are few =
+    let made = pushes s w m f g (values.Seq (whole units)) (Seq class) h suits (whole units, refl, are, le-leb (length units) UNIT_LIMIT few) in
     record {
       next = after_found (length units) made.next;
       is = ap (λ (r : Result Machine Halt). r >>= λ next. Ok (after_found (length units) next)) made.is;
@@ -121,7 +124,7 @@ module _ (part : Part) (code : Code) (b : Board) (sf : schemas.Fits b.schema) (f
       let were = All-weaker (IsOf b.schema b.world link.0.to) (WasOf b.schema b.world link.0.to) (was_of b.schema b.world fits.units link.0.to) units (links_lead b.schema b.world sf fits p.n slot link.0 there.0) in
       makes_as b.schema b.world m (with_stack p.rest m) g (push_found units (with_stack p.rest m)) (links b slot m)
       (links_on b slot m p.n p.rest p.stack (is_live_of b.schema b.world fits.units unit.0.0 p.n p.of) has) refl
-      (found_makes b.schema b.world (with_stack p.rest m) unit.0.1 g units link.0.to link.2 p.suits were)
+      (found_makes b.schema b.world (with_stack p.rest m) unit.0.1 g units link.0.to link.2 p.suits were (few_ends b.schema b.world sf fits p.n slot))
 
   pub links_safe : (slot : ℕ) → Safe (ops.Links slot)
   unfolding step effect
@@ -165,7 +168,7 @@ module _ (part : Part) (code : Code) (b : Board) (sf : schemas.Fits b.schema) (f
       let left = with_stack (drop n m.stack) m in
       makes_as b.schema b.world m left g (push_found units left) (find code b i m)
       (find_on code b i m q given.0 (ok_or_ok flaws.Table (slice_get code.queries i) q entry.1) p.enough (query_right b q right.0 right.1) given.1) refl
-      (found_makes b.schema b.world left (frames.without n f) g units q.class due.2 p.suits (answers_are b fits.units q given.0))
+      (found_makes b.schema b.world left (frames.without n f) g units q.class due.2 p.suits (answers_are b fits.units q given.0) (few_pass b.world.units (answers b.schema b.world.units b.world.spaces q given.0) fits.units))
 
   pub find_safe : (query : ℕ) → Safe (ops.Find query)
   unfolding step effect
