@@ -19,9 +19,9 @@ use Rattle.bb_frame.specs.Kind.{Kind}
 use Rattle.bb_frame.specs.Kind.TheVariants as kinds
 use Rattle.bb_frame.specs.Op.{Op}
 use Rattle.bb_frame.specs.Op.TheVariants as ops
-use Rattle.bb_lang.specs.declared.atom.Atom.{Atom}
-use Rattle.bb_lang.specs.declared.atom.Atom.TheVariants as atoms
-use Rattle.bb_lang.specs.declared.atom.Variable.{Variable}
+use Rattle.bb_lang.specs.Atom.{Atom}
+use Rattle.bb_lang.specs.Atom.TheVariants as atoms
+use Rattle.bb_lang.specs.Variable.{Variable}
 use Rattle.bb_judge.specs.declared.fault.CompileFault.TheVariants.{At}
 use Rattle.bb_judge.specs.declared.fault.Flaw.{Flaw}
 use Rattle.bb_judge.specs.declared.fault.Flaw.TheVariants.{Unknown, Limit}

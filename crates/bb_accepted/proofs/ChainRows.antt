@@ -13,10 +13,10 @@ use Rattle.bb_frame.specs.Kind.TheVariants as kinds
 use Rattle.bb_frame.specs.Kinds.{weakens, weakens_local, frame_weakens, struck}
 use Rattle.bb_frame.specs.Op.TheVariants as ops
 use Rattle.bb_lang.specs.Blocks.{BlockTree, no_statement, before_others, action, for_of}
-use Rattle.bb_lang.specs.declared.atom.Atom.TheVariants as atoms
-use Rattle.bb_lang.specs.declared.atom.Variable.TheVariants.{Named}
-use Rattle.bb_lang.specs.declared.block.Action.TheVariants.{New, Let, Delete}
-use Rattle.bb_lang.specs.declared.tree.Sequence.TheVariants.{Links}
+use Rattle.bb_lang.specs.Atom.TheVariants as atoms
+use Rattle.bb_lang.specs.Variable.TheVariants.{Named}
+use Rattle.bb_lang.specs.Action.TheVariants.{New, Let, Delete}
+use Rattle.bb_lang.specs.Sequence.TheVariants.{Links}
 use Rattle.bb_lang.specs.Trees.{atom, chain, no_step}
 use Rattle.bb_judge.specs.Place.{Place}
 use Rattle.bb_judge.specs.Ending.{block_ends, always_ends}

@@ -15,7 +15,7 @@ use Rattle.bb_frame.specs.Flaw.{Flaw as CodeFlaw}
 use Rattle.bb_frame.specs.Kind.TheVariants as kinds
 use Rattle.bb_frame.specs.Op.TheVariants as ops
 use Rattle.bb_frame.specs.Query.{Query}
-use Rattle.bb_lang.specs.declared.block.Action.{Action}
+use Rattle.bb_lang.specs.Action.{Action}
 use Rattle.bb_lang.specs.Blocks.{BlockTree, no_statement, before_others, action, if_of, with_of, for_of}
 use Rattle.bb_judge.specs.Place.{Place}
 use Rattle.bb_judge.specs.declared.fault.CompileFault.{CompileFault}

@@ -24,8 +24,8 @@ use Rattle.bb_frame.specs.Op.TheVariants as ops
 use Rattle.bb_frame.specs.OperandKind.{OperandKind}
 use Rattle.bb_frame.specs.OperandKind.TheVariants as operands
 use Rattle.bb_frame.specs.Query.{Query}
-use Rattle.bb_lang.specs.declared.atom.Relation.{Relation}
-use Rattle.bb_lang.specs.declared.atom.Relation.TheVariants as relations
+use Rattle.bb_lang.specs.Relation.{Relation}
+use Rattle.bb_lang.specs.Relation.TheVariants as relations
 use Rattle.bb_judge.specs.declared.fault.CompileFault.{CompileFault}
 use Rattle.bb_judge.specs.declared.fault.CompileFault.TheVariants.{At}
 use Rattle.bb_judge.specs.declared.fault.Flaw.TheVariants.{Unknown, Limit}

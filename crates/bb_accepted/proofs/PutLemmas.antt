@@ -6,7 +6,7 @@ use Rattle.bb_frame.specs.Kind.{Kind}
 use Rattle.bb_frame.specs.Kinds.{is_same_plain}
 use Rattle.bb_frame.specs.Op.{Op}
 use Rattle.bb_frame.specs.Op.TheVariants as ops
-use Rattle.bb_lang.specs.declared.atom.Variable.{Variable}
+use Rattle.bb_lang.specs.Variable.{Variable}
 use Rattle.bb_judge.specs.declared.fault.Flaw.TheVariants.{Unknown, Kind as WrongKind, DeadName}
 use Rattle.bb_judge.specs.Kinds.{class_of, is_live}
 use Rattle.bb_judge.specs.LocalKinds.{kind_at}

@@ -14,7 +14,7 @@ use Rattle.bb_frame.specs.Kind.{Kind}
 use Rattle.bb_frame.specs.Kind.TheVariants as kinds
 use Rattle.bb_frame.specs.Op.TheVariants as ops
 use Rattle.bb_frame.specs.OperandKind.{OperandKind}
-use Rattle.bb_lang.specs.declared.atom.Variable.{Variable}
+use Rattle.bb_lang.specs.Variable.{Variable}
 use Rattle.bb_judge.specs.declared.fault.Flaw.{Flaw}
 use Rattle.bb_judge.specs.Kinds.{class_of, is_live}
 use Rattle.bb_judge.specs.Slots as slots

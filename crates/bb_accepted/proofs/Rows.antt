@@ -5,9 +5,9 @@ use Rattle.bb_code.specs.Calculation.TheVariants.{Add}
 use Rattle.bb_schema.specs.Schema.{Schema}
 use Rattle.bb_frame.specs.Op.TheVariants as ops
 use Rattle.bb_lang.specs.Blocks.{no_statement, before_others, action}
-use Rattle.bb_lang.specs.declared.atom.Atom.TheVariants as atoms
-use Rattle.bb_lang.specs.declared.atom.Operator.TheVariants.{Plus}
-use Rattle.bb_lang.specs.declared.block.Action.TheVariants.{Rate}
+use Rattle.bb_lang.specs.Atom.TheVariants as atoms
+use Rattle.bb_lang.specs.Operator.TheVariants.{Plus}
+use Rattle.bb_lang.specs.Action.TheVariants.{Rate}
 use Rattle.bb_lang.specs.Trees.{ExprTree, atom, chain, no_step, apply}
 use Rattle.bb_judge.specs.Place.{Place}
 use Rattle.bb_sheet.specs.Atoms.{pushed, atom_code}

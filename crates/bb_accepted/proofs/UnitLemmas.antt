@@ -18,7 +18,7 @@ use Rattle.bb_frame.specs.Kinds.{struck}
 use Rattle.bb_frame.specs.Kinds as frame_kinds
 use Rattle.bb_frame.specs.Op.{Op}
 use Rattle.bb_frame.specs.Op.TheVariants as ops
-use Rattle.bb_lang.specs.declared.atom.Variable.{Variable}
+use Rattle.bb_lang.specs.Variable.{Variable}
 use Rattle.bb_lang.specs.Trees.{ExprTree}
 use Rattle.bb_judge.specs.declared.fault.Flaw.{Flaw}
 use Rattle.bb_judge.specs.declared.fault.Flaw.TheVariants.{Unknown, LinkClass, Space}

@@ -1,38 +1,31 @@
 -- The best of all that are pending is the best of the first of each source.
-use Rattle.std.proofs.Common.{◌≡◌, ℕ, zero, suc, ◌+◌, ◌<◌, ◌≤◌, ◌⊎◌, inl, inr, ℤ, ◌+ℤ◌, ◌<ℤ◌, ◌≤ℤ◌, Bool, true, false, not, cond, ◌&&◌, List, [], ◌∷◌, length, find, Option, Some, None, refl, sym, ap, subst, ◌∙◌, arith, eqb-true, eq-eqb, int_lt, filter}
-use Rattle.std.specs.Prelude.{Contains, slice_get, option_map, IfSome}
-use Rattle.std.specs.List.{AllByRecursion, list_all, list_any}
+use Rattle.std.proofs.Common.{◌≡◌, ℕ, ◌+◌, ◌<◌, ◌≤◌, ◌⊎◌, inl, inr, ℤ, ◌+ℤ◌, ◌<ℤ◌, Bool, true, false, cond, List, [], ◌∷◌, length, Option, Some, None, refl, sym, ap, subst, ◌∙◌, arith, filter}
+use Rattle.std.specs.Prelude.{slice_get, IfSome}
+use Rattle.std.specs.List.{list_any}
 use Rattle.std.specs.Option.{option_map_or}
 use Rattle.std.specs.Ordering.{int_cmp, nat_cmp, is_eq, is_gt, ordering_then, MatchOrdering}
 use Rattle.std.specs.declared.cmp.Ordering.{Ordering}
 use Rattle.std.specs.declared.cmp.Ordering.TheVariants.{Less, Equal, Greater}
 use Rattle.std.specs.Cmp.{int_ranks, ranks}
-use Rattle.std.specs.BTreeSet.{BTreeSet, contains, IsLowerBound}
+use Rattle.std.specs.BTreeSet.{BTreeSet, contains}
 use Rattle.std.specs.FinMap as fin
 use Rattle.std.proofs.lemmas.Bool.{false_from_ne_true, cases_lt}
 use Rattle.std.proofs.lemmas.Bool.Decides.{not_from_Decides}
 use Rattle.std.proofs.lemmas.Option.{slice_get_past}
-use Rattle.std.proofs.lemmas.Int.{ints, by_lt_z}
-use Rattle.bb_agenda.specs.declared.activation.Activation.{Activation}
+use Rattle.std.proofs.lemmas.Int.{ints}
 use Rattle.bb_agenda.specs.declared.choosing.Candidate.{Candidate}
 use Rattle.bb_agenda.specs.declared.rank.Rank.{Rank}
-use Rattle.bb_agenda.specs.declared.steering.Steering.{Steering}
-use Rattle.bb_agenda.specs.Agenda.{number_of, has_number, is_of}
-use Rattle.bb_agenda.specs.Chosen.{is_before, is_best, chosen}
-use Rattle.bb_agenda.specs.Fits.{RisesBy}
-use Rattle.bb_agenda.specs.Matching.{matches}
-use Rattle.bb_agenda.specs.Rating.{rating, total_weight}
+use Rattle.bb_foci.specs.Foci.{Steered}
+use Rattle.bb_foci.specs.Rating.{total_weight}
 use Rattle.bb_agenda.specs.proving.Best.{rate_by, precedes, better, StandsFor, IsFirst, BestOf}
-use Rattle.bb_agenda.specs.proving.Ranks.{rank_of, rank_cmp, same_rank, is_ranked, AreRanked}
-use Rattle.bb_agenda.specs.proving.Weights.{matches_at}
-use Rattle.bb_agenda.proofs.ChosenLemmas.{find_none, Precedes, precedes_decides, precedes_further, precedes_past, not_before, found_passes}
-use Rattle.bb_agenda.proofs.RankLemmas.{same_itself, same_parts}
-use Rattle.bb_agenda.proofs.RisingLemmas.{found_contained}
+use Rattle.bb_agenda.specs.proving.Ranks.{rank_cmp, is_ranked}
+use Rattle.bb_foci.specs.Matching.{matches_at}
+use Rattle.bb_foci.proofs.Laws.{rating_by_weight}
+use Rattle.bb_agenda.proofs.ChosenLemmas.{Precedes, precedes_decides, precedes_further, precedes_past}
 
 -- a rating is a base and what all activations of the source get
-pub rate_is : (s : Steering) (place : ℕ) (base : ℤ) → rate_by s place base ≡ base +ℤ total_weight (filter (matches_at s.setting.schema s.setting.sources place) (fin.values s.foci))
-unfolding rating matches
-rate_is s place base = refl
+pub rate_is : (s : Steered) (place : ℕ) (base : ℤ) → rate_by s place base ≡ base +ℤ total_weight (filter (matches_at s.setting.schema s.setting.sources place) (fin.values s.foci))
+rate_is s place base = rating_by_weight s.setting.schema s.setting.sources s.foci place base
 
 -- ---- ratings and numbers
 

@@ -1,5 +1,5 @@
 -- What is chosen is the best of all that are pending.
-use Rattle.std.proofs.Common.{◌≡◌, ℕ, zero, suc, ◌<◌, ◌≤◌, ◌==◌, ℤ, ◌<ℤ◌, ◌≤ℤ◌, Bool, true, false, not, cond, ◌&&◌, List, [], ◌∷◌, length, find, Option, Some, None, refl, sym, ap, subst, ◌∙◌, arith, eqb-true, eq-eqb, int_lt}
+use Rattle.std.proofs.Common.{◌≡◌, ℕ, zero, suc, ℤ, ◌<ℤ◌, ◌≤ℤ◌, Bool, true, false, not, cond, ◌&&◌, List, [], ◌∷◌, find, Option, Some, None, refl, sym, ap, subst, ◌∙◌, arith, eqb-true, eq-eqb, int_lt}
 use Rattle.std.specs.Prelude.{Contains, IfSome, nat_lt}
 use Rattle.std.specs.List.{AllByRecursion, list_all}
 use Rattle.std.specs.Option.{option_map_or}
@@ -7,7 +7,7 @@ use Rattle.std.specs.Ordering.{int_eq}
 use Rattle.std.specs.BTreeSet.{BTreeSet}
 use Rattle.std.proofs.lemmas.Bool.{and_parts, or_parts, not-true, not_from_false, false_from_ne_true}
 use Rattle.std.proofs.lemmas.Int.{ints, by_lt_z}
-use Rattle.bb_agenda.specs.declared.activation.Activation.{Activation}
+use Rattle.bb_foci.specs.declared.activation.Activation.{Activation}
 use Rattle.bb_agenda.specs.declared.choosing.Candidate.{Candidate}
 use Rattle.bb_agenda.specs.declared.rank.Rank.{Rank}
 use Rattle.bb_agenda.specs.Agenda.{number_of, has_number, is_of}

@@ -2,7 +2,6 @@ pub mod AgendaLemmas
 pub mod BestLemmas
 pub mod ChoiceLemmas
 pub mod ChosenLemmas
-pub mod EntryLemmas
 pub mod FiledLemmas
 pub mod FoundLemmas
 pub mod HistoryLemmas
@@ -15,6 +14,3 @@ pub mod RankLemmas
 pub mod RisingLemmas
 pub mod RowLemmas
 pub mod Rows
-pub mod WeightLemmas
-pub mod ShiftLemmas
-pub mod SumLemmas

@@ -1,19 +1,20 @@
--- Worked ratings and choices, computed on the definitions.
-use Rattle.std.proofs.Common.{◌≡◌, ℕ, ℤ, pos, negsuc, ◌+ℤ◌, Bool, true, false, List, [], ◌∷◌, filter, Some, None, codes, refl, ap}
+-- Worked choices, computed on the definitions.
+use Rattle.std.proofs.Common.{◌≡◌, ℕ, ℤ, pos, ◌+ℤ◌, Bool, true, false, List, [], ◌∷◌, filter, Some, None, codes, refl, ap}
+use Rattle.std.specs.FinMap as fin
 use Rattle.std.specs.Ordering.{nat_cmp}
 use Rattle.std.specs.Map.{keys_of, values_of}
 use Rattle.std.specs.List.Sorted.{IsStrictlySortedBy}
 use Rattle.bb_schema.specs.Schema.{Schema}
-use Rattle.bb_agenda.specs.declared.activation.Activation.{Activation}
-use Rattle.bb_agenda.specs.declared.focus.Focus.{Focus}
-use Rattle.bb_agenda.specs.declared.setting.RatedSource.{RatedSource}
-use Rattle.bb_agenda.specs.Matching.{is_source, is_ancestor, is_area, matches}
+use Rattle.bb_foci.specs.declared.activation.Activation.{Activation}
+use Rattle.bb_foci.specs.declared.focus.Focus.{Focus}
+use Rattle.bb_foci.specs.declared.setting.RatedSource.{RatedSource}
+use Rattle.bb_foci.specs.Foci.{Foci}
+use Rattle.bb_foci.specs.Matching.{is_source, is_ancestor, is_area, matches}
+use Rattle.bb_foci.specs.Rating.{total_weight, rating}
+use Rattle.bb_foci.proofs.Laws.{values_are}
 use Rattle.bb_agenda.specs.Agenda.{Agenda, no_activations, pending_of}
 use Rattle.bb_agenda.specs.Changes.{with_activation, with_focus}
-use Rattle.bb_agenda.specs.Rating.{total_weight, rating}
 use Rattle.bb_agenda.specs.Chosen.{chosen}
-use Rattle.bb_agenda.specs.proving.Entries.{foci_of}
-use Rattle.bb_agenda.proofs.EntryLemmas.{values_are}
 
 schema : Schema
 schema = record {
@@ -23,20 +24,22 @@ schema = record {
   spaces = [];
 }
 
+-- the foci of some entries
+foci_of : List (ℕ × Focus) → Foci
+foci_of entries = fin.from_entries entries
+
 -- the rating by foci that are listed
 weighs : List RatedSource → List Focus → Activation → ℤ
 weighs sources foci a = a.base +ℤ total_weight (filter (matches schema sources a) foci)
 
 module _ (sources : List RatedSource) (es : List (ℕ × Focus)) (sorted : IsStrictlySortedBy nat_cmp (keys_of es)) where
   weighed : (a : Activation) → rating schema sources (foci_of es) a ≡ weighs sources (values_of es) a
-  unfolding rating weighs
+  unfolding rating weighs foci_of
   weighed a = ap (λ (foci : List Focus). weighs sources foci a) (values_are es sorted)
 
   -- what is chosen of them
   picked : (floor : ℤ) (pending : List Activation) → chosen (rating schema sources (foci_of es)) floor pending ≡ chosen (weighs sources (values_of es)) floor pending
   picked floor pending = ap (λ (rate : Activation → ℤ). chosen rate floor pending) (λ i a. weighed a i)
-
--- ---- foci on a source
 
 notes : List RatedSource
 notes = record { name = codes "hail"; class = 1 } ∷ record { name = codes "echo"; class = 1 } ∷ []
@@ -59,10 +62,6 @@ unfolding both first second
 waiting weight active = refl
 
 -- an active one makes the second be chosen
-raised : rating schema notes (foci_of ((9, on_echo (pos 30) true) ∷ [])) second ≡ pos 130
-unfolding weighs matches is_source is_area is_ancestor IsStrictlySortedBy schema notes second on_echo
-raised = weighed notes ((9, on_echo (pos 30) true) ∷ []) (tt, tt) second
-
 raised_choice : chosen (rating schema notes (foci_of ((9, on_echo (pos 30) true) ∷ []))) (pos 0) (first ∷ second ∷ []) ≡ Some second
 unfolding weighs matches is_source is_area is_ancestor IsStrictlySortedBy schema notes first second on_echo
 raised_choice = picked notes ((9, on_echo (pos 30) true) ∷ []) (tt, tt) (pos 0) (first ∷ second ∷ [])
@@ -71,22 +70,3 @@ raised_choice = picked notes ((9, on_echo (pos 30) true) ∷ []) (tt, tt) (pos 0
 idle_choice : chosen (rating schema notes (foci_of ((9, on_echo (pos 30) false) ∷ []))) (pos 0) (first ∷ second ∷ []) ≡ Some first
 unfolding weighs matches is_source is_area is_ancestor IsStrictlySortedBy schema notes first second on_echo
 idle_choice = picked notes ((9, on_echo (pos 30) false) ∷ []) (tt, tt) (pos 0) (first ∷ second ∷ [])
-
--- no sum is too large
-two_at_most : rating schema notes (foci_of ((9, on_echo (pos 9223372036854775807) true) ∷ (10, on_echo (pos 9223372036854775807) true) ∷ [])) second ≡ pos 18446744073709551714
-unfolding weighs matches is_source is_area is_ancestor IsStrictlySortedBy schema notes second on_echo
-two_at_most = weighed notes ((9, on_echo (pos 9223372036854775807) true) ∷ (10, on_echo (pos 9223372036854775807) true) ∷ []) ((refl, tt), (tt, tt)) second
-
--- ---- a place without a source
-
-in_area : List ℕ → Focus
-in_area area = record { source = []; area = area; weight = negsuc 2; active = true }
-
--- only a focus with two empty texts matches there
-nowhere_all : rating schema [] (foci_of ((7, in_area []) ∷ [])) first ≡ pos 97
-unfolding weighs matches IsStrictlySortedBy schema first in_area
-nowhere_all = weighed [] ((7, in_area []) ∷ []) (tt, tt) first
-
-nowhere_named : rating schema [] (foci_of ((7, in_area (codes "note")) ∷ [])) first ≡ pos 100
-unfolding weighs matches is_area IsStrictlySortedBy schema first in_area
-nowhere_named = weighed [] ((7, in_area (codes "note")) ∷ []) (tt, tt) first

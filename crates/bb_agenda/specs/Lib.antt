@@ -1,7 +1,3 @@
--- the foci that are set, and what they are matched with
-pub mod Foci
--- which activations a focus matches
-pub mod Matching
 -- all activations that were given, what is pending of them, and the foci
 pub mod Agenda
 -- each change of them
@@ -10,9 +6,15 @@ pub mod Changes
 pub mod Fits
 -- changes one after another
 pub mod History
--- the rating of an activation
+-- the rating of an activation by the foci of an agenda
 pub mod Rating
 -- the activation that a cycle executes
 pub mod Chosen
 -- for proofs alone
 pub mod proving
+-- activations, foci, and what foci give
+pub use Rattle.bb_foci.specs.Foci
+pub use Rattle.bb_foci.specs.Matching
+pub use Rattle.bb_foci.specs.declared.activation.Activation
+pub use Rattle.bb_foci.specs.declared.focus.Focus
+pub use Rattle.bb_foci.specs.declared.setting.RatedSource

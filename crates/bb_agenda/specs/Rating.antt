@@ -1,23 +1,8 @@
--- The rating of an activation: its base (GBBopen Reference Manual, ratings of KSAs) and what foci add to it (of this
--- project).
-use Rattle.std.specs.Prelude.{ℤ, pos, ◌+ℤ◌, List, [], ◌∷◌, filter}
-use Rattle.std.specs.FinMap as fin
-use Rattle.bb_schema.specs.Schema.{Schema}
-use Rattle.bb_agenda.specs.declared.activation.Activation.{Activation}
-use Rattle.bb_agenda.specs.declared.focus.Focus.{Focus}
-use Rattle.bb_agenda.specs.declared.setting.RatedSource.{RatedSource}
-use Rattle.bb_agenda.specs.Foci.{Foci}
-use Rattle.bb_agenda.specs.Matching.{matches}
+-- The rating of an activation by the foci of an agenda.
+use Rattle.std.specs.Prelude.{ℤ}
+use Rattle.bb_foci.specs.declared.activation.Activation.{Activation}
 use Rattle.bb_agenda.specs.Agenda.{Agenda}
-
--- the sum of the weights of some foci
-abbrev pub total_weight : List Focus → ℤ
-total_weight [] = pos 0
-total_weight (focus ∷ foci) = focus.weight +ℤ total_weight foci
-
--- the base, and the weights of all foci that match
-unfoldable pub rating : Schema → List RatedSource → Foci → Activation → ℤ
-rating s sources foci a = a.base +ℤ total_weight (filter (matches s sources a) (fin.values foci))
+pub use Rattle.bb_foci.specs.Rating.{rating, total_weight}
 
 -- by the foci of an agenda
 abbrev pub rating_in : Agenda → Activation → ℤ

@@ -6,11 +6,7 @@ pub mod Ranks
 pub mod Filed
 -- lists of numbers that rise, and one for each source
 pub mod Lists
--- what all activations of a source have in common
-pub mod Weights
 -- the best of all that are pending
 pub mod Best
--- the foci of the entries that the code keeps
-pub mod Entries
 -- how an agenda is stored
 pub mod Codes

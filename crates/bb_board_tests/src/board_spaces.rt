@@ -60,7 +60,7 @@ fn leave(board: &mut Board, unit: UnitId, space: SpaceId) -> Result<(), Fail> {
 }
 
 /// The kind of an operand, if there is one. More are not asked for.
-fn kinds_of(alloc: Global, operands: &[DimValue]) -> Result<Items<OperandKind>, Fail>
+pub(crate) fn kinds_of(alloc: Global, operands: &[DimValue]) -> Result<Items<OperandKind>, Fail>
     ensures { IfOk result (λ kinds. kinds ≡ map kind_of_operand operands.now) }
 {
     let mut kinds = Items::new(alloc);

@@ -24,7 +24,7 @@ const KINDS: [OperandKind; 3] = [
     OperandKind::Label(1),
 ];
 
-fn ordered(relation: Relation, dim: u8, operand: u8) -> Pattern {
+pub(crate) fn ordered(relation: Relation, dim: u8, operand: u8) -> Pattern {
     Pattern::new(Node::Ordered {
         relation,
         dim,
@@ -32,7 +32,7 @@ fn ordered(relation: Relation, dim: u8, operand: u8) -> Pattern {
     })
 }
 
-fn is(dim: u8, operand: u8) -> Pattern {
+pub(crate) fn is(dim: u8, operand: u8) -> Pattern {
     Pattern::new(Node::Is { dim, operand })
 }
 

@@ -3,10 +3,9 @@
 ghost use Rattle.std.specs.Prelude.{IfOk};
 ghost use Rattle.bb_query.specs.Knows.{KnowsValues};
 
-use bb_basis::Items;
-use bb_query::{
-    DimValue, Node, OperandKind, Pattern, PatternFault, Query, Relation, find, values_of,
-};
+use crate::board_spaces::kinds_of;
+use crate::pattern::{is, ordered};
+use bb_query::{DimValue, Node, Pattern, PatternFault, Query, Relation, find, values_of};
 use bb_schema::{ClassId, Schema, SlotId, SpaceId, UnitId, Value};
 use bb_space::Spaces;
 use bb_units::Units;
@@ -102,19 +101,6 @@ fn no_members(alloc: Global, schema: &Schema, units: &Units) -> Result<Spaces, F
     Ok(Spaces::new(alloc, schema)?)
 }
 
-/// The kind of an operand, if there is one. More are not asked for.
-fn kinds_of(alloc: Global, operands: &[DimValue]) -> Result<Items<OperandKind>, Fail> {
-    let mut kinds = Items::new(alloc);
-    match operands {
-        [] => Ok(kinds),
-        [only] => {
-            kinds.push(only.kind())?;
-            Ok(kinds)
-        }
-        _ => Err(Fail::from(PatternFault::Limit)),
-    }
-}
-
 /// What a query for a class in a space answers.
 fn found(
     alloc: Global,
@@ -142,18 +128,6 @@ fn found(
 
 fn all() -> Pattern {
     Pattern::new(Node::All)
-}
-
-fn within(dim: u8, operand: u8) -> Pattern {
-    Pattern::new(Node::Ordered {
-        relation: Relation::Within,
-        dim,
-        operand,
-    })
-}
-
-fn is(dim: u8, operand: u8) -> Pattern {
-    Pattern::new(Node::Is { dim, operand })
 }
 
 /// Unit 1 is a thing at `[1, 3]`, 2 a word at `[5, 5]`, 3 a box at 2, and 4 a thing at `[0, 0]`; 2 and 3 are green, the
@@ -250,9 +224,25 @@ fn as_a_scan(rt: HostRuntime) -> Result<(), Fail> {
         assert!(rt; agrees(rt.alloc(), class, BOARD, all(), &[])?);
         assert!(rt; agrees(rt.alloc(), class, DESK, all(), &[])?);
         assert!(rt; agrees(rt.alloc(), class, SHELF, all(), &[])?);
-        assert!(rt; agrees(rt.alloc(), class, BOARD, within(0, 0), &near)?);
+        assert!(rt;
+            agrees(
+                rt.alloc(),
+                class,
+                BOARD,
+                ordered(Relation::Within, 0, 0),
+                &near
+            )?
+        );
         assert!(rt; agrees(rt.alloc(), class, BOARD, is(1, 0), &[GREEN])?);
-        assert!(rt; agrees(rt.alloc(), class, SHELF, within(1, 0), &near)?);
+        assert!(rt;
+            agrees(
+                rt.alloc(),
+                class,
+                SHELF,
+                ordered(Relation::Within, 1, 0),
+                &near
+            )?
+        );
         assert!(rt; agrees(rt.alloc(), class, SHELF, is(0, 0), &[GREEN])?);
     }
     Ok(())

@@ -8,7 +8,7 @@ use Rattle.bb_basis.specs.Results.{◌>>=◌, map_err}
 use Rattle.bb_code.specs.Code.{Code, IsCode}
 use Rattle.bb_code.specs.Reading.{code_of}
 use Rattle.bb_code.specs.Spelling.{spelling}
-use Rattle.bb_code.proofs.Codes.{all_again}
+use Rattle.bb_code.proofs.Laws.{all_again}
 use Rattle.bb_bundle.specs.declared.fault.BundleFault.TheVariants.{Hex, Code as NoCode}
 use Rattle.bb_bundle.specs.Bundle.{code_in}
 use Rattle.bb_bundle.specs.Written.{code_digits}

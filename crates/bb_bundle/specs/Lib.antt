@@ -18,3 +18,6 @@ pub mod Bundle
 pub mod Written
 -- for models and private contracts alone
 pub mod proving
+-- the clauses of a source
+pub use Rattle.bb_tree.specs.declared.source_text.ChangeText
+pub use Rattle.bb_tree.specs.declared.source_text.ClauseText

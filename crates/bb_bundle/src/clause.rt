@@ -5,8 +5,8 @@ ghost use Rattle.bb_bundle.specs.Clauses.{unit_change, slot_change, space_change
 ghost use Rattle.bb_bundle.specs.Clauses.{subject_clause, space_clause, quiescence_clause};
 ghost use Rattle.bb_bundle.specs.Clauses.{clause_of};
 
-use crate::source_code::{ChangeText, ClauseText};
 use bb_basis::{Text, is_name};
+use bb_tree::{ChangeText, ClauseText};
 use std::alloc::{AllocError, Global};
 
 #[tactic(auto, unfolding(crate::specs::Clauses::unit_change))]

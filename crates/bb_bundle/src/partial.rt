@@ -6,9 +6,10 @@ ghost use Rattle.bb_bundle.specs.Partial.{before_obviate, before_require, may_co
 ghost use Rattle.bb_bundle.specs.Partial.{with_obviate, with_retrigger, with_revalidate, with_act};
 
 use crate::keyword::Keyword;
-use crate::source_code::{ActDraft, ClauseText, ReactionDraft, SourceDraft};
+use crate::source_code::{ActDraft, ReactionDraft, SourceDraft};
 use bb_basis::{Items, Text};
 use bb_code::Code;
+use bb_tree::ClauseText;
 use std::alloc::AllocError;
 
 /// What was read so far of a source. A part that is there was begun, and the last of them may get more clauses.

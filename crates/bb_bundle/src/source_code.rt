@@ -7,35 +7,8 @@ ghost use Rattle.bb_bundle.specs.Spelled.{IsSpelled, if_spelled};
 use crate::spelled::is_spelled;
 use bb_basis::{Items, Text};
 use bb_code::Code;
+use bb_tree::ClauseText;
 use std::marker::Model;
-
-/// What happens, as a clause names it: names of slots and spaces are not looked up yet.
-#[derive(Debug, Drop)]
-pub enum ChangeText {
-    /// A unit is created.
-    Create,
-    /// A unit is deleted.
-    Delete,
-    /// The slot of this name is set.
-    Update(Text),
-    /// A link is added to the slot of this name.
-    Link(Text),
-    /// A link is taken from the slot of this name.
-    Unlink(Text),
-    /// A unit enters the space of this name.
-    Enter(Text),
-    /// A unit leaves the space of this name.
-    Leave(Text),
-}
-
-/// Which events a clause names.
-#[derive(Debug, Drop)]
-pub enum ClauseText {
-    /// A change of this kind, of a unit whose class has this name or descends from it.
-    Change { kind: ChangeText, class: Text },
-    /// No activation could be chosen.
-    Quiescence,
-}
 
 /// What a source does about its pending activations when certain events happen: `C` is the code.
 #[derive(Debug, Drop)]

@@ -4,9 +4,10 @@ ghost use Rattle.std.specs.Prelude.{◌≡◌};
 ghost use Rattle.std.specs.List.{list_all};
 ghost use Rattle.bb_bundle.specs.Spelled.{is_change, is_clause, are_clauses, is_reaction, is_spelled};
 
-use crate::source_code::{ChangeText, ClauseText, ReactionDraft, SourceDraft};
+use crate::source_code::{ReactionDraft, SourceDraft};
 use bb_basis::is_name;
 use bb_code::Code;
+use bb_tree::{ChangeText, ClauseText};
 
 fn is_change(change: &ChangeText) -> bool
     ensures { result ≡ is_change change.now }

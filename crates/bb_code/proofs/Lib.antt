@@ -8,4 +8,4 @@ pub mod Frames
 pub mod OpLaws
 pub mod PatternLaws
 pub mod Codes
-pub use Rattle.bb_op.proofs.Laws
+pub mod Laws

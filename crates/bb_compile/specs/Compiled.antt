@@ -1,21 +1,17 @@
 -- The source of a tree, with a code for each of its parts that is a block, or the first flaw: from the front to the back of
 -- the text.
-use Rattle.std.specs.Prelude.{ℕ, map, List, Option, Some, None, Result, Ok, Err, if◌then◌else◌}
+use Rattle.std.specs.Prelude.{ℕ, List, Option, Some, None, Result, Ok, Err, if◌then◌else◌}
 use Rattle.bb_basis.specs.Results.{◌>>=◌, ok_or}
 use Rattle.bb_op.specs.Code.{Code}
 use Rattle.bb_frame.specs.declared.part.Part.{Part}
 use Rattle.bb_frame.specs.declared.part.Part.TheVariants.{Require, Obviate, Retrigger, Revalidate, Do}
 use Rattle.bb_frame.specs.Schema.{Schema, class_named}
-use Rattle.bb_lang.specs.declared.source_text.ActText.{ActText}
-use Rattle.bb_lang.specs.declared.source_text.ActText.TheVariants as acts
-use Rattle.bb_lang.specs.declared.source_text.ChangeText.{ChangeText}
-use Rattle.bb_lang.specs.declared.source_text.ChangeText.TheVariants as told
-use Rattle.bb_lang.specs.declared.source_text.ClauseText.{ClauseText}
-use Rattle.bb_lang.specs.declared.source_text.ClauseText.TheVariants as clauses
-use Rattle.bb_lang.specs.declared.source_text.PartText.{PartText}
-use Rattle.bb_lang.specs.declared.source_text.PartTexts.{PartTexts}
-use Rattle.bb_lang.specs.declared.source_text.ReactionText.{ReactionText}
-use Rattle.bb_lang.specs.declared.source_text.SourceText.{SourceText}
+use Rattle.bb_lang.specs.ActText.{ActText}
+use Rattle.bb_lang.specs.ActText.TheVariants as acts
+use Rattle.bb_lang.specs.PartText.{PartText}
+use Rattle.bb_lang.specs.PartTexts.{PartTexts}
+use Rattle.bb_lang.specs.ReactionText.{ReactionText}
+use Rattle.bb_lang.specs.SourceText.{SourceText}
 use Rattle.bb_judge.specs.Place.{Place}
 use Rattle.bb_judge.specs.declared.fault.Flaw.TheVariants.{Unknown, NoEnd}
 use Rattle.bb_judge.specs.declared.fault.CompileFault.{CompileFault}
@@ -24,33 +20,11 @@ use Rattle.bb_judge.specs.Ending.{block_ends}
 use Rattle.bb_emit.specs.Parts.{part_code}
 use Rattle.bb_bundle.specs.declared.source_code.ActDraft.{ActDraft}
 use Rattle.bb_bundle.specs.declared.source_code.ActDraft.TheVariants as drafts
-use Rattle.bb_bundle.specs.declared.source_code.ChangeText.{ChangeText as Change}
-use Rattle.bb_bundle.specs.declared.source_code.ChangeText.TheVariants as changes
-use Rattle.bb_bundle.specs.declared.source_code.ClauseText.{ClauseText as Clause}
-use Rattle.bb_bundle.specs.declared.source_code.ClauseText.TheVariants as named
 use Rattle.bb_bundle.specs.declared.source_code.ReactionDraft.{ReactionDraft}
 use Rattle.bb_bundle.specs.declared.source_code.SourceDraft.{SourceDraft}
 use Rattle.bb_bundle.specs.Spelled.{if_spelled}
 use Rattle.bb_compile.specs.declared.part_codes.PartCodes.{PartCodes}
 use Rattle.bb_compile.specs.declared.source.Head.{Head}
-
--- ---- clauses stay what they are
-
-abbrev pub same_change : ChangeText → Change
-same_change told.Create = changes.Create
-same_change told.Delete = changes.Delete
-same_change (told.Update slot) = changes.Update slot
-same_change (told.Link slot) = changes.Link slot
-same_change (told.Unlink slot) = changes.Unlink slot
-same_change (told.Enter space) = changes.Enter space
-same_change (told.Leave space) = changes.Leave space
-
-abbrev pub same_clause : ClauseText → Clause
-same_clause (clauses.Change kind class) = named.Change (same_change kind) class
-same_clause clauses.Quiescence = named.Quiescence
-
-abbrev pub same_clauses : List ClauseText → List Clause
-same_clauses cs = map same_clause cs
 
 -- ---- parts
 
@@ -72,7 +46,7 @@ part_of schema part (Some text) = part_code schema part text.place text.block >>
 unfoldable pub reaction_of : Schema → Part → ReactionText → Result (ReactionDraft Code) CompileFault
 reaction_of schema part text = do
   code ← part_code schema part text.place text.block
-  Ok (record { class = text.class; clauses = same_clauses text.clauses; code = code })
+  Ok (record { class = text.class; clauses = text.clauses; code = code })
 
 -- a reaction that the source may have, for events of a class
 abbrev pub reaction_if : Schema → ((of : ℕ) → Part) → Option ReactionText → Result (Option (ReactionDraft Code)) CompileFault
@@ -118,7 +92,7 @@ head_of text = record {
   name = text.header.name;
   class = text.header.class;
   rate = text.rate;
-  triggers = same_clauses text.clauses;
+  triggers = text.clauses;
 }
 
 abbrev pub assembled : Head → PartCodes → ActDraft Code → SourceDraft Code

@@ -1,9 +1,7 @@
 //! The compiler: from a tree of the source language to the source that a bundle can spell, with its codes. bb_shell
-//! calls
-//! `compile` for each source of a text.
+//! calls `compile` for each source of a text.
 #![tactic(auto)]
 
-mod clauses;
 mod part_codes;
 mod source;
 

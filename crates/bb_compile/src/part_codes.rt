@@ -7,7 +7,6 @@ ghost use Rattle.bb_judge.specs.declared.fault.CompileFault.TheVariants.{Memory 
 ghost use Rattle.bb_compile.specs.Compiled.{class_of_events, class_on, part_of, reaction_of, reaction_if, no_codes, with_require};
 ghost use Rattle.bb_compile.specs.Compiled.{with_obviate, with_retrigger, with_revalidate, codes_of};
 
-use crate::clauses::copy_clauses;
 use bb_basis::Text;
 use bb_bundle::ReactionDraft;
 use bb_code::Code;
@@ -98,7 +97,7 @@ fn reaction_of(
     let code = emit_part(alloc, schema, part, text.place, &text.block)?;
     Ok(ReactionDraft {
         class: text.class.clone()?,
-        clauses: copy_clauses(alloc, text.clauses.as_slice())?,
+        clauses: text.clauses.clone()?,
         code,
     })
 }

@@ -5,15 +5,14 @@ ghost use Rattle.bb_basis.specs.Results.{Gives};
 ghost use Rattle.bb_judge.specs.declared.fault.CompileFault.TheVariants.{Memory as OutOfMemory};
 ghost use Rattle.bb_compile.specs.Compiled.{head_of, act_of, assembled, draft_of, compiled};
 
-use crate::clauses::copy_clauses;
 use crate::part_codes::{PartCodes, class_on};
 use bb_basis::{Items, Text};
-use bb_bundle::{ActDraft, ClauseText, SourceCode, SourceDraft};
+use bb_bundle::{ActDraft, SourceCode, SourceDraft};
 use bb_code::Code;
 use bb_emit::emit_part;
 use bb_frame::{ClassId, Part, Schema};
 use bb_judge::{CompileFault, Flaw};
-use bb_lang::{ActText, SourceText};
+use bb_lang::{ActText, ClauseText, SourceText};
 use std::alloc::{AllocError, Global};
 
 /// Who a source is: its name, class, rate and clauses.
@@ -27,14 +26,14 @@ pub(crate) struct Head {
 
 impl Head {
     /// That of a tree.
-    fn of(alloc: Global, text: &SourceText) -> Result<Head, AllocError>
+    fn of(text: &SourceText) -> Result<Head, AllocError>
         ensures { IfOk result (λ head. head ≡ head_of text.now) }
     {
         Ok(Head {
             name: text.header.name.clone()?,
             class: text.header.class.clone()?,
             rate: text.rate,
-            triggers: copy_clauses(alloc, text.clauses.as_slice())?,
+            triggers: text.clauses.clone()?,
         })
     }
 }
@@ -92,7 +91,7 @@ fn draft_of(
     ensures { Gives OutOfMemory (λ d. d) result (draft_of schema.now text.now) }
 {
     let class = class_on(schema, &text.header.class, text.header.on)?;
-    let head = Head::of(alloc, text)?;
+    let head = Head::of(text)?;
     let codes = PartCodes::of(alloc, schema, class, &text.parts)?;
     let act = act_of(alloc, schema, class, &text.act)?;
     Ok(assembled(head, codes, act))

@@ -6,9 +6,9 @@ use Rattle.bb_op.specs.Trees.{Tree, Trees, no_more, more}
 use Rattle.bb_op.specs.View.{trees_of}
 use Rattle.bb_frame.specs.declared.part.Part.{Part}
 use Rattle.bb_frame.specs.Schema.{Schema}
-use Rattle.bb_lang.specs.declared.block.Placed.{Placed}
-use Rattle.bb_lang.specs.declared.tree.Step.{Step as OneStep}
-use Rattle.bb_lang.specs.declared.tree.Step.TheVariants.{Apply, Divide}
+use Rattle.bb_lang.specs.Placed.{Placed}
+use Rattle.bb_lang.specs.Step.{Step as OneStep}
+use Rattle.bb_lang.specs.Step.TheVariants.{Apply, Divide}
 use Rattle.bb_lang.specs.Trees.{PatternTree}
 use Rattle.bb_lang.specs.View.{steps_of, patterns_of}
 use Rattle.bb_lang.specs.BlockView.{block_of, statement_of}

@@ -1,7 +1,7 @@
 -- Parts are smaller than their wholes.
 use Rattle.std.proofs.Common.{◌≡◌, ℕ, zero, suc, ◌+◌, ◌<◌, ◌≤◌, List, [], ◌∷◌, length, get_or, refl, sym, ap, ◌∙◌, arith}
-use Rattle.bb_lang.specs.declared.tree.Step.{Step}
-use Rattle.bb_lang.specs.declared.tree.Step.TheVariants.{Apply, Divide}
+use Rattle.bb_lang.specs.Step.{Step}
+use Rattle.bb_lang.specs.Step.TheVariants.{Apply, Divide}
 use Rattle.bb_lang.specs.Trees.{ExprTree, PatternTree, chain, and_of, or_of}
 use Rattle.bb_lang.specs.View.{steps_of, patterns_of}
 use Rattle.bb_lang.specs.proving.Codes.{expr_size, pattern_size}

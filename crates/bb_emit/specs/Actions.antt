@@ -14,9 +14,9 @@ use Rattle.bb_frame.specs.Op.TheVariants as ops
 use Rattle.bb_frame.specs.Schema.{Schema, class_named, space_named, descends}
 use Rattle.bb_frame.specs.Spaces.{allowed}
 use Rattle.bb_classes.specs.declared.kind.Link.{Link}
-use Rattle.bb_lang.specs.declared.atom.Variable.{Variable}
-use Rattle.bb_lang.specs.declared.block.Action.{Action}
-use Rattle.bb_lang.specs.declared.block.Action.TheVariants as actions
+use Rattle.bb_lang.specs.Variable.{Variable}
+use Rattle.bb_lang.specs.Action.{Action}
+use Rattle.bb_lang.specs.Action.TheVariants as actions
 use Rattle.bb_lang.specs.Trees.{ExprTree}
 use Rattle.bb_judge.specs.declared.fault.Flaw.{Flaw}
 use Rattle.bb_judge.specs.declared.fault.Flaw.TheVariants.{Unknown, Kind as WrongKind, LinkClass, Space, Effect, NoEnd, Limit}

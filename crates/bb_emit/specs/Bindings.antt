@@ -6,9 +6,9 @@ use Rattle.bb_frame.specs.Kind.{Kind}
 use Rattle.bb_frame.specs.Kind.TheVariants.{Ref}
 use Rattle.bb_frame.specs.Op.TheVariants.{Alive, As, One}
 use Rattle.bb_frame.specs.Schema.{Schema, class_named, descends}
-use Rattle.bb_lang.specs.declared.atom.Variable.{Variable}
-use Rattle.bb_lang.specs.declared.block.Binding.{Binding}
-use Rattle.bb_lang.specs.declared.block.Binding.TheVariants as bindings
+use Rattle.bb_lang.specs.Variable.{Variable}
+use Rattle.bb_lang.specs.Binding.{Binding}
+use Rattle.bb_lang.specs.Binding.TheVariants as bindings
 use Rattle.bb_judge.specs.declared.fault.Flaw.{Flaw}
 use Rattle.bb_judge.specs.declared.fault.Flaw.TheVariants.{Unknown, Kind as WrongKind}
 use Rattle.bb_judge.specs.Kinds.{class_of, is_live}

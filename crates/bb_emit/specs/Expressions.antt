@@ -6,8 +6,8 @@ use Rattle.bb_op.specs.Trees as nodes
 use Rattle.bb_frame.specs.Kind.TheVariants.{Int}
 use Rattle.bb_frame.specs.Op.TheVariants.{Size}
 use Rattle.bb_frame.specs.Schema.{Schema, class_named, space_named}
-use Rattle.bb_lang.specs.declared.tree.Step.{Step as OneStep}
-use Rattle.bb_lang.specs.declared.tree.Step.TheVariants.{Apply, Divide}
+use Rattle.bb_lang.specs.Step.{Step as OneStep}
+use Rattle.bb_lang.specs.Step.TheVariants.{Apply, Divide}
 use Rattle.bb_lang.specs.Trees.{ExprTree, Steps, SequenceTree, PatternTree, Patterns, atom, unary, binary, chain, size_of, no_step, apply, divide, found, linked, all, and_of, or_of, not_of, test, no_pattern, more}
 use Rattle.bb_judge.specs.declared.fault.CompileFault.{CompileFault}
 use Rattle.bb_emit.specs.declared.asked.Asked.{Asked}

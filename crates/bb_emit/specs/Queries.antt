@@ -10,9 +10,9 @@ use Rattle.bb_frame.specs.Kind.{Kind}
 use Rattle.bb_frame.specs.Kind.TheVariants as kinds
 use Rattle.bb_frame.specs.Op.TheVariants.{Find, Links}
 use Rattle.bb_frame.specs.Schema.{Schema, class_named, space_named}
-use Rattle.bb_lang.specs.declared.atom.Relation.{Relation}
-use Rattle.bb_lang.specs.declared.atom.Relation.TheVariants as relations
-use Rattle.bb_lang.specs.declared.atom.Variable.{Variable}
+use Rattle.bb_lang.specs.Relation.{Relation}
+use Rattle.bb_lang.specs.Relation.TheVariants as relations
+use Rattle.bb_lang.specs.Variable.{Variable}
 use Rattle.bb_classes.specs.declared.kind.Link.{Link}
 use Rattle.bb_judge.specs.declared.fault.Flaw.{Flaw}
 use Rattle.bb_judge.specs.declared.fault.Flaw.TheVariants.{Unknown, Limit}

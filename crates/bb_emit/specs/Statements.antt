@@ -7,10 +7,10 @@ use Rattle.bb_frame.specs.Kind.{Kind}
 use Rattle.bb_frame.specs.Kind.TheVariants.{Bool as Truth, Ref, Seq}
 use Rattle.bb_frame.specs.Op.TheVariants.{Unless, Store, Jump, Next, Back}
 use Rattle.bb_frame.specs.Schema.{Schema}
-use Rattle.bb_lang.specs.declared.block.Action.{Action}
-use Rattle.bb_lang.specs.declared.block.Binding.{Binding}
-use Rattle.bb_lang.specs.declared.block.Placed.{Placed}
-use Rattle.bb_lang.specs.declared.tree.Sequence.{Sequence}
+use Rattle.bb_lang.specs.Action.{Action}
+use Rattle.bb_lang.specs.Binding.{Binding}
+use Rattle.bb_lang.specs.Placed.{Placed}
+use Rattle.bb_lang.specs.Sequence.{Sequence}
 use Rattle.bb_lang.specs.Trees.{ExprTree}
 use Rattle.bb_lang.specs.View.{sequence_of}
 use Rattle.bb_lang.specs.BlockView.{statement_of}

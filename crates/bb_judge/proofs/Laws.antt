@@ -1,6 +1,6 @@
 -- Lemmas that crates above use.
 use Rattle.std.proofs.Common.{◌≡◌, ℕ, zero, suc, ◌+◌, ◌<◌, ◌≤◌, List, [], ◌∷◌, length, get_or, refl, sym, ap, ◌∙◌, arith, subst}
-use Rattle.bb_lang.specs.declared.block.Placed.{Placed}
+use Rattle.bb_lang.specs.Placed.{Placed}
 use Rattle.bb_lang.specs.Blocks.{BlockTree}
 use Rattle.bb_lang.specs.BlockView.{block_of, statement_of}
 use Rattle.bb_lang.specs.proving.BlockCodes.{block_size}

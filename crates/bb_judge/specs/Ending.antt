@@ -1,7 +1,7 @@
 -- Which statements always end.
 use Rattle.std.specs.Prelude.{Bool, true, false, ◌&&◌, ◌||◌}
-use Rattle.bb_lang.specs.declared.block.Action.{Action}
-use Rattle.bb_lang.specs.declared.block.Action.TheVariants.{Rate, Decline, Answer}
+use Rattle.bb_lang.specs.Action.{Action}
+use Rattle.bb_lang.specs.Action.TheVariants.{Rate, Decline, Answer}
 use Rattle.bb_lang.specs.Blocks.{BlockTree, StatementTree, OtherwiseTree, no_statement, before_others, action, if_of, with_of, for_of, absent, otherwise}
 
 -- a statement without blocks that ends

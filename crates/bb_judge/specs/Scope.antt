@@ -5,8 +5,8 @@ use Rattle.bb_frame.specs.Kind.{Kind}
 use Rattle.bb_frame.specs.Kind.TheVariants.{Old}
 use Rattle.bb_frame.specs.declared.part.Part.{Part}
 use Rattle.bb_frame.specs.declared.part.Part.TheVariants.{Require, Obviate, Retrigger, Revalidate, Do}
-use Rattle.bb_lang.specs.declared.atom.Variable.{Variable}
-use Rattle.bb_lang.specs.declared.atom.Variable.TheVariants.{It, Ev, Named}
+use Rattle.bb_lang.specs.Variable.{Variable}
+use Rattle.bb_lang.specs.Variable.TheVariants.{It, Ev, Named}
 use Rattle.bb_judge.specs.declared.scope.NamedLocal.{NamedLocal}
 use Rattle.bb_judge.specs.declared.scope.Scope.{Scope}
 use Rattle.bb_judge.specs.declared.scope.Mark.{Mark}

@@ -9,8 +9,8 @@ use Rattle.bb_schema.specs.declared.space.Dim.{Dim}
 use Rattle.bb_schema.specs.Schema.{Schema, slot_named, kind_of_slot, dims_of}
 use Rattle.bb_frame.specs.Kind.{Kind}
 use Rattle.bb_frame.specs.Kind.TheVariants as kinds
-use Rattle.bb_lang.specs.declared.atom.Relation.{Relation}
-use Rattle.bb_lang.specs.declared.atom.Relation.TheVariants.{Is}
+use Rattle.bb_lang.specs.Relation.{Relation}
+use Rattle.bb_lang.specs.Relation.TheVariants.{Is}
 use Rattle.bb_judge.specs.declared.fault.Flaw.{Flaw}
 use Rattle.bb_judge.specs.declared.fault.Flaw.TheVariants.{Unknown, Kind as WrongKind}
 

@@ -6,14 +6,14 @@ use Rattle.bb_schema.specs.Schema.{Schema, class_named}
 use Rattle.bb_frame.specs.Kind.{Kind}
 use Rattle.bb_frame.specs.Kind.TheVariants as kinds
 use Rattle.bb_frame.specs.Kinds.{struck}
-use Rattle.bb_lang.specs.declared.atom.Atom.TheVariants as atoms
-use Rattle.bb_lang.specs.declared.atom.Variable.{Variable}
-use Rattle.bb_lang.specs.declared.tree.Sequence.{Sequence}
-use Rattle.bb_lang.specs.declared.tree.Sequence.TheVariants.{Find, Links}
-use Rattle.bb_lang.specs.declared.block.Action.{Action}
-use Rattle.bb_lang.specs.declared.block.Action.TheVariants.{Let, New, Assign, Delete}
-use Rattle.bb_lang.specs.declared.block.Binding.{Binding}
-use Rattle.bb_lang.specs.declared.block.Binding.TheVariants.{As, Linked}
+use Rattle.bb_lang.specs.Atom.TheVariants as atoms
+use Rattle.bb_lang.specs.Variable.{Variable}
+use Rattle.bb_lang.specs.Sequence.{Sequence}
+use Rattle.bb_lang.specs.Sequence.TheVariants.{Find, Links}
+use Rattle.bb_lang.specs.Action.{Action}
+use Rattle.bb_lang.specs.Action.TheVariants.{Let, New, Assign, Delete}
+use Rattle.bb_lang.specs.Binding.{Binding}
+use Rattle.bb_lang.specs.Binding.TheVariants.{As, Linked}
 use Rattle.bb_lang.specs.Trees.{ExprTree, atom}
 use Rattle.bb_lang.specs.Blocks.{BlockTree, StatementTree, OtherwiseTree, no_statement, before_others, action, if_of, with_of, for_of, absent, otherwise}
 use Rattle.bb_judge.specs.declared.scope.Scope.{Scope}

@@ -1,7 +1,7 @@
 -- The clauses of a source, as a loop begins with the first.
 use Rattle.std.proofs.Common.{◌≡◌, ℕ, List, [], ◌∷◌, ◌++◌, Ok, sym, ap, ◌∙◌}
 use Rattle.bb_basis.specs.Results.{◌>>=◌}
-use Rattle.bb_lang.specs.declared.source_text.ClauseText.{ClauseText}
+use Rattle.bb_tree.specs.declared.source_text.ClauseText.{ClauseText}
 use Rattle.bb_token.specs.State.{State, left}
 use Rattle.bb_lang.specs.Repeats.{repeated, as_many}
 use Rattle.bb_lang.specs.Sources.{clause, next_clause, clauses}

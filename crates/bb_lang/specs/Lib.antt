@@ -1,11 +1,3 @@
--- expressions and patterns as trees
-pub mod Trees
--- the trees of expressions and patterns
-pub mod View
--- statements and blocks as trees
-pub mod Blocks
--- the trees of statements and blocks
-pub mod BlockView
 -- as many as come
 pub mod Repeats
 -- expressions, sequences and patterns
@@ -16,3 +8,27 @@ pub mod Statements
 pub mod Sources
 -- what only models and proofs speak of
 pub mod proving
+-- what sources are made of
+pub use Rattle.bb_tree.specs.Trees
+pub use Rattle.bb_tree.specs.View
+pub use Rattle.bb_tree.specs.Blocks
+pub use Rattle.bb_tree.specs.BlockView
+pub use Rattle.bb_tree.specs.declared.atom.Atom
+pub use Rattle.bb_tree.specs.declared.atom.Binary
+pub use Rattle.bb_tree.specs.declared.atom.Division
+pub use Rattle.bb_tree.specs.declared.atom.Operator
+pub use Rattle.bb_tree.specs.declared.atom.Relation
+pub use Rattle.bb_tree.specs.declared.atom.Unary
+pub use Rattle.bb_tree.specs.declared.atom.Variable
+pub use Rattle.bb_tree.specs.declared.block.Action
+pub use Rattle.bb_tree.specs.declared.block.Binding
+pub use Rattle.bb_tree.specs.declared.block.Placed
+pub use Rattle.bb_tree.specs.declared.source_text.ActText
+pub use Rattle.bb_tree.specs.declared.source_text.ChangeText
+pub use Rattle.bb_tree.specs.declared.source_text.ClauseText
+pub use Rattle.bb_tree.specs.declared.source_text.PartText
+pub use Rattle.bb_tree.specs.declared.source_text.PartTexts
+pub use Rattle.bb_tree.specs.declared.source_text.ReactionText
+pub use Rattle.bb_tree.specs.declared.source_text.SourceText
+pub use Rattle.bb_tree.specs.declared.tree.Sequence
+pub use Rattle.bb_tree.specs.declared.tree.Step

@@ -8,13 +8,11 @@ ghost use Rattle.bb_lang.specs.Repeats.{next_item, items};
 ghost use Rattle.bb_lang.specs.Statements.{slot_of, space_of, let_of, assign_of, new_of, set_of, link_of, unlink_of};
 ghost use Rattle.bb_lang.specs.Statements.{enter_of, leave_of, delete_of, say_of, change_of, action_of};
 
-use crate::atom::Variable;
 use crate::atoms::read_variable;
-use crate::block::Action;
 use crate::expressions::read_expr;
-use crate::tree::Expr;
 use bb_basis::{Items, Text};
 use bb_token::{LangFault, Parser};
+use bb_tree::{Action, Expr, Variable};
 use std::alloc::Global;
 
 /// A unit and one of its slots.

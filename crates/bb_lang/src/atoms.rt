@@ -4,8 +4,8 @@ ghost use Rattle.bb_basis.specs.Results.{Gives};
 ghost use Rattle.bb_token.specs.declared.fault.LangFault.TheVariants.{Memory as OutOfMemory};
 ghost use Rattle.bb_lang.specs.Expressions.{variable_at, variable, label_or_variable, named, atom_of};
 
-use crate::atom::{Atom, Variable};
 use bb_token::{LangFault, Parser};
+use bb_tree::{Atom, Variable};
 use std::alloc::Global;
 
 /// `it`, `ev`, or the name that the token is.

@@ -6,9 +6,9 @@ ghost use Rattle.bb_token.specs.declared.fault.LangFault.TheVariants.{Memory as 
 ghost use Rattle.bb_lang.specs.Sources.{unit_event, slot_event, space_event, change_event, event, clause, next_clause};
 ghost use Rattle.bb_lang.specs.Sources.{clauses};
 
-use crate::source_text::{ChangeText, ClauseText};
 use bb_basis::Text;
 use bb_token::{LangFault, Parser};
+use bb_tree::{ChangeText, ClauseText};
 use std::alloc::Global;
 
 /// A change of units, at its word.

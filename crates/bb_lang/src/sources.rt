@@ -8,10 +8,10 @@ ghost use Rattle.bb_lang.specs.Sources.{part, part_if, reaction, reaction_if, pa
 ghost use Rattle.bb_lang.specs.Sources.{header, rating, source, next_source, sources_of};
 
 use crate::clauses::read_clauses;
-use crate::source_text::{ActText, HeaderText, PartText, PartTexts, ReactionText, SourceText};
 use crate::statements::read_block;
 use bb_basis::{Items, Text};
 use bb_token::{LangFault, Parser};
+use bb_tree::{ActText, HeaderText, PartText, PartTexts, ReactionText, SourceText};
 use std::alloc::Global;
 
 /// The greatest number of sources.

@@ -8,12 +8,11 @@ ghost use Rattle.bb_lang.specs.Statements.{plain, otherwise_in, if_in, bound, bi
 ghost use Rattle.bb_lang.specs.Statements.{next_statement, block};
 
 use crate::actions::read_action;
-use crate::atom::Variable;
 use crate::atoms::read_variable;
-use crate::block::{Binding, Block, Placed, Statement};
 use crate::expressions::{open, read_expr, read_sequence};
 use bb_basis::Text;
 use bb_token::{LangFault, Parser};
+use bb_tree::{Binding, Block, Placed, Statement, Variable};
 use std::alloc::Global;
 
 /// A statement without blocks.

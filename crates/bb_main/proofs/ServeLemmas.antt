@@ -18,7 +18,7 @@ use Rattle.bb_shell.specs.End.{End}
 use Rattle.bb_shell.specs.End.TheVariants as ends
 use Rattle.bb_shell.specs.Finishes.{Finish}
 use Rattle.bb_shell.specs.Finishes.TheVariants as finishes
-use Rattle.bb_shell.specs.declared.input_fault.InputFault.{InputFault}
+use Rattle.bb_shell.specs.InputFault.{InputFault}
 use Rattle.bb_shell.specs.Finish.{WritesFront, end_of}
 use Rattle.bb_shell.specs.Native.{Native}
 use Rattle.bb_shell.specs.Meaning.{Meaning}

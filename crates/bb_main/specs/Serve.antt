@@ -16,7 +16,7 @@ use Rattle.bb_shell.specs.declared.written.Done.TheVariants.{Written, Write}
 use Rattle.bb_shell.specs.End.{End}
 use Rattle.bb_shell.specs.End.TheVariants as ends
 use Rattle.bb_shell.specs.Finishes.{Finish}
-use Rattle.bb_shell.specs.declared.input_fault.InputFault.{InputFault}
+use Rattle.bb_shell.specs.InputFault.{InputFault}
 use Rattle.bb_shell.specs.Finish.{end_of, is_write}
 use Rattle.bb_shell.specs.Fitting.{native_names}
 use Rattle.bb_shell.specs.Native.{Native}

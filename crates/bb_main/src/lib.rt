@@ -2,6 +2,8 @@
 #![tactic(auto)]
 
 mod input;
+#[cfg(test)]
+mod long_run;
 mod program_native;
 mod read;
 #[cfg(test)]

@@ -2,7 +2,8 @@
 //! its bundle, or the line that refuses it, is written, and why it is refused is said beside that. Where the words of
 //! the command line choose nothing, their text is written.
 
-ghost use Rattle.std.specs.Prelude.{◌≡◌, ◌≢◌, ◌==◌, ◌+◌, ◌∷◌, ◌⊎◌, [], true, false, map, IfErr, IsNone};
+ghost use Rattle.std.specs.Prelude.{◌≡◌, ◌≢◌, ◌==◌, ◌+◌, ◌∷◌, ◌⊎◌, [], true, false, map};
+ghost use Rattle.std.specs.Prelude.{IfErr, IsNone};
 ghost use Rattle.std.specs.Bool.{OnFalse, OnTrue};
 ghost use Rattle.bb_shell.specs.Check.{sources_in};
 ghost use Rattle.bb_shell.specs.Fitting.{native_names};
@@ -259,7 +260,8 @@ fn run_sections<N: NativeSource, O: Out>(
     requires open { O.has_failed writer.old ≡ false }
     ensures answer { let s = sections.entry in
         let a = answer_to_meaning (map N.meaning natives.items) options.limit
-        (meaning (native_names (map N.meaning natives.items)) s.schema.now s.units.now s.sources.now s.bundle.now options.floor) in
+        (meaning (native_names (map N.meaning natives.items))
+        s.schema.now s.units.now s.sources.now s.bundle.now options.floor) in
         Delivers a (O.taken writer.old) (O.taken writer.new) result.status
         ⊎ CutShort a (O.taken writer.old) (O.taken writer.new) result.status }
     ensures failed { O.has_failed writer.new ≡ (result.status == WRITE) }

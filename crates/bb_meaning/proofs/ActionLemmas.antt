@@ -15,8 +15,8 @@ use Rattle.bb_frame.specs.Op.{Op}
 use Rattle.bb_frame.specs.Op.TheVariants as ops
 use Rattle.bb_schema.specs.Schema.{Schema}
 use Rattle.bb_schema.specs.Fits as schemas
-use Rattle.bb_lang.specs.declared.block.Action.{Action}
-use Rattle.bb_lang.specs.declared.block.Action.TheVariants as actions
+use Rattle.bb_lang.specs.Action.{Action}
+use Rattle.bb_lang.specs.Action.TheVariants as actions
 use Rattle.bb_lang.specs.Trees.{ExprTree}
 use Rattle.bb_judge.specs.declared.fault.CompileFault.{CompileFault}
 use Rattle.bb_judge.specs.declared.fault.Flaw.TheVariants.{Effect, NoEnd, Limit}

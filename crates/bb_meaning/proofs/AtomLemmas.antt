@@ -20,9 +20,9 @@ use Rattle.bb_frame.specs.Op.{Op}
 use Rattle.bb_frame.specs.Op.TheVariants as ops
 use Rattle.bb_schema.specs.Schema.{Schema, slot_named, kind_of_slot, name_of_label, label_set_named, label_named}
 use Rattle.bb_schema.specs.Fits as schemas
-use Rattle.bb_lang.specs.declared.atom.Atom.{Atom}
-use Rattle.bb_lang.specs.declared.atom.Atom.TheVariants as atoms
-use Rattle.bb_lang.specs.declared.atom.Variable.{Variable}
+use Rattle.bb_lang.specs.Atom.{Atom}
+use Rattle.bb_lang.specs.Atom.TheVariants as atoms
+use Rattle.bb_lang.specs.Variable.{Variable}
 use Rattle.bb_judge.specs.declared.fault.CompileFault.{CompileFault}
 use Rattle.bb_judge.specs.declared.fault.CompileFault.TheVariants.{At}
 use Rattle.bb_judge.specs.declared.fault.Flaw.{Flaw}

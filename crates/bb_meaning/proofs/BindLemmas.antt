@@ -12,7 +12,7 @@ use Rattle.bb_frame.specs.Kind.TheVariants as kinds
 use Rattle.bb_frame.specs.Op.TheVariants as ops
 use Rattle.bb_schema.specs.Schema.{Schema, class_named, descends}
 use Rattle.bb_schema.specs.Fits as schemas
-use Rattle.bb_lang.specs.declared.block.Action.TheVariants as actions
+use Rattle.bb_lang.specs.Action.TheVariants as actions
 use Rattle.bb_lang.specs.Trees.{ExprTree}
 use Rattle.bb_judge.specs.declared.fault.Flaw.TheVariants.{Unknown, Kind as WrongKind}
 use Rattle.bb_judge.specs.declared.scope.Scope.{Scope}

@@ -21,8 +21,8 @@ use Rattle.bb_pattern.specs.Fits.{query_fits}
 use Rattle.bb_query.specs.Answer.{answer}
 use Rattle.bb_schema.specs.declared.space.Dim.{Dim}
 use Rattle.bb_schema.specs.Schema.{Schema, dims_of}
-use Rattle.bb_lang.specs.declared.atom.Relation.{Relation}
-use Rattle.bb_lang.specs.declared.atom.Relation.TheVariants as relations
+use Rattle.bb_lang.specs.Relation.{Relation}
+use Rattle.bb_lang.specs.Relation.TheVariants as relations
 use Rattle.bb_judge.specs.declared.fault.CompileFault.{CompileFault}
 use Rattle.bb_judge.specs.declared.fault.CompileFault.TheVariants.{At}
 use Rattle.bb_judge.specs.declared.fault.Flaw.TheVariants.{Unknown, Limit}

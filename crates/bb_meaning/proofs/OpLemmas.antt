@@ -24,7 +24,7 @@ use Rattle.bb_step.specs.Stuck.TheVariants as reasons
 use Rattle.bb_step.specs.Value.{stuck, int_of, text_of, bool_of, label_of, interval_of, unit_of}
 use Rattle.bb_step.specs.Values.{Value}
 use Rattle.bb_step.specs.Values.TheVariants.{Int, Text, Bool as Truth, Label, Interval, Unit as One}
-use Rattle.bb_lang.specs.declared.atom.Unary.TheVariants as unaries
+use Rattle.bb_lang.specs.Unary.TheVariants as unaries
 use Rattle.bb_meaning.specs.Meaning.{Meaning, nothing}
 use Rattle.bb_meaning.specs.Values.{unary_value, of_numbers, of_truths, equal, number}
 use Rattle.bb_meaning.proofs.ComeLemmas.{Leaves, done_on}

@@ -17,14 +17,14 @@ use Rattle.bb_frame.specs.Kind.TheVariants as kinds
 use Rattle.bb_frame.specs.Kinds.{is_same_plain}
 use Rattle.bb_frame.specs.Op.{Op}
 use Rattle.bb_frame.specs.Op.TheVariants as ops
-use Rattle.bb_lang.specs.declared.atom.Unary.{Unary}
-use Rattle.bb_lang.specs.declared.atom.Unary.TheVariants as unaries
-use Rattle.bb_lang.specs.declared.atom.Binary.{Binary}
-use Rattle.bb_lang.specs.declared.atom.Binary.TheVariants as binaries
-use Rattle.bb_lang.specs.declared.atom.Operator.{Operator}
-use Rattle.bb_lang.specs.declared.atom.Operator.TheVariants as operators
-use Rattle.bb_lang.specs.declared.atom.Division.{Division}
-use Rattle.bb_lang.specs.declared.atom.Division.TheVariants as divisions
+use Rattle.bb_lang.specs.Unary.{Unary}
+use Rattle.bb_lang.specs.Unary.TheVariants as unaries
+use Rattle.bb_lang.specs.Binary.{Binary}
+use Rattle.bb_lang.specs.Binary.TheVariants as binaries
+use Rattle.bb_lang.specs.Operator.{Operator}
+use Rattle.bb_lang.specs.Operator.TheVariants as operators
+use Rattle.bb_lang.specs.Division.{Division}
+use Rattle.bb_lang.specs.Division.TheVariants as divisions
 use Rattle.bb_judge.specs.declared.fault.CompileFault.{CompileFault}
 use Rattle.bb_judge.specs.declared.fault.Flaw.TheVariants.{Kind as WrongKind, Limit}
 use Rattle.bb_judge.specs.Kinds.{class_of, plain_equality, equality}

@@ -4,13 +4,13 @@ use Rattle.std.specs.Prelude.{pos, negsuc}
 use Rattle.bb_basis.specs.Results.{try_map}
 use Rattle.bb_judge.specs.Place.{Place}
 use Rattle.bb_frame.specs.declared.part.Part.TheVariants.{Do, Obviate, Require}
-use Rattle.bb_lang.specs.declared.atom.Atom.TheVariants as atoms
-use Rattle.bb_lang.specs.declared.atom.Binary.TheVariants as binaries
-use Rattle.bb_lang.specs.declared.atom.Operator.TheVariants.{Plus, Times}
-use Rattle.bb_lang.specs.declared.atom.Division.TheVariants.{Quotient, Remainder}
-use Rattle.bb_lang.specs.declared.atom.Variable.TheVariants.{It, Ev, Named}
-use Rattle.bb_lang.specs.declared.block.Action.{Action}
-use Rattle.bb_lang.specs.declared.block.Action.TheVariants as actions
+use Rattle.bb_lang.specs.Atom.TheVariants as atoms
+use Rattle.bb_lang.specs.Binary.TheVariants as binaries
+use Rattle.bb_lang.specs.Operator.TheVariants.{Plus, Times}
+use Rattle.bb_lang.specs.Division.TheVariants.{Quotient, Remainder}
+use Rattle.bb_lang.specs.Variable.TheVariants.{It, Ev, Named}
+use Rattle.bb_lang.specs.Action.{Action}
+use Rattle.bb_lang.specs.Action.TheVariants as actions
 use Rattle.bb_lang.specs.Trees.{ExprTree, atom, binary, chain, no_step, apply, divide}
 use Rattle.bb_lang.specs.Blocks.{BlockTree, StatementTree, no_statement, before_others, action, if_of, otherwise}
 use Rattle.bb_state.specs.Board.{Board, with_world}

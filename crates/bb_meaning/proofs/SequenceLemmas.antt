@@ -11,7 +11,7 @@ use Rattle.bb_frame.specs.Op.TheVariants as ops
 use Rattle.bb_schema.specs.Schema.{Schema, slot_named}
 use Rattle.bb_schema.specs.Fits as schemas
 use Rattle.bb_links.specs.Links.{ends}
-use Rattle.bb_lang.specs.declared.atom.Variable.{Variable}
+use Rattle.bb_lang.specs.Variable.{Variable}
 use Rattle.bb_judge.specs.declared.fault.Flaw.{Flaw}
 use Rattle.bb_judge.specs.Scope.{name_of}
 use Rattle.bb_judge.specs.Slots.{link_slot}

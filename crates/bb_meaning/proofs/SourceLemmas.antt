@@ -6,12 +6,12 @@ use Rattle.bb_basis.proofs.ResultLemmas.{bind_ok, same_ok, ok_or_ok}
 use Rattle.bb_schema.specs.Schema.{Schema, class_named}
 use Rattle.bb_schema.specs.Fits as schemas
 use Rattle.bb_code.specs.Code.{Code}
-use Rattle.bb_lang.specs.declared.source_text.ActText.{ActText}
-use Rattle.bb_lang.specs.declared.source_text.ActText.TheVariants as acts
-use Rattle.bb_lang.specs.declared.source_text.PartText.{PartText}
-use Rattle.bb_lang.specs.declared.source_text.PartTexts.{PartTexts}
-use Rattle.bb_lang.specs.declared.source_text.ReactionText.{ReactionText}
-use Rattle.bb_lang.specs.declared.source_text.SourceText.{SourceText}
+use Rattle.bb_lang.specs.ActText.{ActText}
+use Rattle.bb_lang.specs.ActText.TheVariants as acts
+use Rattle.bb_lang.specs.PartText.{PartText}
+use Rattle.bb_lang.specs.PartTexts.{PartTexts}
+use Rattle.bb_lang.specs.ReactionText.{ReactionText}
+use Rattle.bb_lang.specs.SourceText.{SourceText}
 use Rattle.bb_judge.specs.Ending.{block_ends}
 use Rattle.bb_judge.specs.Place.{Place}
 use Rattle.bb_judge.specs.declared.fault.CompileFault.{CompileFault}
@@ -22,7 +22,7 @@ use Rattle.bb_bundle.specs.declared.source_code.ActDraft.TheVariants as drafts
 use Rattle.bb_bundle.specs.declared.source_code.ReactionDraft.{ReactionDraft}
 use Rattle.bb_bundle.specs.declared.source_code.SourceDraft.{SourceDraft}
 use Rattle.bb_bundle.specs.Spelled.{is_spelled, if_spelled}
-use Rattle.bb_compile.specs.Compiled.{class_on, class_of_events, part_of, reaction_of, reaction_if, act_of, no_codes, with_require, with_obviate, with_retrigger, with_revalidate, codes_of, head_of, assembled, draft_of, compiled, same_clauses}
+use Rattle.bb_compile.specs.Compiled.{class_on, class_of_events, part_of, reaction_of, reaction_if, act_of, no_codes, with_require, with_obviate, with_retrigger, with_revalidate, codes_of, head_of, assembled, draft_of, compiled}
 use Rattle.bb_verify.specs.PartType.{Part}
 use Rattle.bb_verify.specs.PartType.TheVariants.{Require, Obviate, Retrigger, Revalidate, Do}
 use Rattle.bb_accepted.specs.Parts.{part_code}
@@ -71,8 +71,8 @@ module _ (schema : Schema) (sf : schemas.Fits schema) where
   reaction_ok part (Some text) r plain h =
       let one = bind_ok (class_of_events schema text) (λ of. reaction_of schema (part of) text >>= λ x. Ok (Some x)) r h in
       let two = bind_ok (reaction_of schema (part one.0) text) (λ x. Ok (Some x)) r one.2 in
-      let three = bind_ok (part_code schema (part one.0) text.place text.block) (λ code. Ok (record { class = text.class; clauses = same_clauses text.clauses; code = code })) two.0 two.1 in
-      let made : ReactionDraft Code = record { class = text.class; clauses = same_clauses text.clauses; code = three.0 } in
+      let three = bind_ok (part_code schema (part one.0) text.place text.block) (λ code. Ok (record { class = text.class; clauses = text.clauses; code = code })) two.0 two.1 in
+      let made : ReactionDraft Code = record { class = text.class; clauses = text.clauses; code = three.0 } in
       let own : IsAcceptedFor schema part made = (one.0, events_ok text one.0 one.1, part_accepted schema sf (part one.0) text.place text.block plain three.0 three.1) in
       subst (λ x. IfSome x (IsAcceptedFor schema part)) (same_ok (Some two.0) r two.2) (subst (IsAcceptedFor schema part) (same_ok made two.0 three.2) own)
 

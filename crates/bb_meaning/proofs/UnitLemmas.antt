@@ -13,8 +13,8 @@ use Rattle.bb_frame.specs.Op.TheVariants as ops
 use Rattle.bb_schema.specs.Schema.{Schema, space_named, descends}
 use Rattle.bb_schema.specs.Spaces.{allowed}
 use Rattle.bb_schema.specs.Fits as schemas
-use Rattle.bb_lang.specs.declared.atom.Variable.{Variable}
-use Rattle.bb_lang.specs.declared.block.Action.TheVariants as actions
+use Rattle.bb_lang.specs.Variable.{Variable}
+use Rattle.bb_lang.specs.Action.TheVariants as actions
 use Rattle.bb_lang.specs.Trees.{ExprTree}
 use Rattle.bb_judge.specs.declared.fault.Flaw.{Flaw}
 use Rattle.bb_judge.specs.declared.fault.Flaw.TheVariants.{Unknown, LinkClass, Space}

@@ -7,10 +7,10 @@ use Rattle.bb_op.specs.Trees as patterns
 use Rattle.bb_pattern.specs.declared.value.DimValue.{DimValue}
 use Rattle.bb_query.specs.Answer.{answer}
 use Rattle.bb_schema.specs.Schema.{class_named, space_named, label_set_named, label_named, dims_of}
-use Rattle.bb_lang.specs.declared.atom.Atom.{Atom}
-use Rattle.bb_lang.specs.declared.atom.Atom.TheVariants as atoms
-use Rattle.bb_lang.specs.declared.atom.Relation.{Relation}
-use Rattle.bb_lang.specs.declared.atom.Relation.TheVariants as relations
+use Rattle.bb_lang.specs.Atom.{Atom}
+use Rattle.bb_lang.specs.Atom.TheVariants as atoms
+use Rattle.bb_lang.specs.Relation.{Relation}
+use Rattle.bb_lang.specs.Relation.TheVariants as relations
 use Rattle.bb_lang.specs.Trees.{ExprTree, Steps, SequenceTree, PatternTree, Patterns, atom, unary, binary, chain, size_of, no_step, apply, divide, found, linked, all, and_of, or_of, not_of, test, no_pattern, more}
 use Rattle.bb_judge.specs.Scope.{name_of}
 use Rattle.bb_judge.specs.Slots.{index_of}

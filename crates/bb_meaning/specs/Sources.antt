@@ -2,11 +2,11 @@
 use Rattle.std.specs.Prelude.{◌≡◌, ℕ, Bool, true, ◌&&◌, List, Option, Some, None, IfSome, Ok}
 use Rattle.bb_schema.specs.Schema.{Schema, class_named}
 use Rattle.bb_code.specs.Code.{Code}
-use Rattle.bb_lang.specs.declared.source_text.ActText.{ActText}
-use Rattle.bb_lang.specs.declared.source_text.ActText.TheVariants as acts
-use Rattle.bb_lang.specs.declared.source_text.PartText.{PartText}
-use Rattle.bb_lang.specs.declared.source_text.ReactionText.{ReactionText}
-use Rattle.bb_lang.specs.declared.source_text.SourceText.{SourceText}
+use Rattle.bb_lang.specs.ActText.{ActText}
+use Rattle.bb_lang.specs.ActText.TheVariants as acts
+use Rattle.bb_lang.specs.PartText.{PartText}
+use Rattle.bb_lang.specs.ReactionText.{ReactionText}
+use Rattle.bb_lang.specs.SourceText.{SourceText}
 use Rattle.bb_bundle.specs.declared.source_code.ActDraft.{ActDraft}
 use Rattle.bb_bundle.specs.declared.source_code.ActDraft.TheVariants as drafts
 use Rattle.bb_bundle.specs.declared.source_code.ReactionDraft.{ReactionDraft}

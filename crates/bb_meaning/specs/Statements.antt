@@ -3,11 +3,11 @@ use Rattle.std.specs.Prelude.{ℕ, Bool, true, false, ◌&&◌, List, [], ◌∷
 use Rattle.bb_basis.specs.Results.{◌>>=◌, ok_or, try_map}
 use Rattle.bb_schema.specs.Schema.{class_named, space_named, descends}
 use Rattle.bb_links.specs.Links.{ends}
-use Rattle.bb_lang.specs.declared.atom.Variable.{Variable}
-use Rattle.bb_lang.specs.declared.block.Action.{Action}
-use Rattle.bb_lang.specs.declared.block.Action.TheVariants as actions
-use Rattle.bb_lang.specs.declared.block.Binding.{Binding}
-use Rattle.bb_lang.specs.declared.block.Binding.TheVariants.{As, Linked}
+use Rattle.bb_lang.specs.Variable.{Variable}
+use Rattle.bb_lang.specs.Action.{Action}
+use Rattle.bb_lang.specs.Action.TheVariants as actions
+use Rattle.bb_lang.specs.Binding.{Binding}
+use Rattle.bb_lang.specs.Binding.TheVariants.{As, Linked}
 use Rattle.bb_lang.specs.Trees.{ExprTree}
 use Rattle.bb_lang.specs.View.{sequence_of}
 use Rattle.bb_lang.specs.Blocks.{BlockTree, StatementTree, OtherwiseTree, no_statement, before_others, action, if_of, with_of, for_of, absent, otherwise}

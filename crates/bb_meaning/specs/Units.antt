@@ -3,7 +3,7 @@ use Rattle.std.specs.Prelude.{ℕ, List, Ok, if◌then◌else◌}
 use Rattle.bb_basis.specs.Results.{◌>>=◌, ok_or}
 use Rattle.bb_schema.specs.Schema.{slot_named}
 use Rattle.bb_links.specs.Links.{ends}
-use Rattle.bb_lang.specs.declared.atom.Variable.{Variable}
+use Rattle.bb_lang.specs.Variable.{Variable}
 use Rattle.bb_judge.specs.Scope.{name_of}
 use Rattle.bb_state.specs.Board.{Board}
 use Rattle.bb_state.specs.Units.{is_live, value_of}

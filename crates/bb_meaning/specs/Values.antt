@@ -4,14 +4,14 @@ use Rattle.std.specs.Int.{w64, saturate_signed, int_min, int_max, int_div_euclid
 use Rattle.std.specs.Ordering.{int_eq}
 use Rattle.std.specs.Str.{bytes_eq}
 use Rattle.bb_basis.specs.Results.{◌>>=◌}
-use Rattle.bb_lang.specs.declared.atom.Unary.{Unary}
-use Rattle.bb_lang.specs.declared.atom.Unary.TheVariants.{Not, Low, High}
-use Rattle.bb_lang.specs.declared.atom.Binary.{Binary}
-use Rattle.bb_lang.specs.declared.atom.Binary.TheVariants as binaries
-use Rattle.bb_lang.specs.declared.atom.Operator.{Operator}
-use Rattle.bb_lang.specs.declared.atom.Operator.TheVariants.{Or, And, Plus, Minus, Times}
-use Rattle.bb_lang.specs.declared.atom.Division.{Division}
-use Rattle.bb_lang.specs.declared.atom.Division.TheVariants.{Quotient, Remainder}
+use Rattle.bb_lang.specs.Unary.{Unary}
+use Rattle.bb_lang.specs.Unary.TheVariants.{Not, Low, High}
+use Rattle.bb_lang.specs.Binary.{Binary}
+use Rattle.bb_lang.specs.Binary.TheVariants as binaries
+use Rattle.bb_lang.specs.Operator.{Operator}
+use Rattle.bb_lang.specs.Operator.TheVariants.{Or, And, Plus, Minus, Times}
+use Rattle.bb_lang.specs.Division.{Division}
+use Rattle.bb_lang.specs.Division.TheVariants.{Quotient, Remainder}
 use Rattle.bb_step.specs.Values.{Value}
 use Rattle.bb_step.specs.Values.TheVariants.{Int, Text, Bool as Truth, Label, Interval, Unit as One}
 use Rattle.bb_meaning.specs.Meaning.{Meaning, nothing}

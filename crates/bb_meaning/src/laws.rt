@@ -4,7 +4,7 @@
 ghost use Rattle.std.specs.Prelude.{◌≡◌, ◌≤◌, ℕ, true, length, Ok};
 ghost use Rattle.bb_code.specs.Code.{Code as AnyCode};
 ghost use Rattle.bb_lang.specs.Blocks.{BlockTree};
-ghost use Rattle.bb_lang.specs.declared.source_text.SourceText.{SourceText};
+ghost use Rattle.bb_lang.specs.SourceText.{SourceText};
 ghost use Rattle.bb_bundle.specs.declared.source_code.SourceDraft.{SourceDraft};
 ghost use Rattle.bb_compile.specs.Compiled.{compiled};
 ghost use Rattle.bb_judge.specs.Place.{Place};

@@ -11,8 +11,8 @@ use Rattle.bb_verify.specs.Flaw.TheVariants as flaws
 use Rattle.bb_verify.specs.Part.{writes}
 use Rattle.bb_verify.specs.PartType.{Part}
 use Rattle.bb_verify.specs.PartType.TheVariants as parts
-use Rattle.bb_bundle.specs.declared.source_code.ClauseText.{ClauseText}
-use Rattle.bb_bundle.specs.declared.source_code.ClauseText.TheVariants as texts
+use Rattle.bb_bundle.specs.ClauseText.{ClauseText}
+use Rattle.bb_bundle.specs.ClauseText.TheVariants as texts
 use Rattle.bb_bundle.specs.declared.source_code.ReactionDraft.{ReactionDraft}
 use Rattle.bb_bundle.specs.declared.source_code.ActDraft.{ActDraft}
 use Rattle.bb_bundle.specs.declared.source_code.ActDraft.TheVariants as drafts

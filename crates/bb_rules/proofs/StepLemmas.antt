@@ -4,7 +4,7 @@ use Rattle.bb_basis.specs.Results.{◌>>=◌}
 use Rattle.bb_basis.proofs.ResultLemmas.{bind_ok, same_ok}
 use Rattle.bb_schema.specs.Schema.{Schema}
 use Rattle.bb_verify.specs.Accepted.{Checked}
-use Rattle.bb_bundle.specs.declared.source_code.ClauseText.{ClauseText}
+use Rattle.bb_bundle.specs.ClauseText.{ClauseText}
 use Rattle.bb_bundle.specs.declared.source_code.ReactionDraft.{ReactionDraft}
 use Rattle.bb_bundle.specs.declared.source_code.SourceDraft.{SourceDraft}
 use Rattle.bb_rules.specs.declared.answered.Answered.{Answered}

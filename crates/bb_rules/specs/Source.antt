@@ -4,10 +4,10 @@ use Rattle.std.specs.Prelude.{Result, Ok, Err, if◌then◌else◌}
 use Rattle.bb_basis.specs.Results.{◌>>=◌, ok_or, try_map}
 use Rattle.bb_board.specs.ChangeKind.{ChangeKind}
 use Rattle.bb_board.specs.ChangeKind.TheVariants as kinds
-use Rattle.bb_bundle.specs.declared.source_code.ChangeText.{ChangeText}
-use Rattle.bb_bundle.specs.declared.source_code.ChangeText.TheVariants as changes
-use Rattle.bb_bundle.specs.declared.source_code.ClauseText.{ClauseText}
-use Rattle.bb_bundle.specs.declared.source_code.ClauseText.TheVariants as texts
+use Rattle.bb_bundle.specs.ChangeText.{ChangeText}
+use Rattle.bb_bundle.specs.ChangeText.TheVariants as changes
+use Rattle.bb_bundle.specs.ClauseText.{ClauseText}
+use Rattle.bb_bundle.specs.ClauseText.TheVariants as texts
 use Rattle.bb_bundle.specs.declared.source_code.ReactionDraft.{ReactionDraft}
 use Rattle.bb_bundle.specs.declared.source_code.ActDraft.{ActDraft}
 use Rattle.bb_bundle.specs.declared.source_code.ActDraft.TheVariants as drafts

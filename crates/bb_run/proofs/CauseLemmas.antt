@@ -5,7 +5,7 @@ use Rattle.std.proofs.lemmas.Option.{get_or_from_slice_get}
 use Rattle.bb_trace.specs.Event.{Event}
 use Rattle.bb_trace.specs.Event.TheVariants.{Quiescence as quiescence}
 use Rattle.bb_trace.specs.Board.{Board as Blackboard}
-use Rattle.bb_agenda.specs.declared.activation.Activation.{Activation}
+use Rattle.bb_agenda.specs.Activation.{Activation}
 use Rattle.bb_verify.specs.Accepted.{Checked}
 use Rattle.bb_machine.specs.Answer.{Answer}
 use Rattle.bb_machine.specs.Answer.TheVariants as answers

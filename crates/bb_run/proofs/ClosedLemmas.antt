@@ -3,7 +3,7 @@ use Rattle.std.proofs.Common.{◌≡◌, ℕ, zero, suc, ℤ, List, [], ◌∷�
 use Rattle.std.specs.List.{AllZip}
 use Rattle.std.specs.Option.{option_map_or}
 use Rattle.std.proofs.lemmas.List.Concat.{flat_map-append}
-use Rattle.bb_agenda.specs.declared.activation.Activation.{Activation}
+use Rattle.bb_agenda.specs.Activation.{Activation}
 use Rattle.bb_code.specs.Code.{Code}
 use Rattle.bb_machine.specs.Outcome.{Outcome}
 use Rattle.bb_machine.specs.Stop.{Stop}

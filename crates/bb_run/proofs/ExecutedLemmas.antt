@@ -3,7 +3,7 @@ use Rattle.std.proofs.Common.{◌≡◌, ◌<◌, ◌≤◌, inl, inr, ℕ, ◌+
 use Rattle.std.proofs.lemmas.List.{append-nil, append_cancel_left, append_cancel_right}
 use Rattle.std.proofs.lemmas.Option.{slice_get_cases}
 use Rattle.bb_trace.specs.Board.{Board as Blackboard}
-use Rattle.bb_agenda.specs.declared.activation.Activation.{Activation}
+use Rattle.bb_agenda.specs.Activation.{Activation}
 use Rattle.bb_trace.specs.Source.{Source}
 use Rattle.bb_trace.specs.declared.end.End.{End}
 use Rattle.bb_trace.specs.declared.end.End.TheVariants as finishes

@@ -1,6 +1,6 @@
 -- What is told of a code that was executed, and of one that was asked, by how that came out.
 use Rattle.std.proofs.Common.{◌≡◌, List, Option, None, Result, sym, subst, ap, ◌∙◌}
-use Rattle.bb_agenda.specs.declared.activation.Activation.{Activation}
+use Rattle.bb_agenda.specs.Activation.{Activation}
 use Rattle.bb_code.specs.Code.{Code}
 use Rattle.bb_verify.specs.Accepted.{Checked}
 use Rattle.bb_machine.specs.Answer.{Answer}

@@ -6,7 +6,7 @@ use Rattle.std.specs.FinMap as fin
 use Rattle.std.proofs.lemmas.List.{take_more, map-append}
 use Rattle.std.proofs.lemmas.List.Sums.{fold-append}
 use Rattle.bb_schema.specs.Schema.{Schema}
-use Rattle.bb_agenda.specs.declared.focus.Focus.{Focus}
+use Rattle.bb_agenda.specs.Focus.{Focus}
 use Rattle.bb_agenda.specs.Agenda.{Agenda}
 use Rattle.bb_agenda.specs.Changes.{with_focus, without_focus}
 use Rattle.bb_agenda.specs.Foci.{Foci}

@@ -1,6 +1,6 @@
 -- The code of a run goes on knowing the foci of the blackboard.
 use Rattle.std.proofs.Common.{◌≡◌, ℕ, List, Option, Ok, sym, subst}
-use Rattle.bb_agenda.specs.declared.activation.Activation.{Activation}
+use Rattle.bb_agenda.specs.Activation.{Activation}
 use Rattle.bb_trace.specs.Board.{Board as Blackboard}
 use Rattle.bb_trace.specs.Event.TheVariants.{Quiescence as quiescence}
 use Rattle.bb_trace.specs.declared.end.End.{End}

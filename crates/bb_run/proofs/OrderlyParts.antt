@@ -11,7 +11,7 @@ use Rattle.bb_trace.specs.BoardNote.TheVariants.{Event as happened}
 use Rattle.bb_trace.specs.Board.{Board as Blackboard}
 use Rattle.bb_trace.specs.Events.{unit_of}
 use Rattle.bb_trace.specs.Match.{any_match}
-use Rattle.bb_agenda.specs.declared.activation.Activation.{Activation}
+use Rattle.bb_agenda.specs.Activation.{Activation}
 use Rattle.bb_agenda.specs.Agenda.{Agenda, is_full, is_of, next_number, pending_for, pending_of}
 use Rattle.bb_agenda.specs.Changes.{new_activation, with_activation}
 use Rattle.bb_code.specs.Code.{Code}

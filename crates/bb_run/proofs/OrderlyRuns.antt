@@ -4,7 +4,7 @@ use Rattle.std.specs.Prelude.{Contains}
 use Rattle.std.proofs.lemmas.List.{append-nil}
 use Rattle.std.proofs.lemmas.List.Elements.{All-contains}
 use Rattle.bb_trace.specs.Board.{Board as Blackboard}
-use Rattle.bb_agenda.specs.declared.activation.Activation.{Activation}
+use Rattle.bb_agenda.specs.Activation.{Activation}
 use Rattle.bb_agenda.specs.Agenda.{Agenda, next_number, pending_of}
 use Rattle.bb_agenda.proofs.Laws.{chosen_some}
 use Rattle.bb_trace.specs.declared.end.End.{End}

@@ -4,7 +4,7 @@ use Rattle.std.proofs.Common.{◌≡◌, inl, inr, true, List, [], ◌∷◌, le
 use Rattle.std.specs.Prelude.{All, Contains, not}
 use Rattle.std.specs.List.{list_all}
 use Rattle.std.proofs.lemmas.List.Elements.{All-contains}
-use Rattle.bb_agenda.specs.declared.activation.Activation.{Activation}
+use Rattle.bb_agenda.specs.Activation.{Activation}
 use Rattle.bb_machine.proofs.Laws.{activation_reads, part_reads}
 use Rattle.bb_machine.specs.Writes.{has_no_writes, is_write}
 use Rattle.bb_code.specs.Op.{Op}

@@ -14,7 +14,7 @@ use Rattle.bb_trace.specs.BoardNote.TheVariants as noted
 use Rattle.bb_trace.specs.Said.TheVariants as saids
 use Rattle.bb_trace.specs.Board.{Board as Blackboard, new_board, with_world}
 use Rattle.bb_trace.specs.World.{after_create}
-use Rattle.bb_agenda.specs.declared.activation.Activation.{Activation}
+use Rattle.bb_agenda.specs.Activation.{Activation}
 use Rattle.bb_basis.specs.Results.{try_map}
 use Rattle.bb_machine.specs.Machine.{pop, pop_many, push, room}
 use Rattle.bb_machine.specs.Reading.{push_text}

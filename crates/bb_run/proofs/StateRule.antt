@@ -1,7 +1,7 @@
 -- What holds of the state that a run leaves, where each of its parts keeps it.
 use Rattle.std.proofs.Common.{◌≡◌, ℕ, zero, suc, ◌+◌, ℤ, List, [], ◌∷◌, slice_get, Option, Some, None, refl}
 use Rattle.std.specs.Prelude.{option_and_then}
-use Rattle.bb_agenda.specs.declared.activation.Activation.{Activation}
+use Rattle.bb_agenda.specs.Activation.{Activation}
 use Rattle.bb_trace.specs.Act.{Act}
 use Rattle.bb_trace.specs.Board.{Board as Blackboard}
 use Rattle.bb_trace.specs.Event.{Event}

@@ -19,7 +19,7 @@ use Rattle.bb_machine.specs.Outcome.{Outcome}
 use Rattle.bb_machine.specs.Stop.{Stop}
 use Rattle.bb_machine.specs.Stop.TheVariants as stops
 use Rattle.bb_schema.specs.Fits as schemas
-use Rattle.bb_agenda.specs.declared.activation.Activation.{Activation}
+use Rattle.bb_agenda.specs.Activation.{Activation}
 use Rattle.bb_agenda.specs.Agenda.{Agenda, is_full, is_of, pending_for, pending_of}
 use Rattle.bb_agenda.specs.Changes.{new_activation, other_than, rebased, with_activation, with_base, with_obviated}
 use Rattle.bb_agenda.proofs.Laws.{pending_added, pending_obviated, pending_rebased}

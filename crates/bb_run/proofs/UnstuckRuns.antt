@@ -16,7 +16,7 @@ use Rattle.bb_machine.specs.NeverWrong.{Begins, KeepsBudget as KeepsOwnBudget, N
 use Rattle.bb_machine.specs.Outcome.{Outcome}
 use Rattle.bb_machine.specs.Stop.{Stop}
 use Rattle.bb_machine.specs.Stop.TheVariants as stops
-use Rattle.bb_agenda.specs.declared.activation.Activation.{Activation}
+use Rattle.bb_agenda.specs.Activation.{Activation}
 use Rattle.bb_agenda.specs.Agenda.{pending_of}
 use Rattle.bb_agenda.specs.Changes.{other_than}
 use Rattle.bb_agenda.proofs.Laws.{chosen_some, pending_executed, pending_obviated}

@@ -12,7 +12,7 @@ use Rattle.bb_machine.specs.Fits.{Fits}
 use Rattle.bb_trace.specs.Outlives.{Outlives}
 use Rattle.bb_machine.specs.Units.{Units}
 use Rattle.bb_machine.specs.NeverWrong.{Begins}
-use Rattle.bb_agenda.specs.declared.activation.Activation.{Activation}
+use Rattle.bb_agenda.specs.Activation.{Activation}
 use Rattle.bb_agenda.specs.Agenda.{pending_of}
 use Rattle.bb_trace.specs.Board.{Board as Blackboard, with_world}
 use Rattle.bb_trace.specs.BoardNote.{Note as BoardNote}

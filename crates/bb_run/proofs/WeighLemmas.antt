@@ -12,8 +12,8 @@ use Rattle.std.proofs.Math.Nat.{eq-or-lt_of_le}
 use Rattle.std.proofs.lemmas.Bool.{cases_lt, eqb-true}
 use Rattle.std.proofs.lemmas.Option.{slice_get_within, get_or_from_slice_get}
 use Rattle.bb_schema.specs.Schema.{Schema, descends}
-use Rattle.bb_agenda.specs.declared.activation.Activation.{Activation}
-use Rattle.bb_agenda.specs.declared.focus.Focus.{Focus}
+use Rattle.bb_agenda.specs.Activation.{Activation}
+use Rattle.bb_agenda.specs.Focus.{Focus}
 use Rattle.bb_agenda.specs.Agenda.{pending_of}
 use Rattle.bb_agenda.specs.Chosen.{chosen}
 use Rattle.bb_agenda.specs.Foci.{Foci, Setting}

@@ -7,8 +7,8 @@ use Rattle.std.specs.FinMap as fin
 use Rattle.bb_classes.specs.declared.value.Value.{Value}
 use Rattle.bb_classes.specs.declared.value.Value.TheVariants as values
 use Rattle.bb_schema.specs.Schema.{Schema, descends}
-use Rattle.bb_agenda.specs.declared.focus.Focus.{Focus}
-use Rattle.bb_agenda.specs.declared.setting.RatedSource.{RatedSource}
+use Rattle.bb_agenda.specs.Focus.{Focus}
+use Rattle.bb_agenda.specs.RatedSource.{RatedSource}
 use Rattle.bb_agenda.specs.Foci.{Foci, Setting}
 use Rattle.bb_agenda.specs.Agenda.{Agenda, no_activations}
 use Rattle.bb_trace.specs.Board.{Board as Blackboard}

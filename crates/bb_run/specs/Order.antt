@@ -2,7 +2,7 @@
 use Rattle.std.specs.Prelude.{◌≡◌, ◌⊎◌, ℕ, ◌+◌, ◌≤◌, ◌<◌, ℤ, ◌≤ℤ◌, Bool, true, false, ◌==◌, Some, None}
 use Rattle.std.specs.Prelude.{List, [], ◌∷◌, ◌++◌, length, map, filter, Contains}
 use Rattle.std.specs.List.{AllZip, count_by, flat_map, fold, list_any}
-use Rattle.bb_agenda.specs.declared.activation.Activation.{Activation}
+use Rattle.bb_agenda.specs.Activation.{Activation}
 use Rattle.bb_agenda.specs.Agenda.{pending_of}
 use Rattle.bb_agenda.specs.Changes.{other_than, rebased}
 use Rattle.bb_agenda.specs.Chosen.{IsChosen}

@@ -6,7 +6,7 @@ use Rattle.bb_schema.specs.Schema.{Schema}
 use Rattle.bb_trace.specs.Event.{Event}
 use Rattle.bb_trace.specs.BoardNote.TheVariants.{Event as happened}
 use Rattle.bb_trace.specs.Events.{unit_of}
-use Rattle.bb_agenda.specs.declared.activation.Activation.{Activation}
+use Rattle.bb_agenda.specs.Activation.{Activation}
 use Rattle.bb_agenda.specs.Agenda.{is_full, pending_for}
 use Rattle.bb_agenda.specs.Changes.{new_activation, with_activation, with_base, with_obviated}
 use Rattle.bb_machine.specs.Answer.{Answer}

@@ -1,6 +1,6 @@
 -- What is asked about events and activations changes nothing of the blackboard.
 use Rattle.std.specs.Prelude.{◌≡◌, true, Contains}
-use Rattle.bb_agenda.specs.declared.activation.Activation.{Activation}
+use Rattle.bb_agenda.specs.Activation.{Activation}
 use Rattle.bb_machine.specs.Writes.{has_no_writes}
 use Rattle.bb_verify.specs.Accepted.{Checked}
 use Rattle.bb_trace.specs.Board.{Board as Blackboard}

@@ -6,7 +6,7 @@ use Rattle.bb_verify.specs.Accepted.{Checked}
 use Rattle.bb_machine.specs.Fits.{Fits, is_event_of}
 use Rattle.bb_machine.specs.Kinds.{WasOf}
 use Rattle.bb_machine.specs.NeverWrong.{Begins}
-use Rattle.bb_agenda.specs.declared.activation.Activation.{Activation}
+use Rattle.bb_agenda.specs.Activation.{Activation}
 use Rattle.bb_agenda.specs.Agenda.{pending_of}
 use Rattle.bb_trace.specs.Act.TheVariants as acts
 use Rattle.bb_trace.specs.Board.{Board as Blackboard}

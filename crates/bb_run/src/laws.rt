@@ -1,7 +1,7 @@
 //! What holds of every run. No code calls it: it says what the runs are like that `run_texts` tells.
 
 ghost use Rattle.std.specs.Prelude.{◌≡◌, ℕ, ◌+◌, ◌-◌, ℤ, All, List, ◌∷◌, ◌++◌};
-ghost use Rattle.bb_agenda.specs.declared.activation.Activation.{Activation};
+ghost use Rattle.bb_agenda.specs.Activation.{Activation};
 ghost use Rattle.bb_trace.specs.Board.{Board};
 ghost use Rattle.bb_trace.specs.Event.{Event};
 ghost use Rattle.bb_trace.specs.declared.note.Note.{Note};

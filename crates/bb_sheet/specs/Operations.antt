@@ -11,14 +11,14 @@ use Rattle.bb_code.specs.Comparison.TheVariants as comparisons
 use Rattle.bb_code.specs.Division.{Division as OpDivision}
 use Rattle.bb_code.specs.Division.TheVariants as op_divisions
 use Rattle.bb_code.specs.Logic.TheVariants as logics
-use Rattle.bb_lang.specs.declared.atom.Unary.{Unary}
-use Rattle.bb_lang.specs.declared.atom.Unary.TheVariants as unaries
-use Rattle.bb_lang.specs.declared.atom.Binary.{Binary}
-use Rattle.bb_lang.specs.declared.atom.Binary.TheVariants as binaries
-use Rattle.bb_lang.specs.declared.atom.Operator.{Operator}
-use Rattle.bb_lang.specs.declared.atom.Operator.TheVariants as operators
-use Rattle.bb_lang.specs.declared.atom.Division.{Division}
-use Rattle.bb_lang.specs.declared.atom.Division.TheVariants as divisions
+use Rattle.bb_lang.specs.Unary.{Unary}
+use Rattle.bb_lang.specs.Unary.TheVariants as unaries
+use Rattle.bb_lang.specs.Binary.{Binary}
+use Rattle.bb_lang.specs.Binary.TheVariants as binaries
+use Rattle.bb_lang.specs.Operator.{Operator}
+use Rattle.bb_lang.specs.Operator.TheVariants as operators
+use Rattle.bb_lang.specs.Division.{Division}
+use Rattle.bb_lang.specs.Division.TheVariants as divisions
 use Rattle.bb_judge.specs.declared.fault.Flaw.TheVariants.{Kind as WrongKind, Limit}
 use Rattle.bb_judge.specs.Kinds.{equality}
 use Rattle.bb_sheet.specs.declared.sheet.Sheet.{Sheet}

@@ -9,8 +9,8 @@ use Rattle.bb_run.specs.Classes.{Classes}
 use Rattle.bb_run.specs.MadeSource.{classes_of}
 use Rattle.bb_shell.specs.declared.accepting.CodeFault.{CodeFault}
 use Rattle.bb_shell.specs.declared.accepting.CodeFault.TheVariants as faults
-use Rattle.bb_shell.specs.declared.input_fault.InputFault.{InputFault}
-use Rattle.bb_shell.specs.declared.input_fault.InputFault.TheVariants as inputs
+use Rattle.bb_refusal.specs.declared.input_fault.InputFault.{InputFault}
+use Rattle.bb_refusal.specs.declared.input_fault.InputFault.TheVariants as inputs
 use Rattle.bb_shell.specs.Accepting.{accepted_draft, accepted_source, in_source}
 
 -- what comes of a source once its classes are found

@@ -7,8 +7,8 @@ use Rattle.bb_code.specs.Code.{Code}
 use Rattle.bb_bundle.specs.declared.source_code.SourceDraft.{SourceDraft}
 use Rattle.bb_run.specs.Source.{Source}
 use Rattle.bb_shell.specs.declared.fitting.Unfit.{Unfit}
-use Rattle.bb_shell.specs.declared.input_fault.InputFault.{InputFault}
-use Rattle.bb_shell.specs.declared.input_fault.InputFault.TheVariants.{Memory}
+use Rattle.bb_refusal.specs.declared.input_fault.InputFault.{InputFault}
+use Rattle.bb_refusal.specs.declared.input_fault.InputFault.TheVariants.{Memory}
 use Rattle.bb_shell.specs.declared.sources.Gathered.{Gathered}
 use Rattle.bb_shell.specs.Accepting.{accepted_source}
 use Rattle.bb_shell.specs.Fitting.{source_after}

@@ -1,5 +1,3 @@
--- texts of several pieces
-pub mod RefusalLemmas
 -- what an input means, after each step
 pub mod MeaningLemmas
 -- a source whose classes are looked up, and whose codes are accepted

@@ -30,8 +30,8 @@ use Rattle.bb_shell.specs.declared.accepting.FirstCodes.{FirstCodes}
 use Rattle.bb_shell.specs.declared.accepting.LaterCodes.{LaterCodes}
 use Rattle.bb_shell.specs.declared.fitting.Unfit.{Unfit}
 use Rattle.bb_shell.specs.declared.fitting.Unfit.TheVariants as unfits
-use Rattle.bb_shell.specs.declared.input_fault.InputFault.{InputFault}
-use Rattle.bb_shell.specs.declared.input_fault.InputFault.TheVariants as inputs
+use Rattle.bb_refusal.specs.declared.input_fault.InputFault.{InputFault}
+use Rattle.bb_refusal.specs.declared.input_fault.InputFault.TheVariants as inputs
 use Rattle.bb_shell.specs.Accepting.{accepted_code, accepted_part, accepted_reaction, accepted_act, accepted_first, accepted_later, accepted_codes, accepted_draft, accepted_source, codes_of, draft_of, header_of, in_source}
 use Rattle.bb_shell.specs.Fitting.{fitted, lacks_native, names_of, source_after}
 use Rattle.bb_shell.specs.Sources.{codes_in, given, in_input, resolved_source, sources_for}

@@ -3,8 +3,8 @@ use Rattle.std.proofs.Common.{◌≡◌, ℕ, ℤ, ◌⊎◌, inl, inr, List, Re
 use Rattle.bb_basis.specs.Results.{◌>>=◌, map_err}
 use Rattle.bb_schema.specs.Schema.{Schema}
 use Rattle.bb_schema.specs.Reading.{schema_of}
-use Rattle.bb_shell.specs.declared.input_fault.InputFault.{InputFault}
-use Rattle.bb_shell.specs.declared.input_fault.InputFault.TheVariants as inputs
+use Rattle.bb_refusal.specs.declared.input_fault.InputFault.{InputFault}
+use Rattle.bb_refusal.specs.declared.input_fault.InputFault.TheVariants as inputs
 use Rattle.bb_run.specs.Board.{Board, new_board}
 use Rattle.bb_run.specs.Load.{loaded}
 use Rattle.bb_shell.specs.Meaning.{Meaning, meaning}

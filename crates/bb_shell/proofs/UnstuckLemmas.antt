@@ -25,8 +25,8 @@ use Rattle.bb_run.specs.Source.{Source}
 use Rattle.bb_run.specs.Act.TheVariants as acts
 use Rattle.bb_shell.specs.declared.fitting.Unfit.{Unfit}
 use Rattle.bb_shell.specs.declared.fitting.Unfit.TheVariants as unfits
-use Rattle.bb_shell.specs.declared.input_fault.InputFault.{InputFault}
-use Rattle.bb_shell.specs.declared.input_fault.InputFault.TheVariants as inputs
+use Rattle.bb_refusal.specs.declared.input_fault.InputFault.{InputFault}
+use Rattle.bb_refusal.specs.declared.input_fault.InputFault.TheVariants as inputs
 use Rattle.bb_shell.specs.Accepting.{accepted_source}
 use Rattle.bb_shell.specs.Fitting.{HasAct, fitted, has_native, is_native, lacks_native, names_in, names_of, native_names, source_after}
 use Rattle.bb_shell.specs.Meaning.{Meaning, meaning}

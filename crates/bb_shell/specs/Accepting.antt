@@ -18,8 +18,8 @@ use Rattle.bb_shell.specs.declared.accepting.LaterCodes.{LaterCodes}
 use Rattle.bb_shell.specs.declared.accepting.Codes.{Codes}
 use Rattle.bb_shell.specs.declared.accepting.CodeFault.{CodeFault}
 use Rattle.bb_shell.specs.declared.accepting.CodeFault.TheVariants as faults
-use Rattle.bb_shell.specs.declared.input_fault.InputFault.{InputFault}
-use Rattle.bb_shell.specs.declared.input_fault.InputFault.TheVariants as inputs
+use Rattle.bb_refusal.specs.declared.input_fault.InputFault.{InputFault}
+use Rattle.bb_refusal.specs.declared.input_fault.InputFault.TheVariants as inputs
 
 -- a code that is accepted for a part
 abbrev pub accepted_code : Schema → Part → Code → Result Checked CodeFault

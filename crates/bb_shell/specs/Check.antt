@@ -7,8 +7,8 @@ use Rattle.bb_shell.specs.CheckText.{check_text}
 use Rattle.bb_shell.specs.Sources.{given}
 use Rattle.bb_shell.specs.Written.{Wrote}
 use Rattle.bb_shell.specs.declared.written.Done.{Done}
-use Rattle.bb_shell.specs.declared.input_fault.InputFault.{InputFault}
-use Rattle.bb_shell.specs.declared.input_fault.InputFault.TheVariants as inputs
+use Rattle.bb_refusal.specs.declared.input_fault.InputFault.{InputFault}
+use Rattle.bb_refusal.specs.declared.input_fault.InputFault.TheVariants as inputs
 
 -- the sources of an input's texts, or the first refusal
 unfoldable pub sources_in : (natives : List (List ℕ)) → (schema sources bundle : List ℕ) → Result (List Source) InputFault

@@ -9,8 +9,8 @@ use Rattle.bb_bundle.specs.declared.source_code.SourceDraft.{SourceDraft}
 use Rattle.bb_shell.specs.Sources.{compiled_text}
 use Rattle.bb_shell.specs.Written.{Wrote}
 use Rattle.bb_shell.specs.declared.written.Done.{Done}
-use Rattle.bb_shell.specs.declared.input_fault.InputFault.{InputFault}
-use Rattle.bb_shell.specs.declared.input_fault.InputFault.TheVariants as inputs
+use Rattle.bb_refusal.specs.declared.input_fault.InputFault.{InputFault}
+use Rattle.bb_refusal.specs.declared.input_fault.InputFault.TheVariants as inputs
 
 -- the sources of an input's text with their codes, or the first refusal
 unfoldable pub bundle_in : (schema sources : List ℕ) → Result (List (SourceDraft Code)) InputFault

@@ -1,5 +1,3 @@
--- the number of a refusal, and its line
-pub mod Refusals
 -- the codes of a source, accepted for their parts
 pub mod Accepting
 -- the sources that run together
@@ -19,6 +17,9 @@ pub mod Compile
 pub mod Shell
 -- for models alone
 pub mod proving
+-- of bb_refusal: why an input is refused, and the line that tells it
+pub use Rattle.bb_refusal.specs.Refusals
+pub use Rattle.bb_refusal.specs.declared.input_fault.InputFault
 -- of bb_run: what a part of a run tells, and what an event brings about
 pub use Rattle.bb_run.specs.Told
 pub use Rattle.bb_run.specs.Processing

@@ -5,14 +5,14 @@ use Rattle.bb_schema.specs.Schema.{Schema}
 use Rattle.bb_verify.specs.Accepted.{Checked}
 use Rattle.bb_code.specs.Code.{Code}
 use Rattle.bb_lang.specs.Sources.{sources_of as trees_of}
-use Rattle.bb_lang.specs.declared.source_text.SourceText.{SourceText}
+use Rattle.bb_lang.specs.SourceText.{SourceText}
 use Rattle.bb_compile.specs.Compiled.{compiled}
 use Rattle.bb_bundle.specs.Bundle.{sources_of}
 use Rattle.bb_bundle.specs.declared.source_code.SourceDraft.{SourceDraft}
 use Rattle.bb_run.specs.Source.{Source}
 use Rattle.bb_run.specs.MadeSource.{source_of}
-use Rattle.bb_shell.specs.declared.input_fault.InputFault.{InputFault}
-use Rattle.bb_shell.specs.declared.input_fault.InputFault.TheVariants.{Bundle, Compile, Lang, Memory, Rule}
+use Rattle.bb_refusal.specs.declared.input_fault.InputFault.{InputFault}
+use Rattle.bb_refusal.specs.declared.input_fault.InputFault.TheVariants.{Bundle, Compile, Lang, Memory, Rule}
 use Rattle.bb_shell.specs.Accepting.{accepted_source}
 use Rattle.bb_shell.specs.declared.fitting.Unfit.{Unfit}
 use Rattle.bb_shell.specs.declared.fitting.Unfit.TheVariants as unfits

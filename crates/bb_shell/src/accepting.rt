@@ -9,10 +9,10 @@ ghost use Rattle.bb_shell.specs.Accepting.{accepted_first, accepted_later, accep
 ghost use Rattle.bb_run.specs.MadeSource.{classes_of};
 ghost use Rattle.bb_shell.specs.Accepting.{accepted_source, codes_of, draft_of, header_of, in_source};
 
-use crate::input_fault::InputFault;
 use bb_basis::{Items, Text};
 use bb_bundle::{ActDraft, ClauseText, ReactionDraft, SourceDraft};
 use bb_code::Code;
+use bb_refusal::InputFault;
 use bb_run::Classes;
 use bb_schema::Schema;
 use bb_verify::{Checked, Flaw, Part, VerifyFault, verify};

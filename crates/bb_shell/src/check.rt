@@ -10,9 +10,9 @@ ghost use Rattle.bb_shell.specs.Written.{is_cut};
 
 use crate::check_text::check_text;
 use crate::given::given;
-use crate::input_fault::InputFault;
 use crate::texts::read_schema;
 use crate::written::{Done, write};
+use bb_refusal::InputFault;
 use bb_run::{Closing, NativeSource, Out, Roster, Source};
 use std::alloc::Global;
 

@@ -7,10 +7,10 @@ ghost use Rattle.bb_shell.specs.Compile.{IsReadAgain, WritesBundle, bundle_in};
 ghost use Rattle.bb_shell.specs.Written.{is_cut};
 
 use crate::compiled::compiled_text;
-use crate::input_fault::InputFault;
 use crate::texts::read_schema;
 use crate::written::{Done, write};
 use bb_bundle::{SourceCode, bundle};
+use bb_refusal::InputFault;
 use bb_run::{NativeSource, Out, close_each};
 use std::alloc::Global;
 

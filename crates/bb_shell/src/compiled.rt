@@ -5,11 +5,11 @@ ghost use Rattle.bb_basis.specs.Results.{Gives, map_err, try_map};
 ghost use Rattle.bb_lang.specs.Sources.{sources_of as trees_of};
 ghost use Rattle.bb_shell.specs.Sources.{compiled_source, compiled_text};
 
-use crate::input_fault::InputFault;
 use bb_bundle::SourceCode;
 use bb_compile::compile;
 use bb_judge::CompileFault;
 use bb_lang::{LangFault, SourceText, parse};
+use bb_refusal::InputFault;
 use bb_schema::Schema;
 use std::alloc::Global;
 

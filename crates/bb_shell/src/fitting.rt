@@ -1,13 +1,15 @@
 //! The sources that run together. `Shell::new` and `run_texts` have each fit those before it.
 
-ghost use Rattle.std.specs.Prelude.{◌≡◌, ◌≤◌, ◌<◌, ◌∷◌, ◌++◌, [], false, length, vec_len, OnErr, OnOk, position};
+ghost use Rattle.std.specs.Prelude.{◌≡◌, ◌≤◌, ◌<◌, ◌∷◌, ◌++◌, [], false, length, vec_len};
+ghost use Rattle.std.specs.Prelude.{OnErr, OnOk, position};
 ghost use Rattle.std.specs.List.{list_any};
 ghost use Rattle.std.specs.Str.{bytes_eq};
 ghost use Rattle.std.specs.Vec.{vec_capacity};
 ghost use Rattle.bb_basis.specs.Results.{Gives};
 ghost use Rattle.bb_run.specs.Closing.{Closing};
 ghost use Rattle.bb_shell.specs.declared.fitting.Unfit.TheVariants.{Memory as OutOfMemory};
-ghost use Rattle.bb_shell.specs.Fitting.{fitted, has_native, is_native, lacks_native, names_in, names_of, source_after};
+ghost use Rattle.bb_shell.specs.Fitting.{fitted, has_native, is_native, lacks_native, names_in, names_of};
+ghost use Rattle.bb_shell.specs.Fitting.{source_after};
 
 use bb_basis::{Names, Text};
 use bb_run::{Act, Closing, RuleFault, SOURCE_LIMIT, Source};
@@ -121,7 +123,8 @@ fn fit(
     source: Source,
 ) -> Result<(), Unfit>
     requires { names.old ≡ names_of sources.old.items }
-    ensures after { Gives OutOfMemory (λ _. sources.new.items) result (source_after (names_in natives.now) sources.old.items source) }
+    ensures after { Gives OutOfMemory (λ _. sources.new.items) result
+        (source_after (names_in natives.now) sources.old.items source) }
     ensures names { OnOk result (names.new ≡ names_of sources.new.items) }
     ensures few { OnOk result (length sources.new.items ≤ SOURCE_LIMIT) }
     ensures same_names { OnErr result (names.new ≡ names.old) }

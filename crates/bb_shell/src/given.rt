@@ -8,9 +8,9 @@ ghost use Rattle.bb_shell.specs.Fitting.{names_in};
 ghost use Rattle.bb_shell.specs.Sources.{codes_in, given};
 
 use crate::compiled::compiled_text;
-use crate::input_fault::InputFault;
 use crate::sources::sources_for;
 use bb_bundle::{BundleFault, SourceCode, unbundle};
+use bb_refusal::InputFault;
 use bb_run::{Closing, SOURCE_LIMIT, Source};
 use bb_schema::Schema;
 use std::alloc::Global;
@@ -25,7 +25,8 @@ pub(crate) fn given(
     sources: &str,
     bundle: &str,
 ) -> Result<Vec<Source>, InputFault>
-    ensures given { Gives InputFault.Memory (λ v. v.items) result (given (names_in natives.now) schema.now sources.now bundle.now) }
+    ensures given { Gives InputFault.Memory (λ v. v.items) result
+        (given (names_in natives.now) schema.now sources.now bundle.now) }
     ensures few { IfOk result (λ v. length v.items ≤ SOURCE_LIMIT) }
 {
     let codes = codes_in(alloc, schema, sources, bundle)?;

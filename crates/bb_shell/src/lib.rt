@@ -1,4 +1,4 @@
-//! The blackboard shell: what an input's texts mean, why they are refused, and their run. Programs (bb_main) call it
+//! The blackboard shell: what an input's texts mean, which are refused, and their run. Programs (bb_main) call it
 //! with the texts of an input.
 #![tactic(auto)]
 
@@ -9,9 +9,6 @@ mod compile;
 mod compiled;
 mod fitting;
 mod given;
-mod input_fault;
-mod report;
-mod sentence;
 mod shell;
 mod sources;
 mod texts;
@@ -21,6 +18,7 @@ pub use bb_basis::{Items, Memory, Text};
 pub use bb_bundle::BundleFault;
 pub use bb_judge::{CompileFault, Flaw as TextFlaw};
 pub use bb_lang::{LangFault, Place};
+pub use bb_refusal::{InputFault, Report};
 pub use bb_run::{
     Ask, Board, Closed, Closing, DimValue, End, Finish, NativeSource, Node, OperandKind, Out,
     Pattern, Pipe, Query, Relation, Roster, RuleFault, Source, Stuck, UnitsFault, View, close_each,
@@ -30,8 +28,6 @@ pub use bb_schema::{UnitId, Value};
 pub use bb_verify::{Flaw, Part, VerifyFault};
 pub use check::check_texts;
 pub use compile::compile_texts;
-pub use input_fault::InputFault;
-pub use report::Report;
 pub use shell::Shell;
 pub use texts::run_texts;
 pub use written::Done;

@@ -8,9 +8,9 @@ ghost use Rattle.bb_shell.specs.proving.Gathering.{gathered_as, gathering, with_
 
 use crate::accepting::accept;
 use crate::fitting::{Together, Unfit};
-use crate::input_fault::InputFault;
 use bb_basis::Text;
 use bb_bundle::{SourceCode, SourceDraft};
+use bb_refusal::InputFault;
 use bb_run::{Closing, RuleFault, SOURCE_LIMIT, Source};
 use bb_schema::Schema;
 use bb_verify::Checked;
@@ -35,7 +35,8 @@ pub(crate) fn sources_for(
     schema: &Schema,
     codes: Vec<SourceCode>,
 ) -> Result<Vec<Source>, InputFault>
-    ensures given { Gives InputFault.Memory (λ v. v.items) result (sources_for (names_in natives.now) schema.now codes.items) }
+    ensures given { Gives InputFault.Memory (λ v. v.items) result
+        (sources_for (names_in natives.now) schema.now codes.items) }
     ensures few { IfOk result (λ v. length v.items ≤ SOURCE_LIMIT) }
 {
     match gather_all(alloc, natives, schema, codes)? {

@@ -16,7 +16,7 @@ ghost use Rattle.bb_run.specs.TraceText.{trace_text};
 ghost use Rattle.bb_run.specs.Unstuck.{NotStuck};
 
 use crate::given::given;
-use crate::input_fault::InputFault;
+use bb_refusal::InputFault;
 use bb_run::{
     Board, Closing, Finish, NativeSource, Out, Plan, Roster, SharedSchema, Start, UnitsFault, run,
 };

@@ -15,7 +15,7 @@ use Rattle.bb_board.specs.Note.{Note as BoardNote}
 use Rattle.bb_board.specs.Note.TheVariants.{Event as happened, Said as said}
 use Rattle.bb_board.specs.Said.{Said}
 use Rattle.bb_board.specs.Said.TheVariants as saids
-use Rattle.bb_agenda.specs.declared.activation.Activation.{Activation}
+use Rattle.bb_agenda.specs.Activation.{Activation}
 use Rattle.bb_state.specs.Reasons.{reason_number}
 use Rattle.bb_native.specs.declared.closing.Closing.{Closing}
 use Rattle.bb_native.specs.Refusals.{refusal_number}

@@ -1,15 +1,15 @@
 -- The best of all that are pending, found among the first of each source. No public clause cites it.
-use Rattle.std.specs.Prelude.{◌≡◌, ◌<◌, ◌&&◌, ◌||◌, ℕ, ℤ, Bool, true, false, not, nat_lt, int_lt, List, Option, Some, None, if◌then◌else◌}
+use Rattle.std.specs.Prelude.{◌≡◌, ◌<◌, ◌&&◌, ◌||◌, ℕ, ℤ, Bool, true, false, nat_lt, int_lt, List, Option, Some, None, if◌then◌else◌}
 use Rattle.std.specs.Ordering.{int_eq}
 use Rattle.std.specs.BTreeSet.{BTreeSet}
-use Rattle.bb_agenda.specs.declared.steering.Steering.{Steering}
+use Rattle.bb_foci.specs.Foci.{Steered}
 use Rattle.bb_agenda.specs.declared.choosing.Candidate.{Candidate}
 use Rattle.bb_agenda.specs.declared.rank.Rank.{Rank}
 use Rattle.bb_agenda.specs.proving.Ranks.{is_ranked}
-use Rattle.bb_agenda.specs.proving.Weights.{rating_at}
+use Rattle.bb_foci.specs.Rating.{rating_at}
 
 -- the rating of activations of a source with a base
-abbrev pub rate_by : Steering → ℕ → ℤ → ℤ
+abbrev pub rate_by : Steered → ℕ → ℤ → ℤ
 rate_by s place base = rating_at s.setting.schema s.setting.sources s.foci place base
 
 -- a rating and a number come before others

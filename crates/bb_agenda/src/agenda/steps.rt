@@ -4,11 +4,10 @@ ghost use Rattle.std.specs.Prelude.{◌≡◌, OnOk, OnErr};
 ghost use Rattle.bb_basis.specs.Results.{Gives};
 ghost use Rattle.bb_agenda.specs.Changes.{added_number, with_activation, with_obviated, with_base, with_focus};
 
-use crate::activation::Activation;
 use crate::agenda::Agenda;
 use crate::fault::AddFault;
-use crate::focus::Focus;
 use bb_basis::Memory;
+use bb_foci::{Activation, Focus};
 use bb_schema::UnitId;
 
 impl Agenda {

@@ -1,7 +1,7 @@
 -- How large the parts of expressions are.
 use Rattle.std.specs.Prelude.{ℕ, List, [], ◌∷◌}
-use Rattle.bb_lang.specs.declared.tree.Step.{Step}
-use Rattle.bb_lang.specs.declared.tree.Sequence.{Sequence}
+use Rattle.bb_lang.specs.Step.{Step}
+use Rattle.bb_lang.specs.Sequence.{Sequence}
 use Rattle.bb_lang.specs.Trees.{PatternTree}
 use Rattle.bb_lang.specs.View.{steps_of, sequence_of, patterns_of}
 use Rattle.bb_lang.specs.proving.Codes.{step_roses, sequence_rose, pattern_roses}

@@ -1,15 +1,15 @@
-use Rattle.std.proofs.Common.{◌≡◌, ◌∙◌, rules, refl, ap, length, Some, w64, filter, to_z, of_z, ℕ, ℤ}
+use Rattle.std.proofs.Common.{◌≡◌, ◌∙◌, rules, refl, ap, length, Some, w64, filter, ℕ, ℤ}
 use Rattle.std.specs.Prelude.{slice_get}
 use mir.Val.{SFits}
 use Rattle.std.specs.Int.{w128}
 use Rattle.std.proofs.lemmas.Int.{to_z-of_z}
 use Rattle.std.proofs.lemmas.Option.{slice_get_read}
 use Rattle.std.specs.FinMap as fin
-use Rattle.bb_agenda.specs.Rating.{total_weight}
+use Rattle.bb_foci.specs.Rating.{total_weight}
 use Rattle.bb_agenda.specs.declared.choosing.Candidate.{Candidate}
 use Rattle.bb_agenda.specs.proving.Best.{rate_by, better}
-use Rattle.bb_agenda.specs.proving.Weights.{matches_at}
-use Rattle.bb_agenda.proofs.BestLemmas.{rate_is, best_none, best_same, best_more, best_all, no_keys, it_stands}
+use Rattle.bb_foci.specs.Matching.{matches_at}
+use Rattle.bb_agenda.proofs.BestLemmas.{rate_is, best_same, best_more, best_all, no_keys, it_stands}
 use Rattle.bb_agenda.proofs.choosing.best_of.Goals as goal
 
 pub loop-place-preserved : goal.loop-place-preserved

@@ -1,6 +1,6 @@
 use Rattle.std.proofs.Common.{inr, sym, ap, ◌∙◌, Err}
 use Rattle.bb_basis.specs.Results.{map_err}
-use Rattle.bb_shell.specs.declared.input_fault.InputFault.TheVariants.{Rule}
+use Rattle.bb_refusal.specs.declared.input_fault.InputFault.TheVariants.{Rule}
 use Rattle.bb_shell.proofs.accepting.look_up.Goals as goal
 
 pub returns-in-Err-clause-classes : goal.returns-in-Err-clause-classes

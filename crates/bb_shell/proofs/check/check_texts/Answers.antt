@@ -1,7 +1,7 @@
 use Rattle.std.proofs.Common.{◌≡◌, ◌⊎◌, ℕ, map, List, Ok, Err, sym, ap, subst, ◌∙◌}
 use Rattle.std.proofs.lemmas.Result.{err_from_is_err_and}
 use Rattle.bb_shell.specs.Check.{sources_in}
-use Rattle.bb_shell.specs.declared.input_fault.InputFault.TheVariants.{Memory}
+use Rattle.bb_refusal.specs.declared.input_fault.InputFault.TheVariants.{Memory}
 use Rattle.bb_shell.specs.Fitting.{native_names}
 use Rattle.bb_shell.proofs.UnstuckLemmas.{names_told}
 use Rattle.bb_shell.proofs.check.check_texts.Goals as goal

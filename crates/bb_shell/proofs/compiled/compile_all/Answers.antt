@@ -1,7 +1,7 @@
 use Rattle.std.proofs.lemmas.Result.{err_from_is_err_and}
 use Rattle.bb_basis.proofs.IntoMapLemmas.{into_map_error, into_map_next, into_map_end, next_one, none_left}
 use Rattle.bb_shell.specs.Sources.{compiled_source}
-use Rattle.bb_shell.specs.declared.input_fault.InputFault.TheVariants.{Memory}
+use Rattle.bb_refusal.specs.declared.input_fault.InputFault.TheVariants.{Memory}
 use Rattle.bb_shell.proofs.compiled.compile_all.Goals as goal
 
 pub returns-in_err-compile_source : goal.returns-in_err-compile_source

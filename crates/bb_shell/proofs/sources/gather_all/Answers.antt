@@ -2,7 +2,7 @@ use Rattle.std.proofs.Common.{◌∙◌, sym}
 use Rattle.std.proofs.lemmas.Result.{err_from_is_err_and}
 use Rattle.std.specs.Vec.Iter.{into_iter_items}
 use Rattle.bb_basis.proofs.TryFoldLemmas.{try_fold_next, try_fold_error, try_fold_end}
-use Rattle.bb_shell.specs.declared.input_fault.InputFault.TheVariants.{Memory}
+use Rattle.bb_refusal.specs.declared.input_fault.InputFault.TheVariants.{Memory}
 use Rattle.bb_shell.specs.Fitting.{names_in}
 use Rattle.bb_shell.specs.proving.Gathering.{gathered_as, with_code}
 use Rattle.bb_shell.proofs.GatherLemmas.{none_gathered, one_gathered}

@@ -1,6 +1,6 @@
 use Rattle.std.proofs.Common.{rules, sym, inl, inr, ap, ◌∙◌, Err}
 use Rattle.bb_basis.specs.Results.{map_err}
-use Rattle.bb_shell.specs.declared.input_fault.InputFault.TheVariants.{Rule}
+use Rattle.bb_refusal.specs.declared.input_fault.InputFault.TheVariants.{Rule}
 use Rattle.bb_shell.proofs.sources.resolve.Goals as goal
 
 pub returns-in-Err : goal.returns-in-Err

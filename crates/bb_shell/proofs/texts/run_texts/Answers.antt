@@ -6,8 +6,8 @@ use Rattle.bb_run.specs.Finish.{WritesFront, end_of}
 use Rattle.bb_run.specs.Native.{Native}
 use Rattle.bb_run.specs.Run.{run}
 use Rattle.bb_run.specs.TraceText.{trace_text}
-use Rattle.bb_shell.specs.declared.input_fault.InputFault.{InputFault}
-use Rattle.bb_shell.specs.declared.input_fault.InputFault.TheVariants.{Memory}
+use Rattle.bb_refusal.specs.declared.input_fault.InputFault.{InputFault}
+use Rattle.bb_refusal.specs.declared.input_fault.InputFault.TheVariants.{Memory}
 use Rattle.bb_shell.specs.Fitting.{names_in, native_names}
 use Rattle.bb_shell.specs.Meaning.{Meaning, meaning}
 use Rattle.bb_shell.proofs.UnstuckLemmas.{meaning_whole, names_told, no_native}

@@ -1,20 +1,18 @@
-use Rattle.std.proofs.Common.{rules, ◌≡◌, ◌∙◌, ◌≤ℤ◌, ◌<ℤ◌, ℕ, ℤ, Some, None, Option, List, true, find, ap, subst, sym, arith, w64, to_z, of_z}
+use Rattle.std.proofs.Common.{rules, ◌≡◌, ◌∙◌, ◌≤ℤ◌, ◌<ℤ◌, ℕ, Some, None, List, true, find, ap, subst, sym, arith, w64}
 use Rattle.std.specs.Prelude.{option_map}
 use mir.Val.{SFits}
 use Rattle.std.specs.Int.{w128}
 use Rattle.std.specs.Map.{values_of}
 use Rattle.std.specs.BTreeSet.{BTreeSet}
 use Rattle.std.proofs.lemmas.Int.{ints, to_z-of_z}
-use Rattle.bb_agenda.specs.declared.activation.Activation.{Activation}
-use Rattle.bb_agenda.specs.declared.choosing.Candidate.{Candidate}
 use Rattle.bb_agenda.specs.declared.rank.Rank.{Rank}
 use Rattle.bb_agenda.specs.Agenda.{number_of, has_number}
 use Rattle.bb_agenda.specs.Chosen.{chosen}
-use Rattle.bb_agenda.specs.Rating.{rating}
+use Rattle.bb_foci.specs.Rating.{rating}
 use Rattle.bb_agenda.specs.proving.Best.{rate_by, StandsFor, IsFirst}
 use Rattle.bb_agenda.specs.proving.Ranks.{is_ranked}
 use Rattle.bb_agenda.proofs.ChoiceLemmas.{no_best, too_low, best_is}
-use Rattle.bb_agenda.proofs.WeightLemmas.{rating_is}
+use Rattle.bb_foci.proofs.Laws.{rating_is}
 use Rattle.bb_agenda.proofs.waiting.Waiting.choose.Goals as goal
 
 pub returns-in_err-best-clause-number : goal.returns-in_err-best-clause-number

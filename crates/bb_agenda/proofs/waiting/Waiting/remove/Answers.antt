@@ -1,11 +1,11 @@
-use Rattle.std.proofs.Common.{◌≡◌, ◌∙◌, List, ℕ, Some, None, filter, find, ap, subst, sym}
+use Rattle.std.proofs.Common.{◌≡◌, ◌∙◌, List, ℕ, Some, filter, find, ap, subst, sym}
 use Rattle.std.specs.Map.{values_of}
-use Rattle.bb_agenda.specs.declared.activation.Activation.{Activation}
+use Rattle.bb_foci.specs.declared.activation.Activation.{Activation}
 use Rattle.bb_agenda.specs.Agenda.{has_number}
 use Rattle.bb_agenda.specs.Changes.{other_than}
 use Rattle.bb_agenda.specs.proving.Lists.{without}
 use Rattle.bb_agenda.specs.proving.Filed.{AreFiled, AreKeyed}
-use Rattle.bb_agenda.specs.proving.Ranks.{AreRanked, ranked_less, rank_of}
+use Rattle.bb_agenda.specs.proving.Ranks.{AreRanked, ranked_less}
 use Rattle.bb_agenda.proofs.FiledLemmas.{numbers_rise, sources_rise, filed_less}
 use Rattle.bb_agenda.proofs.KeyedLemmas.{found, values_less, keyed_less}
 use Rattle.bb_agenda.proofs.RankLemmas.{ranked_gone}

@@ -1,0 +1,6 @@
+pub mod EntryLemmas
+pub mod Laws
+pub mod Rows
+pub mod ShiftLemmas
+pub mod SumLemmas
+pub mod WeightLemmas

@@ -1,0 +1,16 @@
+//! An activation: a source that waits to be executed on a unit. The agenda (bb_agenda) keeps those that are pending.
+
+use bb_schema::UnitId;
+
+/// A source that is to be executed on a unit (GBBopen Reference Manual, KSAs; Hayes-Roth 1985, KSARs).
+#[derive(Clone, Copy, Debug, PartialEq, Eq)]
+pub struct Activation {
+    /// Its number, from 1.
+    pub number: u64,
+    /// The index of its source.
+    pub source: u16,
+    /// The unit of the event that triggered it, 0 where that had none.
+    pub unit: UnitId,
+    /// Its rating before any focus counts.
+    pub base: i64,
+}

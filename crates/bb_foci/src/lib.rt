@@ -1,0 +1,14 @@
+//! How foci rate activations: what a focus matches, and the rating of an activation by its base and by the weights of
+//! the foci that match it. The agenda (bb_agenda) keeps a `Steering` and rates what is pending by it.
+#![tactic(auto)]
+
+mod activation;
+mod foci;
+mod focus;
+mod setting;
+mod steering;
+
+pub use activation::Activation;
+pub use focus::Focus;
+pub use setting::{RatedSource, Setting};
+pub use steering::Steering;

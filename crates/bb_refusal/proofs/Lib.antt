@@ -1,0 +1,2 @@
+-- texts of several pieces
+pub mod RefusalLemmas

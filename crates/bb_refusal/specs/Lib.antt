@@ -1,0 +1,2 @@
+-- the number of a refusal, and its line
+pub mod Refusals

@@ -1,0 +1,14 @@
+//! The trees of source texts: what a parsed source is made of. The readers of the grammar (bb_lang) make them.
+#![tactic(auto)]
+
+mod atom;
+mod block;
+mod source_text;
+mod tree;
+
+pub use atom::{Atom, Binary, Division, Operator, Relation, Unary, Variable};
+pub use block::{Action, Binding, Block, Placed, Statement};
+pub use source_text::{
+    ActText, ChangeText, ClauseText, HeaderText, PartText, PartTexts, ReactionText, SourceText,
+};
+pub use tree::{Expr, ExprNode, Pattern, PatternNode, Sequence, Step};
