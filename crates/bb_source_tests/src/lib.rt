@@ -7,12 +7,16 @@ mod agenda;
 #[cfg(test)]
 mod bundle;
 #[cfg(test)]
-mod code;
-#[cfg(test)]
 mod compile;
+#[cfg(test)]
+mod emit;
+#[cfg(test)]
+mod judge;
 #[cfg(test)]
 mod lang;
 #[cfg(test)]
 mod rules;
+#[cfg(test)]
+mod sheet;
 #[cfg(test)]
 mod token;

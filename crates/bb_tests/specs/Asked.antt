@@ -3,8 +3,8 @@ use Rattle.std.specs.Prelude.{ℕ, pos, true, List, [], ◌∷◌, codes}
 use Rattle.bb_shell.specs.Ask.{Ask}
 use Rattle.bb_shell.specs.Ask.TheVariants.{Delete, Enter, Link, New, Say, Set}
 use Rattle.bb_shell.specs.Value.TheVariants as values
-use Rattle.bb_tests.specs.declared.asking.Role.{Role}
-use Rattle.bb_tests.specs.declared.asking.Role.TheVariants as roles
+use Rattle.bb_tests.specs.declared.role.Role.{Role}
+use Rattle.bb_tests.specs.declared.role.Role.TheVariants as roles
 
 -- one ask for each reason to refuse one, and then two that are applied
 abbrev pub each_refusal : List Ask

@@ -6,6 +6,7 @@ ghost use Rattle.bb_shell.specs.Roster.{all_open};
 ghost use Rattle.bb_tests.specs.Asked.{asked, each_refusal};
 
 use crate::input::NOTE_SCHEMA;
+use crate::role::Role;
 use bb_shell::{
     Ask, Finish, Items, Memory, NativeSource, Node, Pattern, Pipe, Query, Text, UnitId, Value,
     View, run_texts,
@@ -34,21 +35,6 @@ const ONE_THING: &str = r#"{"units":[{"name":"a","class":"thing"}]}"#;
 const ON_THINGS: &str = "source asker on thing { when create thing; rate 1; native; }";
 
 const ON_NOTES: &str = "source asker on note { when create note; rate 1; native; }";
-
-/// What an `Asker` asks for.
-#[derive(Clone, Copy, Debug, PartialEq, Eq)]
-pub(crate) enum Role {
-    /// What each reason refuses, and then what is applied.
-    EachRefusal,
-    /// That its unit be deleted, and then a slot of it set.
-    DeletesFirst,
-    /// Two units.
-    CreatesTwo,
-    /// That its text be said.
-    Says,
-    /// It answers that memory ran out.
-    HasNoMemory,
-}
 
 /// Counts its executions, and says how many there were at its close. It looks for the things in a space, and leaves
 /// their number, and one, in a cell.

@@ -1,5 +1,5 @@
-//! Tests that cross crates and that no case can say: the numbers of refusals and what is said of them, whether two schemas are the same, the
-//! loops of a code by a plain program, and a shell that a host makes of its own board and sources.
+//! Tests that cross crates and that no case can say: the numbers of refusals and what is said of them, whether two
+//! schemas are the same, natives and what they ask, and a shell that a host makes of its own board and sources.
 #![tactic(auto)]
 
 #[cfg(test)]
@@ -7,14 +7,15 @@ mod asking;
 #[cfg(test)]
 mod input;
 #[cfg(test)]
-mod loops;
-#[cfg(test)]
 mod natives;
 #[cfg(test)]
 mod refusals;
 #[cfg(test)]
 mod reports;
+mod role;
 #[cfg(test)]
 mod schemas;
 #[cfg(test)]
 mod shells;
+
+pub use role::Role;

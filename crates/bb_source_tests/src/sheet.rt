@@ -1,0 +1,131 @@
+//! Tests of the sheet on which a part's code is laid out, with memory: what each call puts there, and the code of it.
+
+use bb_basis::{Items, Text};
+use bb_code::{
+    Calculation, Comparison, Division as OpDivision, Loop, Node, OperandKind, Pattern, Query,
+};
+use bb_judge::{Kind, Op, Part, Place};
+use bb_lang::{Atom, Binary, Division, Operator, Unary, Variable};
+use bb_schema::Schema;
+use bb_sheet::{
+    Loops, Ops, Sheet, Texts, emit_atom, emit_binary, emit_division, emit_operator, emit_unary,
+    emit_unit, emit_variable, finish,
+};
+use std::alloc::{AllocError, Global};
+use std::test::Fail;
+
+const START: Place = Place { line: 1, column: 1 };
+
+// How many values the stack may have.
+const ROOM: usize = 64;
+
+// An empty sheet for the act of a source on class 1, whose unit is in local 0.
+fn empty(alloc: Global) -> Result<Sheet, AllocError> {
+    Sheet::new(alloc, Part::Do { class: 1 }, START)
+}
+
+#[test]
+fn ops_and_loops(rt: HostRuntime) -> Result<(), Fail> {
+    let mut ops = Ops::new(rt.alloc());
+    ops.push(Op::Jump(0))?;
+    assert_eq!(rt; ops.into_vec().as_slice(), [Op::Jump(0)].as_slice());
+    let mut loops = Loops::new(rt.alloc());
+    loops.begin(3)?;
+    let begun = [Loop { head: 3, end: 3 }];
+    assert_eq!(rt; loops.into_vec().as_slice(), begun.as_slice());
+    Ok(())
+}
+
+#[test]
+fn texts_with_their_indices(rt: HostRuntime) -> Result<(), Fail> {
+    let mut texts = Texts::new(rt.alloc());
+    texts.push(rt.alloc(), "a")?;
+    assert_eq!(rt; texts.index_of("a"), Some(0));
+    let mut sheet = empty(rt.alloc())?;
+    assert_eq!(rt; sheet.text(rt.alloc(), "a")?, 0);
+    assert_eq!(rt; sheet.text(rt.alloc(), "b")?, 1);
+    assert_eq!(rt; sheet.text(rt.alloc(), "a")?, 0);
+    Ok(())
+}
+
+// `it`, a name for a live unit, and a number.
+#[test]
+fn values(rt: HostRuntime) -> Result<(), Fail> {
+    let schema = Schema::read(rt.alloc(), "{}")?;
+    let name = Text::from_str(rt.alloc(), "one")?;
+    let mut sheet = empty(rt.alloc())?;
+    let it = emit_variable(&mut sheet, &Variable::It, ROOM)?;
+    assert_eq!(rt; it, Some(Kind::Old(1)));
+    sheet.declare(rt.alloc(), &name, Kind::Ref(1))?;
+    let class = emit_unit(&mut sheet, &Variable::Named(name), ROOM)?;
+    assert_eq!(rt; class, Some(1));
+    let seven = emit_atom(rt.alloc(), &schema, &mut sheet, &Atom::Int(7), ROOM)?;
+    assert_eq!(rt; seven, Some(Kind::Int));
+    let ops = [Op::Load(0), Op::Store(1), Op::Load(1), Op::PushInt(7)];
+    assert_eq!(rt; sheet.ops.into_vec().as_slice(), ops.as_slice());
+    Ok(())
+}
+
+#[test]
+fn operations(rt: HostRuntime) -> Result<(), Fail> {
+    let mut sheet = empty(rt.alloc())?;
+    let number = Some(Kind::Int);
+    let truth = Some(Kind::Bool);
+    assert_eq!(rt; emit_unary(&mut sheet, Unary::Not, truth)?, truth);
+    assert_eq!(rt;
+        emit_binary(&mut sheet, Binary::Less, number, number)?,
+        truth
+    );
+    assert_eq!(rt;
+        emit_operator(&mut sheet, Operator::Minus, number, number)?,
+        number
+    );
+    assert_eq!(rt;
+        emit_division(&mut sheet, Division::Quotient, 3, number)?,
+        number
+    );
+    let ops = [
+        Op::Not,
+        Op::Compare(Comparison::Lt),
+        Op::Calculate(Calculation::Sub),
+        Op::Divide(OpDivision::DivBy, 3),
+    ];
+    assert_eq!(rt; sheet.ops.into_vec().as_slice(), ops.as_slice());
+    assert_eq!(rt; sheet.flaw, None);
+    Ok(())
+}
+
+// All units of class 1 in space 0.
+fn query(alloc: Global) -> Query {
+    Query {
+        class: 1,
+        space: 0,
+        kinds: Items::<OperandKind>::new(alloc),
+        pattern: Pattern::new(Node::All),
+    }
+}
+
+// A label behind the only op but `Done`, where local 1 has been taken: its frame has both locals.
+#[test]
+fn the_code_of_a_sheet(rt: HostRuntime) -> Result<(), Fail> {
+    let mut sheet = empty(rt.alloc())?;
+    assert_eq!(rt; sheet.ask(query(rt.alloc()))?, 0);
+    assert_eq!(rt; sheet.begin_loop()?, 0);
+    assert_eq!(rt; sheet.take_local(Kind::Int)?, 1);
+    sheet.put_value(Op::PushBool(true), ROOM)?;
+    sheet.label()?;
+    sheet.put(Op::Done)?;
+    let code = finish(rt.alloc(), sheet)?;
+    assert_eq!(rt; code.locals(), 2);
+    assert_eq!(rt; code.ops(), [Op::PushBool(true), Op::Done].as_slice());
+    assert_eq!(rt; code.loops(), [Loop { head: 0, end: 0 }].as_slice());
+    assert_eq!(rt; code.queries().len(), 1);
+    assert_eq!(rt; code.frames().len(), 1);
+    for entry in code.frames() {
+        assert_eq!(rt; entry.place, 1);
+        let locals = entry.frame.locals.as_slice();
+        assert_eq!(rt; locals, [Kind::Old(1), Kind::Int].as_slice());
+        assert_eq!(rt; entry.frame.stack.len(), 0);
+    }
+    Ok(())
+}
