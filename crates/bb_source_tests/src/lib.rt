@@ -9,14 +9,8 @@ mod bundle;
 #[cfg(test)]
 mod compile;
 #[cfg(test)]
-mod emit;
-#[cfg(test)]
-mod judge;
-#[cfg(test)]
 mod lang;
 #[cfg(test)]
 mod rules;
-#[cfg(test)]
-mod sheet;
 #[cfg(test)]
 mod token;

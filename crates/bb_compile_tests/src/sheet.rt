@@ -2,7 +2,7 @@
 
 use bb_basis::{Items, Text};
 use bb_code::{
-    Calculation, Comparison, Division as OpDivision, Loop, Node, OperandKind, Pattern, Query,
+    Calculation, Code, Comparison, Division as OpDivision, Loop, Node, OperandKind, Pattern, Query,
 };
 use bb_judge::{Kind, Op, Part, Place};
 use bb_lang::{Atom, Binary, Division, Operator, Unary, Variable};
@@ -105,27 +105,50 @@ fn query(alloc: Global) -> Query {
     }
 }
 
-// A label behind the only op but `Done`, where local 1 has been taken: its frame has both locals.
-#[test]
-fn the_code_of_a_sheet(rt: HostRuntime) -> Result<(), Fail> {
-    let mut sheet = empty(rt.alloc())?;
-    assert_eq!(rt; sheet.ask(query(rt.alloc()))?, 0);
-    assert_eq!(rt; sheet.begin_loop()?, 0);
-    assert_eq!(rt; sheet.take_local(Kind::Int)?, 1);
+// The first query, a loop at the first op and the local behind that of the unit.
+fn first_numbers(alloc: Global) -> Result<bool, Fail> {
+    let mut sheet = empty(alloc)?;
+    let query = sheet.ask(query(alloc))?;
+    let head = sheet.begin_loop()?;
+    let local = sheet.take_local(Kind::Int)?;
+    Ok(query == 0 && head == 0 && local == 1)
+}
+
+// A label behind the only op but `Done`, where local 1 has been taken.
+fn laid_out(alloc: Global) -> Result<Code, Fail> {
+    let mut sheet = empty(alloc)?;
+    sheet.ask(query(alloc))?;
+    sheet.begin_loop()?;
+    sheet.take_local(Kind::Int)?;
     sheet.put_value(Op::PushBool(true), ROOM)?;
     sheet.label()?;
     sheet.put(Op::Done)?;
-    let code = finish(rt.alloc(), sheet)?;
-    assert_eq!(rt; code.locals(), 2);
+    Ok(finish(alloc, sheet)?)
+}
+
+fn has_its_tables(code: &Code) -> bool {
+    code.locals() == 2
+        && code.loops() == [Loop { head: 0, end: 0 }].as_slice()
+        && code.queries().len() == 1
+}
+
+// The frame of the label has both locals.
+fn has_its_frame(code: &Code) -> bool {
+    let [entry] = code.frames() else {
+        return false;
+    };
+    let locals = entry.frame.locals.as_slice();
+    entry.place == 1
+        && locals == [Kind::Old(1), Kind::Int].as_slice()
+        && entry.frame.stack.len() == 0
+}
+
+#[test]
+fn the_code_of_a_sheet(rt: HostRuntime) -> Result<(), Fail> {
+    assert!(rt; first_numbers(rt.alloc())?);
+    let code = laid_out(rt.alloc())?;
     assert_eq!(rt; code.ops(), [Op::PushBool(true), Op::Done].as_slice());
-    assert_eq!(rt; code.loops(), [Loop { head: 0, end: 0 }].as_slice());
-    assert_eq!(rt; code.queries().len(), 1);
-    assert_eq!(rt; code.frames().len(), 1);
-    for entry in code.frames() {
-        assert_eq!(rt; entry.place, 1);
-        let locals = entry.frame.locals.as_slice();
-        assert_eq!(rt; locals, [Kind::Old(1), Kind::Int].as_slice());
-        assert_eq!(rt; entry.frame.stack.len(), 0);
-    }
+    assert!(rt; has_its_tables(&code));
+    assert!(rt; has_its_frame(&code));
     Ok(())
 }

@@ -1,0 +1,9 @@
+//! Tests of the crates that judge texts and emit their code: each public call that can want memory is called with memory.
+#![tactic(auto)]
+
+#[cfg(test)]
+mod emit;
+#[cfg(test)]
+mod judge;
+#[cfg(test)]
+mod sheet;
