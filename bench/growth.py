@@ -131,6 +131,25 @@ def moving(name, count):
     yield from linked(name, 3, ((0, "next", 1 + i % 2) for i in range(count)))
 
 
+def to_and_fro(name, count):
+    """A fourth as many units, all parts of one hub, then all of another, then of the first again, and so on."""
+    parts = count // 4
+    yield from linked(name, parts + 2, ((i // parts % 2, "parts", 2 + i % parts) for i in range(count)))
+
+
+SWEEP = """%%sources
+source sweep on note { when create note; rate 1; do {
+  with n = it as note { for part in n.parts { delete part; } }
+} }
+"""
+
+
+def swept(name, count):
+    """One unit has all others as its parts, and deletes them in one activation."""
+    yield from hub(name, count)
+    yield SWEEP % ()
+
+
 def placed(spaces, dims, name, count, pairs):
     """Units of one class with a number, and pairs of unit and space."""
     yield '%%schema\n{"classes":[{"name":"note","slots":[{"name":"at","kind":"int"}]}],"spaces":[%s]}\n' % ",".join(
@@ -163,6 +182,26 @@ def everywhere(name, count):
     """So many pairs: each unit enters all spaces."""
     many = count // SPACES
     yield from placed(SPACES, DIMENSION, name, many, ((i, space) for i in range(many) for space in range(SPACES)))
+
+
+CLEAR = """%sources
+source clear on note { when create note; rate 1; do {
+  with n = it as note { set n.at = n.at + 1; delete n; }
+} }
+"""
+
+
+def cleared(name, count):
+    """Each unit is in one of 256 spaces; an activation for each sets a slot of it and deletes it."""
+    yield from placed(SPACES, DIMENSION, name, count, ((i, i % SPACES) for i in range(count)))
+    yield CLEAR
+
+
+def objects(name, count):
+    """A document of so many objects of one key."""
+    yield '%schema\n{"classes":['
+    yield from separated('{"a":0}' for _ in range(count))
+    yield "]}\n"
 
 
 # ---- bundles
@@ -242,15 +281,19 @@ KINDS = source_texts.kinds(short) + [
     ("Units linked one to one", "units", chain, [("others", other), ("colliding", colliding)], 4_096, 65_536),
     ("Units linked to one hub", "units", hub, [("short", short)], 4_096, 65_536),
     ("Links that displace one another", "links", moving, [("short", short)], 12_500, 400_000),
+    ("Links to and fro between two hubs", "links", to_and_fro, [("short", short)], 12_500, 250_000),
+    ("Parts of one unit, deleted in one activation", "units", swept, [("short", short)], 4_096, 65_536),
     ("Units that enter a space", "units", members, [("short", short)], 4_096, 65_536),
     ("The same, the last unit first", "units", backwards, [("short", short)], 4_096, 65_536),
     ("Units that enter 256 spaces", "pairs", everywhere, [("short", short)], 12_800, 409_600),
+    ("Units set and deleted beside 256 spaces", "units", cleared, [("short", short)], 4_096, 65_536),
     ("Values of no slot", "values", values_of_no_slot, [("others", other), ("colliding", colliding)], 12_500, 400_000),
     ("Class entries", "classes", classes, [("others", other), ("colliding", colliding)], 10_000, 320_000),
     ("Links to a class of many slots", "slots", inverses, [("short", short)], 18_750, 300_000),
     ("The same, with longer names", "slots", inverses, [("others", other), ("colliding", colliding)], 10_000, 160_000),
     ("Keys that no document has", "keys", keys, [("others", other), ("colliding", colliding)], 12_500, 400_000),
     ("A document of many classes", "classes", classes, [("short", short)], 25_000, 400_000),
+    ("Objects of one key", "objects", objects, [("short", short)], 62_500, 2_000_000),
     ("Clauses of a class beside units of another", "clauses", clauses, [("short", short)], 26_781, 857_000),
     ("Units of a deep class beside 256 sources", "units", deep, [("short", short)], 4_096, 65_536),
     ("Spaces in a line of a bundle", "spaces", spaces, [("short", short)], 1_000_000, 16_000_000),

@@ -171,7 +171,7 @@ RACES = [
     ("fire", 60_000, fire, "CLIPS", lambda folder, count: clips(folder, fire_in_clips(count))),
     ("fire", 65_536, fire, "CLIPS", lambda folder, count: clips(folder, fire_in_clips(count))),
     ("chain", 1_000_000, chain, "CLIPS", lambda folder, count: clips(folder, chain_in_clips(count))),
-    ("retrieve", 200, retrieve, "ordered map", plain),
+    ("retrieve", 10_000, retrieve, "ordered map", plain),
     ("steer", 10_000, steer, None, None),
 ]
 NEEDED = {"CLIPS": "clips", "ordered map": "rustc"}

@@ -102,7 +102,7 @@ impl Draft {
         if text.len() > usize::from(TEXT_BYTES_LIMIT) {
             return Err(Halt::Slip(Slip::Limit));
         }
-        self.parts.texts.push(Text::new(text))?;
+        self.parts.texts.push(Text::new(self.alloc, text)?)?;
         Ok(())
     }
 

@@ -8,7 +8,7 @@ use Rattle.bb_basis.specs.Results.{◌>>=◌, try_map}
 abbrev pub joined : {X E : Type 0} → List X → Result (List X) E → Result (List X) E
 joined front rest = rest >>= λ xs. Ok (front ++ xs)
 
-regrouped : {X E : Type 0} (front : List X) (x : X) (r : Result (List X) E) → joined front (r >>= λ xs. Ok (x ∷ xs)) ≡ joined (front ++ x ∷ []) r
+pub regrouped : {X E : Type 0} (front : List X) (x : X) (r : Result (List X) E) → joined front (r >>= λ xs. Ok (x ∷ xs)) ≡ joined (front ++ x ∷ []) r
 regrouped front x (Ok xs) = ap (λ ys. Ok ys) (sym (append_assoc front (x ∷ []) xs))
 regrouped front x (Err e) = refl
 

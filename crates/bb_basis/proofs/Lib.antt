@@ -10,4 +10,7 @@ pub mod SliceLemmas
 pub mod TryMapLemmas
 pub mod TryFoldLemmas
 pub mod SliceFoldLemmas
+pub mod PlacedLemmas
+pub mod MapAtLemmas
+pub mod FoldAtLemmas
 pub mod Limits

@@ -1,5 +1,5 @@
 -- Words on a call that may fail: what its definition gives, where only memory may come in between.
-use Rattle.std.specs.Prelude.{◌≡◌, ◌⊎◌, List, [], ◌∷◌, Result, Ok, Err}
+use Rattle.std.specs.Prelude.{◌≡◌, ◌⊎◌, ℕ, suc, List, [], ◌∷◌, Result, Ok, Err}
 pub use Rattle.std.specs.Option.{ok_or}
 
 -- one step after another, up to the first fault
@@ -27,6 +27,21 @@ try_fold f s [] = Ok s
 try_fold f s (a ∷ as') = do
   next ← f s a
   try_fold f next as'
+
+-- try_map, where a fault is told with the index of its item, by at; n is that of the first item
+unfoldable pub try_map_at : {A X E F : Type 0} → (ℕ → E → F) → (A → Result X E) → ℕ → List A → Result (List X) F
+try_map_at at f n [] = Ok []
+try_map_at at f n (a ∷ as') = do
+  first ← map_err (at n) (f a)
+  others ← try_map_at at f (suc n) as'
+  Ok (first ∷ others)
+
+-- try_fold, where a fault is told with the index of its item, by at; n is that of the first item
+unfoldable pub try_fold_at : {S A E F : Type 0} → (ℕ → E → F) → (S → A → Result S E) → ℕ → S → List A → Result S F
+try_fold_at at f n s [] = Ok s
+try_fold_at at f n s (a ∷ as') = do
+  next ← map_err (at n) (f s a)
+  try_fold_at at f (suc n) next as'
 
 -- what the call returned, seen by view, is what the definition gives, or the call ran out of memory
 abbrev pub Gives : {X Y E : Type 0} → E → (X → Y) → Result X E → Result Y E → Type 0

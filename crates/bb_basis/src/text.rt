@@ -1,15 +1,18 @@
-//! A text as part of a greater value. Structs and enums whose values contracts compare keep their texts in it.
+//! A text as part of a greater value, which several owners share. Structs and enums whose values contracts compare keep
+//! their texts in it.
 
-ghost use Rattle.std.specs.Prelude.{◌≡◌, List, length, IfOk, IsTrue, ◌↔◌};
+ghost use Rattle.std.specs.Prelude.{◌≡◌, length, IfOk, IsTrue, ◌↔◌};
 ghost use Rattle.std.specs.String.{string_bytes};
 
 use std::alloc::{AllocError, Global};
 use std::marker::Model;
+use std::rc::Rc;
 
-/// A text as part of a greater value. Contracts see it as its bytes, wherever they lie in memory.
+/// A text as part of a greater value. Its clones share it, so that what has a text may be copied however long the text
+/// is. Contracts see it as its bytes, wherever they lie in memory.
 #[derive(Debug, Drop)]
 pub struct Text {
-    inner: String,
+    inner: Rc<String>,
 }
 
 impl Model for Text {
@@ -18,7 +21,7 @@ impl Model for Text {
 
     ghost Value = { List ℕ };
 
-    ghost view = { λ t. string_bytes t.inner };
+    ghost view = { λ t. string_bytes t.inner.value };
 }
 
 impl PartialEq for Text {
@@ -53,47 +56,39 @@ impl Clone for Text {
 
 impl Text {
     /// The text of a `String`, which it keeps as it is.
-    pub fn new(inner: String) -> Text
-        ensures { result ≡ string_bytes inner }
+    pub fn new(alloc: Global, inner: String) -> Result<Text, AllocError>
+        ensures { IfOk result (λ text. text ≡ string_bytes inner) }
     {
-        Text { inner }
+        Ok(Text {
+            inner: Rc::new(alloc, inner)?,
+        })
     }
 
     /// A copy of a text.
     pub fn from_str(alloc: Global, text: &str) -> Result<Text, AllocError>
         ensures { IfOk result (λ copy. copy ≡ text.now) }
     {
-        Ok(Text {
-            inner: String::from_str(alloc, text)?,
-        })
+        Text::new(alloc, String::from_str(alloc, text)?)
     }
 
     /// The text as a `str`.
     pub fn as_str(&self) -> &str
         ensures { result.now ≡ self.now }
     {
-        self.inner.as_str()
-    }
-
-    /// The text as a `String`, without a copy.
-    pub fn into_string(self) -> String
-        ensures { string_bytes result ≡ self }
-    {
-        let Text { inner } = self;
-        inner
+        self.inner.as_ref().as_str()
     }
 
     /// The number of bytes.
     pub fn len(&self) -> usize
         ensures { result ≡ length self.now }
     {
-        self.inner.len()
+        self.as_str().len()
     }
 
     /// Whether there are no bytes.
     pub fn is_empty(&self) -> bool
         ensures { IsTrue result ↔ (length self.now ≡ 0) }
     {
-        self.inner.is_empty()
+        self.as_str().is_empty()
     }
 }

@@ -158,10 +158,11 @@ impl Board {
         self.world.may_set(unit, slot, value)
     }
 
-    /// The partners of a unit by a slot, in order of addition, 65,536 at most. A slot that is no link slot has none.
-    pub fn links(&self, unit: UnitId, slot: SlotId) -> &[UnitId]
-        ensures links { result.now ≡ ends self.now.world.links unit slot }
-        ensures few { length result.now ≤ UNIT_LIMIT }
+    /// The partners of a unit by a slot, in order of addition, 65,536 at most. A slot that is no link slot has none. It
+    /// fails only for want of memory.
+    pub fn links(&self, unit: UnitId, slot: SlotId) -> Result<Vec<UnitId>, Memory>
+        ensures links { IfOk result (λ found. found.items ≡ ends self.now.world.links unit slot) }
+        ensures few { IfOk result (λ found. length found.items ≤ UNIT_LIMIT) }
     {
         self.world.links(unit, slot)
     }

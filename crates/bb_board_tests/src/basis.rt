@@ -9,9 +9,10 @@ fn texts_and_lists(rt: HostRuntime) -> Result<(), Fail> {
     assert_eq!(rt; text.as_str(), "hail");
     assert_eq!(rt; text.len(), 4);
     assert!(rt; !text.is_empty());
-    let copy = Text::new(text.clone()?.into_string());
+    let copy = Text::new(rt.alloc(), String::from_str(rt.alloc(), "hail")?)?;
     assert!(rt; copy == text);
-    assert_eq!(rt; copy.into_string().as_str(), "hail");
+    assert!(rt; text.clone()? == copy);
+    assert_eq!(rt; copy.as_str(), "hail");
     let mut items: Items<u16> = Items::new(rt.alloc());
     items.push(3)?;
     items.push(3)?;

@@ -195,7 +195,7 @@ fn links_of_units(rt: HostRuntime) -> Result<(), Fail> {
          unlink 1.knows 1, unlink 1.known_by 1, delete 1, "
     );
     assert!(rt; !board.live(1));
-    assert_eq!(rt; board.links(1, KNOWS).len(), 0);
+    assert_eq!(rt; board.links(1, KNOWS)?.len(), 0);
     Ok(())
 }
 

@@ -4,9 +4,10 @@ ghost use Rattle.std.specs.Prelude.{◌≡◌, IfOk, map};
 ghost use Rattle.bb_pattern.specs.Values.{kind_of_operand};
 
 use crate::board::{load, noted};
+use crate::pattern::ordered;
 use bb_basis::Items;
 use bb_board::Board;
-use bb_query::{DimValue, Node, OperandKind, Pattern, PatternFault, Query, Relation};
+use bb_query::{DimValue, OperandKind, Pattern, PatternFault, Query, Relation};
 use bb_schema::{ClassId, Schema, SlotId, SpaceId, UnitId, Value};
 use std::alloc::Global;
 use std::test::Fail;
@@ -40,26 +41,26 @@ fn loaded(alloc: Global, text: &str) -> Result<Board, Fail> {
     Ok(board)
 }
 
-fn set(board: &mut Board, unit: UnitId, slot: SlotId, value: Value) -> Result<(), Fail> {
+pub(crate) fn set(board: &mut Board, unit: UnitId, slot: SlotId, value: Value) -> Result<(), Fail> {
     board.may_set(unit, slot, &value)?;
     board.set(unit, slot, value)?;
     Ok(())
 }
 
-fn enter(board: &mut Board, unit: UnitId, space: SpaceId) -> Result<(), Fail> {
+pub(crate) fn enter(board: &mut Board, unit: UnitId, space: SpaceId) -> Result<(), Fail> {
     board.may_enter(unit, space)?;
     board.enter(unit, space)?;
     Ok(())
 }
 
-fn leave(board: &mut Board, unit: UnitId, space: SpaceId) -> Result<(), Fail> {
+pub(crate) fn leave(board: &mut Board, unit: UnitId, space: SpaceId) -> Result<(), Fail> {
     if (space as usize) < board.schema().space_count() && board.live(unit) {
         board.leave(unit, space)?;
     }
     Ok(())
 }
 
-/// The kind of an operand, if there is one. More are not asked for.
+/// The kinds of operands, two at most. More are not asked for.
 pub(crate) fn kinds_of(alloc: Global, operands: &[DimValue]) -> Result<Items<OperandKind>, Fail>
     ensures { IfOk result (λ kinds. kinds ≡ map kind_of_operand operands.now) }
 {
@@ -70,24 +71,29 @@ pub(crate) fn kinds_of(alloc: Global, operands: &[DimValue]) -> Result<Items<Ope
             kinds.push(only.kind())?;
             Ok(kinds)
         }
+        [one, other] => {
+            kinds.push(one.kind())?;
+            kinds.push(other.kind())?;
+            Ok(kinds)
+        }
         _ => Err(Fail::from(PatternFault::Limit)),
     }
 }
 
 /// What a query answers.
-fn found(
+pub(crate) fn found(
     alloc: Global,
     board: &Board,
     class: ClassId,
     space: SpaceId,
-    node: Node,
+    pattern: Pattern,
     operands: &[DimValue],
 ) -> Result<Vec<UnitId>, Fail> {
     let query = Query {
         class,
         space,
         kinds: kinds_of(alloc, operands)?,
-        pattern: Pattern::new(node),
+        pattern,
     };
     match query.fits(board.schema()) {
         Ok(()) => Ok(board.find(&query, operands)?),
@@ -97,13 +103,9 @@ fn found(
 
 /// The things on the board within `[low, high]`.
 fn within(alloc: Global, board: &Board, low: i64, high: i64) -> Result<Vec<UnitId>, Fail> {
-    let node = Node::Ordered {
-        relation: Relation::Within,
-        dim: 0,
-        operand: 0,
-    };
     let operands = [DimValue::Interval(low, high)];
-    found(alloc, board, THING, BOARD, node, &operands)
+    let pattern = ordered(Relation::Within, 0, 0);
+    found(alloc, board, THING, BOARD, pattern, &operands)
 }
 
 #[test]

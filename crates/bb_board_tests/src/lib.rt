@@ -11,6 +11,8 @@ mod board_spaces;
 #[cfg(test)]
 mod document;
 #[cfg(test)]
+mod find;
+#[cfg(test)]
 mod links;
 #[cfg(test)]
 mod pattern;

@@ -54,11 +54,11 @@ fn unlink(couples: &mut Couples, couple: CoupleId, a: UnitId, b: UnitId) -> bool
     (couple as usize) < couples.count() && couples.unlink(couple, a, b)
 }
 
-/// The links of units 1 to 4 by a slot.
+/// The links of units 1 to 8 by a slot.
 fn shown(alloc: Global, couples: &Couples, slot: SlotId) -> Result<String, Fail> {
     let mut text = String::new(alloc);
-    for unit in 1..5 {
-        for partner in couples.ends(unit, slot) {
+    for unit in 1..9 {
+        for partner in &couples.ends(alloc, unit, slot)? {
             write!(text, "{unit}-{partner} ")?;
         }
     }
@@ -109,7 +109,7 @@ fn partners_after(alloc: Global, times: u64) -> Result<usize, Fail> {
     for other in 0..times {
         link(&mut couples, KNOWS, 1, other)?;
     }
-    Ok(couples.ends(1, 8).len())
+    Ok(couples.ends(alloc, 1, 8)?.len())
 }
 
 #[test]
@@ -145,13 +145,14 @@ impl Plain {
         self.pairs.retain(|pair| pair.0 != unit && pair.1 != unit);
     }
 
-    /// The links of units 1 to 4 from side A.
-    fn shown(&self, alloc: Global) -> Result<String, Fail> {
+    /// The links of units 1 to 8, from side B if it is `turned`, else from side A.
+    fn shown(&self, alloc: Global, turned: bool) -> Result<String, Fail> {
         let mut text = String::new(alloc);
-        for unit in 1..5 {
+        for unit in 1..9 {
             for pair in &self.pairs {
-                if pair.0 == unit {
-                    write!(text, "{unit}-{} ", pair.1)?;
+                let (near, far) = seen(*pair, turned);
+                if near == unit {
+                    write!(text, "{unit}-{far} ")?;
                 }
             }
         }
@@ -159,32 +160,66 @@ impl Plain {
     }
 }
 
-/// Whether couples and a plain list agree after each of 300 changes, where `slot` is the couple's side A.
+/// A pair with the unit at one side first.
+fn seen(pair: (UnitId, UnitId), turned: bool) -> (UnitId, UnitId) {
+    if turned {
+        return (pair.1, pair.0);
+    }
+    pair
+}
+
+/// Makes the same change, which a number says, in couples and in a plain list.
+fn change(
+    couples: &mut Couples,
+    plain: &mut Plain,
+    couple: CoupleId,
+    number: u64,
+) -> Result<(), Fail> {
+    let (a, b) = (1 + (number >> 40) % 8, 1 + (number >> 50) % 8);
+    match (number >> 58) % 16 {
+        0 => {
+            couples.forget(a);
+            plain.forget(a);
+        }
+        1..=4 => {
+            unlink(couples, couple, a, b);
+            plain.unlink(a, b);
+        }
+        _ => {
+            link(couples, couple, a, b)?;
+            plain.link(a, b)?;
+        }
+    }
+    Ok(())
+}
+
+/// Whether couples and a plain list have the same links by a slot.
+fn are_same(
+    alloc: Global,
+    couples: &Couples,
+    plain: &Plain,
+    slot: SlotId,
+    turned: bool,
+) -> Result<bool, Fail> {
+    let expected = plain.shown(alloc, turned)?;
+    Ok(shown(alloc, couples, slot)?.as_str() == expected.as_str())
+}
+
+/// Whether couples and a plain list agree, from both sides, after each of 2,000 changes, where `slot` is the couple's
+/// side A and the next one its side B.
 fn agrees(alloc: Global, couple: CoupleId, slot: SlotId, plain: Plain) -> Result<bool, Fail> {
     let mut plain = plain;
     let mut couples = no_links(alloc)?;
     let mut seed: u64 = 1;
-    for _ in 0..300 {
+    for _ in 0..2_000 {
         seed = seed
             .wrapping_mul(6_364_136_223_846_793_005)
             .wrapping_add(1_442_695_040_888_963_407);
-        let (a, b) = (1 + (seed >> 40) % 4, 1 + (seed >> 50) % 4);
-        match (seed >> 60) % 8 {
-            0 => {
-                couples.forget(a);
-                plain.forget(a);
-            }
-            1 | 2 => {
-                unlink(&mut couples, couple, a, b);
-                plain.unlink(a, b);
-            }
-            _ => {
-                link(&mut couples, couple, a, b)?;
-                plain.link(a, b)?;
-            }
+        change(&mut couples, &mut plain, couple, seed)?;
+        if !are_same(alloc, &couples, &plain, slot, false)? {
+            return Ok(false);
         }
-        let expected = plain.shown(alloc)?;
-        if shown(alloc, &couples, slot)?.as_str() != expected.as_str() {
+        if !are_same(alloc, &couples, &plain, slot.wrapping_add(1), true)? {
             return Ok(false);
         }
     }

@@ -36,7 +36,7 @@ pub(crate) fn is(dim: u8, operand: u8) -> Pattern {
     Pattern::new(Node::Is { dim, operand })
 }
 
-fn not(alloc: Global, pattern: Pattern) -> Result<Pattern, Fail> {
+pub(crate) fn not(alloc: Global, pattern: Pattern) -> Result<Pattern, Fail> {
     Ok(Pattern::new(Node::Not(Box::new(alloc, pattern)?)))
 }
 

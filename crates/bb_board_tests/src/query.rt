@@ -4,7 +4,7 @@ ghost use Rattle.std.specs.Prelude.{IfOk};
 ghost use Rattle.bb_query.specs.Knows.{KnowsValues};
 
 use crate::board_spaces::kinds_of;
-use crate::pattern::{is, ordered};
+use crate::pattern::{is, not, ordered};
 use bb_query::{DimValue, Node, Pattern, PatternFault, Query, Relation, find, values_of};
 use bb_schema::{ClassId, Schema, SlotId, SpaceId, UnitId, Value};
 use bb_space::Spaces;
@@ -245,5 +245,36 @@ fn as_a_scan(rt: HostRuntime) -> Result<(), Fail> {
         );
         assert!(rt; agrees(rt.alloc(), class, SHELF, is(0, 0), &[GREEN])?);
     }
+    Ok(())
+}
+
+/// Two patterns.
+pub(crate) fn two(alloc: Global, one: Pattern, other: Pattern) -> Result<Vec<Pattern>, Fail> {
+    let mut parts = Vec::new(alloc);
+    parts.push(one)?;
+    parts.push(other)?;
+    Ok(parts)
+}
+
+/// Whether a query for things on the board finds what a scan finds, where operand 0 is green and 1 is `[0, 3]`.
+fn pattern_agrees(alloc: Global, pattern: Pattern) -> Result<bool, Fail> {
+    let operands = [GREEN, DimValue::Interval(0, 3)];
+    agrees(alloc, THING, BOARD, pattern, &operands)
+}
+
+/// The same, for one of two patterns.
+fn or_agrees(alloc: Global, one: Pattern, other: Pattern) -> Result<bool, Fail> {
+    pattern_agrees(alloc, Pattern::new(Node::Or(two(alloc, one, other)?)))
+}
+
+#[test]
+fn parts_as_a_scan(rt: HostRuntime) -> Result<(), Fail> {
+    let alloc = rt.alloc();
+    let both = Pattern::new(Node::And(two(alloc, all(), is(1, 0))?));
+    assert!(rt; pattern_agrees(alloc, both)?);
+    assert!(rt; or_agrees(alloc, is(1, 0), ordered(Relation::Within, 0, 1))?);
+    assert!(rt; or_agrees(alloc, is(1, 0), ordered(Relation::More, 0, 1))?);
+    assert!(rt; or_agrees(alloc, is(1, 0), all())?);
+    assert!(rt; pattern_agrees(alloc, not(alloc, is(1, 0))?)?);
     Ok(())
 }

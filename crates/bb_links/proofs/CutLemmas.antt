@@ -1,18 +1,13 @@
--- Pairs without those of a unit, one after another, and pairs after a link.
-use Rattle.std.proofs.Common.{◌≡◌, ℕ, ◌+◌, ◌<◌, ◌==◌, Bool, true, false, not, cond, ◌&&◌, ◌||◌, List, [], ◌∷◌, ◌++◌, filter, length, take, get_or, Option, Some, None, refl, sym, ap, subst, ◌∙◌, add-one}
+-- Pairs without those of a unit, and pairs after a link.
+use Rattle.std.proofs.Common.{◌≡◌, ℕ, ◌==◌, Bool, true, false, not, cond, ◌&&◌, ◌||◌, List, [], ◌∷◌, ◌++◌, filter, Option, Some, None, refl, sym, ap, subst, ◌∙◌}
 use Rattle.std.specs.Prelude.{find}
-use Rattle.std.specs.List.{list_any, AllByRecursion}
-use Rattle.std.proofs.Math.Seq.{take-suc}
-use Rattle.std.proofs.lemmas.Bool.{eqb-true, eqb-false, eq-eqb, or_parts, or_right}
+use Rattle.std.proofs.lemmas.Bool.{eqb-true, eqb-false, or_parts}
 use Rattle.std.proofs.lemmas.List.Elements.{filter_agree, filter-append}
 use Rattle.bb_schema.specs.declared.couple.Side.{Side}
 use Rattle.bb_schema.specs.declared.couple.Side.TheVariants.{A, B}
-use Rattle.bb_schema.specs.Couples.{pair_of}
 use Rattle.bb_links.specs.declared.couple.Singular.{Singular}
-use Rattle.bb_links.specs.Pairs.{near, far, same_pair, has_pair, without_pair, without_old, without_unit, is_singular, old_pair, with_link}
-use Rattle.bb_links.specs.Links.{partners}
-use Rattle.bb_links.specs.proving.Kept.{without_each, without_at}
-use Rattle.bb_links.proofs.PairLemmas.{same_from, pair_is}
+use Rattle.bb_links.specs.Pairs.{near, same_pair, has_pair, without_pair, without_old, without_unit, is_singular, old_pair, with_link}
+use Rattle.bb_links.specs.proving.Stamps.{without_at}
 
 -- ---- two filters
 
@@ -24,89 +19,6 @@ module _ {X : Type 0} (p q : X → Bool) where
       at : (b : Bool) → q x ≡ b → filter p (filter q xs) ≡ filter (λ y. q y && p y) xs → filter p (filter q (x ∷ xs)) ≡ filter (λ y. q y && p y) (x ∷ xs)
       at true h later = rw (h, later) refl
       at false h later = rw h later
-
--- ---- pairs of a unit, one after another
-
--- two tests that refuse
-neither : (x y z : Bool) → (not (x && y) && not (x && z)) ≡ not (x && (y || z))
-neither true true z = refl
-neither true false z = refl
-neither false y z = refl
-
-or_false : (b : Bool) → (b || false) ≡ b
-or_false true = refl
-or_false false = refl
-
-or_assoc : (a b c : Bool) → (a || (b || c)) ≡ ((a || b) || c)
-or_assoc true b c = refl
-or_assoc false b c = refl
-
-any-last : (t : ℕ → Bool) (xs : List ℕ) (x : ℕ) → list_any t (xs ++ x ∷ []) ≡ (list_any t xs || t x)
-any-last t [] x = or_false (t x)
-any-last t (y ∷ ys) x = ap (λ b. t y || b) (any-last t ys x) ∙ or_assoc (t y) (list_any t ys) (t x)
-
-filter_none : {X : Type 0} (xs : List X) → filter (λ x. true) xs ≡ xs
-filter_none [] = refl
-filter_none (x ∷ xs) = ap (λ ys. x ∷ ys) (filter_none xs)
-
-nothing_at : (b : Bool) → not (b && false) ≡ true
-nothing_at true = refl
-nothing_at false = refl
-
-module _ (side : Side) (n : ℕ) where
-  -- before the first
-  pub cut_none : (pairs : List (ℕ × ℕ)) → pairs ≡ without_each side n [] pairs
-  unfolding without_each
-  cut_none pairs = sym (filter_agree (λ p. not (near side p == n && false)) (λ p. true) (λ p. nothing_at (near side p == n)) pairs ∙ filter_none pairs)
-
-  -- one more
-  cut_last : (list : List ℕ) (m : ℕ) (pairs : List (ℕ × ℕ)) → without_pair (pair_of side n m) (without_each side n list pairs) ≡ without_each side n (list ++ m ∷ []) pairs
-  unfolding without_each
-  cut_last list m pairs =
-      let listed : ℕ × ℕ → Bool = λ p. list_any (λ k. far side p == k) list in
-      filter-filter (λ q. not (same_pair (pair_of side n m) q)) (λ p. not (near side p == n && listed p)) pairs
-      ∙ filter_agree (λ p. not (near side p == n && listed p) && not (same_pair (pair_of side n m) p)) (λ p. not (near side p == n && list_any (λ k. far side p == k) (list ++ m ∷ [])))
-      (λ p. ap (λ b. not (near side p == n && listed p) && not b) (same_from side (pair_of side n m) p ∙ pair_is side n m p)
-      ∙ (neither (near side p == n) (listed p) (far side p == m) ∙ ap (λ b. not (near side p == n && b)) (sym (any-last (λ k. far side p == k) list m)))) pairs
-
-  pub cut_more : (list : List ℕ) (i d m : ℕ) (pairs now after : List (ℕ × ℕ)) → i < length list → m ≡ get_or list i d → now ≡ without_each side n (take i list) pairs → after ≡ without_pair (pair_of side n m) now → after ≡ without_each side n (take (i + 1) list) pairs
-  cut_more list i d m pairs now after lt is so_far new =
-      new ∙ (ap (without_pair (pair_of side n m)) so_far ∙ (cut_last (take i list) m pairs ∙ ap (λ l. without_each side n l pairs) (ap (λ k. take i list ++ k ∷ []) is ∙ (sym (take-suc list i d lt) ∙ ap (λ j. take j list) (sym (add-one i))))))
-
-  -- the test of a pair whose partner is listed
-  abbrev IsListed : List ℕ → ℕ × ℕ → Type 0
-  IsListed list q = (near side q == n) ≡ true → list_any (λ m. far side q == m) list ≡ true
-
-  all_listed : (list : List ℕ) (qs : List (ℕ × ℕ)) → AllByRecursion (IsListed list) qs → without_each side n list qs ≡ without_at side n qs
-  unfolding without_each without_at
-  all_listed list [] all = refl
-  all_listed list (q ∷ qs) all = at (near side q == n) refl (all_listed list qs all.1)
-    where
-      at : (b : Bool) → (near side q == n) ≡ b → without_each side n list qs ≡ without_at side n qs → without_each side n list (q ∷ qs) ≡ without_at side n (q ∷ qs)
-      at true h later = rw (h, all.0 h) later
-      at false h later = rw h (ap (λ rs. q ∷ rs) later)
-
-  each_weaker : (P Q : ℕ × ℕ → Type 0) → ((q : ℕ × ℕ) → P q → Q q) → (qs : List (ℕ × ℕ)) → AllByRecursion P qs → AllByRecursion Q qs
-  each_weaker P Q h [] all = tt
-  each_weaker P Q h (q ∷ qs) all = (h q all.0, each_weaker P Q h qs all.1)
-
-  own_listed : (qs : List (ℕ × ℕ)) → AllByRecursion (IsListed (partners side n qs)) qs
-  own_listed [] = tt
-  own_listed (q ∷ qs) = (first, each_weaker (IsListed (partners side n qs)) (IsListed (partners side n (q ∷ qs))) (λ r. more r) qs (own_listed qs))
-    where
-      first : IsListed (partners side n (q ∷ qs)) q
-      first h = rw h (ap (λ b. b || list_any (λ m. far side q == m) (partners side n qs)) (eq-eqb (far side q) (far side q) refl))
-
-      by : (r : ℕ × ℕ) (b : Bool) → (near side q == n) ≡ b → list_any (λ m. far side r == m) (partners side n qs) ≡ true → list_any (λ m. far side r == m) (partners side n (q ∷ qs)) ≡ true
-      by r true h there = rw h (or_right (far side r == far side q) (list_any (λ m. far side r == m) (partners side n qs)) there)
-      by r false h there = rw h there
-
-      more : (r : ℕ × ℕ) → IsListed (partners side n qs) r → IsListed (partners side n (q ∷ qs)) r
-      more r listed at_n = by r (near side q == n) refl (listed at_n)
-
-  -- after the last
-  pub cut_each_is_all : (list : List ℕ) (pairs : List (ℕ × ℕ)) → list ≡ partners side n pairs → without_each side n list pairs ≡ without_at side n pairs
-  cut_each_is_all list pairs is = ap (λ l. without_each side n l pairs) is ∙ all_listed (partners side n pairs) pairs (own_listed pairs)
 
 pub cut_at_both : (n : ℕ) (pairs : List (ℕ × ℕ)) → without_at B n (without_at A n pairs) ≡ without_unit n pairs
 unfolding without_at

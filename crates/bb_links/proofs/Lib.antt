@@ -1,8 +1,10 @@
 pub mod PairLemmas
 pub mod CutLemmas
-pub mod KeptLemmas
 pub mod FitLemmas
 pub mod StampLemmas
+pub mod RowLemmas
+pub mod FollowLemmas
+pub mod ClearLemmas
 pub mod ChangeLemmas
 pub mod StandingLemmas
 pub mod LayoutLemmas

@@ -8,19 +8,20 @@ use Rattle.std.specs.BTreeMap.{BTreeMap, is_at, insert_entry}
 use Rattle.std.proofs.lemmas.Bool.{le-ltb, ne_eqb, eq-eqb, or_parts}
 use Rattle.std.proofs.lemmas.List.{map-append}
 use Rattle.bb_links.specs.Pairs.{same_pair, has_pair, without_pair}
-use Rattle.bb_links.specs.proving.Stamps.{stamp_of, in_order, Rising, AreStamped}
+use Rattle.bb_links.specs.proving.Maps.{value_at}
+use Rattle.bb_links.specs.proving.Stamps.{in_order, Rising, AreStamped}
 use Rattle.bb_links.proofs.PairLemmas.{same_itself, without_absent}
 use Rattle.bb_links.proofs.CutLemmas.{turned}
 use Rattle.bb_links.proofs.FitLemmas.{fewer_pass, pass_put, none_same, is_same}
 
-abbrev Entries : Type 0
+abbrev pub Entries : Type 0
 Entries = List (ℕ × (ℕ × ℕ))
 
 -- the test of an entry: it has the pair
-abbrev has : ℕ × ℕ → ℕ × (ℕ × ℕ) → Bool
+abbrev pub has : ℕ × ℕ → ℕ × (ℕ × ℕ) → Bool
 has p e = same_pair p e.1
 
-abbrev stamp_in : ℕ × ℕ → Entries → Option ℕ
+abbrev pub stamp_in : ℕ × ℕ → Entries → Option ℕ
 stamp_in p es = option_map (λ e. e.0) (find (has p) es)
 
 -- ---- what holds of each entry
@@ -75,7 +76,7 @@ gone_pair p (q ∷ qs) = at (same_pair p q) refl (gone_pair p qs)
 
 -- ---- one stamp more, above all
 
-above : (k : ℕ) (e : ℕ) → e < k → is_eq (nat_cmp k e) ≡ false
+pub above : (k : ℕ) (e : ℕ) → e < k → is_eq (nat_cmp k e) ≡ false
 above k e lt = rw (le-ltb k e (omega (arith, lt)), ne_eqb k e (λ same. omega (arith, lt, same))) refl
 
 pub insert_last : (k : ℕ) (p : ℕ × ℕ) (es : Entries) → AllByRecursion (λ e. e.0 < k) es → insert_entry nat_cmp es k p ≡ es ++ (k, p) ∷ []
@@ -84,7 +85,7 @@ insert_last k p (e ∷ es) below =
     let lt : e.0 < k = below.0 in
     rw (le-ltb k e.0 (omega (arith, lt)), ne_eqb k e.0 (λ same. omega (arith, lt, same))) (ap (λ fs. e ∷ fs) (insert_last k p es below.1))
 
-itself : (k : ℕ) → is_eq (nat_cmp k k) ≡ true
+pub itself : (k : ℕ) → is_eq (nat_cmp k k) ≡ true
 itself k = rw (le-ltb k k (omega arith), eq-eqb k k refl) refl
 
 pub remove_last : (k : ℕ) (p : ℕ × ℕ) (es : Entries) → AllByRecursion (λ e. e.0 < k) es → remove_entry (is_at (nat_cmp k)) (es ++ (k, p) ∷ []) ≡ es
@@ -110,10 +111,10 @@ find_last t (f ∷ fs) e none passes = at (t f) refl none (λ rest. find_last t 
 turned_true : (p q : ℕ × ℕ) → same_pair p q ≡ true → same_pair q p ≡ true
 turned_true p q h = subst (λ r. same_pair r p ≡ true) (sym (is_same p q h)) (same_itself p)
 
-module _ (next : ℕ) (es : Entries) (stamps : BTreeMap (ℕ × ℕ) ℕ) (kept : AreStamped next es stamps) (p : ℕ × ℕ) where
-  pub stamped_put : (fs : Entries) (after : BTreeMap (ℕ × ℕ) ℕ) → has_pair p (in_order es) ≡ false → fs ≡ es ++ (next, p) ∷ []
-      → ((q : ℕ × ℕ) → stamp_of after q ≡ cond (same_pair p q) (Some next) (stamp_of stamps q)) → AreStamped (next + 1) fs after
-  stamped_put fs after absent is one = subst (λ gs. AreStamped (next + 1) gs after) (sym is) (record {
+module _ (next : ℕ) (es : Entries) (stamps : BTreeMap (ℕ × ℕ) ℕ) (kept : AreStamped next es stamps) where
+  pub stamped_put : (p : ℕ × ℕ) (fs : Entries) (after : BTreeMap (ℕ × ℕ) ℕ) → has_pair p (in_order es) ≡ false → fs ≡ es ++ (next, p) ∷ []
+      → ((q : ℕ × ℕ) → value_at after q ≡ cond (same_pair p q) (Some next) (value_at stamps q)) → AreStamped (next + 1) fs after
+  stamped_put p fs after absent is one = subst (λ gs. AreStamped (next + 1) gs after) (sym is) (record {
     rising = rising_put next p es kept.rising kept.below;
     below = all_put (λ e. e.0 < next + 1) es (next, p) (all_weaker (λ e. e.0 < next) (λ e. e.0 < next + 1) (λ e lt. omega (arith, lt)) es kept.below) (omega arith);
     once = λ q. rw (map-append, pass_put (same_pair q) (in_order es) p) (once q (same_pair q p) refl);
@@ -126,15 +127,19 @@ module _ (next : ℕ) (es : Entries) (stamps : BTreeMap (ℕ × ℕ) ℕ) (kept 
           rw h (omega (arith, none))
       once q false h = rw h (omega (arith, kept.once q))
 
-      found : (q : ℕ × ℕ) (b : Bool) → same_pair p q ≡ b → cond (same_pair p q) (Some next) (stamp_of stamps q) ≡ stamp_in q (es ++ (next, p) ∷ [])
+      found : (q : ℕ × ℕ) (b : Bool) → same_pair p q ≡ b → cond (same_pair p q) (Some next) (value_at stamps q) ≡ stamp_in q (es ++ (next, p) ∷ [])
       found q true h =
           let none : find (has q) es ≡ None = subst (λ r. find (has r) es ≡ None) (sym (is_same p q h)) (absent_from p es absent) in
           rw (h, find_last (has q) es (next, p) none (turned_true p q h)) refl
       found q false h = rw (h, find_put (has q) es (next, p) (turned p q h)) (kept.found q)
 
+  -- what the map of stamps has is the same
+  pub stamped_same : (after : BTreeMap (ℕ × ℕ) ℕ) → ((q : ℕ × ℕ) → value_at after q ≡ value_at stamps q) → AreStamped next es after
+  stamped_same after same = record { rising = kept.rising; below = kept.below; once = kept.once; found = λ q. same q ∙ kept.found q }
+
 -- ---- one stamp less
 
-found_above : (m k : ℕ) (t : ℕ × (ℕ × ℕ) → Bool) (es : Entries) → AllByRecursion (λ e. m < e.0) es → option_map (λ (e : ℕ × (ℕ × ℕ)). e.0) (find t es) ≡ Some k → m < k
+pub found_above : (m k : ℕ) (t : ℕ × (ℕ × ℕ) → Bool) (es : Entries) → AllByRecursion (λ e. m < e.0) es → option_map (λ (e : ℕ × (ℕ × ℕ)). e.0) (find t es) ≡ Some k → m < k
 found_above m k t [] all is = absurd cc
 found_above m k t (e ∷ es) all is = at (t e) is (λ rest. found_above m k t es all.1 rest)
   where
@@ -182,11 +187,11 @@ module _ (p : ℕ × ℕ) (k : ℕ) where
       at true later = rising.1
       at false later = (all_less (λ f. e.0 < f.0) (is_at (nat_cmp k)) es rising.0, later)
 
-module _ (next : ℕ) (es : Entries) (stamps : BTreeMap (ℕ × ℕ) ℕ) (kept : AreStamped next es stamps) (p : ℕ × ℕ) (k : ℕ) (is : stamp_of stamps p ≡ Some k) where
+module _ (next : ℕ) (es : Entries) (stamps : BTreeMap (ℕ × ℕ) ℕ) (kept : AreStamped next es stamps) (p : ℕ × ℕ) (k : ℕ) (is : value_at stamps p ≡ Some k) where
   pub order_less : in_order (less p k es) ≡ without_pair p (in_order es)
   order_less = in_order-less p k es kept.rising (kept.once p) (sym (kept.found p) ∙ is)
 
-  pub stamped_less : (fs : Entries) (after : BTreeMap (ℕ × ℕ) ℕ) → fs ≡ less p k es → ((q : ℕ × ℕ) → stamp_of after q ≡ cond (same_pair p q) None (stamp_of stamps q)) → AreStamped next fs after
+  pub stamped_less : (fs : Entries) (after : BTreeMap (ℕ × ℕ) ℕ) → fs ≡ less p k es → ((q : ℕ × ℕ) → value_at after q ≡ cond (same_pair p q) None (value_at stamps q)) → AreStamped next fs after
   stamped_less fs after made one = subst (λ gs. AreStamped next gs after) (sym made) (record {
     rising = rising-less p k es kept.rising;
     below = all_less (λ e. e.0 < next) (is_at (nat_cmp k)) es kept.below;
@@ -194,7 +199,7 @@ module _ (next : ℕ) (es : Entries) (stamps : BTreeMap (ℕ × ℕ) ℕ) (kept 
     found = λ q. one q ∙ found q (same_pair p q) refl;
   })
     where
-      found : (q : ℕ × ℕ) (b : Bool) → same_pair p q ≡ b → cond (same_pair p q) None (stamp_of stamps q) ≡ stamp_in q (less p k es)
+      found : (q : ℕ × ℕ) (b : Bool) → same_pair p q ≡ b → cond (same_pair p q) None (value_at stamps q) ≡ stamp_in q (less p k es)
       found q true h =
           let none : find (has q) (less p k es) ≡ None = subst (λ r. find (has r) (less p k es) ≡ None) (sym (is_same p q h)) (absent_from p (less p k es) (ap (has_pair p) order_less ∙ gone_pair p (in_order es))) in
           rw (h, none) refl

@@ -1,15 +1,13 @@
 //! One couple of link slots. `couples.rt` keeps one for each couple of the schema.
 
-ghost use Rattle.std.specs.Prelude.{◌≡◌, ◌++◌, ◌∷◌, ℕ, List, [], map, IfOk, OnOk, OnErr, false};
+ghost use Rattle.std.specs.Prelude.{◌≡◌, ◌++◌, ◌∷◌, ℕ, List, [], IfOk, OnOk, OnErr, false, slice_get};
 ghost use Rattle.bb_links.specs.Pairs.{has_pair, without_pair, without_old, old_pair, is_singular, taken_among};
 ghost use Rattle.bb_links.specs.Links.{partners};
 ghost use Rattle.bb_links.specs.Couples.{with_pairs, no_pairs, linked, unlinked, forgotten};
-ghost use Rattle.bb_links.specs.proving.Lists.{listed, one_more};
-ghost use Rattle.bb_links.specs.proving.Kept.{Follows, opposite, without_each, without_at};
 
-use crate::lists::Lists;
 use crate::pairs::Pairs;
 use crate::taken::Taken;
+use bb_basis::Memory;
 use bb_schema::{Side, UnitId};
 use std::alloc::{AllocError, Global};
 use std::marker::Model;
@@ -21,13 +19,11 @@ pub(crate) struct Singular {
     pub b: bool,
 }
 
-/// A couple: which of its sides are singular, its pairs in order of addition, and the partners of each unit.
+/// A couple: which of its sides are singular, and its pairs in order of addition.
 #[derive(Drop)]
 pub(crate) struct Couple {
     singular: Singular,
     pairs: Pairs,
-    at_a: Lists,
-    at_b: Lists,
 }
 
 impl Model for Couple {
@@ -36,52 +32,6 @@ impl Model for Couple {
     ghost Value = { Pairing };
 
     ghost view = { λ c. record { singular = c.singular; pairs = c.pairs } };
-
-    ghost use Rattle.bb_links.specs.proving.Kept.{AreKept};
-
-    ghost invariant = { λ c. AreKept c.pairs c.at_a c.at_b };
-}
-
-/// Appends a pair, and its unit at side A to the partners of the other. An error changes nothing.
-fn append(pairs: &mut Pairs, at_b: &mut Lists, a: UnitId, b: UnitId) -> Result<(), AllocError>
-    requires { has_pair (a, b) pairs.old ≡ false }
-    ensures pairs { OnOk result (pairs.new ≡ pairs.old ++ (a, b) ∷ []) }
-    ensures partners { OnOk result ((n : ℕ) → listed at_b.new.lists n ≡ one_more at_b.old.lists b a n) }
-    ensures err_pairs { OnErr result (pairs.new ≡ pairs.old) }
-    ensures err_partners { OnErr result ((n : ℕ) → listed at_b.new.lists n ≡ listed at_b.old.lists n) }
-{
-    pairs.push((a, b))?;
-    match at_b.add(b, a) {
-        Ok(()) => Ok(()),
-        Err(refused) => {
-            pairs.remove((a, b));
-            Err(refused)
-        }
-    }
-}
-
-/// Takes the pairs of a unit at a side and of some partners away, and the unit from these partners' own.
-fn cut_each(pairs: &mut Pairs, far: &mut Lists, side: Side, unit: UnitId, partners: &[UnitId])
-    requires { Follows (opposite side) far.old pairs.old }
-    ensures pairs { pairs.new ≡ without_each side unit partners.now pairs.old }
-    ensures far { Follows (opposite side) far.new pairs.new }
-{
-    for partner in partners {
-        pairs.remove(side.pair(unit, *partner));
-        far.remove(*partner, unit);
-    }
-}
-
-/// Takes all pairs of a unit at a side away.
-fn cut_all(pairs: &mut Pairs, near: &mut Lists, far: &mut Lists, side: Side, unit: UnitId)
-    requires near { Follows side near.old pairs.old }
-    requires far { Follows (opposite side) far.old pairs.old }
-    ensures pairs { pairs.new ≡ without_at side unit pairs.old }
-    ensures near { Follows side near.new pairs.new }
-    ensures far { Follows (opposite side) far.new pairs.new }
-{
-    let partners = near.take(unit);
-    cut_each(pairs, far, side, unit, &partners);
 }
 
 impl Couple {
@@ -92,19 +42,26 @@ impl Couple {
         Couple {
             singular,
             pairs: Pairs::new(alloc),
-            at_a: Lists::new(alloc),
-            at_b: Lists::new(alloc),
         }
     }
 
     /// The partners of a unit at a side, in order of addition.
-    pub(crate) fn partners(&self, side: Side, unit: UnitId) -> &[UnitId]
-        ensures { result.now ≡ partners side unit self.now.pairs }
+    pub(crate) fn partners(
+        &self,
+        alloc: Global,
+        side: Side,
+        unit: UnitId,
+    ) -> Result<Vec<UnitId>, Memory>
+        ensures { IfOk result (λ list. list.items ≡ partners side unit self.now.pairs) }
     {
-        match side {
-            Side::A => self.at_a.of(unit),
-            Side::B => self.at_b.of(unit),
-        }
+        self.pairs.partners(alloc, side, unit)
+    }
+
+    /// The first partner of a unit at a side.
+    pub(crate) fn first(&self, side: Side, unit: UnitId) -> Option<UnitId>
+        ensures { result ≡ slice_get (partners side unit self.now.pairs) 0 }
+    {
+        self.pairs.first(side, unit)
     }
 
     /// Whether a side is singular.
@@ -124,8 +81,8 @@ impl Couple {
         if !self.is_singular(side) {
             return None;
         }
-        let partner = self.partners(side, unit).first()?;
-        Some(side.pair(unit, *partner))
+        let partner = self.first(side, unit)?;
+        Some(side.pair(unit, partner))
     }
 
     /// Adds a pair that is not there, as the last. An error changes nothing.
@@ -134,14 +91,7 @@ impl Couple {
         ensures ok { OnOk result (self.new ≡ with_pairs self.old (self.old.pairs ++ (a, b) ∷ [])) }
         ensures err { OnErr result (self.new ≡ self.old) }
     {
-        self.at_a.add(a, b)?;
-        match append(&mut self.pairs, &mut self.at_b, a, b) {
-            Ok(()) => Ok(()),
-            Err(refused) => {
-                self.at_a.remove(a, b);
-                Err(refused)
-            }
-        }
+        self.pairs.push((a, b))
     }
 
     /// Takes a pair away.
@@ -149,8 +99,6 @@ impl Couple {
         ensures { self.new ≡ with_pairs self.old (without_pair pair self.old.pairs) }
     {
         self.pairs.remove(pair);
-        self.at_a.remove(pair.0, pair.1);
-        self.at_b.remove(pair.1, pair.0);
     }
 
     /// Takes an old pair away, if there is one.
@@ -216,19 +164,7 @@ impl Couple {
     pub(crate) fn forget(&mut self, unit: UnitId)
         ensures { self.new ≡ forgotten unit self.old }
     {
-        cut_all(
-            &mut self.pairs,
-            &mut self.at_a,
-            &mut self.at_b,
-            Side::A,
-            unit,
-        );
-        cut_all(
-            &mut self.pairs,
-            &mut self.at_b,
-            &mut self.at_a,
-            Side::B,
-            unit,
-        );
+        self.pairs.cut(Side::A, unit);
+        self.pairs.cut(Side::B, unit);
     }
 }

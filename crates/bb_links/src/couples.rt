@@ -150,13 +150,14 @@ impl Couples {
         forget_each(&mut self.couples, unit, &couples);
     }
 
-    /// The links of a unit by a slot, in order of addition. A slot that is no link slot has none.
-    pub fn ends(&self, unit: UnitId, slot: SlotId) -> &[UnitId]
-        ensures { result.now ≡ ends self.now unit slot }
+    /// The links of a unit by a slot, in order of addition, in a list of their own. A slot that is no link slot has
+    /// none. It fails only for want of memory.
+    pub fn ends(&self, alloc: Global, unit: UnitId, slot: SlotId) -> Result<Vec<UnitId>, Memory>
+        ensures { IfOk result (λ list. list.items ≡ ends self.now unit slot) }
     {
         match end_at(&self.ends, slot) {
-            None => &[],
-            Some((couple, side)) => self.couples[couple as usize].partners(side, unit),
+            None => Ok(Vec::new(alloc)),
+            Some((couple, side)) => self.couples[couple as usize].partners(alloc, side, unit),
         }
     }
 
@@ -164,7 +165,10 @@ impl Couples {
     pub fn one(&self, unit: UnitId, slot: SlotId) -> Option<UnitId>
         ensures { result ≡ slice_get (ends self.now unit slot) 0 }
     {
-        self.ends(unit, slot).first().copied()
+        match end_at(&self.ends, slot) {
+            None => None,
+            Some((couple, side)) => self.couples[couple as usize].first(side, unit),
+        }
     }
 
     /// Does nothing, and says what holds of the couples at any time: no pair occurs twice in a couple; a unit has one

@@ -6,7 +6,9 @@ mod couple;
 mod couples;
 mod layout;
 mod lists;
+mod maps;
 mod pairs;
+mod partners;
 mod taken;
 
 pub use bb_schema::UnitId;

@@ -1,10 +1,9 @@
-//! A list of numbers for each unit. `couple.rt` keeps the partners of each unit so, and `couples.rt` the couples in
-//! which a unit may have a pair.
+//! A list of numbers for each unit. `couples.rt` keeps the couples in which a unit may have a pair so.
 
 ghost use Rattle.std.specs.Prelude.{◌≡◌, ℕ, [], OnOk, OnErr, IsSome};
 ghost use Rattle.std.specs.Ordering.{nat_cmp};
 ghost use Rattle.std.specs.BTreeMap.{get};
-ghost use Rattle.bb_links.specs.proving.Lists.{listed, one_more, one_less, none_left};
+ghost use Rattle.bb_links.specs.proving.Lists.{listed, one_more, none_left};
 
 use bb_schema::UnitId;
 use std::alloc::{AllocError, Global};
@@ -52,13 +51,6 @@ impl Lists {
         Ok(())
     }
 
-    /// Takes a number of a unit away.
-    pub(crate) fn remove(&mut self, unit: UnitId, number: u64)
-        ensures { (n : ℕ) → listed self.new.lists n ≡ one_less self.old.lists unit number n }
-    {
-        remove_at(&mut self.lists, unit, number);
-    }
-
     /// Takes all numbers of a unit.
     pub(crate) fn take(&mut self, unit: UnitId) -> Vec<u64>
         ensures list { result.items ≡ listed self.old.lists unit }
@@ -87,15 +79,5 @@ fn push_at(
             list.push(number)?;
             Ok(())
         }
-    }
-}
-
-/// Takes a number out of the list of a unit.
-fn remove_at(lists: &mut BTreeMap<UnitId, Vec<u64>>, unit: UnitId, number: u64)
-    ensures { (n : ℕ) → listed lists.new n ≡ one_less lists.old unit number n }
-{
-    match lists.get_mut(&unit) {
-        None => (),
-        Some(list) => list.retain(|other| *other != number),
     }
 }

@@ -1,11 +1,17 @@
-//! The pairs of one couple, in order of addition. `couple.rt` keeps them beside the partners of each unit.
+//! The pairs of one couple, in order of addition. `couple.rt` changes them and reads them.
 
-ghost use Rattle.std.specs.Prelude.{◌≡◌, ◌<◌, ◌+◌, ◌^◌, ℕ, [], ◌∷◌, ◌++◌, false, if◌then◌else◌};
-ghost use Rattle.std.specs.Prelude.{OnOk, OnErr, SomeIff, Some, None};
+ghost use Rattle.std.specs.Prelude.{◌≡◌, ◌<◌, ◌+◌, ◌^◌, ℕ, [], ◌∷◌, ◌++◌, true, false, if◌then◌else◌};
+ghost use Rattle.std.specs.Prelude.{OnOk, OnErr, IfOk, SomeIff, Some, None, slice_get};
+ghost use Rattle.std.specs.List.{AllByRecursion};
 ghost use Rattle.bb_links.specs.Pairs.{has_pair, same_pair, without_pair};
-ghost use Rattle.bb_links.specs.proving.Stamps.{stamp_of};
+ghost use Rattle.bb_links.specs.Links.{partners};
+ghost use Rattle.bb_links.specs.proving.Maps.{value_at};
+ghost use Rattle.bb_links.specs.proving.Stamps.{without_at};
 
-use bb_schema::UnitId;
+use crate::maps::{put, take};
+use crate::partners::Partners;
+use bb_basis::Memory;
+use bb_schema::{Side, UnitId};
 use std::alloc::{AllocError, Global};
 use std::collections::BTreeMap;
 use std::marker::Model;
@@ -18,6 +24,7 @@ pub(crate) struct Pairs {
     next: u64,
     by_stamp: BTreeMap<u64, (UnitId, UnitId)>,
     stamps: BTreeMap<(UnitId, UnitId), u64>,
+    partners: Partners,
 }
 
 impl Model for Pairs {
@@ -25,11 +32,11 @@ impl Model for Pairs {
 
     ghost Value = { List (ℕ × ℕ) };
 
-    ghost use Rattle.bb_links.specs.proving.Stamps.{in_order, AreStamped};
+    ghost use Rattle.bb_links.specs.proving.Stamps.{in_order, AreKept};
 
     ghost view = { λ p. in_order p.by_stamp.entries };
 
-    ghost invariant = { λ p. AreStamped p.next p.by_stamp.entries p.stamps };
+    ghost invariant = { λ p. AreKept p.next p.by_stamp.entries p.stamps p.partners };
 }
 
 /// The stamp after one. There is none after 2^64 - 1.
@@ -39,27 +46,28 @@ fn next_stamp(stamp: u64) -> Option<u64>
     stamp.checked_add(1)
 }
 
-/// Gives a pair a stamp. An error changes nothing.
-fn put_stamp(
+/// Puts a pair under a stamp above all, and the stamp under the pair. An error changes nothing.
+fn stamp(
+    by_stamp: &mut BTreeMap<u64, (UnitId, UnitId)>,
     stamps: &mut BTreeMap<(UnitId, UnitId), u64>,
     pair: (UnitId, UnitId),
-    stamp: u64,
+    next: u64,
 ) -> Result<(), AllocError>
-    ensures ok { OnOk result ((q : ℕ × ℕ) →
-        stamp_of stamps.new q ≡ (if same_pair pair q then Some stamp else stamp_of stamps.old q)) }
-    ensures err { OnErr result ((q : ℕ × ℕ) → stamp_of stamps.new q ≡ stamp_of stamps.old q) }
+    requires { AllByRecursion (λ e. e.0 < next) by_stamp.old.entries }
+    ensures pairs { OnOk result (by_stamp.new.entries ≡ by_stamp.old.entries ++ (next, pair) ∷ []) }
+    ensures stamps { OnOk result ((q : ℕ × ℕ) →
+        value_at stamps.new q ≡ (if same_pair pair q then Some next else value_at stamps.old q)) }
+    ensures err_pairs { OnErr result (by_stamp.new.entries ≡ by_stamp.old.entries) }
+    ensures err_stamps { OnErr result ((q : ℕ × ℕ) → value_at stamps.new q ≡ value_at stamps.old q) }
 {
-    stamps.insert(pair, stamp)?;
-    Ok(())
-}
-
-/// Takes the stamp of a pair.
-fn take_stamp(stamps: &mut BTreeMap<(UnitId, UnitId), u64>, pair: (UnitId, UnitId)) -> Option<u64>
-    ensures value { result ≡ stamp_of stamps.old pair }
-    ensures gone { (q : ℕ × ℕ) →
-        stamp_of stamps.new q ≡ (if same_pair pair q then None else stamp_of stamps.old q) }
-{
-    stamps.remove(&pair)
+    by_stamp.insert(next, pair)?;
+    match put(stamps, pair, next) {
+        Ok(()) => Ok(()),
+        Err(refused) => {
+            by_stamp.remove(&next);
+            Err(refused)
+        }
+    }
 }
 
 impl Pairs {
@@ -71,6 +79,7 @@ impl Pairs {
             next: 0,
             by_stamp: BTreeMap::new(alloc),
             stamps: BTreeMap::new(alloc),
+            partners: Partners::new(alloc),
         }
     }
 
@@ -81,6 +90,25 @@ impl Pairs {
         self.stamps.contains_key(&pair)
     }
 
+    /// The first partner of a unit at a side, found without a walk.
+    pub(crate) fn first(&self, side: Side, unit: UnitId) -> Option<UnitId>
+        ensures { result ≡ slice_get (partners side unit self.now) 0 }
+    {
+        self.partners.first(side, unit, self.next)
+    }
+
+    /// The partners of a unit at a side, in order of addition.
+    pub(crate) fn partners(
+        &self,
+        alloc: Global,
+        side: Side,
+        unit: UnitId,
+    ) -> Result<Vec<UnitId>, Memory>
+        ensures { IfOk result (λ list. list.items ≡ partners side unit self.now) }
+    {
+        self.partners.list(alloc, side, unit, self.next)
+    }
+
     /// Appends a pair that is not there. An error changes nothing; one comes too once all stamps are used, after
     /// 2^64 - 1 pairs, as `next_stamp` says.
     pub(crate) fn push(&mut self, pair: (UnitId, UnitId)) -> Result<(), AllocError>
@@ -89,14 +117,14 @@ impl Pairs {
         ensures err { OnErr result (self.new ≡ self.old) }
     {
         let after = next_stamp(self.next).ok_or(AllocError)?;
-        self.by_stamp.insert(self.next, pair)?;
-        match put_stamp(&mut self.stamps, pair, self.next) {
+        self.partners.put(pair, self.next)?;
+        match stamp(&mut self.by_stamp, &mut self.stamps, pair, self.next) {
             Ok(()) => {
                 self.next = after;
                 Ok(())
             }
             Err(refused) => {
-                self.by_stamp.remove(&self.next);
+                self.partners.take(pair, self.next);
                 Err(refused)
             }
         }
@@ -106,8 +134,18 @@ impl Pairs {
     pub(crate) fn remove(&mut self, pair: (UnitId, UnitId))
         ensures { self.new ≡ without_pair pair self.old }
     {
-        if let Some(stamp) = take_stamp(&mut self.stamps, pair) {
+        if let Some(stamp) = take(&mut self.stamps, pair) {
             self.by_stamp.remove(&stamp);
+            self.partners.take(pair, stamp);
+        }
+    }
+
+    /// Takes all pairs of a unit at a side away.
+    pub(crate) fn cut(&mut self, side: Side, unit: UnitId)
+        ensures { self.new ≡ without_at side unit self.old }
+    {
+        while let Some(partner) = self.first(side, unit) {
+            self.remove(side.pair(unit, partner));
         }
     }
 }

@@ -1,6 +1,6 @@
 pub mod FitLemmas
-pub mod KeyLemmas
 pub mod AnswerLemmas
+pub mod NearLemmas
 pub mod KnowsLemmas
 pub mod WholeLemmas
 pub mod Laws

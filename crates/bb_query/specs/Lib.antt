@@ -6,3 +6,5 @@ pub mod Whole
 pub mod Answer
 -- what spaces know of units
 pub mod Knows
+-- what only the contracts of private functions speak of
+pub mod proving

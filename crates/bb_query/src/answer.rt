@@ -2,9 +2,10 @@
 
 ghost use Rattle.std.specs.Prelude.{◌≡◌, IfOk, Ok, filter};
 ghost use Rattle.bb_pattern.specs.Fits.{query_fits};
-ghost use Rattle.bb_query.specs.Answer.{answers, answer};
+ghost use Rattle.bb_query.specs.Answer.{is_of_class, answers, answer};
 ghost use Rattle.bb_query.specs.Knows.{KnowsValues};
 
+use crate::near::near;
 use bb_basis::Memory;
 use bb_pattern::{DimValue, Query};
 use bb_schema::{Schema, UnitId};
@@ -12,7 +13,15 @@ use bb_space::Spaces;
 use bb_units::Units;
 use std::alloc::Global;
 
-/// Whether a query answers a unit, by the values that the space was told.
+/// Whether a unit is live, and of a query's class or of one below it.
+fn is_of_class(schema: &Schema, units: &Units, query: &Query, unit: UnitId) -> bool
+    ensures { result ≡ is_of_class schema.now units.now query.now unit }
+{
+    units.live(unit) && schema.descends(units.class_of(unit), query.class)
+}
+
+/// Whether a query answers a unit, by the values that the space was told. These come first: most candidates of a test
+/// fail by another.
 fn answers(
     schema: &Schema,
     units: &Units,
@@ -25,13 +34,10 @@ fn answers(
     requires fits { query_fits schema.now query.now ≡ Ok tt }
     ensures { result ≡ answers schema.now units.now spaces.now query.now operands.now unit }
 {
-    if !units.live(unit) {
-        return false;
-    }
     let Some(values) = spaces.values(query.space, unit) else {
         return false;
     };
-    schema.descends(units.class_of(unit), query.class) && query.pattern.holds(operands, values)
+    query.pattern.holds(operands, values) && is_of_class(schema, units, query, unit)
 }
 
 /// Those of some units that a query answers, in their order.
@@ -73,6 +79,6 @@ pub fn find(
     requires fits { query_fits schema.now query.now ≡ Ok tt }
     ensures { IfOk result (λ found. found.items ≡ answer schema.now units.now spaces.now query.now operands.now) }
 {
-    let members = spaces.members(query.space)?;
-    answered(alloc, schema, units, spaces, query, operands, &members)
+    let among = near(alloc, spaces, query.space, &query.pattern, operands)?;
+    answered(alloc, schema, units, spaces, query, operands, &among)
 }

@@ -3,6 +3,7 @@
 #![tactic(auto)]
 
 mod answer;
+mod near;
 mod values;
 
 pub use answer::find;

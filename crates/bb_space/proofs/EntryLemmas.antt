@@ -1,7 +1,5 @@
 -- The finite map that contracts see, and the entries that the code keeps.
-use Rattle.std.proofs.Common.{◌≡◌, ℕ, Bool, true, false, cond, List, [], ◌∷◌, filter, Some, None, refl, sym, ap, ◌∙◌}
-use Rattle.std.specs.Prelude.{All}
-use Rattle.std.specs.Option.{option_map_or}
+use Rattle.std.proofs.Common.{◌≡◌, ℕ, cond, List, [], ◌∷◌, Some, None, refl, sym, ap, ◌∙◌}
 use Rattle.std.specs.Ordering.{nat_cmp}
 use Rattle.std.specs.Map.{lookup, keys_of}
 use Rattle.std.specs.BTreeMap.{is_at}
@@ -9,12 +7,6 @@ use Rattle.std.specs.Cmp.{nat_cmp_total, eq_by_cmp_equiv}
 use Rattle.std.specs.List.Sorted.{IsStrictlySortedBy}
 use Rattle.std.specs.FinMap.{empty, get, insert, remove, entries, from_entries, find, put, get-from_entries, get-insert, get-remove, same_map, nat_cmp-IsAntisymmetric, entries-insert, len-entries, len-empty}
 use Rattle.std.proofs.lemmas.List.{nil_from_length}
-use Rattle.std.proofs.lemmas.List.Elements.{All-head, All-tail, All-weaker}
-use Rattle.bb_pattern.specs.declared.value.DimValue.{DimValue}
-use Rattle.bb_space.specs.declared.leaf.Leaf.{Leaf}
-use Rattle.bb_space.specs.Leaf.{fits_leaf}
-use Rattle.bb_space.specs.Spaces.{Membership, AreChosen}
-use Rattle.bb_space.specs.proving.Entries.{members_of_entries, fitting}
 
 find_is_lookup : {X : Type 0} (es : List (ℕ × X)) (q : ℕ) → find nat_cmp q es ≡ lookup (is_at (nat_cmp q)) es
 find_is_lookup [] q = refl
@@ -46,26 +38,3 @@ pub entries_are : {X : Type 0} (es : List (ℕ × X)) → IsStrictlySortedBy nat
 unfolding IsStrictlySortedBy
 entries_are {X} [] s = nil_from_length (entries (empty {X = X} {R = nat_cmp})) (sym (len-entries (empty {X = X} {R = nat_cmp})) ∙ len-empty nat_cmp X)
 entries_are (e ∷ es) s = entries-insert nat_cmp_total (from_entries es) e.0 e.1 ∙ (ap (put nat_cmp e.0 e.1) (entries_are es s.1) ∙ put_first e.0 e.1 es s)
-
--- whether a number is of a member whose values pass a test
-abbrev chosen_by : Leaf → Membership → ℕ → Bool
-chosen_by leaf m n = option_map_or (fits_leaf leaf) (get m n) false
-
-fitting_keys : (leaf : Leaf) (m : Membership) (es : List (ℕ × List DimValue)) → All (λ (e : ℕ × List DimValue). get m e.0 ≡ Some e.1) es → fitting leaf es ≡ filter (chosen_by leaf m) (keys_of es)
-fitting_keys leaf m [] all = refl
-fitting_keys leaf m (e ∷ es) all =
-    let here = All-head (λ (e : ℕ × List DimValue). get m e.0 ≡ Some e.1) e es all in
-    let rest = fitting_keys leaf m es (All-tail (λ (e : ℕ × List DimValue). get m e.0 ≡ Some e.1) e es all) in
-    rw (here, rest) refl
-
-chosen_fits : (leaf : Leaf) (m : Membership) (n : ℕ) (values : List DimValue) → get m n ≡ Some values → fits_leaf leaf values ≡ true → chosen_by leaf m n ≡ true
-chosen_fits leaf m n values there fits = rw there fits
-
--- the keys of the entries that pass are candidates
-pub fitting_chosen : (leaf : Leaf) (es : List (ℕ × List DimValue)) → IsStrictlySortedBy nat_cmp (keys_of es) → All (λ (e : ℕ × List DimValue). lookup (is_at (nat_cmp e.0)) es ≡ Some e.1) es → AreChosen (members_of_entries es) leaf (fitting leaf es)
-fitting_chosen leaf es sorted found = record {
-  chosen = chosen_by leaf (members_of_entries es);
-  members = fitting_keys leaf (members_of_entries es) es (All-weaker _ (λ (e : ℕ × List DimValue). get (members_of_entries es) e.0 ≡ Some e.1) (λ e is. get_is_lookup es e.0 ∙ is) es found)
-      ∙ ap (λ (fs : List (ℕ × List DimValue)). filter (chosen_by leaf (members_of_entries es)) (keys_of fs)) (sym (entries_are es sorted));
-  fitting = chosen_fits leaf (members_of_entries es);
-}

@@ -1,3 +1,13 @@
 pub mod EntryLemmas
 pub mod ChangeLemmas
 pub mod RisingLemmas
+pub mod PlaceLemmas
+pub mod LooseLemmas
+pub mod ListLemmas
+pub mod MovingLemmas
+pub mod NearLemmas
+pub mod SpotLemmas
+pub mod CandidateLemmas
+pub mod Laws
+pub mod StandingLemmas
+pub mod LeavingLemmas

@@ -104,7 +104,7 @@ any_filter p q (n ∷ ns) =
     any_cond (eq_by_cmp nat_cmp q) n (filter p ns) (p n)
     ∙ one_filtered (eq_by_cmp nat_cmp q n) (p n) (among q (filter p ns)) (among q ns) (p q) (any_filter p q ns) (λ h. ap p (nat_cmp-IsAntisymmetric q n (equal (nat_cmp q n) h)))
 
-second_only : (a b : Bool) → (b ≡ true → a ≡ true) → (a && b) ≡ b
+pub second_only : (a b : Bool) → (b ≡ true → a ≡ true) → (a && b) ≡ b
 second_only a true h = ap (λ c. c && true) (h refl)
 second_only true false h = refl
 second_only false false h = refl

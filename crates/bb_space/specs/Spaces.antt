@@ -2,6 +2,8 @@
 -- Manual, space instances).
 use Rattle.std.specs.Prelude.{◌≡◌, ℕ, Bool, true, List, [], ◌∷◌, map, filter, slice_get, slice_set, Option, Some}
 use Rattle.std.specs.Prelude.{if◌then◌else◌}
+use Rattle.std.specs.Prelude.{length}
+use Rattle.std.specs.List.{range_with_len}
 use Rattle.std.specs.Option.{option_map_or}
 use Rattle.std.specs.Ordering.{nat_cmp}
 use Rattle.std.specs.FinMap as fin
@@ -37,6 +39,10 @@ values_in s space n = fin.get (membership s space) n
 -- the members of a space, rising
 abbrev pub members : Spaces → ℕ → List ℕ
 members s space = fin.keys (membership s space)
+
+-- the spaces that a unit is in, rising
+abbrev pub spaces_of : Spaces → (unit : ℕ) → List ℕ
+spaces_of s n = filter (λ space. is_member s space n) (range_with_len 0 (length s.spaces))
 
 -- the members of a space after each change: a member does not enter again, and only a member moves
 abbrev pub entered : ℕ → List DimValue → Membership → Membership

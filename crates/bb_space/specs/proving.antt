@@ -3,3 +3,11 @@
 pub mod Codes
 -- the members of some entries
 pub mod Entries
+-- where the values of members stand in the index of a space
+pub mod Places
+-- the members of a space with their index, and what holds of both
+pub mod Indexed
+-- between which places of the index the candidates for a test stand
+pub mod Spots
+-- the spaces that each unit is in
+pub mod Standing

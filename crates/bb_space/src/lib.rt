@@ -2,9 +2,14 @@
 //! them of each change, and queries ask them for candidates.
 #![tactic(auto)]
 
+mod index;
 mod leaf;
 mod members;
+mod moving;
+mod near;
+mod place;
 mod spaces;
+mod standing;
 
 pub use bb_schema::{SpaceId, UnitId};
 pub use leaf::Leaf;

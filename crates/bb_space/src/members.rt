@@ -1,44 +1,42 @@
-//! The members of one space. `spaces.rt` keeps them for each space.
+//! The members of one space. spaces.rt keeps them for each space.
 
-ghost use Rattle.std.specs.Prelude.{◌≡◌, IfOk, OnOk, OnErr, not, option_map};
+ghost use Rattle.std.specs.Prelude.{◌≡◌, [], IfOk, IfSome, OnOk, OnErr, true, not, option_map};
+ghost use Rattle.std.specs.Option.{unwrap_or};
 ghost use Rattle.std.specs.FinMap as map;
-ghost use Rattle.bb_space.specs.Spaces.{entered, moved, AreChosen};
+ghost use Rattle.bb_space.specs.Spaces.{entered, left, moved};
+ghost use Rattle.bb_space.specs.Candidates.{candidates_of};
+ghost use Rattle.bb_space.specs.declared.place.Place.{Place as At};
 ghost use Rattle.bb_space.specs.proving.Entries.{members_of_entries};
+ghost use Rattle.bb_space.specs.proving.Places.{has, is_place_of, ArePut, AreTaken};
+ghost use Rattle.bb_space.specs.proving.Indexed.{membership, IsIndexed};
 
+use crate::index::{put_all, take_all};
 use crate::leaf::Leaf;
+use crate::near::{collect_near, is_few, list_of};
+use crate::place::Place;
 use bb_basis::{Items, Memory};
 use bb_pattern::DimValue;
 use bb_schema::UnitId;
-use std::alloc::Global;
-use std::collections::BTreeMap;
-use std::marker::Model;
+use std::alloc::{AllocError, Global};
+use std::collections::{BTreeMap, BTreeSet};
 use std::mem;
 
-/// The members of a space, each with its values on the dimensions, in their order.
+/// The members of a space, each with its values on the dimensions, in their order, and where each value stands.
 #[derive(Drop)]
 pub(crate) struct Members {
     values: BTreeMap<UnitId, Items<DimValue>>,
+    places: BTreeSet<Place>,
 }
 
-impl Model for Members {
-    ghost use Rattle.bb_space.specs.Spaces.{Membership};
-    ghost use Rattle.bb_space.specs.proving.Codes.{membership_code};
-    ghost use Rattle.bb_space.specs.proving.Entries.{members_of_entries};
-
-    ghost Value = { Membership };
-
-    ghost coded = { membership_code };
-
-    ghost view = { λ m. members_of_entries m.values.entries };
-}
-
-/// Gives a member other values. A unit that is none stays out.
-fn update(values: &mut BTreeMap<UnitId, Items<DimValue>>, unit: UnitId, new: Items<DimValue>)
-    ensures { members_of_entries values.new.entries ≡ moved unit new (members_of_entries values.old.entries) }
+/// Gives a member other values, and their place to those that it had. A unit that is none stays out.
+fn exchange(values: &mut BTreeMap<UnitId, Items<DimValue>>, unit: UnitId, new: &mut Items<DimValue>)
+    ensures moved { members_of_entries values.new.entries
+        ≡ moved unit new.old (members_of_entries values.old.entries) }
+    ensures had { new.new ≡ unwrap_or (map.get (members_of_entries values.old.entries) unit) new.old }
 {
     match values.get_mut(&unit) {
-        None => drop(new),
-        Some(found) => drop(mem::replace(found, new)),
+        None => {}
+        Some(found) => mem::swap(found, new),
     }
 }
 
@@ -53,44 +51,28 @@ fn keys_of(alloc: Global, values: &BTreeMap<UnitId, Items<DimValue>>) -> Result<
     Ok(list)
 }
 
-/// The keys whose values pass a test, rising.
-fn fitting(
-    alloc: Global,
-    values: &BTreeMap<UnitId, Items<DimValue>>,
-    leaf: &Leaf,
-) -> Result<Vec<UnitId>, Memory>
-    ensures { IfOk result (λ list. AreChosen (members_of_entries values.now.entries) leaf.now list.items) }
-{
-    let mut list = Vec::new(alloc);
-    for (unit, told) in values {
-        if !leaf.fits(told.as_slice()) {
-            continue;
-        }
-        list.push(*unit)?;
-    }
-    Ok(list)
-}
-
 impl Members {
     /// No members. It allocates nothing.
     pub(crate) fn new(alloc: Global) -> Members
-        ensures { result ≡ map.empty }
+        ensures none { membership result ≡ map.empty }
+        ensures indexed { IsIndexed result }
     {
         Members {
             values: BTreeMap::new(alloc),
+            places: BTreeSet::new(alloc),
         }
     }
 
     /// Whether a unit is a member.
     pub(crate) fn contains(&self, unit: UnitId) -> bool
-        ensures { result ≡ map.contains_key self.now unit }
+        ensures { result ≡ map.contains_key (membership self.now) unit }
     {
         self.values.contains_key(&unit)
     }
 
     /// The values of a member.
     pub(crate) fn values(&self, unit: UnitId) -> Option<&[DimValue]>
-        ensures { option_map (λ v. v.now) result ≡ map.get self.now unit }
+        ensures { option_map (λ v. v.now) result ≡ map.get (membership self.now) unit }
     {
         match self.values.get(&unit) {
             None => None,
@@ -98,46 +80,128 @@ impl Members {
         }
     }
 
+    /// Puts the places of values that a unit is to have. An error may leave some of them.
+    pub(crate) fn prepare(&mut self, unit: UnitId, values: &[DimValue]) -> Result<(), Memory>
+        ensures same { self.new.values ≡ self.old.values }
+        ensures put { ArePut unit values.now self.old.places self.new.places }
+        ensures all { OnOk result ((p : At) →
+            is_place_of unit values.now p ≡ true → has self.new.places p ≡ true) }
+    {
+        put_all(&mut self.places, unit, values)
+    }
+
+    /// Gives a member other values, whose places are there, and their place to those that it had. A unit that is none
+    /// stays out.
+    pub(crate) fn exchange(&mut self, unit: UnitId, values: &mut Items<DimValue>)
+        ensures same { self.new.places ≡ self.old.places }
+        ensures moved { membership self.new ≡ moved unit values.old (membership self.old) }
+        ensures had { values.new ≡ unwrap_or (map.get (membership self.old) unit) values.old }
+    {
+        exchange(&mut self.values, unit, values);
+    }
+
+    /// Takes the places of values that a unit does not have.
+    pub(crate) fn settle(&mut self, unit: UnitId, values: &[DimValue])
+        ensures same { self.new.values ≡ self.old.values }
+        ensures taken { AreTaken unit values.now (unwrap_or (map.get (membership self.old) unit) [])
+            self.old.places self.new.places }
+    {
+        match self.values.get(&unit) {
+            None => take_all(&mut self.places, unit, values, &[]),
+            Some(present) => take_all(&mut self.places, unit, values, present.as_slice()),
+        }
+    }
+
     /// Makes a unit a member with these values, and says whether it was none. An error changes nothing, nor does a
     /// member.
     pub(crate) fn enter(&mut self, unit: UnitId, values: Items<DimValue>) -> Result<bool, Memory>
-        ensures new { IfOk result (λ new. new ≡ not (map.contains_key self.old unit)) }
-        ensures entered { OnOk result (self.new ≡ entered unit values self.old) }
-        ensures err { OnErr result (self.new ≡ self.old) }
+        requires { IsIndexed self.old }
+        ensures new { IfOk result (λ new. new ≡ not (map.contains_key (membership self.old) unit)) }
+        ensures entered { OnOk result (membership self.new ≡ entered unit values (membership self.old)) }
+        ensures err { OnErr result (membership self.new ≡ membership self.old) }
+        ensures indexed { IsIndexed self.new }
     {
         if self.contains(unit) {
             return Ok(false);
         }
-        self.values.insert(unit, values)?;
-        Ok(true)
+        if self.prepare(unit, values.as_slice()).is_err() {
+            self.settle(unit, values.as_slice());
+            return Err(AllocError);
+        }
+        match self.values.insert(unit, values) {
+            Ok(_) => Ok(true),
+            Err(refused) => {
+                let (_, values) = refused.value;
+                self.settle(unit, values.as_slice());
+                Err(AllocError)
+            }
+        }
     }
 
     /// Takes a unit out, and says whether it was a member.
     pub(crate) fn leave(&mut self, unit: UnitId) -> bool
-        ensures was { result ≡ map.contains_key self.old unit }
-        ensures left { self.new ≡ map.remove self.old unit }
+        requires { IsIndexed self.old }
+        ensures was { result ≡ map.contains_key (membership self.old) unit }
+        ensures left { membership self.new ≡ left unit (membership self.old) }
+        ensures indexed { IsIndexed self.new }
     {
-        self.values.remove(&unit).is_some()
+        match self.values.remove(&unit) {
+            None => false,
+            Some(values) => {
+                self.settle(unit, values.as_slice());
+                true
+            }
+        }
     }
 
-    /// Gives a member other values. A unit that is none stays out.
-    pub(crate) fn moved(&mut self, unit: UnitId, values: Items<DimValue>)
-        ensures { self.new ≡ moved unit values self.old }
+    /// Gives a member other values. A unit that is none stays out. An error changes nothing.
+    pub(crate) fn moved(&mut self, unit: UnitId, values: Items<DimValue>) -> Result<(), Memory>
+        requires { IsIndexed self.old }
+        ensures moved { OnOk result (membership self.new ≡ moved unit values (membership self.old)) }
+        ensures err { OnErr result (membership self.new ≡ membership self.old) }
+        ensures indexed { IsIndexed self.new }
     {
-        update(&mut self.values, unit, values);
+        let mut values = values;
+        if self.prepare(unit, values.as_slice()).is_err() {
+            self.settle(unit, values.as_slice());
+            return Err(AllocError);
+        }
+        self.exchange(unit, &mut values);
+        self.settle(unit, values.as_slice());
+        Ok(())
     }
 
     /// The members, rising.
     pub(crate) fn list(&self, alloc: Global) -> Result<Vec<UnitId>, Memory>
-        ensures { IfOk result (λ list. list.items ≡ map.keys self.now) }
+        ensures { IfOk result (λ list. list.items ≡ map.keys (membership self.now)) }
     {
         keys_of(alloc, &self.values)
     }
 
-    /// Members, rising, among them all whose values pass a test.
+    /// The members whose value can pass a test, rising.
     pub(crate) fn candidates(&self, alloc: Global, leaf: &Leaf) -> Result<Vec<UnitId>, Memory>
-        ensures { IfOk result (λ list. AreChosen self.now leaf.now list.items) }
+        requires { IsIndexed self.now }
+        ensures { IfOk result (λ list. list.items ≡ candidates_of (membership self.now) leaf.now) }
     {
-        fitting(alloc, &self.values, leaf)
+        let mut found = BTreeSet::new(alloc);
+        collect_near(&self.places, leaf, &mut found)?;
+        list_of(alloc, &found)
+    }
+
+    /// The same, or `None` where more than so many values can pass.
+    pub(crate) fn few(
+        &self,
+        alloc: Global,
+        leaf: &Leaf,
+        most: usize,
+    ) -> Result<Option<Vec<UnitId>>, Memory>
+        requires { IsIndexed self.now }
+        ensures { IfOk result (λ few. IfSome few (λ list.
+            list.items ≡ candidates_of (membership self.now) leaf.now)) }
+    {
+        if !is_few(&self.places, leaf, most) {
+            return Ok(None);
+        }
+        Ok(Some(self.candidates(alloc, leaf)?))
     }
 }

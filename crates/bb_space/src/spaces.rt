@@ -1,13 +1,18 @@
 //! All spaces. The board changes them, and queries read them.
 
-ghost use Rattle.std.specs.Prelude.{◌≡◌, ◌<◌, IfOk, OnOk, OnErr, length, not, option_map};
+ghost use Rattle.std.specs.Prelude.{◌≡◌, ◌<◌, IfOk, IfSome, OnOk, OnErr, length, not, option_map};
 ghost use Rattle.bb_space.specs.Fits.{Fits};
-ghost use Rattle.bb_space.specs.Spaces.{no_spaces, is_member, values_in, members, AreCandidates};
+ghost use Rattle.bb_space.specs.Spaces.{no_spaces, is_member, values_in, membership, members};
+ghost use Rattle.bb_space.specs.Spaces.{AreCandidates, spaces_of};
+ghost use Rattle.bb_space.specs.Candidates.{candidates_of};
 ghost use Rattle.bb_space.specs.Spaces.{after_enter, after_leave, after_moved, after_moves, after_forget};
-ghost use Rattle.bb_space.specs.proving.Entries.{seen};
+ghost use Rattle.bb_space.specs.proving.Indexed.{seen, AreIndexed};
+ghost use Rattle.bb_space.specs.proving.Standing.{AreStanding};
 
 use crate::leaf::Leaf;
 use crate::members::Members;
+use crate::moving::{move_all, move_one};
+use crate::standing::Standing;
 use bb_basis::{Items, Memory};
 use bb_pattern::DimValue;
 use bb_schema::{Schema, SpaceId, UnitId};
@@ -20,45 +25,94 @@ use std::marker::Model;
 pub struct Spaces {
     alloc: Global,
     spaces: Vec<Members>,
+    standing: Standing,
 }
 
 impl Model for Spaces {
     ghost use Rattle.bb_space.specs.Spaces.{Spaces as Told};
     ghost use Rattle.bb_space.specs.proving.Codes.{spaces_code};
-    ghost use Rattle.bb_space.specs.proving.Entries.{seen};
+    ghost use Rattle.bb_space.specs.proving.Indexed.{seen, AreIndexed};
+    ghost use Rattle.bb_space.specs.proving.Standing.{AreStanding};
 
     ghost Value = { Told };
 
     ghost coded = { spaces_code };
 
     ghost view = { λ s. seen s.spaces.items };
+
+    ghost invariant = { λ s. AreIndexed s.spaces.items × AreStanding (seen s.spaces.items) s.standing };
 }
 
-/// Gives a member of a space other values. A unit that is none stays out.
-fn tell(spaces: &mut Vec<Members>, space: SpaceId, unit: UnitId, values: Items<DimValue>)
-    ensures { seen spaces.new.items ≡ after_moved (seen spaces.old.items) space unit values }
+/// Makes a unit a member of a space.
+fn enter(
+    spaces: &mut Vec<Members>,
+    space: SpaceId,
+    unit: UnitId,
+    values: Items<DimValue>,
+) -> Result<bool, Memory>
+    requires indexed { AreIndexed spaces.old.items }
+    requires space { space < length spaces.old.items }
+    ensures new { IfOk result (λ new. new ≡ not (is_member (seen spaces.old.items) space unit)) }
+    ensures entered { OnOk result (seen spaces.new.items ≡ after_enter (seen spaces.old.items) space unit values) }
+    ensures err { OnErr result (seen spaces.new.items ≡ seen spaces.old.items) }
+    ensures indexed { AreIndexed spaces.new.items }
 {
-    let index = space as usize;
-    if index >= spaces.len() {
-        return;
+    spaces[space as usize].enter(unit, values)
+}
+
+/// Takes a unit out of a space.
+fn leave(spaces: &mut Vec<Members>, space: SpaceId, unit: UnitId) -> bool
+    requires indexed { AreIndexed spaces.old.items }
+    requires space { space < length spaces.old.items }
+    ensures was { result ≡ is_member (seen spaces.old.items) space unit }
+    ensures left { seen spaces.new.items ≡ after_leave (seen spaces.old.items) space unit }
+    ensures indexed { AreIndexed spaces.new.items }
+{
+    spaces[space as usize].leave(unit)
+}
+
+/// Makes a unit a member of a space, and puts that among its spaces.
+fn enter_new(
+    spaces: &mut Vec<Members>,
+    standing: &mut Standing,
+    space: SpaceId,
+    unit: UnitId,
+    values: Items<DimValue>,
+) -> Result<bool, Memory>
+    requires indexed { AreIndexed spaces.old.items }
+    requires standing { AreStanding (seen spaces.old.items) standing.old }
+    requires space { space < length spaces.old.items }
+    ensures new { IfOk result (λ new. new ≡ not (is_member (seen spaces.old.items) space unit)) }
+    ensures entered { OnOk result (seen spaces.new.items ≡ after_enter (seen spaces.old.items) space unit values) }
+    ensures err { OnErr result (seen spaces.new.items ≡ seen spaces.old.items) }
+    ensures indexed { AreIndexed spaces.new.items }
+    ensures standing { AreStanding (seen spaces.new.items) standing.new }
+{
+    if spaces[space as usize].contains(unit) {
+        return Ok(false);
     }
-    spaces[index].moved(unit, values);
-}
-
-/// Gives a unit other values in some spaces.
-fn tell_each(spaces: &mut Vec<Members>, unit: UnitId, moves: Vec<(SpaceId, Items<DimValue>)>)
-    ensures { seen spaces.new.items ≡ after_moves (seen spaces.old.items) unit moves.items }
-{
-    for (space, values) in moves {
-        tell(spaces, space, unit, values);
+    standing.put(unit, space)?;
+    match enter(spaces, space, unit, values) {
+        Ok(new) => Ok(new),
+        Err(refused) => {
+            standing.remove(unit, space);
+            Err(refused)
+        }
     }
 }
 
-/// Takes a unit out of all spaces.
-fn leave_each(spaces: &mut Vec<Members>, unit: UnitId)
-    ensures { seen spaces.new.items ≡ after_forget (seen spaces.old.items) unit }
+/// Takes a unit out of some spaces: all that it is in.
+fn leave_each(spaces: &mut Vec<Members>, unit: UnitId, list: &[SpaceId])
+    requires indexed { AreIndexed spaces.old.items }
+    requires all { list.now ≡ spaces_of (seen spaces.old.items) unit }
+    ensures left { seen spaces.new.items ≡ after_forget (seen spaces.old.items) unit }
+    ensures indexed { AreIndexed spaces.new.items }
 {
-    for index in 0..spaces.len() {
+    for space in list {
+        let index = *space as usize;
+        if index >= spaces.len() {
+            continue;
+        }
         spaces[index].leave(unit);
     }
 }
@@ -72,7 +126,11 @@ impl Spaces {
         for _ in 0..schema.space_count() {
             spaces.push(Members::new(alloc))?;
         }
-        Ok(Spaces { alloc, spaces })
+        Ok(Spaces {
+            alloc,
+            spaces,
+            standing: Standing::new(alloc),
+        })
     }
 
     /// The number of spaces.
@@ -95,7 +153,7 @@ impl Spaces {
         ensures entered { OnOk result (self.new ≡ after_enter self.old space unit values) }
         ensures err { OnErr result (self.new ≡ self.old) }
     {
-        self.spaces[space as usize].enter(unit, values)
+        enter_new(&mut self.spaces, &mut self.standing, space, unit, values)
     }
 
     /// Takes a unit out of a space, and says whether it was a member.
@@ -104,7 +162,8 @@ impl Spaces {
         ensures was { result ≡ is_member self.old space unit }
         ensures left { self.new ≡ after_leave self.old space unit }
     {
-        self.spaces[space as usize].leave(unit)
+        self.standing.remove(unit, space);
+        leave(&mut self.spaces, space, unit)
     }
 
     /// Gives a member of a space other values. A unit that is none stays out. An error changes nothing.
@@ -118,8 +177,7 @@ impl Spaces {
         ensures moved { OnOk result (self.new ≡ after_moved self.old space unit values) }
         ensures err { OnErr result (self.new ≡ self.old) }
     {
-        tell(&mut self.spaces, space, unit, values);
-        Ok(())
+        move_one(&mut self.spaces, space, unit, values)
     }
 
     /// Gives a unit other values in some spaces, one after another, where it is a member. An error changes nothing.
@@ -131,15 +189,22 @@ impl Spaces {
         ensures moved { OnOk result (self.new ≡ after_moves self.old unit moves.items) }
         ensures err { OnErr result (self.new ≡ self.old) }
     {
-        tell_each(&mut self.spaces, unit, moves);
-        Ok(())
+        move_all(&mut self.spaces, unit, moves)
     }
 
     /// Takes a unit out of all spaces.
     pub fn forget(&mut self, unit: UnitId)
         ensures { self.new ≡ after_forget self.old unit }
     {
-        leave_each(&mut self.spaces, unit);
+        let list = self.standing.take(unit);
+        leave_each(&mut self.spaces, unit, &list);
+    }
+
+    /// The spaces that a unit is in, rising.
+    pub fn spaces_of(&self, unit: UnitId) -> &[SpaceId]
+        ensures { result.now ≡ spaces_of self.now unit }
+    {
+        self.standing.of(unit)
     }
 
     /// Whether a unit is in a space.
@@ -166,12 +231,27 @@ impl Spaces {
         self.spaces[space as usize].list(self.alloc)
     }
 
-    /// Members of a space, rising, among them all that pass a test by the values that were told of them.
+    /// The members of a space whose value can pass a test, as it was told: by the low end of an interval, or by the
+    /// label. They rise, and all that pass are among them.
     pub fn candidates(&self, space: SpaceId, leaf: &Leaf) -> Result<Vec<UnitId>, Memory>
         requires { space < length self.now.spaces }
-        ensures { IfOk result (λ list. AreCandidates self.now space leaf.now list.items) }
+        ensures chosen { IfOk result (λ list. AreCandidates self.now space leaf.now list.items) }
+        ensures near { IfOk result (λ list. list.items ≡ candidates_of (membership self.now space) leaf.now) }
     {
         self.spaces[space as usize].candidates(self.alloc, leaf)
+    }
+
+    /// The same, or `None` where more than so many values can pass the test. It goes over no more than these.
+    pub fn few(
+        &self,
+        space: SpaceId,
+        leaf: &Leaf,
+        most: usize,
+    ) -> Result<Option<Vec<UnitId>>, Memory>
+        requires { space < length self.now.spaces }
+        ensures { IfOk result (λ few. IfSome few (λ list. AreCandidates self.now space leaf.now list.items)) }
+    {
+        self.spaces[space as usize].few(self.alloc, leaf, most)
     }
 
     /// Does nothing, and says what holds of the spaces at any time: the members of each rise.

@@ -5,4 +5,4 @@ use Rattle.bb_state.specs.declared.words.Place.TheVariants.{Lent, Shared}
 
 abbrev pub words_of : Place → List ℕ
 words_of (Lent text) = text.now
-words_of (Shared text) = text.value
+words_of (Shared text) = text

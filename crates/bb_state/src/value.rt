@@ -11,10 +11,9 @@ use crate::halt::Halt;
 use crate::outcome::Stuck;
 use crate::sequence::Sequence;
 use crate::words::Words;
-use bb_basis::{Memory, Text};
+use bb_basis::Memory;
 use bb_board::Said;
 use bb_schema::{LabelId, LabelSetId, UnitId, Value as SlotValue};
-use std::alloc::Global;
 
 /// A value with its sort.
 #[derive(Debug, Drop)]
@@ -131,12 +130,12 @@ impl<'a> Value<'a> {
     }
 
     /// What a slot holds, as a value.
-    pub fn of_slot(alloc: Global, held: &SlotValue) -> Result<Value<'a>, Memory>
+    pub fn of_slot(held: &SlotValue) -> Result<Value<'a>, Memory>
         ensures { IfOk result (λ v. v ≡ value_from held.now) }
     {
         Ok(match held {
             SlotValue::Int(number) => Value::Int(*number),
-            SlotValue::Text(text) => Value::Text(Words::copied(alloc, text)?),
+            SlotValue::Text(text) => Value::Text(Words::shared(text)?),
             SlotValue::Bool(truth) => Value::Bool(*truth),
             SlotValue::Label(set, label) => Value::Label(*set, *label),
             SlotValue::Interval(low, high) => Value::Interval(*low, *high),
@@ -144,12 +143,12 @@ impl<'a> Value<'a> {
     }
 
     /// The value as a slot holds it, `None` where it is a unit or a sequence.
-    pub fn to_slot(&self, alloc: Global) -> Result<Option<SlotValue>, Memory>
+    pub fn to_slot(&self) -> Result<Option<SlotValue>, Memory>
         ensures { IfOk result (λ held. held ≡ slot_value_of self.now) }
     {
         Ok(Some(match self {
             Value::Int(number) => SlotValue::Int(*number),
-            Value::Text(words) => SlotValue::Text(Text::from_str(alloc, words.as_str())?),
+            Value::Text(words) => SlotValue::Text(words.to_text()?),
             Value::Bool(truth) => SlotValue::Bool(*truth),
             Value::Label(set, label) => SlotValue::Label(*set, *label),
             Value::Interval(low, high) => SlotValue::Interval(*low, *high),
@@ -158,13 +157,13 @@ impl<'a> Value<'a> {
     }
 
     /// The value as it is said, `None` where it is a sequence.
-    pub fn to_said(&self, alloc: Global) -> Result<Option<Said>, Memory>
+    pub fn to_said(&self) -> Result<Option<Said>, Memory>
         ensures { IfOk result (λ said. said ≡ said_of self.now) }
     {
         if let Value::Unit(unit) = self {
             return Ok(Some(Said::Unit(*unit)));
         }
-        match self.to_slot(alloc)? {
+        match self.to_slot()? {
             Some(held) => Ok(Some(Said::Value(held))),
             None => Ok(None),
         }

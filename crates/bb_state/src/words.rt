@@ -1,19 +1,17 @@
-//! A text on the stack. Several entries share it, so that a copy of a value copies no text.
+//! A text on the stack. Slots, entries and notes share it, so that what goes from one to another copies no text.
 
 ghost use Rattle.std.specs.Prelude.{◌≡◌, IfOk};
 
 use bb_basis::{Memory, Text};
-use std::alloc::Global;
 use std::marker::Model;
-use std::rc::Rc;
 
 /// Where a text lies.
 #[derive(Debug, Drop)]
 enum Place<'a> {
     /// In the code.
-    Lent(&'a str),
-    /// In memory of its own, since the slot that it was read from may change.
-    Shared(Rc<Text>),
+    Lent(&'a Text),
+    /// Owned beside the slot that it was read from, since that may change.
+    Shared(Text),
 }
 
 /// A text. Contracts see its bytes, wherever they lie.
@@ -33,7 +31,7 @@ impl<'a> Model for Words<'a> {
 
 impl<'a> Words<'a> {
     /// A text of the code.
-    pub fn lent(text: &'a str) -> Words<'a>
+    pub fn lent(text: &'a Text) -> Words<'a>
         ensures { result ≡ text.now }
     {
         Words {
@@ -41,12 +39,12 @@ impl<'a> Words<'a> {
         }
     }
 
-    /// A copy of a text.
-    pub fn copied(alloc: Global, text: &Text) -> Result<Words<'a>, Memory>
+    /// A text with one more owner.
+    pub fn shared(text: &Text) -> Result<Words<'a>, Memory>
         ensures { IfOk result (λ words. words ≡ text.now) }
     {
         Ok(Words {
-            place: Place::Shared(Rc::new(alloc, text.clone()?)?),
+            place: Place::Shared(text.clone()?),
         })
     }
 
@@ -67,8 +65,18 @@ impl<'a> Words<'a> {
         ensures { result.now ≡ self.now }
     {
         match &self.place {
-            Place::Lent(text) => text,
-            Place::Shared(text) => text.as_ref().as_str(),
+            Place::Lent(text) => text.as_str(),
+            Place::Shared(text) => text.as_str(),
+        }
+    }
+
+    /// The text as a slot or a note keeps it. It is shared, not copied.
+    pub fn to_text(&self) -> Result<Text, Memory>
+        ensures { IfOk result (λ text. text ≡ self.now) }
+    {
+        match &self.place {
+            Place::Lent(text) => (*text).clone(),
+            Place::Shared(text) => text.clone(),
         }
     }
 }

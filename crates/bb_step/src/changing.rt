@@ -56,7 +56,6 @@ pub(crate) fn new_unit(
 // The value that a slot of a unit is to hold.
 #[tactic(auto, unfolding(crate::specs::Changing::value_due))]
 fn value_due(
-    alloc: Global,
     board: &Board,
     unit: UnitId,
     slot: SlotId,
@@ -71,7 +70,7 @@ fn value_due(
         return Err(Halt::Stuck(Stuck::Slot));
     }
     board.fits();
-    match value.to_slot(alloc)? {
+    match value.to_slot()? {
         Some(held) if board.can_hold(slot, &held) => Ok(held),
         _ => Err(Halt::Stuck(Stuck::Kind)),
     }
@@ -94,7 +93,6 @@ fn is_right_slot(board: &Board, unit: UnitId, slot: SlotId) -> bool
 #[tactic(auto, unfolding(crate::specs::Changing::set_slot))]
 pub(crate) fn set_slot(
     machine: &mut Machine<'_>,
-    alloc: Global,
     board: &mut Board,
     slot: SlotId,
 ) -> Result<(), Halt>
@@ -103,7 +101,7 @@ pub(crate) fn set_slot(
 {
     let (unit, value) = machine.pop_two()?;
     let unit = unit.unit()?;
-    let held = value_due(alloc, board, unit, slot, &value)?;
+    let held = value_due(board, unit, slot, &value)?;
     live(board, unit)?;
     board.set(unit, slot, held)?;
     Ok(())
@@ -189,11 +187,11 @@ pub(crate) fn delete(machine: &mut Machine<'_>, board: &mut Board) -> Result<(),
 }
 
 // A value that can be said.
-fn said_due(alloc: Global, board: &Board, value: &Value<'_>) -> Result<Said, Halt>
+fn said_due(board: &Board, value: &Value<'_>) -> Result<Said, Halt>
     ensures gives { Gives OutOfMemory (λ v. v) result (def.said_due board.now value.now) }
     ensures said { IfOk result (λ v. is_said_of board.now.schema v ≡ true) }
 {
-    match value.to_said(alloc)? {
+    match value.to_said()? {
         Some(said) if board.can_say(&said) => Ok(said),
         _ => Err(Halt::Stuck(Stuck::Kind)),
     }
@@ -206,7 +204,7 @@ fn all_said(alloc: Global, board: &Board, values: &[Value<'_>]) -> Result<Vec<Sa
 {
     let mut said = Vec::new(alloc);
     for value in values {
-        said.push(said_due(alloc, board, value)?)?;
+        said.push(said_due(board, value)?)?;
     }
     Ok(said)
 }

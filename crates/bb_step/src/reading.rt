@@ -29,7 +29,7 @@ pub(crate) fn push_text<'a>(
     let Some(text) = code.texts().get(text as usize) else {
         return Err(Halt::Stuck(Stuck::Missing));
     };
-    machine.push(Value::Text(Words::lent(text.as_str())))
+    machine.push(Value::Text(Words::lent(text)))
 }
 
 /// Pushes a label of the schema.
@@ -112,7 +112,6 @@ pub(crate) fn pop_live(machine: &mut Machine<'_>, board: &Board) -> Result<UnitI
 #[tactic(auto, unfolding(crate::specs::Reading::get))]
 pub(crate) fn get(
     machine: &mut Machine<'_>,
-    alloc: Global,
     board: &Board,
     slot: SlotId,
 ) -> Result<(), Halt>
@@ -122,7 +121,7 @@ pub(crate) fn get(
     if !board.has(unit, slot) {
         return Err(Halt::Stuck(Stuck::Slot));
     }
-    let value = Value::of_slot(alloc, board.get(unit, slot))?;
+    let value = Value::of_slot(board.get(unit, slot))?;
     machine.push(value)
 }
 
@@ -202,7 +201,6 @@ pub(crate) fn one(
 #[tactic(auto, unfolding(crate::specs::Reading::links))]
 pub(crate) fn links(
     machine: &mut Machine<'_>,
-    alloc: Global,
     board: &Board,
     slot: SlotId,
 ) -> Result<(), Halt>
@@ -210,7 +208,7 @@ pub(crate) fn links(
 {
     let unit = pop_live(machine, board)?;
     any_link(board, unit, slot)?;
-    let partners = board.links(unit, slot).to_vec(alloc)?;
+    let partners = board.links(unit, slot)?;
     push_found(machine, partners)
 }
 

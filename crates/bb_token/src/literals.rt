@@ -158,7 +158,7 @@ impl<'a> Parser<'a> {
         if bytes.len() > TEXT_LIMIT {
             return Err(LangFault::Limit { place });
         }
-        Ok(Text::new(String::from_utf8_lossy(alloc, &bytes)?))
+        Ok(Text::new(alloc, String::from_utf8_lossy(alloc, &bytes)?)?)
     }
 
     /// A text constant.

@@ -52,7 +52,7 @@ fn name_text(alloc: Global, bytes: &[u8]) -> Result<Text, AllocError>
     requires { is_name bytes.now ≡ true }
     ensures { IfOk result (λ t. t ≡ bytes.now) }
 {
-    Ok(Text::new(String::from_utf8_lossy(alloc, bytes)?))
+    Text::new(alloc, String::from_utf8_lossy(alloc, bytes)?)
 }
 
 impl<'a> Parser<'a> {

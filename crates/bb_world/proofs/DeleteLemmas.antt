@@ -25,7 +25,7 @@ use Rattle.bb_world.specs.declared.event.Change.TheVariants.{Delete, Leave}
 use Rattle.bb_world.specs.State.{World}
 use Rattle.bb_world.specs.World.{event, class_at}
 use Rattle.bb_space.specs.Spaces.{is_member}
-use Rattle.bb_world.specs.Told.{spaces_of}
+use Rattle.bb_space.specs.Spaces.{spaces_of}
 use Rattle.bb_world.specs.Spaces.{leavings}
 use Rattle.bb_world.specs.Links.{parting, is_turn, slot_partings, after_delete}
 use Rattle.bb_world.specs.Fits.{is_noted, is_of_owner, Fits}

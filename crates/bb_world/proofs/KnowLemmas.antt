@@ -21,7 +21,8 @@ use Rattle.bb_pattern.specs.Values.{dim_value_of}
 use Rattle.bb_space.specs.Spaces.{Membership, Spaces, values_in, is_member, no_spaces, entered, left, after_enter, after_leave, after_forget}
 use Rattle.bb_query.specs.PresentValues.{present_values}
 use Rattle.bb_query.specs.Knows.{Knows}
-use Rattle.bb_world.specs.Told.{spaces_of, values_for, told_again}
+use Rattle.bb_space.specs.Spaces.{spaces_of}
+use Rattle.bb_world.specs.Told.{values_for, told_again}
 use Rattle.bb_world.proofs.ClassLemmas.{same_class_of}
 use Rattle.bb_world.proofs.MemberLemmas.{same_number, changed_length, from_enter, from_leave, from_forget, moves_length, moves_other, moves_none, moves_told, among_filter, among_range, member_within}
 

@@ -19,7 +19,7 @@ use Rattle.bb_links.specs.Layout.{end_among}
 use Rattle.bb_links.specs.Pairs.{near, far, has_pair, without_old, old_pair, is_singular, with_link, taken_among, same_pair}
 use Rattle.bb_links.specs.Couples.{Couple, Couples, end_of, changed, linked, unlinked, pairs_of, taken, are_linked}
 use Rattle.bb_links.specs.Fits as links
-use Rattle.bb_links.specs.proving.Kept.{opposite}
+use Rattle.bb_links.specs.proving.Partners.{opposite}
 use Rattle.bb_world.specs.declared.event.Change.{Change}
 use Rattle.bb_world.specs.declared.event.Change.TheVariants.{Link as Links, Unlink}
 use Rattle.bb_world.specs.declared.reason.Reason.{Reason}

@@ -1,21 +1,22 @@
--- What a unit has on a dimension once a slot of it is set, and one space more of those that it is in.
-use Rattle.std.proofs.Common.{◌≡◌, ◌≢◌, ℕ, ◌+◌, zero, suc, Bool, true, false, cond, List, [], ◌∷◌, ◌++◌, map, Option, Some, None, refl, sym, ap, ◌∙◌, arith}
-use Rattle.std.specs.Prelude.{◌==◌, is_some, option_and_then}
+-- What a unit has on a dimension once a slot of it is set, and one space more of those that are told.
+use Rattle.std.proofs.Common.{◌≡◌, ◌≢◌, ℕ, ◌+◌, ◌<◌, zero, suc, Bool, true, false, cond, List, [], ◌∷◌, length, get_or, Option, Some, None, option_map, refl, sym, ap, ◌∙◌, arith}
+use Rattle.std.specs.Prelude.{◌==◌, is_some, option_and_then, slice_set}
 use Rattle.std.specs.List.{filter, filter_map, cons_option, range_with_len}
 use Rattle.std.specs.Option.{option_map_or}
 use Rattle.std.specs.Cmp.{nat_cmp_total, eq_by_cmp_equiv}
 use Rattle.std.specs.FinMap.{get, insert, get-insert}
 use Rattle.std.proofs.lemmas.Bool.{eqb-true}
-use Rattle.std.proofs.lemmas.List.{append-nil, append_assoc, map_push}
 use Rattle.bb_classes.specs.declared.value.Value.{Value}
 use Rattle.bb_schema.specs.declared.space.Dim.{Dim}
 use Rattle.bb_schema.specs.Schema.{Schema, slot_named}
 use Rattle.bb_units.specs.declared.unit.Unit.{Unit}
 use Rattle.bb_units.specs.Values.{value_at, with_value}
 use Rattle.bb_units.specs.Units.{Units, value_of, with_slot, after_set}
+use Rattle.bb_pattern.specs.declared.value.DimValue.{DimValue}
 use Rattle.bb_pattern.specs.Values.{dim_value_of}
+use Rattle.bb_space.specs.Spaces.{Spaces, is_member, values_in, spaces_of}
 use Rattle.bb_query.specs.PresentValues.{value_on}
-use Rattle.bb_world.proofs.MemberLemmas.{filter_more}
+use Rattle.bb_world.specs.proving.Moves.{reading, values_anew, moves_for}
 
 module _ (slot : ℕ) (value : Value) where
   same_by : (e : ℕ × Value) (es : List (ℕ × Value)) (b : Bool) → (e.0 == slot) ≡ b → is_some (cond b (Some e.1) (value_at es slot)) ≡ true
@@ -74,42 +75,38 @@ module _ (slot : ℕ) (value : Value) where
     on_another sc class d read named apart =
         ap (option_and_then (λ s. option_and_then dim_value_of (value_of (after_set u n slot value) n s))) named ∙ ap (option_and_then dim_value_of) (set_value_other read apart)
 
--- what one space more gives, of those that pass
-module _ {X : Type 0} (f : ℕ → X) (p : ℕ → Bool) (before : List X) (i : ℕ) where
-  abbrev passed : ℕ → List ℕ
-  passed k = filter p (range_with_len 0 k)
-
-  one_more : passed (i + 1) ≡ passed i ++ cond (p i) (i ∷ []) []
-  one_more = ap passed (let on : i + 1 ≡ suc i = omega arith in on) ∙ filter_more p i 0 i (omega arith)
-
-  pub passed_over : (made : List X) → p i ≡ false → made ≡ before ++ map f (passed i) → made ≡ before ++ map f (passed (i + 1))
-  passed_over made out so_far =
-      so_far ∙ ap (λ xs. before ++ map f xs) (sym (one_more ∙ (ap (λ b. passed i ++ cond b (i ∷ []) []) out ∙ append-nil (passed i))))
-
-  pub passed_on : (made after : List X) (x : X) → p i ≡ true → x ≡ f i → after ≡ made ++ x ∷ [] → made ≡ before ++ map f (passed i) → after ≡ before ++ map f (passed (i + 1))
-  passed_on made after x yes_it is new so_far =
-      new ∙ (ap (λ y. made ++ y ∷ []) is ∙ (ap (λ ys. ys ++ f i ∷ []) so_far ∙ (append_assoc before (map f (passed i)) (f i ∷ [])
-      ∙ (ap (λ ys. before ++ ys) (sym (map_push f (passed i) i)) ∙ ap (λ xs. before ++ map f xs) (sym (one_more ∙ ap (λ b. passed i ++ cond b (i ∷ []) []) yes_it))))))
-
--- what one space more is told, if it is told anything
+-- those that are told nothing can be left out
 module _ {X : Type 0} (f : ℕ → Option X) where
-  abbrev given : ℕ → List X
-  given k = filter_map f (range_with_len 0 k)
-
-  given_more : (n a j : ℕ) → a + n ≡ j → filter_map f (range_with_len a (suc n)) ≡ filter_map f (range_with_len a n) ++ cons_option (f j) []
-  given_more zero a j e = ap (λ i. cons_option (f i) []) (let same : a ≡ j = omega (arith, e) in same)
-  given_more (suc n) a j e = one (f a) (given_more n (a + 1) j (omega (arith, e)))
+  pub told_few : (p : ℕ → Bool) → ((q : ℕ) → p q ≡ false → f q ≡ None) → (xs : List ℕ) → filter_map f (filter p xs) ≡ filter_map f xs
+  told_few p out [] = refl
+  told_few p out (x ∷ xs) = by (p x) refl (told_few p out xs)
     where
-      one : (o : Option X) → filter_map f (range_with_len (a + 1) (suc n)) ≡ filter_map f (range_with_len (a + 1) n) ++ cons_option (f j) []
-          → cons_option o (filter_map f (range_with_len (a + 1) (suc n))) ≡ cons_option o (filter_map f (range_with_len (a + 1) n)) ++ cons_option (f j) []
-      one None more = more
-      one (Some x) more = ap (λ ys. x ∷ ys) more
+      by : (b : Bool) → p x ≡ b → filter_map f (filter p xs) ≡ filter_map f xs → filter_map f (cond b (x ∷ filter p xs) (filter p xs)) ≡ cons_option (f x) (filter_map f xs)
+      by true is rest = ap (cons_option (f x)) rest
+      by false is rest = rest ∙ sym (ap (λ o. cons_option o (filter_map f xs)) (out x is))
 
-  given_next : (i : ℕ) → given (i + 1) ≡ given i ++ cons_option (f i) []
-  given_next i = ap given (let on : i + 1 ≡ suc i = omega arith in on) ∙ given_more i 0 i (omega arith)
+-- a space that a unit is in is there
+in_range : (p : ℕ → Bool) (n a k d : ℕ) → k < length (filter p (range_with_len a n)) → get_or (filter p (range_with_len a n)) k d < a + n
+in_range p zero a k d lt = absurd (omega (arith, lt))
+in_range p (suc n) a k d lt = by (p a) k lt (λ j at. let rest = in_range p n (a + 1) j d at in omega (arith, rest))
+  where
+    by : (b : Bool) (k : ℕ) → k < length (cond b (a ∷ filter p (range_with_len (a + 1) n)) (filter p (range_with_len (a + 1) n)))
+        → ((j : ℕ) → j < length (filter p (range_with_len (a + 1) n)) → get_or (filter p (range_with_len (a + 1) n)) j d < a + suc n)
+        → get_or (cond b (a ∷ filter p (range_with_len (a + 1) n)) (filter p (range_with_len (a + 1) n))) k d < a + suc n
+    by true zero lt rest = omega arith
+    by true (suc j) lt rest = rest j (omega (arith, lt))
+    by false k lt rest = rest k lt
 
-  pub given_none : (made : List X) (i : ℕ) → f i ≡ None → made ≡ given i → made ≡ given (i + 1)
-  given_none made i none so_far = so_far ∙ sym (given_next i ∙ (ap (λ o. given i ++ cons_option o []) none ∙ append-nil (given i)))
+pub space_within : (t : Spaces) (n k d : ℕ) → k < length (spaces_of t n) → get_or (spaces_of t n) k d < length t.spaces
+space_within t n k d lt = let within = in_range (λ q. is_member t q n) (length t.spaces) 0 k d lt in omega (arith, within)
 
-  pub given_one : (made after : List X) (i : ℕ) (x : X) → f i ≡ Some x → after ≡ made ++ x ∷ [] → made ≡ given i → after ≡ given (i + 1)
-  given_one made after i x is new so_far = new ∙ (ap (λ ys. ys ++ x ∷ []) so_far ∙ sym (given_next i ∙ ap (λ o. given i ++ cons_option o []) is))
+-- a space that a unit is not in is told nothing
+untold : (o : Option (List DimValue)) (f : List DimValue → Option (List DimValue)) → is_some o ≡ false → option_and_then f o ≡ None
+untold None f is = refl
+untold (Some v) f is = absurd cc
+
+pub own_moves : (s : Schema) (t : Spaces) (n slot : ℕ) (value : Value) → filter_map (λ space. option_map (λ values. (space, values)) (values_anew s t n slot value space)) (spaces_of t n) ≡ moves_for s t n slot value
+own_moves s t n slot value =
+    told_few (λ space. option_map (λ values. (space, values)) (values_anew s t n slot value space)) (λ q. is_member t q n)
+    (λ q out. ap (option_map (λ (values : List DimValue). (q, values))) (untold (values_in t q n) (λ told. option_and_then (λ place. option_map (slice_set told place) (dim_value_of value)) (reading s slot q)) out))
+    (range_with_len 0 (length t.spaces))

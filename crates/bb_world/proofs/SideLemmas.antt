@@ -11,7 +11,7 @@ use Rattle.bb_schema.specs.Schema.{Schema, link_in, link_of}
 use Rattle.bb_schema.specs.Couples.{firsts, couple_end, couple_of}
 use Rattle.bb_schema.specs.Fits.{IsCoupled}
 use Rattle.bb_schema.proofs.Laws.{couple_listed}
-use Rattle.bb_links.specs.proving.Kept.{opposite}
+use Rattle.bb_links.specs.proving.Partners.{opposite}
 
 there_by : (found : Option Slot) (l : Link) → option_and_then (λ t. link_in t.content) found ≡ Some l → (t : Slot) × (found ≡ Some t)
 there_by None l is = absurd cc

@@ -3,7 +3,7 @@ use Rattle.std.specs.Prelude.{ℕ, not, List, [], ◌∷◌, ◌++◌, map, Resu
 use Rattle.bb_schema.specs.Schema.{Schema}
 use Rattle.bb_schema.specs.Spaces.{allowed}
 use Rattle.bb_units.specs.Units.{is_live}
-use Rattle.bb_space.specs.Spaces.{is_member, after_enter as with_member, after_leave as without_member}
+use Rattle.bb_space.specs.Spaces.{is_member, spaces_of, after_enter as with_member, after_leave as without_member}
 use Rattle.bb_query.specs.PresentValues.{present_values}
 use Rattle.bb_world.specs.declared.event.Change.TheVariants.{Enter, Leave}
 use Rattle.bb_world.specs.declared.note.Note.{Note}
@@ -11,7 +11,6 @@ use Rattle.bb_world.specs.declared.reason.Reason.{Reason}
 use Rattle.bb_world.specs.declared.reason.Reason.TheVariants.{Deleted, Space}
 use Rattle.bb_world.specs.State.{World}
 use Rattle.bb_world.specs.World.{event, class_at}
-use Rattle.bb_world.specs.Told.{spaces_of}
 
 -- a unit may enter a space: it is live, and the space is there and takes units of its class
 abbrev pub may_enter : Schema → World → (unit space : ℕ) → Result (Unit {0}) Reason

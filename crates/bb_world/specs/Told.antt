@@ -1,15 +1,10 @@
 -- What spaces are told of a unit whose values change.
-use Rattle.std.specs.Prelude.{ℕ, List, map, length}
-use Rattle.std.specs.List.{filter, range_with_len}
+use Rattle.std.specs.Prelude.{ℕ, List, map}
 use Rattle.bb_schema.specs.Schema.{Schema}
 use Rattle.bb_units.specs.Units.{Units}
 use Rattle.bb_pattern.specs.declared.value.DimValue.{DimValue}
-use Rattle.bb_space.specs.Spaces.{Spaces, is_member, after_moves}
+use Rattle.bb_space.specs.Spaces.{Spaces, spaces_of, after_moves}
 use Rattle.bb_query.specs.PresentValues.{present_values}
-
--- the spaces that a unit is in, rising
-abbrev pub spaces_of : Spaces → (unit : ℕ) → List ℕ
-spaces_of t n = filter (λ space. is_member t space n) (range_with_len 0 (length t.spaces))
 
 -- the present values of a unit on the dimensions of some spaces
 abbrev pub values_for : Schema → Units → (unit : ℕ) → List ℕ → List (ℕ × List DimValue)

@@ -249,6 +249,7 @@ impl State {
     /// Adds the notes of the links that a deleted unit loses by a slot.
     fn add_slot_partings(
         &self,
+        alloc: Global,
         notes: &mut Vec<Note>,
         schema: &Schema,
         unit: UnitId,
@@ -260,13 +261,14 @@ impl State {
             return Ok(());
         }
         let (_, side) = schema.couple(slot);
-        let partners = self.links.ends(unit, slot);
-        self.add_partings(notes, schema, (side, slot), unit, partners)
+        let partners = self.links.ends(alloc, unit, slot)?;
+        self.add_partings(notes, schema, (side, slot), unit, &partners)
     }
 
     /// Adds the notes of the links that a deleted unit loses by some slots, slot by slot.
     fn add_all_partings(
         &self,
+        alloc: Global,
         notes: &mut Vec<Note>,
         schema: &Schema,
         unit: UnitId,
@@ -276,7 +278,7 @@ impl State {
             flat_map (slot_partings schema.now self.now unit) slots.now) }
     {
         for slot in slots {
-            self.add_slot_partings(notes, schema, unit, *slot)?;
+            self.add_slot_partings(alloc, notes, schema, unit, *slot)?;
         }
         Ok(())
     }
@@ -297,8 +299,8 @@ impl State {
     {
         let class = self.class_at(unit);
         let mut notes = Vec::new(alloc);
-        self.add_all_partings(&mut notes, schema, unit, schema.slots(class))?;
-        self.add_notes_of_leaving(&mut notes, schema, unit)?;
+        self.add_all_partings(alloc, &mut notes, schema, unit, schema.slots(class))?;
+        self.add_notes_of_leaving(&mut notes, unit)?;
         notes.push(self.event(unit, Change::Delete))?;
         self.notes.append(notes)?;
         self.links.forget(unit);

@@ -17,18 +17,13 @@ impl State {
     pub(crate) fn add_notes_of_leaving(
         &self,
         notes: &mut Vec<Note>,
-        schema: &Schema,
         unit: UnitId,
     ) -> Result<(), Memory>
-        requires spaces { length self.now.spaces.spaces ≡ length schema.now.spaces }
-        requires few { length schema.now.spaces < 2 ^ 16 }
         ensures { OnOk result (notes.new.items ≡ notes.old.items ++ leavings self.now unit) }
     {
-        for space in 0..schema.space_count() {
-            if !self.spaces.contains(space as SpaceId, unit) {
-                continue;
-            }
-            notes.push(self.event(unit, Change::Leave(space as SpaceId)))?;
+        let spaces = self.spaces.spaces_of(unit);
+        for space in spaces {
+            notes.push(self.event(unit, Change::Leave(*space)))?;
         }
         Ok(())
     }

@@ -83,12 +83,13 @@ pub(crate) fn moves_of(
     ensures { IfOk result (λ moves. moves.items ≡ moves_for schema.now spaces.now unit slot value.now) }
 {
     let mut moves = Vec::new(alloc);
-    for space in 0..schema.space_count() {
-        let values = values_anew(alloc, schema, spaces, unit, slot, value, space as SpaceId)?;
+    let own = spaces.spaces_of(unit);
+    for space in own {
+        let values = values_anew(alloc, schema, spaces, unit, slot, value, *space)?;
         let Some(values) = values else {
             continue;
         };
-        moves.push((space as SpaceId, values))?;
+        moves.push((*space, values))?;
     }
     Ok(moves)
 }

@@ -252,12 +252,12 @@ impl World {
     }
 
     /// The partners of a unit by a slot, in order of addition, 65,536 at most: each is live, and none comes twice. A slot
-    /// that is no link slot has none.
-    pub fn links(&self, unit: UnitId, slot: SlotId) -> &[UnitId]
-        ensures links { result.now ≡ ends self.now.world.links unit slot }
-        ensures few { length result.now ≤ UNIT_LIMIT }
+    /// that is no link slot has none. It fails only for want of memory.
+    pub fn links(&self, unit: UnitId, slot: SlotId) -> Result<Vec<UnitId>, Memory>
+        ensures links { IfOk result (λ found. found.items ≡ ends self.now.world.links unit slot) }
+        ensures few { IfOk result (λ found. length found.items ≤ UNIT_LIMIT) }
     {
-        self.state.links.ends(unit, slot)
+        self.state.links.ends(self.alloc, unit, slot)
     }
 
     /// The first partner of a unit by a slot, which is the only one where the slot is singular.

@@ -1,5 +1,5 @@
 -- A list of numbers for each unit.
-use Rattle.std.specs.Prelude.{ℕ, ◌==◌, not, List, [], ◌∷◌, ◌++◌, filter, if◌then◌else◌}
+use Rattle.std.specs.Prelude.{ℕ, ◌==◌, List, [], ◌∷◌, ◌++◌, if◌then◌else◌}
 use Rattle.std.specs.Global.{Vec}
 use Rattle.std.specs.Option.{option_map_or}
 use Rattle.std.specs.Ordering.{nat_cmp}
@@ -12,10 +12,6 @@ listed lists n = option_map_or (λ v. v.items) (get nat_cmp lists n) []
 -- with one number more of a unit, the last
 abbrev pub one_more : BTreeMap ℕ (Vec ℕ) → ℕ → ℕ → ℕ → List ℕ
 one_more lists unit number n = if n == unit then listed lists n ++ number ∷ [] else listed lists n
-
--- without a number of a unit
-abbrev pub one_less : BTreeMap ℕ (Vec ℕ) → ℕ → ℕ → ℕ → List ℕ
-one_less lists unit number n = if n == unit then filter (λ m. not (m == number)) (listed lists n) else listed lists n
 
 -- without all numbers of a unit
 abbrev pub none_left : BTreeMap ℕ (Vec ℕ) → ℕ → ℕ → List ℕ

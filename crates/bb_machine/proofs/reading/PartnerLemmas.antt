@@ -15,7 +15,7 @@ use Rattle.bb_units.specs.Units.{class_of}
 use Rattle.bb_links.specs.Couples.{end_of, pairs_of}
 use Rattle.bb_links.specs.Links.{partners, ends}
 use Rattle.bb_links.specs.Pairs.{near, far}
-use Rattle.bb_links.specs.proving.Kept.{opposite}
+use Rattle.bb_links.specs.proving.Partners.{opposite}
 use Rattle.bb_board.specs.Fits.{is_of_owner, Fits}
 use Rattle.bb_board.specs.May.{class_has}
 use Rattle.bb_board.specs.State.{World}

@@ -1,6 +1,6 @@
-use Rattle.std.proofs.Common.{◌≡◌, ◌++◌, map, take, drop}
-use Rattle.bb_space.specs.Spaces.{left}
+use Rattle.std.proofs.Common.{take}
+use Rattle.bb_space.proofs.LeavingLemmas.{AreCleared}
 use Rattle.bb_space.proofs.spaces.leave_each.Given as goal
 
-abbrev pub invariant-loop-index : goal.invariant-loop-index
-invariant-loop-index l = l.spaces.items ≡ map (left l.unit) (take l.index l.fn.spaces.items) ++ drop l.index l.fn.spaces.items
+abbrev pub invariant-loop-space : goal.invariant-loop-space
+invariant-loop-space l = AreCleared l.unit (take l.space-index l.list) l.fn.spaces.items l.spaces.items

@@ -1,19 +1,24 @@
-use Rattle.std.proofs.Common.{List, option_map, ap, sym, ◌∙◌}
-use Rattle.bb_pattern.specs.declared.value.DimValue.{DimValue}
+use Rattle.std.proofs.Common.{◌≡◌, ◌<◌, ◌∙◌, ◌++◌, ap, sym, subst, length, get_or}
+use Rattle.std.specs.Prelude.{option_map}
+use Rattle.std.specs.List.{filter_map}
 use Rattle.bb_world.specs.proving.Moves.{values_anew}
-use Rattle.bb_world.proofs.SettingLemmas.{given_none, given_one}
+use Rattle.bb_world.proofs.SettingLemmas.{own_moves, space_within}
 use Rattle.bb_world.proofs.moves.moves_of.Goals as goal
 
-pub loop-space-preserved-in_default : goal.loop-space-preserved-in_default
-loop-space-preserved-in_default c =
+pub loop-space-init : goal.loop-space-init
+loop-space-init c =
     let anew = values_anew c.args.schema.now c.args.spaces.now c.args.unit c.args.slot c.args.value.now in
-    let i = c.loop-space.space in
-    given_none (λ space. option_map (λ values. (space, values)) (anew space)) c.loop-space.moves.items i
-    (ap (option_map (λ (values : List DimValue). (i, values))) (sym c.in_ok-values.ensures ∙ c.in_default.is)) c.loop-space.invariant
+    ap (λ made. made ++ filter_map (λ space. option_map (λ values. (space, values)) (anew space)) c.spaces_of-own.result.now) c.new-moves.ensures.items
+    ∙ (ap (filter_map (λ space. option_map (λ values. (space, values)) (anew space))) c.spaces_of-own.ensures
+    ∙ own_moves c.args.schema.now c.args.spaces.now c.args.unit c.args.slot c.args.value.now)
 
-pub loop-space-preserved : goal.loop-space-preserved
-loop-space-preserved c =
-    let anew = values_anew c.args.schema.now c.args.spaces.now c.args.unit c.args.slot c.args.value.now in
-    let i = c.loop-space.space in
-    given_one (λ space. option_map (λ values. (space, values)) (anew space)) c.loop-space.moves.items c.push.new.self.items i (i, c.in-Some.values)
-    (ap (option_map (λ (values : List DimValue). (i, values))) (sym c.in_ok-values.ensures ∙ c.in-Some.is)) c.in_ok-push.ensures.items c.loop-space.invariant
+pub values_anew-requires-clause-told : goal.values_anew-requires-clause-told
+values_anew-requires-clause-told c =
+    subst (λ own. c.loop-space.space-index < length own → get_or own c.loop-space.space-index 0 < length c.args.spaces.now.spaces) (sym c.spaces_of-own.ensures)
+    (space_within c.args.spaces.now c.args.unit c.loop-space.space-index 0) c.loop-space-test.true
+
+pub values_anew-requires-clause-space : goal.values_anew-requires-clause-space
+values_anew-requires-clause-space c =
+    subst (λ n. get_or c.spaces_of-own.result.now c.loop-space.space-index 0 < n) c.requires.spaces
+    (subst (λ own. c.loop-space.space-index < length own → get_or own c.loop-space.space-index 0 < length c.args.spaces.now.spaces) (sym c.spaces_of-own.ensures)
+    (space_within c.args.spaces.now c.args.unit c.loop-space.space-index 0) c.loop-space-test.true)

@@ -14,11 +14,10 @@ by_first s side n pairs first single is = rw single (find-first side n pairs ∙
 pub returns-in_err-partner : goal.returns-in_err-partner
 returns-in_err-partner c =
     let now = c.args.self.now in
-    let none = ap (λ (l : List ℕ). slice_get l 0) (sym c.partners.ensures) ∙ sym c.in_err-partner.ensures.value in
-    c.from_residual.ensures ∙ sym (by_first now.singular c.args.side c.args.unit now.pairs None (sym c.is_singular.ensures ∙ c.if-not-is_singular.false) none)
+    c.from_residual.ensures ∙ sym (by_first now.singular c.args.side c.args.unit now.pairs None (sym c.is_singular.ensures ∙ c.if-not-is_singular.false) (sym c.in_err-partner.ensures))
 
 pub returns : goal.returns
 returns c =
     let now = c.args.self.now in
-    let there = ap (λ (l : List ℕ). slice_get l 0) (sym c.partners.ensures) ∙ sym c.in_ok-partner.ensures.value in
-    ap (λ (p : ℕ × ℕ). Some p) c.pair.ensures ∙ sym (by_first now.singular c.args.side c.args.unit now.pairs (Some c.in_ok-partner.partner.now) (sym c.is_singular.ensures ∙ c.if-not-is_singular.false) there)
+    ap (λ (p : ℕ × ℕ). Some p) c.pair.ensures
+    ∙ sym (by_first now.singular c.args.side c.args.unit now.pairs (Some c.in_ok-partner.partner) (sym c.is_singular.ensures ∙ c.if-not-is_singular.false) (sym c.in_ok-partner.ensures))

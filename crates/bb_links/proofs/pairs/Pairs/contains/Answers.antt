@@ -6,4 +6,5 @@ use Rattle.bb_links.proofs.pairs.Pairs.contains.Goals as goal
 
 pub returns : goal.returns
 returns c =
-    c.contains_key.ensures ∙ (ap is_some (c.self.invariant.found c.args.pair) ∙ (there_by_stamp c.args.pair c.self.inside.by_stamp.entries ∙ ap (has_pair c.args.pair) c.self.view_is))
+    c.contains_key.ensures
+    ∙ (ap is_some (c.self.invariant.stamped.found c.args.pair) ∙ (there_by_stamp c.args.pair c.self.inside.by_stamp.entries ∙ ap (has_pair c.args.pair) c.self.view_is))

@@ -4,4 +4,4 @@ use Rattle.bb_space.proofs.EntryLemmas.{get_is_lookup}
 use Rattle.bb_space.proofs.members.Members.contains.Goals as goal
 
 pub returns : goal.returns
-returns c = rw (← c.self.view_is) (c.contains_key.ensures ∙ ap is_some (sym (get_is_lookup c.self.inside.values.entries c.args.unit)))
+returns c = c.contains_key.ensures ∙ ap is_some (sym (get_is_lookup c.args.self.now.values.entries c.args.unit))

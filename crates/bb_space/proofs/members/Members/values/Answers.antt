@@ -5,8 +5,8 @@ use Rattle.bb_space.proofs.members.Members.values.Goals as goal
 
 pub returns-in-None : goal.returns-in-None
 returns-in-None c =
-    rw (← c.self.view_is) (sym (get_is_lookup c.self.inside.values.entries c.args.unit ∙ (sym c.get.ensures.value ∙ ap (option_map (λ x. x.now)) c.in-None.is)))
+    sym (get_is_lookup c.args.self.now.values.entries c.args.unit ∙ (sym c.get.ensures.value ∙ ap (option_map (λ x. x.now)) c.in-None.is))
 
 pub returns-in-Some : goal.returns-in-Some
 returns-in-Some c =
-    rw (← c.self.view_is, c.as_slice.ensures) (sym (get_is_lookup c.self.inside.values.entries c.args.unit ∙ (sym c.get.ensures.value ∙ ap (option_map (λ x. x.now)) c.in-Some.is)))
+    rw c.as_slice.ensures (sym (get_is_lookup c.args.self.now.values.entries c.args.unit ∙ (sym c.get.ensures.value ∙ ap (option_map (λ x. x.now)) c.in-Some.is)))

@@ -1,0 +1,9 @@
+use Rattle.std.proofs.Common.{drop}
+use Rattle.bb_query.proofs.NearLemmas.{HasBut}
+use Rattle.bb_query.proofs.near.+near.Given as goal
+
+abbrev pub invariant-near_each-loop-pattern : goal.invariant-near_each-loop-pattern
+invariant-near_each-loop-pattern l = Unit {0}
+
+abbrev pub invariant-near_some-loop-pattern : goal.invariant-near_some-loop-pattern
+invariant-near_some-loop-pattern l = HasBut l.spaces l.space l.operands l.patterns (drop l.pattern-index l.patterns) l.found

@@ -1,0 +1,3 @@
+-- What only the contracts of private functions speak of.
+-- units that hold an answer
+pub mod Enough

@@ -1,0 +1,59 @@
+-- Where the values of members stand in the index of a space.
+use Rattle.std.specs.Prelude.{◌≡◌, ℕ, ℤ, pos, Bool, true, false, ◌&&◌, ◌==◌, ◌+◌, int_le, List, slice_get, if◌then◌else◌}
+use Rattle.std.specs.Option.{option_map_or}
+use Rattle.std.specs.declared.cmp.Ordering.{Ordering}
+use Rattle.std.specs.Ordering.{ordering_then, nat_cmp, int_cmp, int_eq}
+use Rattle.std.specs.BTreeSet.{BTreeSet, contains}
+use Rattle.std.specs.FinMap as fin
+use Rattle.bb_pattern.specs.declared.value.DimValue.{DimValue}
+use Rattle.bb_pattern.specs.declared.value.DimValue.TheVariants.{Interval, Label}
+use Rattle.bb_space.specs.declared.place.Place.{Place}
+use Rattle.bb_space.specs.Spaces.{Membership}
+
+-- the order of places
+abbrev pub place_cmp : Place → Place → Ordering
+place_cmp p q =
+    ordering_then (nat_cmp p.dim q.dim)
+    (ordering_then (nat_cmp p.sort q.sort)
+    (ordering_then (int_cmp p.key q.key) (ordering_then (nat_cmp p.edge q.edge) (nat_cmp p.unit q.unit))))
+
+abbrev pub sort_of : DimValue → ℕ
+sort_of (Interval low high) = if int_le low high then 1 else 2
+sort_of (Label set label) = 4 + set
+
+abbrev pub key_of : DimValue → ℤ
+key_of (Interval low high) = if int_le low high then low else pos 0
+key_of (Label set label) = pos label
+
+-- the place of a value that a unit has on a dimension
+abbrev pub place_of : ℕ → ℕ → DimValue → Place
+place_of dim unit value = record { dim = dim; sort = sort_of value; key = key_of value; edge = 1; unit = unit }
+
+-- one of the values stands at the place
+abbrev pub is_at : List DimValue → Place → Bool
+is_at values p =
+    option_map_or (λ v. (sort_of v == p.sort) && (int_eq (key_of v) p.key && (1 == p.edge))) (slice_get values p.dim) false
+
+-- it is the place of one of a unit's values
+abbrev pub is_place_of : ℕ → List DimValue → Place → Bool
+is_place_of unit values p = (p.unit == unit) && is_at values p
+
+-- a member's value stands at the place
+abbrev pub is_told : Membership → Place → Bool
+is_told m p = option_map_or (λ values. is_at values p) (fin.get m p.unit) false
+
+-- the place is kept
+abbrev pub has : BTreeSet Place → Place → Bool
+has places p = contains place_cmp places p
+
+-- values were put, or some of them
+pub record ArePut (unit : ℕ) (values : List DimValue) (old new : BTreeSet Place) : Type 0 where
+  pub keeps : (p : Place) → has old p ≡ true → has new p ≡ true
+  pub only : (p : Place) → has new p ≡ true → has old p ≡ false → is_place_of unit values p ≡ true
+
+-- values were taken, except those that stand where others do
+pub record AreTaken (unit : ℕ) (values except : List DimValue) (old new : BTreeSet Place) : Type 0 where
+  pub only : (p : Place) → has new p ≡ true → has old p ≡ true
+  pub gone : (p : Place) → has new p ≡ true → is_place_of unit values p ≡ true → is_at except p ≡ true
+  pub keeps : (p : Place) → has old p ≡ true
+      → (is_place_of unit values p ≡ true → is_at except p ≡ true) → has new p ≡ true
