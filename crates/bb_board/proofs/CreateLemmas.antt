@@ -2,6 +2,8 @@
 use Rattle.std.proofs.Common.{◌≡◌, ℕ, ◌<◌, List, map, length, Some, arith, ◌⊎◌, inl, inr, Bool, true, false, cond, Result, Ok, Err, refl, ap}
 use Rattle.std.specs.Str.{bytes_eq}
 use Rattle.std.proofs.lemmas.List.{length-map}
+use Rattle.std.specs.Prelude.{OnOk}
+use Rattle.bb_basis.specs.Results.{map_err}
 use Rattle.bb_basis.proofs.PositionLemmas.{position_within}
 use Rattle.bb_classes.specs.declared.class.Class.{Class}
 use Rattle.bb_schema.specs.Schema.{Schema, class_named}
@@ -9,18 +11,19 @@ use Rattle.bb_units.specs.declared.fault.CreateFault.{CreateFault}
 use Rattle.bb_units.specs.declared.fault.CreateFault.TheVariants.{Full as NoMoreUnits, Memory as NoMemory}
 use Rattle.bb_units.specs.Units.{next_number, is_full}
 use Rattle.bb_board.specs.declared.units_fault.UnitsFault.{UnitsFault}
-use Rattle.bb_board.specs.declared.units_fault.UnitsFault.TheVariants.{Full, Memory}
+use Rattle.bb_board.specs.declared.units_fault.UnitsFault.TheVariants.{Memory}
+use Rattle.bb_board.specs.declared.units_fault.UnitsFlaw.TheVariants.{Full}
 use Rattle.bb_world.specs.State.{World}
-use Rattle.bb_board.specs.UnitsFaults.{of_create_fault}
+use Rattle.bb_board.specs.UnitsFaults.{here, of_create_fault}
 use Rattle.bb_world.specs.World.{after_create}
 use Rattle.bb_board.specs.Load.{with_unit}
 
 -- the same test decides whether there is a number and whether a unit is made
-where_room : {X : Type 0} (full : Bool) (next n : ℕ) (x : X) → (let r : Result ℕ CreateFault = cond full (Err NoMoreUnits) (Ok next) in r) ≡ Ok n → (let r : Result X UnitsFault = cond full (Err Full) (Ok x) in r) ≡ Ok x
+where_room : {X : Type 0} (full : Bool) (next n : ℕ) (x : X) → (let r : Result ℕ CreateFault = cond full (Err NoMoreUnits) (Ok next) in r) ≡ Ok n → (let r : Result X UnitsFault = cond full (Err (here Full)) (Ok x) in r) ≡ Ok x
 where_room true next n x given = absurd cc
 where_room false next n x given = refl
 
-where_full : {X : Type 0} (full : Bool) (next : ℕ) (x : X) (e : CreateFault) → (let r : Result ℕ CreateFault = cond full (Err NoMoreUnits) (Ok next) in r) ≡ Err e → (let r : Result X UnitsFault = cond full (Err Full) (Ok x) in r) ≡ Err (of_create_fault e)
+where_full : {X : Type 0} (full : Bool) (next : ℕ) (x : X) (e : CreateFault) → (let r : Result ℕ CreateFault = cond full (Err NoMoreUnits) (Ok next) in r) ≡ Err e → (let r : Result X UnitsFault = cond full (Err (here Full)) (Ok x) in r) ≡ Err (of_create_fault e)
 where_full true next x e given = let same : NoMoreUnits ≡ e = cc in ap (λ f. Err (of_create_fault f)) same
 where_full false next x e given = absurd cc
 
@@ -38,3 +41,8 @@ pub class_within : (s : Schema) (name : List ℕ) (class : ℕ) → class_named 
 class_within s name class is =
     let within = position_within (bytes_eq name) (map (λ (k : Class). k.name) s.classes) class is in
     omega (arith, within, length-map s.classes (λ (k : Class). k.name))
+
+-- what a call leaves where it has no fault, it leaves where none was told with a place
+pub placed_leaves : {X E F : Type 0} (P : Type 0) (at : E → F) (r : Result X E) (x : X) → Ok x ≡ map_err at r → OnOk r P → P
+placed_leaves P at (Ok y) x is left = left
+placed_leaves P at (Err e) x is left = absurd cc

@@ -6,7 +6,7 @@ use Rattle.std.specs.Cmp.Lexicographic.{slice_cmp}
 use Rattle.std.specs.List.{list_all}
 use Rattle.std.specs.Option.{option_map_or}
 use Rattle.std.specs.Str.{bytes_eq}
-use Rattle.bb_basis.specs.Results.{◌>>=◌, ok_or, map_err, try_fold}
+use Rattle.bb_basis.specs.Results.{◌>>=◌, ok_or, map_err, try_fold, try_fold_at}
 use Rattle.bb_document.specs.UnitsDocument.{GivenDeclaration, UnitDeclaration, FirstLinkDeclaration, MemberDeclaration, units_document_of}
 use Rattle.bb_document.specs.UnitsDocument.{ValueDeclaration, int_value, text_value, bool_value, interval_value}
 use Rattle.bb_document.specs.declared.fault.DocumentFault.{DocumentFault}
@@ -18,10 +18,12 @@ use Rattle.bb_classes.specs.declared.value.Value.TheVariants as values
 use Rattle.bb_schema.specs.Schema.{Schema, class_named, slot_named, space_named, label_named, name_of_slot, kind_of_slot, default_of, slots_of}
 use Rattle.bb_units.specs.Units.{is_full}
 use Rattle.bb_board.specs.declared.units_fault.UnitsFault.{UnitsFault}
-use Rattle.bb_board.specs.declared.units_fault.UnitsFault.TheVariants.{Json, Shape, Twice, Unknown, Kind, Full, Memory}
+use Rattle.bb_board.specs.declared.units_fault.UnitsFault.TheVariants.{At, Memory}
+use Rattle.bb_board.specs.declared.units_fault.UnitsFlaw.TheVariants.{Json, Shape, Twice, Unknown, Kind, Full}
+use Rattle.bb_document.specs.declared.place.ListKey.TheVariants as lists
 use Rattle.bb_world.specs.State.{World}
 use Rattle.bb_world.specs.World.{empty_world, class_at, after_create, after_set}
-use Rattle.bb_board.specs.UnitsFaults.{of_reason}
+use Rattle.bb_board.specs.UnitsFaults.{here, inside, of_reason}
 use Rattle.bb_world.specs.Links.{after_link}
 use Rattle.bb_world.specs.May.{may_set, may_link}
 use Rattle.bb_world.specs.Spaces.{may_enter, after_enter}
@@ -29,8 +31,8 @@ use Rattle.bb_board.specs.Board.{Board, with_world}
 
 -- a fault of the document as one of its units
 abbrev pub fault_of : DocumentFault → UnitsFault
-fault_of documents.Json = Json
-fault_of documents.Shape = Shape
+fault_of documents.Json = here Json
+fault_of (documents.Shape place) = At Shape place
 fault_of documents.Memory = Memory
 
 -- how far the walk over the units has come: the units so far under their names, and the blackboard's state
@@ -44,7 +46,7 @@ no_progress s = record { names = map.empty; world = empty_world s }
 
 -- one unit more, if there is room
 unfoldable pub with_unit : World → ℕ → Result World UnitsFault
-with_unit w class = if is_full w.units then Err Full else Ok (after_create w class)
+with_unit w class = if is_full w.units then Err (here Full) else Ok (after_create w class)
 
 -- the name is that of an ordinary slot of the class
 abbrev pub is_ordinary_in : Schema → ℕ → List ℕ → Bool
@@ -76,8 +78,8 @@ value_at schema slot given = option_and_then (λ kind. value_in schema kind give
 -- a unit's slot holds a value that is given for it, if it may
 unfoldable pub with_value : Schema → (unit : ℕ) → World → (slot : ℕ) → ValueDeclaration → Result World UnitsFault
 with_value schema n w slot given = do
-  value ← ok_or (value_at schema slot given) Kind
-  if is_ok (may_set w n slot value) then Ok (after_set schema w n slot value) else Err Kind
+  value ← ok_or (value_at schema slot given) (here Kind)
+  if is_ok (may_set w n slot value) then Ok (after_set schema w n slot value) else Err (here Kind)
 
 -- the same, if a value is given
 abbrev pub if_given : Schema → (unit : ℕ) → World → (slot : ℕ) → Option ValueDeclaration → Result World UnitsFault
@@ -95,12 +97,12 @@ slot_after schema n given w slot = if_given schema n w slot (given_at schema giv
 -- a new unit with the values that its entry gives: each is for an ordinary slot, and they are set in class order
 unfoldable pub with_values : Schema → (unit class : ℕ) → List GivenDeclaration → World → Result World UnitsFault
 with_values schema n class given w =
-    if are_slots schema class given then try_fold (slot_after schema n given) w (slots_of schema class) else Err Unknown
+    if are_slots schema class given then try_fold (slot_after schema n given) w (slots_of schema class) else Err (here Unknown)
 
 -- the walk after one more unit, or what is wrong with its entry
 unfoldable pub entry_after : Schema → Progress → UnitDeclaration → Result Progress UnitsFault
-entry_after schema so_far entry = if map.contains_key so_far.names entry.name then Err Twice else (do
-  class ← ok_or (class_named schema entry.class) Unknown
+entry_after schema so_far entry = if map.contains_key so_far.names entry.name then Err (here Twice) else (do
+  class ← ok_or (class_named schema entry.class) (here Unknown)
   created ← with_unit so_far.world class
   world ← with_values schema so_far.world.units.next class entry.slots created
   Ok (record { names = map.insert so_far.names entry.name so_far.world.units.next; world = world }))
@@ -109,9 +111,9 @@ entry_after schema so_far entry = if map.contains_key so_far.names entry.name th
 -- the name, and then a partner that is not of the class that the slot leads to
 unfoldable pub link_after : Schema → map.FinMap (slice_cmp nat_cmp) ℕ → World → FirstLinkDeclaration → Result World UnitsFault
 link_after schema names w entry = do
-  n ← ok_or (map.get names entry.from) Unknown
-  m ← ok_or (map.get names entry.to) Unknown
-  slot ← ok_or (slot_named schema (class_at w n) entry.slot) Unknown
+  n ← ok_or (map.get names entry.from) (here Unknown)
+  m ← ok_or (map.get names entry.to) (here Unknown)
+  slot ← ok_or (slot_named schema (class_at w n) entry.slot) (here Unknown)
   allowed ← map_err of_reason (may_link schema w n slot m)
   Ok (after_link schema w n slot m)
 
@@ -119,8 +121,8 @@ link_after schema names w entry = do
 -- there, and then a unit of a class that the space does not take
 unfoldable pub member_after : Schema → map.FinMap (slice_cmp nat_cmp) ℕ → World → MemberDeclaration → Result World UnitsFault
 member_after schema names w entry = do
-  n ← ok_or (map.get names entry.unit) Unknown
-  space ← ok_or (space_named schema entry.space) Unknown
+  n ← ok_or (map.get names entry.unit) (here Unknown)
+  space ← ok_or (space_named schema entry.space) (here Unknown)
   allowed ← map_err of_reason (may_enter schema w n space)
   Ok (after_enter schema w n space)
 
@@ -129,9 +131,9 @@ member_after schema names w entry = do
 unfoldable pub load : Schema → List ℕ → Result World UnitsFault
 load schema text = do
   declared ← map_err fault_of (units_document_of text)
-  units ← try_fold (entry_after schema) (no_progress schema) declared.units
-  linked ← try_fold (link_after schema units.names) units.world declared.links
-  try_fold (member_after schema units.names) linked declared.spaces
+  units ← try_fold_at (inside lists.Units) (entry_after schema) 0 (no_progress schema) declared.units
+  linked ← try_fold_at (inside lists.Links) (link_after schema units.names) 0 units.world declared.links
+  try_fold_at (inside lists.Spaces) (member_after schema units.names) 0 linked declared.spaces
 
 -- a blackboard in that state
 abbrev pub loaded : Board → List ℕ → Result Board UnitsFault

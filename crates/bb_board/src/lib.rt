@@ -7,7 +7,8 @@ mod unit_names;
 mod units_fault;
 mod values;
 
+pub use bb_document::{DocumentPlace, ListItem, ListKey};
 pub use bb_schema::SharedSchema;
 pub use bb_world::{Change, ChangeKind, Event, Note, Reason, Said};
 pub use board::Board;
-pub use units_fault::UnitsFault;
+pub use units_fault::{UnitsFault, UnitsFlaw};

@@ -1,17 +1,19 @@
 //! The first units of a blackboard, their links, and who is in its spaces, from a JSON document. The board calls it.
 
 ghost use Rattle.std.specs.Prelude.{◌≡◌, ◌<◌, length, map, IfOk, OnOk};
-ghost use Rattle.bb_basis.specs.Results.{Gives, map_err, try_fold};
+ghost use Rattle.bb_basis.specs.Results.{Gives, map_err, try_fold_at};
 ghost use Rattle.bb_document.specs.UnitsDocument.{units_declaration, first_link_declaration, member_declaration, units_document_of};
 ghost use Rattle.bb_board.specs.declared.units_fault.UnitsFault.TheVariants.{Memory as OutOfMemory};
 ghost use Rattle.bb_world.specs.Contents.{new_world};
+ghost use Rattle.bb_document.specs.declared.place.ListKey.TheVariants as lists;
+ghost use Rattle.bb_board.specs.UnitsFaults.{inside};
 ghost use Rattle.bb_board.specs.Load.{fault_of, link_after, load, member_after, with_unit};
 
 use crate::unit_names::UnitNames;
-use crate::units_fault::UnitsFault;
+use crate::units_fault::{UnitsFault, UnitsFlaw, placed};
 use crate::values::set_values;
 use bb_basis::Memory;
-use bb_document::{DocumentFault, FirstLinkEntry, MemberEntry, UnitEntry, UnitsDocument};
+use bb_document::{DocumentFault, FirstLinkEntry, ListKey, MemberEntry, UnitEntry, UnitsDocument};
 use bb_schema::{ClassId, Schema, SharedSchema, UnitId};
 use bb_world::World;
 use std::alloc::Global;
@@ -57,11 +59,11 @@ impl Progress {
         ensures schema { OnOk result (self.new.world.schema ≡ self.old.world.schema) }
     {
         if self.names.get(entry.name.as_str()).is_some() {
-            return Err(UnitsFault::Twice);
+            return Err(UnitsFault::here(UnitsFlaw::Twice));
         }
         let class = schema
             .class(entry.class.as_str())
-            .ok_or(UnitsFault::Unknown)?;
+            .ok_or(UnitsFault::here(UnitsFlaw::Unknown))?;
         let unit = create(&mut self.world, class)?;
         self.names.insert(alloc, entry.name.as_str(), unit)?;
         set_values(alloc, schema, &mut self.world, unit, class, &entry.slots)
@@ -75,11 +77,12 @@ impl Progress {
     ) -> Result<(), UnitsFault>
         requires { self.old.world.schema ≡ schema.now }
         ensures gives { Gives OutOfMemory (λ _. progress_of self.new) result
-            (try_fold (entry_after schema.now) (progress_of self.old) (map unit_declaration entries.now)) }
+            (try_fold_at (inside lists.Units) (entry_after schema.now) 0 (progress_of self.old)
+            (map unit_declaration entries.now)) }
         ensures schema { OnOk result (self.new.world.schema ≡ self.old.world.schema) }
     {
-        for entry in entries {
-            self.add(alloc, schema, entry)?;
+        for (index, entry) in entries.iter().enumerate() {
+            placed(self.add(alloc, schema, entry), ListKey::Units, index)?;
         }
         Ok(())
     }
@@ -98,11 +101,15 @@ fn add_link(
         (link_after schema.now names.now world.old.world (first_link_declaration entry.now)) }
     ensures schema { OnOk result (world.new.schema ≡ world.old.schema) }
 {
-    let unit = names.get(entry.from.as_str()).ok_or(UnitsFault::Unknown)?;
-    let partner = names.get(entry.to.as_str()).ok_or(UnitsFault::Unknown)?;
+    let unit = names
+        .get(entry.from.as_str())
+        .ok_or(UnitsFault::here(UnitsFlaw::Unknown))?;
+    let partner = names
+        .get(entry.to.as_str())
+        .ok_or(UnitsFault::here(UnitsFlaw::Unknown))?;
     let slot = schema
         .slot(world.class_at(unit), entry.slot.as_str())
-        .ok_or(UnitsFault::Unknown)?;
+        .ok_or(UnitsFault::here(UnitsFlaw::Unknown))?;
     world.may_link(unit, slot, partner)?;
     world.link(unit, slot, partner)?;
     Ok(())
@@ -117,11 +124,12 @@ fn add_links(
 ) -> Result<(), UnitsFault>
     requires { world.old.schema ≡ schema.now }
     ensures gives { Gives OutOfMemory (λ _. world.new.world) result
-        (try_fold (link_after schema.now names.now) world.old.world (map first_link_declaration entries.now)) }
+        (try_fold_at (inside lists.Links) (link_after schema.now names.now) 0 world.old.world
+        (map first_link_declaration entries.now)) }
     ensures schema { OnOk result (world.new.schema ≡ world.old.schema) }
 {
-    for entry in entries {
-        add_link(world, schema, names, entry)?;
+    for (index, entry) in entries.iter().enumerate() {
+        placed(add_link(world, schema, names, entry), ListKey::Links, index)?;
     }
     Ok(())
 }
@@ -139,10 +147,12 @@ fn add_member(
         (member_after schema.now names.now world.old.world (member_declaration entry.now)) }
     ensures schema { OnOk result (world.new.schema ≡ world.old.schema) }
 {
-    let unit = names.get(entry.unit.as_str()).ok_or(UnitsFault::Unknown)?;
+    let unit = names
+        .get(entry.unit.as_str())
+        .ok_or(UnitsFault::here(UnitsFlaw::Unknown))?;
     let space = schema
         .space(entry.space.as_str())
-        .ok_or(UnitsFault::Unknown)?;
+        .ok_or(UnitsFault::here(UnitsFlaw::Unknown))?;
     world.may_enter(unit, space)?;
     world.enter(unit, space)?;
     Ok(())
@@ -157,11 +167,16 @@ fn add_members(
 ) -> Result<(), UnitsFault>
     requires { world.old.schema ≡ schema.now }
     ensures gives { Gives OutOfMemory (λ _. world.new.world) result
-        (try_fold (member_after schema.now names.now) world.old.world (map member_declaration entries.now)) }
+        (try_fold_at (inside lists.Spaces) (member_after schema.now names.now) 0 world.old.world
+        (map member_declaration entries.now)) }
     ensures schema { OnOk result (world.new.schema ≡ world.old.schema) }
 {
-    for entry in entries {
-        add_member(world, schema, names, entry)?;
+    for (index, entry) in entries.iter().enumerate() {
+        placed(
+            add_member(world, schema, names, entry),
+            ListKey::Spaces,
+            index,
+        )?;
     }
     Ok(())
 }
@@ -171,8 +186,11 @@ fn document(alloc: Global, text: &str) -> Result<UnitsDocument, UnitsFault>
 {
     match UnitsDocument::read(alloc, text) {
         Ok(document) => Ok(document),
-        Err(DocumentFault::Json) => Err(UnitsFault::Json),
-        Err(DocumentFault::Shape) => Err(UnitsFault::Shape),
+        Err(DocumentFault::Json) => Err(UnitsFault::here(UnitsFlaw::Json)),
+        Err(DocumentFault::Shape { place }) => Err(UnitsFault::At {
+            flaw: UnitsFlaw::Shape,
+            place,
+        }),
         Err(DocumentFault::Memory) => Err(UnitsFault::Memory),
     }
 }

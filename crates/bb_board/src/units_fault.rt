@@ -1,17 +1,20 @@
 //! Why a document of first units is refused. The loader returns it, and a refusal line tells its number (bb_shell).
 
 ghost use Rattle.std.specs.Prelude.{◌≡◌};
+ghost use Rattle.bb_basis.specs.Results.{map_err};
 ghost use Rattle.bb_board.specs.declared.units_fault.UnitsFault.TheVariants.{Memory as OutOfMemory};
-ghost use Rattle.bb_board.specs.UnitsFaults.{fault_number, is_memory, of_create_fault, of_reason};
+ghost use Rattle.bb_board.specs.UnitsFaults.{flaw_number, fault_number, is_memory};
+ghost use Rattle.bb_board.specs.UnitsFaults.{here, inside, of_create_fault, of_reason};
 
+use bb_document::{DocumentPlace, ListKey};
 use bb_units::CreateFault;
 use bb_world::Reason;
 use std::alloc::{AllocError, AllocFailed};
 use thiserror::Error;
 
-/// Why the first units could not be made: the first fault of their document's reading.
+/// What is wrong with a document of first units, or with an entry of it.
 #[derive(Clone, Copy, Debug, PartialEq, Eq, Error)]
-pub enum UnitsFault {
+pub enum UnitsFlaw {
     /// The text is not JSON.
     #[error("the units document is not JSON")]
     Json,
@@ -36,6 +39,36 @@ pub enum UnitsFault {
     /// No more units can be created.
     #[error("no more units")]
     Full,
+}
+
+impl UnitsFlaw {
+    /// The number by which a refusal line names the flaw, from 1 to 8.
+    pub fn number(self) -> u8
+        ensures { result ≡ flaw_number self }
+    {
+        match self {
+            UnitsFlaw::Json => 1,
+            UnitsFlaw::Shape => 2,
+            UnitsFlaw::Unknown => 3,
+            UnitsFlaw::Twice => 4,
+            UnitsFlaw::Kind => 5,
+            UnitsFlaw::LinkClass => 6,
+            UnitsFlaw::Space => 7,
+            UnitsFlaw::Full => 8,
+        }
+    }
+}
+
+/// Why the first units could not be made: the first flaw that the reading of their document meets, and the entry at
+/// which it stands.
+#[derive(Clone, Copy, Debug, PartialEq, Eq, Error)]
+pub enum UnitsFault {
+    /// The flaw of the entry at the place; that of a text that is not JSON is of the whole document.
+    #[error("{flaw}")]
+    At {
+        flaw: UnitsFlaw,
+        place: DocumentPlace,
+    },
     /// Memory ran out.
     #[error("out of memory")]
     Memory,
@@ -47,14 +80,7 @@ impl UnitsFault {
         ensures { result ≡ fault_number self }
     {
         match self {
-            UnitsFault::Json => 1,
-            UnitsFault::Shape => 2,
-            UnitsFault::Unknown => 3,
-            UnitsFault::Twice => 4,
-            UnitsFault::Kind => 5,
-            UnitsFault::LinkClass => 6,
-            UnitsFault::Space => 7,
-            UnitsFault::Full => 8,
+            UnitsFault::At { flaw, place: _ } => flaw.number(),
             UnitsFault::Memory => 9,
         }
     }
@@ -64,6 +90,43 @@ impl UnitsFault {
         ensures { result ≡ is_memory self }
     {
         matches!(self, UnitsFault::Memory)
+    }
+
+    /// The fault of what is read itself.
+    pub(crate) fn here(flaw: UnitsFlaw) -> UnitsFault
+        ensures { result ≡ here flaw }
+    {
+        UnitsFault::At {
+            flaw,
+            place: DocumentPlace::Whole,
+        }
+    }
+
+    /// The fault of an entry, seen from where the entry is one of a list.
+    fn inside(self, list: ListKey, index: usize) -> UnitsFault
+        ensures { result ≡ inside list index self }
+    {
+        match self {
+            UnitsFault::At { flaw, place } => UnitsFault::At {
+                flaw,
+                place: place.inside(list, index),
+            },
+            UnitsFault::Memory => UnitsFault::Memory,
+        }
+    }
+}
+
+/// The answer of an entry of a list, a fault at its place in there.
+pub(crate) fn placed<T>(
+    answer: Result<T, UnitsFault>,
+    list: ListKey,
+    index: usize,
+) -> Result<T, UnitsFault>
+    ensures { result ≡ map_err (inside list index) answer }
+{
+    match answer {
+        Ok(value) => Ok(value),
+        Err(fault) => Err(fault.inside(list, index)),
     }
 }
 
@@ -88,7 +151,7 @@ impl From<CreateFault> for UnitsFault {
 
     fn from(fault: CreateFault) -> UnitsFault {
         match fault {
-            CreateFault::Full => UnitsFault::Full,
+            CreateFault::Full => UnitsFault::here(UnitsFlaw::Full),
             CreateFault::Memory => UnitsFault::Memory,
         }
     }
@@ -99,10 +162,10 @@ impl From<Reason> for UnitsFault {
 
     fn from(reason: Reason) -> UnitsFault {
         match reason {
-            Reason::Deleted | Reason::Slot => UnitsFault::Unknown,
-            Reason::Kind => UnitsFault::Kind,
-            Reason::LinkClass => UnitsFault::LinkClass,
-            Reason::Space => UnitsFault::Space,
+            Reason::Deleted | Reason::Slot => UnitsFault::here(UnitsFlaw::Unknown),
+            Reason::Kind => UnitsFault::here(UnitsFlaw::Kind),
+            Reason::LinkClass => UnitsFault::here(UnitsFlaw::LinkClass),
+            Reason::Space => UnitsFault::here(UnitsFlaw::Space),
         }
     }
 }

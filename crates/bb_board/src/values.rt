@@ -9,7 +9,7 @@ ghost use Rattle.bb_board.specs.declared.units_fault.UnitsFault.TheVariants.{Mem
 ghost use Rattle.bb_board.specs.Load.{are_slots, given_at, given_for, if_given, is_ordinary_in, slot_after, value_at, value_in};
 ghost use Rattle.bb_board.specs.Load.{with_value, with_values};
 
-use crate::units_fault::UnitsFault;
+use crate::units_fault::{UnitsFault, UnitsFlaw};
 use bb_basis::Text;
 use bb_document::{GivenEntry, GivenValue};
 use bb_schema::{ClassId, Kind, Schema, SlotId, UnitId, Value};
@@ -107,9 +107,9 @@ fn set_value(
         (with_value schema.now unit world.old.world slot (value_declaration given.now)) }
     ensures schema { OnOk result (world.new.schema ≡ world.old.schema) }
 {
-    let value = value_at(alloc, schema, slot, given)?.ok_or(UnitsFault::Kind)?;
+    let value = value_at(alloc, schema, slot, given)?.ok_or(UnitsFault::here(UnitsFlaw::Kind))?;
     if world.may_set(unit, slot, &value).is_err() {
-        return Err(UnitsFault::Kind);
+        return Err(UnitsFault::here(UnitsFlaw::Kind));
     }
     world.set(unit, slot, value)?;
     Ok(())
@@ -173,7 +173,7 @@ pub(crate) fn set_values(
     ensures schema { OnOk result (world.new.schema ≡ world.old.schema) }
 {
     if !are_slots(schema, class, given) {
-        return Err(UnitsFault::Unknown);
+        return Err(UnitsFault::here(UnitsFlaw::Unknown));
     }
     set_slots(alloc, schema, world, unit, schema.slots(class), given)
 }

@@ -1,11 +1,13 @@
-//! Inputs go through `serve`, and the output and the status are compared. The suite calls it for a case, and tables for
-//! their rows.
+//! Inputs go through `serve_with`, and the output and the status are compared, and what there is to say of a refusal. The
+//! suite calls it for a case, and tables for their rows.
 
 ghost use Rattle.std.specs.Prelude.{◌≡◌, Some, true, false, map, IfOk};
 ghost use Rattle.bb_main.specs.Roster.{all_open};
 
 use bb_case::{Difference, Entry, Fault, Header, Scope, expanded, number};
-use bb_main::{Intake, Mode, NativeSource, Out, ProgramNative, program_natives, serve};
+use bb_main::{
+    Intake, Mode, NativeSource, Options, Out, ProgramNative, Served, program_natives, serve_with,
+};
 use std::alloc::{AllocError, Global};
 
 /// Takes `room` bytes, at most `step` in one call, and then fails.
@@ -62,6 +64,25 @@ impl Serving {
         })
     }
 
+    /// What comes of an input, and what is written.
+    fn serve(self, alloc: Global, input: &[u8]) -> Result<(Served, Vec<u8>), AllocError> {
+        let mut reader = Intake::new(input);
+        let mut out = Narrow {
+            taken: Vec::new(alloc),
+            room: self.room,
+            step: self.step,
+            failed: false,
+        };
+        let options = Options {
+            mode: self.mode,
+            limit: self.limit,
+            floor: self.floor,
+        };
+        let natives = natives(alloc, self.has_natives)?;
+        let served = serve_with(alloc, options, natives, &mut reader, &mut out);
+        Ok((served, out.taken))
+    }
+
     /// The first difference between what comes of an input and what is to come of it.
     pub fn compare(
         self,
@@ -70,32 +91,48 @@ impl Serving {
         status: u8,
         output: &[u8],
     ) -> Result<Option<Difference>, AllocError> {
-        let mut reader = Intake::new(input);
-        let mut out = Narrow {
-            taken: Vec::new(alloc),
-            room: self.room,
-            step: self.step,
-            failed: false,
-        };
-        let given = serve(
-            alloc,
-            self.mode,
-            self.limit,
-            self.floor,
-            natives(alloc, self.has_natives)?,
-            &mut reader,
-            &mut out,
-        );
-        let difference = Difference::of(alloc, output, &out.taken)?;
-        if difference.is_some() || given == status {
+        let (served, taken) = self.serve(alloc, input)?;
+        differs(alloc, &served, taken.as_slice(), status, output)
+    }
+
+    /// The first difference between what comes of a refused input and the line that is to come of it, and then between
+    /// what there is to say of it and the lines that are to be said.
+    pub fn compare_refusal(
+        self,
+        alloc: Global,
+        input: &[u8],
+        line: &[u8],
+        said: &str,
+    ) -> Result<Option<Difference>, AllocError> {
+        let (served, taken) = self.serve(alloc, input)?;
+        let difference = differs(alloc, &served, taken.as_slice(), 2, line)?;
+        if difference.is_some() || said.is_empty() {
             return Ok(difference);
         }
-        Ok(Some(Difference {
-            line: 0,
-            wanted: format!(in alloc; "{status}")?,
-            given: format!(in alloc; "{given}")?,
-        }))
+        let report = served.report.as_deref().unwrap_or("");
+        let report = format!(in alloc; "{report}\n")?;
+        Difference::of(alloc, said.as_bytes(), report.as_bytes())
     }
+}
+
+/// The first difference of an output, or that of the status.
+fn differs(
+    alloc: Global,
+    served: &Served,
+    taken: &[u8],
+    status: u8,
+    output: &[u8],
+) -> Result<Option<Difference>, AllocError> {
+    let given = served.status;
+    let difference = Difference::of(alloc, output, taken)?;
+    if difference.is_some() || given == status {
+        return Ok(difference);
+    }
+    Ok(Some(Difference {
+        line: 0,
+        wanted: format!(in alloc; "{status}")?,
+        given: format!(in alloc; "{given}")?,
+    }))
 }
 
 /// Whether a header hands in the natives of the program; else there are none.

@@ -77,7 +77,7 @@ impl<'a> Table<'a> {
     pub fn compare(&self, row: &Row) -> Result<Option<Difference>, Fault> {
         let (front, back) = row.sides()?;
         if let Common::Inputs { serving, form } = &self.common {
-            return self.compare_input(*serving, form.as_str(), front, back);
+            return self.compare_input(*serving, form.as_str(), row);
         }
         let scope = Scope::new(self.alloc, self.names);
         let text = expanded_text(scope, back)?;
@@ -94,15 +94,17 @@ impl<'a> Table<'a> {
         &self,
         serving: Serving,
         form: &str,
-        line: &str,
-        row: &str,
+        row: &Row,
     ) -> Result<Option<Difference>, Fault> {
-        let row = expanded(Scope::new(self.alloc, self.names), row)?;
+        let (line, back) = row.sides()?;
+        let said = expanded_text(Scope::new(self.alloc, self.names), row.below.as_str())?;
+        let row = expanded(Scope::new(self.alloc, self.names), back)?;
         let names = &*self.names;
         let scope = Scope::new(self.alloc, names).at_row(row.as_slice());
         let input = expanded(scope, form)?;
         let output = format!(in self.alloc; "{line}\n")?;
-        Ok(serving.compare(self.alloc, &input, 2, output.as_bytes())?)
+        let (line, said) = (output.as_bytes(), said.as_str());
+        Ok(serving.compare_refusal(self.alloc, &input, line, said)?)
     }
 
     /// Appends what is given of a text.

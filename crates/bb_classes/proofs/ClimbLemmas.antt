@@ -2,13 +2,13 @@
 use Rattle.std.proofs.Common.{◌≡◌, ℕ, zero, suc, ◌<◌, ◌≤◌, ◌||◌, Bool, true, false, Option, Some, None, refl, sym, ap, subst, ◌∙◌, arith}
 use Rattle.std.specs.Prelude.{◌==◌}
 use Rattle.std.specs.Option.{option_map_or}
-use Rattle.std.proofs.lemmas.Bool.{eqb-true, or_parts, or_right}
+use Rattle.std.proofs.lemmas.Bool.{eqb-true}
 use Rattle.std.proofs.lemmas.Bool.Decides.{Decides-eqb}
 use Rattle.std.specs.Prelude.{IsTrue, ◌↔◌}
 use Rattle.std.specs.Prelude.{List, [], ◌∷◌}
 use Rattle.std.specs.List.{list_any, Any}
 use Rattle.std.proofs.lemmas.List.Folds.{Any-from_list_any, list_any-from_Any}
-use Rattle.bb_basis.proofs.NumberLemmas.{differs, turned}
+use Rattle.bb_basis.proofs.NumberLemmas.{differs}
 use Rattle.bb_classes.specs.declared.class.Class.{Class}
 use Rattle.bb_classes.specs.Inheritance.{ParentsAreEarlier, parent_of, Descends, itself, through_parent, climbs, descends_in}
 
@@ -100,44 +100,6 @@ ends_at_top s earlier c d h other = descends_top s c d earlier h (differs c d ot
 
 pub found_itself : (s : List Class) (c d : ℕ) → ParentsAreEarlier s → c ≡ d → descends_in s c d ≡ true
 found_itself s c d earlier e = descends_itself s c d earlier ((Decides-eqb c d).1 e)
-
--- the same for one of some others
-none_same : (c : ℕ) (ds : List ℕ) (p q : ℕ → Bool) → list_any (λ d. d == c) ds ≡ false
-    → ((d : ℕ) → (d == c) ≡ false → p d ≡ q d) → list_any p ds ≡ list_any q ds
-none_same c [] p q no_one same = refl
-none_same c (d ∷ ds) p q no_one same =
-    let parts = or_parts (d == c) (list_any (λ e. e == c) ds) no_one in
-    ap (λ b. b || list_any p ds) (same d parts.0) ∙ ap (λ b. q d || b) (none_same c ds p q parts.1 same)
-
-none_any : (ds : List ℕ) → list_any (λ _. false) ds ≡ false
-none_any [] = refl
-none_any (d ∷ ds) = none_any ds
-
--- a turn of the way up to one of some others
-pub record AllGoUp (s : List Class) (c p : ℕ) (ds : List ℕ) : Type 0 where
-  pub lower : p < c
-  pub same : list_any (λ d. descends_in s p d) ds ≡ list_any (λ d. descends_in s c d) ds
-
-pub all_go_up : (s : List Class) → ParentsAreEarlier s → (c p : ℕ) (ds : List ℕ) → parent_of s c ≡ Some p
-    → list_any (λ d. d == c) ds ≡ false → AllGoUp s c p ds
-all_go_up s earlier c p ds h apart = record {
-  lower = earlier c p h;
-  same = none_same c ds (λ d. descends_in s p d) (λ d. descends_in s c d) apart (λ d other. sym (descends_parent s c p d earlier h (turned c d other)));
-}
-
-pub all_end_at_top : (s : List Class) → ParentsAreEarlier s → (c : ℕ) (ds : List ℕ) → parent_of s c ≡ None
-    → list_any (λ d. d == c) ds ≡ false → list_any (λ d. descends_in s c d) ds ≡ false
-all_end_at_top s earlier c ds h apart = none_same c ds (λ d. descends_in s c d) (λ _. false) apart (λ d other. descends_top s c d earlier h (turned c d other)) ∙ none_any ds
-
-one_at : (s : List Class) (c d : ℕ) (rest : Bool) (t : Bool) → ParentsAreEarlier s → (d == c) ≡ t
-    → (t ≡ false → rest ≡ true) → (descends_in s c d || rest) ≡ true
-one_at s c d rest true earlier is further = ap (λ b. b || rest) (found_itself s c d earlier (sym ((Decides-eqb d c).0 is)))
-one_at s c d rest false earlier is further = or_right (descends_in s c d) rest (further refl)
-
-pub all_found : (s : List Class) → ParentsAreEarlier s → (c : ℕ) (ds : List ℕ) → list_any (λ d. d == c) ds ≡ true
-    → list_any (λ d. descends_in s c d) ds ≡ true
-all_found s earlier c [] h = absurd cc
-all_found s earlier c (d ∷ ds) h = one_at s c d (list_any (λ e. descends_in s c e) ds) (d == c) earlier refl (λ other. all_found s earlier c ds (sym (ap (λ b. b || list_any (λ e. e == c) ds) other) ∙ h))
 
 -- the test of some others decides the relation
 pub any_decides : (classes : List Class) (c : ℕ) (ds : List ℕ) (r : Bool) → ParentsAreEarlier classes

@@ -10,7 +10,10 @@ use Rattle.std.proofs.lemmas.List.Elements.{All-nil, All-weaker}
 use Rattle.bb_basis.specs.Results.{try_fold}
 use Rattle.bb_document.specs.Document.{SlotDeclaration, LinkDeclaration, ClassDeclaration}
 use Rattle.bb_classes.specs.declared.read.classes.TheConstants.{CLASS_LIMIT}
-use Rattle.bb_classes.specs.declared.fault.SchemaFault.TheVariants as faults
+use Rattle.bb_classes.specs.declared.fault.SchemaFlaw.TheVariants as flaws
+use Rattle.bb_classes.specs.Faults.{here, inside}
+use Rattle.bb_document.specs.declared.place.ListKey.TheVariants as lists
+use Rattle.bb_basis.proofs.PlacedLemmas.{bind_fold}
 use Rattle.bb_classes.specs.declared.label_set.LabelSet.{LabelSet}
 use Rattle.bb_classes.specs.declared.class.Class.{Class}
 use Rattle.bb_classes.specs.declared.draft.Draft.{Draft}
@@ -72,12 +75,12 @@ class_taken : (sets : List LabelSet) (all : List ClassDeclaration) (s t : Schema
     → class_after sets all s e ≡ Ok t → ClassTaken sets all s t e
 unfolding class_after
 class_taken sets all s t e made =
-    let named = guard_ok (not (is_name e.name)) faults.Name _ t made in
-    let fresh = guard_ok (list_any (bytes_eq e.name) (map (λ (k : Class). k.name) s.classes)) faults.Twice _ t named.1 in
+    let named = guard_ok (not (is_name e.name)) (here flaws.Name) _ t made in
+    let fresh = guard_ok (list_any (bytes_eq e.name) (map (λ (k : Class). k.name) s.classes)) (here flaws.Twice) _ t named.1 in
     let parent = bind_ok (parent_number s.classes e.parent) _ t fresh.1 in
-    let room = guard_ok (nat_le CLASS_LIMIT (length s.classes)) faults.Limit _ t parent.2 in
-    let ordinary = bind_ok (try_fold (slot_after sets (length s.classes)) (record { slots = s.slots; class_slots = inherited_slots s.classes parent.0 }) e.slots) _ t room.1 in
-    let own = bind_ok (try_fold (link_after all e.name (length s.classes)) ordinary.0 e.links) _ t ordinary.2 in
+    let room = guard_ok (nat_le CLASS_LIMIT (length s.classes)) (here flaws.Limit) _ t parent.2 in
+    let ordinary = bind_fold (inside lists.Slots) (slot_after sets (length s.classes)) 0 (record { slots = s.slots; class_slots = inherited_slots s.classes parent.0 }) e.slots _ t room.1 in
+    let own = bind_fold (inside lists.Links) (link_after all e.name (length s.classes)) 0 ordinary.0 e.links _ t ordinary.2 in
     record { fresh = fresh.0; parent = parent.0; ordinary = ordinary.0; slots = ordinary.1; own = own.0; links = own.1; is = same_ok _ t own.2 }
 
 class_slots_there : (all : List ClassDeclaration) (s : SchemaDraft) (p : ℕ) (o : Option Class) → Walks all s

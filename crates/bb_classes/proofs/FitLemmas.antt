@@ -13,7 +13,10 @@ use Rattle.bb_document.specs.Document.{SlotDeclaration, LinkDeclaration, ClassDe
 use Rattle.bb_classes.specs.declared.read.classes.TheConstants.{CLASS_LIMIT}
 use Rattle.bb_classes.specs.declared.draft.TheConstants.{CLASS_SLOT_LIMIT, SLOT_LIMIT}
 use Rattle.bb_classes.specs.declared.value.TheConstants.{TEXT_LIMIT}
-use Rattle.bb_classes.specs.declared.fault.SchemaFault.TheVariants as faults
+use Rattle.bb_classes.specs.declared.fault.SchemaFlaw.TheVariants as flaws
+use Rattle.bb_classes.specs.Faults.{here, inside}
+use Rattle.bb_document.specs.declared.place.ListKey.TheVariants as lists
+use Rattle.bb_basis.proofs.PlacedLemmas.{bind_fold}
 use Rattle.bb_classes.specs.declared.label_set.LabelSet.{LabelSet}
 use Rattle.bb_classes.specs.declared.class.Class.{Class}
 use Rattle.bb_classes.specs.declared.value.Value.{Value}
@@ -78,9 +81,9 @@ label_value_held : (sets : List LabelSet) (of : List ℕ) (given : Option (List 
     → label_value sets of given ≡ Ok v → IsHeld sets v
 unfolding label_value
 label_value_held sets of given v h =
-    let set = bind_ok (ok_or (label_set_number sets of) faults.Unknown) (λ set. ok_or (option_and_then (λ s. chosen_label s.values given) (slice_get sets set)) faults.Unknown >>= λ label. Ok (values.Label set label)) v h in
-    let label = bind_ok (ok_or (option_and_then (λ (s : LabelSet). chosen_label s.values given) (slice_get sets set.0)) faults.Unknown) (λ label. Ok (values.Label set.0 label)) v set.2 in
-    subst (IsHeld sets) (same_ok (values.Label set.0 label.0) v label.2) (label_held sets set.0 label.0 (label_found sets set.0 label.0 given (slice_get sets set.0) refl (ok_or_ok faults.Unknown _ label.0 label.1)))
+    let set = bind_ok (ok_or (label_set_number sets of) (here flaws.Unknown)) (λ set. ok_or (option_and_then (λ s. chosen_label s.values given) (slice_get sets set)) (here flaws.Unknown) >>= λ label. Ok (values.Label set label)) v h in
+    let label = bind_ok (ok_or (option_and_then (λ (s : LabelSet). chosen_label s.values given) (slice_get sets set.0)) (here flaws.Unknown)) (λ label. Ok (values.Label set.0 label)) v set.2 in
+    subst (IsHeld sets) (same_ok (values.Label set.0 label.0) v label.2) (label_held sets set.0 label.0 (label_found sets set.0 label.0 given (slice_get sets set.0) refl (ok_or_ok (here flaws.Unknown) _ label.0 label.1)))
 
 default_held : (sets : List LabelSet) (e : DefaultDeclaration) (v : Value) → IsSound e → is_long e ≡ false
     → default_value sets e ≡ Ok v → IsHeld sets v
@@ -133,10 +136,10 @@ slot_keeps : (sets : List LabelSet) (owner old : ℕ) (base : List ℕ) (g h : C
     → GrowsWell sets owner old base h
 unfolding slot_after
 slot_keeps sets owner old base g h e sound well made =
-    let named = guard_ok (not (is_name e.name)) faults.Name _ h made in
-    let fresh = guard_ok (has_slot_named g e.name) faults.Twice _ h named.1 in
-    let value = bind_ok (default_value sets e.default) (λ value. if is_full g || is_long e.default then Err faults.Limit else Ok (with_slot g (record { name = e.name; owner = owner; content = contents.Default value }))) h fresh.1 in
-    let room = guard_ok (is_full g || is_long e.default) faults.Limit (Ok (with_slot g (record { name = e.name; owner = owner; content = contents.Default value.0 }))) h value.2 in
+    let named = guard_ok (not (is_name e.name)) (here flaws.Name) _ h made in
+    let fresh = guard_ok (has_slot_named g e.name) (here flaws.Twice) _ h named.1 in
+    let value = bind_ok (default_value sets e.default) (λ value. if is_full g || is_long e.default then Err (here flaws.Limit) else Ok (with_slot g (record { name = e.name; owner = owner; content = contents.Default value }))) h fresh.1 in
+    let room = guard_ok (is_full g || is_long e.default) (here flaws.Limit) (Ok (with_slot g (record { name = e.name; owner = owner; content = contents.Default value.0 }))) h value.2 in
     subst (GrowsWell sets owner old base) (same_ok _ h room.1)
     (grown sets owner old base g (record { name = e.name; owner = owner; content = contents.Default value.0 }) well (or_parts _ _ room.0).0 (record { name = not_false (is_name e.name) named.0; owner = omega arith; default = default_held sets e.default value.0 sound (or_parts _ _ room.0).1 value.1 }))
 
@@ -146,11 +149,11 @@ link_keeps : (sets : List LabelSet) (all : List ClassDeclaration) (class : List 
 unfolding link_after
 link_keeps sets all class owner old base g h e well made =
     let draft : Draft = record { name = e.name; owner = owner; content = contents.Link e.to e.many e.inverse } in
-    let named = guard_ok (not (is_name e.name)) faults.Name _ h made in
-    let fresh = guard_ok (has_slot_named g e.name) faults.Twice _ h named.1 in
-    let target = bind_ok (ok_or (first_named (λ c. c.name) e.to all) faults.Unknown) (λ target. if not (leads_back target class e) then Err faults.Inverse else if is_full g then Err faults.Limit else Ok (with_slot g draft)) h fresh.1 in
-    let back = guard_ok (not (leads_back target.0 class e)) faults.Inverse (if is_full g then Err faults.Limit else Ok (with_slot g draft)) h target.2 in
-    let room = guard_ok (is_full g) faults.Limit (Ok (with_slot g draft)) h back.1 in
+    let named = guard_ok (not (is_name e.name)) (here flaws.Name) _ h made in
+    let fresh = guard_ok (has_slot_named g e.name) (here flaws.Twice) _ h named.1 in
+    let target = bind_ok (ok_or (first_named (λ c. c.name) e.to all) (here flaws.Unknown)) (λ target. if not (leads_back target class e) then Err (here flaws.Inverse) else if is_full g then Err (here flaws.Limit) else Ok (with_slot g draft)) h fresh.1 in
+    let back = guard_ok (not (leads_back target.0 class e)) (here flaws.Inverse) (if is_full g then Err (here flaws.Limit) else Ok (with_slot g draft)) h target.2 in
+    let room = guard_ok (is_full g) (here flaws.Limit) (Ok (with_slot g draft)) h back.1 in
     subst (GrowsWell sets owner old base) (same_ok _ h room.1) (grown sets owner old base g draft well room.0 (record { name = not_false (is_name e.name) named.0; owner = omega arith; default = tt }))
 
 -- ---- the classes
@@ -165,8 +168,8 @@ pub parent_within : (classes : List Class) (given : Option (List ℕ)) (parent :
     → parent_number classes given ≡ Ok parent → IfSome parent (λ p. p < length classes)
 parent_within classes None parent h = subst (λ (o : Option ℕ). IfSome o (λ p. p < length classes)) (same_ok None parent h) tt
 parent_within classes (Some name) parent h =
-    let found = bind_ok (ok_or (position (bytes_eq name) (map (λ k. k.name) classes)) faults.Unknown) (λ p. Ok (Some p)) parent h in
-    let within = position_within (bytes_eq name) (map (λ (k : Class). k.name) classes) found.0 (ok_or_ok faults.Unknown _ found.0 found.1) in
+    let found = bind_ok (ok_or (position (bytes_eq name) (map (λ k. k.name) classes)) (here flaws.Unknown)) (λ p. Ok (Some p)) parent h in
+    let within = position_within (bytes_eq name) (map (λ (k : Class). k.name) classes) found.0 (ok_or_ok (here flaws.Unknown) _ found.0 found.1) in
     subst (λ (o : Option ℕ). IfSome o (λ p. p < length classes)) (same_ok (Some found.0) parent found.2) (let lt : found.0 < length classes = omega (arith, within, length-map classes (λ (k : Class). k.name)) in lt)
 
 pub All-at : {X : Type 0} (P : X → Type 0) (xs : List X) (i : ℕ) (x : X) → slice_get xs i ≡ Some x → All P xs → P x
@@ -244,13 +247,13 @@ pub class_keeps : (sets : List LabelSet) (all : List ClassDeclaration) (s t : Sc
     → HasSoundDefaults e → ClassesFit sets s → class_after sets all s e ≡ Ok t → ClassesFit sets t
 unfolding class_after
 class_keeps sets all s t e sound fit made =
-    let named = guard_ok (not (is_name e.name)) faults.Name _ t made in
-    let fresh = guard_ok (list_any (bytes_eq e.name) (map (λ (k : Class). k.name) s.classes)) faults.Twice _ t named.1 in
+    let named = guard_ok (not (is_name e.name)) (here flaws.Name) _ t made in
+    let fresh = guard_ok (list_any (bytes_eq e.name) (map (λ (k : Class). k.name) s.classes)) (here flaws.Twice) _ t named.1 in
     let parent = bind_ok (parent_number s.classes e.parent) _ t fresh.1 in
-    let room = guard_ok (nat_le CLASS_LIMIT (length s.classes)) faults.Limit _ t parent.2 in
+    let room = guard_ok (nat_le CLASS_LIMIT (length s.classes)) (here flaws.Limit) _ t parent.2 in
     let start : ClassDraft = record { slots = s.slots; class_slots = inherited_slots s.classes parent.0 } in
-    let ordinary = bind_ok (try_fold (slot_after sets (length s.classes)) start e.slots) _ t room.1 in
-    let own = bind_ok (try_fold (link_after all e.name (length s.classes)) ordinary.0 e.links) _ t ordinary.2 in
+    let ordinary = bind_fold (inside lists.Slots) (slot_after sets (length s.classes)) 0 start e.slots _ t room.1 in
+    let own = bind_fold (inside lists.Links) (link_after all e.name (length s.classes)) 0 ordinary.0 e.links _ t ordinary.2 in
     let within = parent_within s.classes e.parent parent.0 parent.1 in
     let P : ClassDraft → Type 0 = GrowsWell sets (length s.classes) (length s.slots) (inherited_slots s.classes parent.0) in
     let one : P ordinary.0 = walk_keeps P (λ (d : SlotDeclaration). IsSound d.default) (slot_after sets (length s.classes)) (λ g h d. slot_keeps sets (length s.classes) (length s.slots) (inherited_slots s.classes parent.0) g h d) start ordinary.0 e.slots sound (begins sets s parent.0 fit within) ordinary.1 in

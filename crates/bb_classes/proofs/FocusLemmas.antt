@@ -4,11 +4,14 @@ use Rattle.std.specs.Prelude.{nat_le, if◌then◌else◌}
 use Rattle.std.specs.Str.{bytes_eq}
 use Rattle.std.specs.List.{list_any}
 use Rattle.bb_basis.specs.Names.{is_name}
-use Rattle.bb_basis.specs.Results.{ok_or, try_fold}
+use Rattle.bb_basis.specs.Results.{ok_or, try_fold, try_fold_at}
 use Rattle.bb_basis.proofs.ResultLemmas.{bind_ok, guard_ok, same_ok, try_fold_keeps}
 use Rattle.bb_document.specs.Document.{SlotDeclaration, LinkDeclaration, ClassDeclaration}
 use Rattle.bb_classes.specs.declared.read.classes.TheConstants.{CLASS_LIMIT}
-use Rattle.bb_classes.specs.declared.fault.SchemaFault.TheVariants as faults
+use Rattle.bb_classes.specs.declared.fault.SchemaFlaw.TheVariants as flaws
+use Rattle.bb_classes.specs.Faults.{here, inside}
+use Rattle.bb_document.specs.declared.place.ListKey.TheVariants as lists
+use Rattle.bb_basis.proofs.PlacedLemmas.{bind_fold}
 use Rattle.bb_classes.specs.declared.label_set.LabelSet.{LabelSet}
 use Rattle.bb_classes.specs.declared.class.Class.{Class}
 use Rattle.bb_classes.specs.declared.draft.Draft.{Draft}
@@ -16,7 +19,7 @@ use Rattle.bb_classes.specs.declared.draft.DraftContent.TheVariants as contents
 use Rattle.bb_classes.specs.Drafts.{ClassDraft, SchemaDraft, has_slot_named, draft_has_name, is_full, with_slot}
 use Rattle.bb_classes.specs.SlotReading.{default_value, slot_after}
 use Rattle.bb_classes.specs.LinkReading.{first_named, leads_back, link_after}
-use Rattle.bb_classes.specs.ClassReading.{focus, parent_number, inherited_slots, class_after, draft_of}
+use Rattle.bb_classes.specs.ClassReading.{focus, parent_number, inherited_slots, class_after}
 use Rattle.bb_classes.specs.Focus.{focus_class, focus_drafts}
 use Rattle.bb_classes.specs.Fits.{StartsWith}
 
@@ -27,10 +30,10 @@ slot_front : (sets : List LabelSet) (owner : ℕ) (g h : ClassDraft) (e : SlotDe
     → StartsWith g.slots focus_drafts → slot_after sets owner g e ≡ Ok h → StartsWith h.slots focus_drafts
 unfolding slot_after
 slot_front sets owner g h e starts made =
-    let named = guard_ok (not (is_name e.name)) faults.Name _ h made in
-    let fresh = guard_ok (has_slot_named g e.name) faults.Twice _ h named.1 in
+    let named = guard_ok (not (is_name e.name)) (here flaws.Name) _ h made in
+    let fresh = guard_ok (has_slot_named g e.name) (here flaws.Twice) _ h named.1 in
     let value = bind_ok (default_value sets e.default) _ h fresh.1 in
-    let room = guard_ok _ faults.Limit (Ok (with_slot g (record { name = e.name; owner = owner; content = contents.Default value.0 }))) h value.2 in
+    let room = guard_ok _ (here flaws.Limit) (Ok (with_slot g (record { name = e.name; owner = owner; content = contents.Default value.0 }))) h value.2 in
     subst (λ (d : ClassDraft). StartsWith d.slots focus_drafts) (same_ok _ h room.1) (starts_more g.slots focus_drafts (record { name = e.name; owner = owner; content = contents.Default value.0 }) starts)
 
 link_front : (all : List ClassDeclaration) (class : List ℕ) (owner : ℕ) (g h : ClassDraft) (e : LinkDeclaration)
@@ -38,11 +41,11 @@ link_front : (all : List ClassDeclaration) (class : List ℕ) (owner : ℕ) (g h
 unfolding link_after
 link_front all class owner g h e starts made =
     let draft : Draft = record { name = e.name; owner = owner; content = contents.Link e.to e.many e.inverse } in
-    let named = guard_ok (not (is_name e.name)) faults.Name _ h made in
-    let fresh = guard_ok (has_slot_named g e.name) faults.Twice _ h named.1 in
-    let target = bind_ok (ok_or (first_named (λ c. c.name) e.to all) faults.Unknown) (λ target. if not (leads_back target class e) then Err faults.Inverse else if is_full g then Err faults.Limit else Ok (with_slot g draft)) h fresh.1 in
-    let back = guard_ok (not (leads_back target.0 class e)) faults.Inverse (if is_full g then Err faults.Limit else Ok (with_slot g draft)) h target.2 in
-    let room = guard_ok (is_full g) faults.Limit (Ok (with_slot g draft)) h back.1 in
+    let named = guard_ok (not (is_name e.name)) (here flaws.Name) _ h made in
+    let fresh = guard_ok (has_slot_named g e.name) (here flaws.Twice) _ h named.1 in
+    let target = bind_ok (ok_or (first_named (λ c. c.name) e.to all) (here flaws.Unknown)) (λ target. if not (leads_back target class e) then Err (here flaws.Inverse) else if is_full g then Err (here flaws.Limit) else Ok (with_slot g draft)) h fresh.1 in
+    let back = guard_ok (not (leads_back target.0 class e)) (here flaws.Inverse) (if is_full g then Err (here flaws.Limit) else Ok (with_slot g draft)) h target.2 in
+    let room = guard_ok (is_full g) (here flaws.Limit) (Ok (with_slot g draft)) h back.1 in
     subst (λ (d : ClassDraft). StartsWith d.slots focus_drafts) (same_ok _ h room.1) (starts_more g.slots focus_drafts draft starts)
 
 -- the classes and the slots begin with those of `focus`
@@ -54,13 +57,13 @@ class_front : (sets : List LabelSet) (all : List ClassDeclaration) (s t : Schema
     → HasFocus s → class_after sets all s e ≡ Ok t → HasFocus t
 unfolding class_after
 class_front sets all s t e has made =
-    let named = guard_ok (not (is_name e.name)) faults.Name _ t made in
-    let fresh = guard_ok (list_any (bytes_eq e.name) (map (λ (k : Class). k.name) s.classes)) faults.Twice _ t named.1 in
+    let named = guard_ok (not (is_name e.name)) (here flaws.Name) _ t made in
+    let fresh = guard_ok (list_any (bytes_eq e.name) (map (λ (k : Class). k.name) s.classes)) (here flaws.Twice) _ t named.1 in
     let parent = bind_ok (parent_number s.classes e.parent) _ t fresh.1 in
-    let room = guard_ok (nat_le CLASS_LIMIT (length s.classes)) faults.Limit _ t parent.2 in
+    let room = guard_ok (nat_le CLASS_LIMIT (length s.classes)) (here flaws.Limit) _ t parent.2 in
     let start : ClassDraft = record { slots = s.slots; class_slots = inherited_slots s.classes parent.0 } in
-    let ordinary = bind_ok (try_fold (slot_after sets (length s.classes)) start e.slots) _ t room.1 in
-    let own = bind_ok (try_fold (link_after all e.name (length s.classes)) ordinary.0 e.links) _ t ordinary.2 in
+    let ordinary = bind_fold (inside lists.Slots) (slot_after sets (length s.classes)) 0 start e.slots _ t room.1 in
+    let own = bind_fold (inside lists.Links) (link_after all e.name (length s.classes)) 0 ordinary.0 e.links _ t ordinary.2 in
     let P : ClassDraft → Type 0 = λ g. StartsWith g.slots focus_drafts in
     let one : P ordinary.0 = try_fold_keeps P (slot_after sets (length s.classes)) (λ g h d. slot_front sets (length s.classes) g h d) start ordinary.0 e.slots has.slots ordinary.1 in
     let two : P own.0 = try_fold_keeps P (link_after all e.name (length s.classes)) (λ g h d. link_front all e.name (length s.classes) g h d) ordinary.0 own.0 e.links one own.1 in
@@ -69,11 +72,11 @@ class_front sets all s t e has made =
 
 first_step : (sets : List LabelSet) (all : List ClassDeclaration)
     → class_after sets all (record { classes = []; slots = [] }) focus ≡ Ok (record { classes = focus_class ∷ []; slots = focus_drafts })
-unfolding class_after slot_after link_after is_name try_fold draft_has_name
+unfolding class_after slot_after link_after is_name try_fold_at draft_has_name
 first_step sets all = refl
 
 pub walk_focus : (sets : List LabelSet) (all entries : List ClassDeclaration) (t : SchemaDraft)
-    → draft_of sets all (focus ∷ entries) ≡ Ok t → HasFocus t
+    → try_fold (class_after sets all) (record { classes = []; slots = [] }) (focus ∷ entries) ≡ Ok t → HasFocus t
 unfolding try_fold
 walk_focus sets all entries t made =
     let one = bind_ok (class_after sets all (record { classes = []; slots = [] }) focus) (λ next. try_fold (class_after sets all) next entries) t made in

@@ -8,7 +8,8 @@ use Rattle.std.specs.Cmp.Lexicographic.{bytes_decides}
 use Rattle.std.proofs.lemmas.List.Elements.{All-push, All-weaker}
 use Rattle.bb_basis.specs.Results.{ok_or}
 use Rattle.bb_document.specs.Document.{SlotDeclaration, LinkDeclaration, ClassDeclaration}
-use Rattle.bb_classes.specs.declared.fault.SchemaFault.TheVariants as faults
+use Rattle.bb_classes.specs.declared.fault.SchemaFlaw.TheVariants as flaws
+use Rattle.bb_classes.specs.Faults.{here}
 use Rattle.bb_classes.specs.declared.label_set.LabelSet.{LabelSet}
 use Rattle.bb_classes.specs.declared.draft.Draft.{Draft}
 use Rattle.bb_classes.specs.declared.draft.DraftContent.{DraftContent}
@@ -110,10 +111,10 @@ pub slot_step : (sets : List LabelSet) (all : List ClassDeclaration) (class : Li
     → Grows all class owner before h
 unfolding slot_after
 slot_step sets all class owner before g h e well made =
-    let named = guard_ok (not (is_name e.name)) faults.Name _ h made in
-    let fresh = guard_ok (has_slot_named g e.name) faults.Twice _ h named.1 in
-    let value = bind_ok (default_value sets e.default) (λ value. if is_full g || is_long e.default then Err faults.Limit else Ok (with_slot g (record { name = e.name; owner = owner; content = drafts.Default value }))) h fresh.1 in
-    let room = guard_ok (is_full g || is_long e.default) faults.Limit (Ok (with_slot g (record { name = e.name; owner = owner; content = drafts.Default value.0 }))) h value.2 in
+    let named = guard_ok (not (is_name e.name)) (here flaws.Name) _ h made in
+    let fresh = guard_ok (has_slot_named g e.name) (here flaws.Twice) _ h named.1 in
+    let value = bind_ok (default_value sets e.default) (λ value. if is_full g || is_long e.default then Err (here flaws.Limit) else Ok (with_slot g (record { name = e.name; owner = owner; content = drafts.Default value }))) h fresh.1 in
+    let room = guard_ok (is_full g || is_long e.default) (here flaws.Limit) (Ok (with_slot g (record { name = e.name; owner = owner; content = drafts.Default value.0 }))) h value.2 in
     subst (Grows all class owner before) (same_ok _ h room.1) (grow all class owner before g (record { name = e.name; owner = owner; content = drafts.Default value.0 }) well fresh.0 refl tt)
 
 -- what a link that was taken says
@@ -129,12 +130,12 @@ link_taken : (all : List ClassDeclaration) (class : List ℕ) (owner : ℕ) (g h
 unfolding link_after
 link_taken all class owner g h e made =
     let draft : Draft = record { name = e.name; owner = owner; content = drafts.Link e.to e.many e.inverse } in
-    let named = guard_ok (not (is_name e.name)) faults.Name _ h made in
-    let fresh = guard_ok (has_slot_named g e.name) faults.Twice _ h named.1 in
-    let target = bind_ok (ok_or (first_named (λ c. c.name) e.to all) faults.Unknown) (λ target. if not (leads_back target class e) then Err faults.Inverse else if is_full g then Err faults.Limit else Ok (with_slot g draft)) h fresh.1 in
-    let back = guard_ok (not (leads_back target.0 class e)) faults.Inverse (if is_full g then Err faults.Limit else Ok (with_slot g draft)) h target.2 in
-    let room = guard_ok (is_full g) faults.Limit (Ok (with_slot g draft)) h back.1 in
-    record { fresh = fresh.0; target = target.0; there = ok_or_ok faults.Unknown _ target.0 target.1; back = not_false (leads_back target.0 class e) back.0; is = same_ok (with_slot g draft) h room.1 }
+    let named = guard_ok (not (is_name e.name)) (here flaws.Name) _ h made in
+    let fresh = guard_ok (has_slot_named g e.name) (here flaws.Twice) _ h named.1 in
+    let target = bind_ok (ok_or (first_named (λ c. c.name) e.to all) (here flaws.Unknown)) (λ target. if not (leads_back target class e) then Err (here flaws.Inverse) else if is_full g then Err (here flaws.Limit) else Ok (with_slot g draft)) h fresh.1 in
+    let back = guard_ok (not (leads_back target.0 class e)) (here flaws.Inverse) (if is_full g then Err (here flaws.Limit) else Ok (with_slot g draft)) h target.2 in
+    let room = guard_ok (is_full g) (here flaws.Limit) (Ok (with_slot g draft)) h back.1 in
+    record { fresh = fresh.0; target = target.0; there = ok_or_ok (here flaws.Unknown) _ target.0 target.1; back = not_false (leads_back target.0 class e) back.0; is = same_ok (with_slot g draft) h room.1 }
 
 pub link_step : (all : List ClassDeclaration) (class : List ℕ) (owner : ℕ) (before : List Draft) (g h : ClassDraft)
     (e : LinkDeclaration) → Grows all class owner before g → link_after all class owner g e ≡ Ok h

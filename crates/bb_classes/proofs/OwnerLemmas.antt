@@ -14,7 +14,10 @@ use Rattle.bb_basis.proofs.ResultLemmas.{bind_ok, guard_ok, same_ok, try_fold_ke
 use Rattle.bb_document.specs.Document.{SlotDeclaration, LinkDeclaration, ClassDeclaration}
 use Rattle.bb_document.specs.Defaults.{HasSoundDefaults}
 use Rattle.bb_classes.specs.declared.read.classes.TheConstants.{CLASS_LIMIT}
-use Rattle.bb_classes.specs.declared.fault.SchemaFault.TheVariants as faults
+use Rattle.bb_classes.specs.declared.fault.SchemaFlaw.TheVariants as flaws
+use Rattle.bb_classes.specs.Faults.{here, inside}
+use Rattle.bb_document.specs.declared.place.ListKey.TheVariants as lists
+use Rattle.bb_basis.proofs.PlacedLemmas.{bind_fold}
 use Rattle.bb_classes.specs.declared.label_set.LabelSet.{LabelSet}
 use Rattle.bb_classes.specs.declared.class.Class.{Class}
 use Rattle.bb_classes.specs.declared.draft.Draft.{Draft}
@@ -135,10 +138,10 @@ slot_owns : (sets : List LabelSet) (s : SchemaDraft) (base : List ℕ) (g h : Cl
     → OwnsNew s base g → slot_after sets (length s.classes) g e ≡ Ok h → OwnsNew s base h
 unfolding slot_after
 slot_owns sets s base g h e owns made =
-    let named = guard_ok (not (is_name e.name)) faults.Name _ h made in
-    let fresh = guard_ok (has_slot_named g e.name) faults.Twice _ h named.1 in
+    let named = guard_ok (not (is_name e.name)) (here flaws.Name) _ h made in
+    let fresh = guard_ok (has_slot_named g e.name) (here flaws.Twice) _ h named.1 in
     let value = bind_ok (default_value sets e.default) _ h fresh.1 in
-    let room = guard_ok _ faults.Limit (Ok (with_slot g (record { name = e.name; owner = length s.classes; content = contents.Default value.0 }))) h value.2 in
+    let room = guard_ok _ (here flaws.Limit) (Ok (with_slot g (record { name = e.name; owner = length s.classes; content = contents.Default value.0 }))) h value.2 in
     subst (OwnsNew s base) (same_ok _ h room.1) (owns_more s base g (record { name = e.name; owner = length s.classes; content = contents.Default value.0 }) owns refl)
 
 link_owns : (all : List ClassDeclaration) (class : List ℕ) (s : SchemaDraft) (base : List ℕ) (g h : ClassDraft)
@@ -146,11 +149,11 @@ link_owns : (all : List ClassDeclaration) (class : List ℕ) (s : SchemaDraft) (
 unfolding link_after
 link_owns all class s base g h e owns made =
     let draft : Draft = record { name = e.name; owner = length s.classes; content = contents.Link e.to e.many e.inverse } in
-    let named = guard_ok (not (is_name e.name)) faults.Name _ h made in
-    let fresh = guard_ok (has_slot_named g e.name) faults.Twice _ h named.1 in
-    let target = bind_ok (ok_or (first_named (λ c. c.name) e.to all) faults.Unknown) (λ target. if not (leads_back target class e) then Err faults.Inverse else if is_full g then Err faults.Limit else Ok (with_slot g draft)) h fresh.1 in
-    let back = guard_ok (not (leads_back target.0 class e)) faults.Inverse (if is_full g then Err faults.Limit else Ok (with_slot g draft)) h target.2 in
-    let room = guard_ok (is_full g) faults.Limit (Ok (with_slot g draft)) h back.1 in
+    let named = guard_ok (not (is_name e.name)) (here flaws.Name) _ h made in
+    let fresh = guard_ok (has_slot_named g e.name) (here flaws.Twice) _ h named.1 in
+    let target = bind_ok (ok_or (first_named (λ c. c.name) e.to all) (here flaws.Unknown)) (λ target. if not (leads_back target class e) then Err (here flaws.Inverse) else if is_full g then Err (here flaws.Limit) else Ok (with_slot g draft)) h fresh.1 in
+    let back = guard_ok (not (leads_back target.0 class e)) (here flaws.Inverse) (if is_full g then Err (here flaws.Limit) else Ok (with_slot g draft)) h target.2 in
+    let room = guard_ok (is_full g) (here flaws.Limit) (Ok (with_slot g draft)) h back.1 in
     subst (OwnsNew s base) (same_ok _ h room.1) (owns_more s base g draft owns refl)
 
 owns_first : (s : SchemaDraft) (base : List ℕ) → OwnsNew s base (record { slots = s.slots; class_slots = base })
@@ -216,14 +219,14 @@ owned_after : (sets : List LabelSet) (all : List ClassDeclaration) (s t : Schema
     → Owned sets s → ClassesFit sets t → class_after sets all s e ≡ Ok t → OwnsDrafts t.classes t.slots
 unfolding class_after
 owned_after sets all s t e o fit made =
-    let named = guard_ok (not (is_name e.name)) faults.Name _ t made in
-    let fresh = guard_ok (list_any (bytes_eq e.name) (map (λ (k : Class). k.name) s.classes)) faults.Twice _ t named.1 in
+    let named = guard_ok (not (is_name e.name)) (here flaws.Name) _ t made in
+    let fresh = guard_ok (list_any (bytes_eq e.name) (map (λ (k : Class). k.name) s.classes)) (here flaws.Twice) _ t named.1 in
     let parent = bind_ok (parent_number s.classes e.parent) _ t fresh.1 in
-    let room = guard_ok (nat_le CLASS_LIMIT (length s.classes)) faults.Limit _ t parent.2 in
+    let room = guard_ok (nat_le CLASS_LIMIT (length s.classes)) (here flaws.Limit) _ t parent.2 in
     let base = inherited_slots s.classes parent.0 in
     let start : ClassDraft = record { slots = s.slots; class_slots = base } in
-    let ordinary = bind_ok (try_fold (slot_after sets (length s.classes)) start e.slots) _ t room.1 in
-    let own = bind_ok (try_fold (link_after all e.name (length s.classes)) ordinary.0 e.links) _ t ordinary.2 in
+    let ordinary = bind_fold (inside lists.Slots) (slot_after sets (length s.classes)) 0 start e.slots _ t room.1 in
+    let own = bind_fold (inside lists.Links) (link_after all e.name (length s.classes)) 0 ordinary.0 e.links _ t ordinary.2 in
     let P : ClassDraft → Type 0 = OwnsNew s base in
     let one : P ordinary.0 = try_fold_keeps P (slot_after sets (length s.classes)) (λ g h d. slot_owns sets s base g h d) start ordinary.0 e.slots (owns_first s base) ordinary.1 in
     let two : P own.0 = try_fold_keeps P (link_after all e.name (length s.classes)) (λ g h d. link_owns all e.name s base g h d) ordinary.0 own.0 e.links one own.1 in

@@ -8,11 +8,14 @@ use Rattle.std.proofs.lemmas.List.Elements.{All-nil, All-push}
 use Rattle.bb_basis.specs.Names.{is_name}
 use Rattle.bb_basis.specs.Results.{try_fold}
 use Rattle.bb_basis.proofs.ListLemmas.{map-last}
-use Rattle.bb_basis.proofs.ResultLemmas.{bind_ok, guard_ok, same_ok, try_fold_keeps}
+use Rattle.bb_basis.proofs.ResultLemmas.{guard_ok, same_ok, try_fold_keeps}
 use Rattle.bb_document.specs.Document.{LabelSetDeclaration}
 use Rattle.bb_classes.specs.declared.read.labels.TheConstants.{LABEL_SET_LIMIT}
 use Rattle.bb_classes.specs.declared.label_set.TheConstants.{LABEL_LIMIT}
-use Rattle.bb_classes.specs.declared.fault.SchemaFault.TheVariants as faults
+use Rattle.bb_classes.specs.declared.fault.SchemaFlaw.TheVariants as flaws
+use Rattle.bb_classes.specs.Faults.{here, inside}
+use Rattle.bb_document.specs.declared.place.ListKey.TheVariants as lists
+use Rattle.bb_basis.proofs.PlacedLemmas.{bind_fold}
 use Rattle.bb_classes.specs.declared.label_set.LabelSet.{LabelSet}
 use Rattle.bb_classes.specs.LabelReading.{label_after, label_set_after}
 use Rattle.bb_classes.specs.Naming.{AreNames}
@@ -23,19 +26,19 @@ label_keeps : (labels more : List (List ℕ)) (name : List ℕ) → AreNames LAB
     → label_after labels name ≡ Ok more → AreNames LABEL_LIMIT more
 unfolding label_after
 label_keeps labels more name are made =
-    let named = guard_ok (not (is_name name)) faults.Name _ more made in
-    let fresh = guard_ok (list_any (bytes_eq name) labels) faults.Twice _ more named.1 in
-    let room = guard_ok (nat_le LABEL_LIMIT (length labels)) faults.Limit _ more fresh.1 in
+    let named = guard_ok (not (is_name name)) (here flaws.Name) _ more made in
+    let fresh = guard_ok (list_any (bytes_eq name) labels) (here flaws.Twice) _ more named.1 in
+    let room = guard_ok (nat_le LABEL_LIMIT (length labels)) (here flaws.Limit) _ more fresh.1 in
     subst (AreNames LABEL_LIMIT) (same_ok (labels ++ name ∷ []) more room.1) (one_more_name LABEL_LIMIT labels name are named.0 fresh.0 room.0)
 
 set_keeps : (sets more : List LabelSet) (e : LabelSetDeclaration) → AreLabelSets sets
     → label_set_after sets e ≡ Ok more → AreLabelSets more
 unfolding label_set_after
 set_keeps sets more e are made =
-    let named = guard_ok (not (is_name e.name)) faults.Name _ more made in
-    let fresh = guard_ok (list_any (bytes_eq e.name) (map (λ (l : LabelSet). l.name) sets)) faults.Twice _ more named.1 in
-    let room = guard_ok (nat_le LABEL_SET_LIMIT (length sets)) faults.Limit _ more fresh.1 in
-    let values = bind_ok (try_fold label_after [] e.values) _ more room.1 in
+    let named = guard_ok (not (is_name e.name)) (here flaws.Name) _ more made in
+    let fresh = guard_ok (list_any (bytes_eq e.name) (map (λ (l : LabelSet). l.name) sets)) (here flaws.Twice) _ more named.1 in
+    let room = guard_ok (nat_le LABEL_SET_LIMIT (length sets)) (here flaws.Limit) _ more fresh.1 in
+    let values = bind_fold (inside lists.Values) label_after 0 [] e.values _ more room.1 in
     let set : LabelSet = record { name = e.name; values = values.0 } in
     subst AreLabelSets (same_ok (sets ++ set ∷ []) more values.2) (record {
       named = rw (map-last (λ (l : LabelSet). l.name) sets set) (one_more_name LABEL_SET_LIMIT (map (λ (l : LabelSet). l.name) sets) e.name are.named named.0 fresh.0 (rw (length-map sets (λ (l : LabelSet). l.name)) room.0));

@@ -11,7 +11,10 @@ use Rattle.bb_basis.proofs.AppendLemmas.{snoc_old, snoc_new}
 use Rattle.bb_basis.proofs.ResultLemmas.{bind_ok, guard_ok, same_ok, try_fold_keeps}
 use Rattle.bb_document.specs.Document.{SlotDeclaration, LinkDeclaration, ClassDeclaration}
 use Rattle.bb_classes.specs.declared.read.classes.TheConstants.{CLASS_LIMIT}
-use Rattle.bb_classes.specs.declared.fault.SchemaFault.TheVariants as faults
+use Rattle.bb_classes.specs.declared.fault.SchemaFlaw.TheVariants as flaws
+use Rattle.bb_classes.specs.Faults.{here, inside}
+use Rattle.bb_document.specs.declared.place.ListKey.TheVariants as lists
+use Rattle.bb_basis.proofs.PlacedLemmas.{bind_fold}
 use Rattle.bb_classes.specs.declared.label_set.LabelSet.{LabelSet}
 use Rattle.bb_classes.specs.declared.class.Class.{Class}
 use Rattle.bb_classes.specs.declared.draft.Draft.{Draft}
@@ -98,10 +101,10 @@ slot_apart : (s : SchemaDraft) (sets : List LabelSet) (owner : ℕ) (g h : Class
     → AreNew s g → slot_after sets owner g e ≡ Ok h → AreNew s h
 unfolding slot_after
 slot_apart s sets owner g h e are made =
-    let named = guard_ok (not (is_name e.name)) faults.Name _ h made in
-    let fresh = guard_ok (has_slot_named g e.name) faults.Twice _ h named.1 in
+    let named = guard_ok (not (is_name e.name)) (here flaws.Name) _ h made in
+    let fresh = guard_ok (has_slot_named g e.name) (here flaws.Twice) _ h named.1 in
     let value = bind_ok (default_value sets e.default) _ h fresh.1 in
-    let room = guard_ok _ faults.Limit (Ok (with_slot g (record { name = e.name; owner = owner; content = contents.Default value.0 }))) h value.2 in
+    let room = guard_ok _ (here flaws.Limit) (Ok (with_slot g (record { name = e.name; owner = owner; content = contents.Default value.0 }))) h value.2 in
     subst (AreNew s) (same_ok _ h room.1) (new_more s g (record { name = e.name; owner = owner; content = contents.Default value.0 }) are fresh.0)
 
 link_apart : (s : SchemaDraft) (all : List ClassDeclaration) (class : List ℕ) (owner : ℕ) (g h : ClassDraft)
@@ -109,11 +112,11 @@ link_apart : (s : SchemaDraft) (all : List ClassDeclaration) (class : List ℕ) 
 unfolding link_after
 link_apart s all class owner g h e are made =
     let draft : Draft = record { name = e.name; owner = owner; content = contents.Link e.to e.many e.inverse } in
-    let named = guard_ok (not (is_name e.name)) faults.Name _ h made in
-    let fresh = guard_ok (has_slot_named g e.name) faults.Twice _ h named.1 in
-    let target = bind_ok (ok_or (first_named (λ c. c.name) e.to all) faults.Unknown) (λ target. if not (leads_back target class e) then Err faults.Inverse else if is_full g then Err faults.Limit else Ok (with_slot g draft)) h fresh.1 in
-    let back = guard_ok (not (leads_back target.0 class e)) faults.Inverse (if is_full g then Err faults.Limit else Ok (with_slot g draft)) h target.2 in
-    let room = guard_ok (is_full g) faults.Limit (Ok (with_slot g draft)) h back.1 in
+    let named = guard_ok (not (is_name e.name)) (here flaws.Name) _ h made in
+    let fresh = guard_ok (has_slot_named g e.name) (here flaws.Twice) _ h named.1 in
+    let target = bind_ok (ok_or (first_named (λ c. c.name) e.to all) (here flaws.Unknown)) (λ target. if not (leads_back target class e) then Err (here flaws.Inverse) else if is_full g then Err (here flaws.Limit) else Ok (with_slot g draft)) h fresh.1 in
+    let back = guard_ok (not (leads_back target.0 class e)) (here flaws.Inverse) (if is_full g then Err (here flaws.Limit) else Ok (with_slot g draft)) h target.2 in
+    let room = guard_ok (is_full g) (here flaws.Limit) (Ok (with_slot g draft)) h back.1 in
     subst (AreNew s) (same_ok _ h room.1) (new_more s g draft are fresh.0)
 
 joined : (s : SchemaDraft) (k : Class) (g : ClassDraft) → k.slots ≡ g.class_slots → AreNew s g
@@ -144,13 +147,13 @@ named_after : (sets : List LabelSet) (all : List ClassDeclaration) (s t : Schema
     → AreSoFar s → class_after sets all s e ≡ Ok t → AreSoFar t
 unfolding class_after
 named_after sets all s t e far made =
-    let named = guard_ok (not (is_name e.name)) faults.Name _ t made in
-    let fresh = guard_ok (list_any (bytes_eq e.name) (map (λ (k : Class). k.name) s.classes)) faults.Twice _ t named.1 in
+    let named = guard_ok (not (is_name e.name)) (here flaws.Name) _ t made in
+    let fresh = guard_ok (list_any (bytes_eq e.name) (map (λ (k : Class). k.name) s.classes)) (here flaws.Twice) _ t named.1 in
     let parent = bind_ok (parent_number s.classes e.parent) _ t fresh.1 in
-    let room = guard_ok (nat_le CLASS_LIMIT (length s.classes)) faults.Limit _ t parent.2 in
+    let room = guard_ok (nat_le CLASS_LIMIT (length s.classes)) (here flaws.Limit) _ t parent.2 in
     let start : ClassDraft = record { slots = s.slots; class_slots = inherited_slots s.classes parent.0 } in
-    let ordinary = bind_ok (try_fold (slot_after sets (length s.classes)) start e.slots) _ t room.1 in
-    let own = bind_ok (try_fold (link_after all e.name (length s.classes)) ordinary.0 e.links) _ t ordinary.2 in
+    let ordinary = bind_fold (inside lists.Slots) (slot_after sets (length s.classes)) 0 start e.slots _ t room.1 in
+    let own = bind_fold (inside lists.Links) (link_after all e.name (length s.classes)) 0 ordinary.0 e.links _ t ordinary.2 in
     let first : AreNew s start = record { longer = omega arith; before = λ n d lt at. at; apart = begun s far parent.0 (parent_within s.classes e.parent parent.0 parent.1) } in
     let one : AreNew s ordinary.0 = try_fold_keeps (AreNew s) (slot_after sets (length s.classes)) (λ g h d. slot_apart s sets (length s.classes) g h d) start ordinary.0 e.slots first ordinary.1 in
     let two : AreNew s own.0 = try_fold_keeps (AreNew s) (link_after all e.name (length s.classes)) (λ g h d. link_apart s all e.name (length s.classes) g h d) ordinary.0 own.0 e.links one own.1 in

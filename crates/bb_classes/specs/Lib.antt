@@ -1,5 +1,7 @@
--- the numbers of faults
+-- faults: their numbers and their places
 pub mod Faults
+-- of bb_document: places in a document
+pub use Rattle.bb_document.specs.Places
 -- the kinds of values
 pub mod Kinds
 -- of bb_document: numbers of 64 bits

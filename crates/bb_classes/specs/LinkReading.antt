@@ -6,7 +6,8 @@ use Rattle.std.specs.Str.{bytes_eq}
 use Rattle.bb_basis.specs.Results.{◌>>=◌, ok_or}
 use Rattle.bb_document.specs.Document.{ClassDeclaration, LinkDeclaration}
 use Rattle.bb_classes.specs.declared.fault.SchemaFault.{SchemaFault}
-use Rattle.bb_classes.specs.declared.fault.SchemaFault.TheVariants.{Name, Twice, Unknown, Inverse, Limit}
+use Rattle.bb_classes.specs.Faults.{here}
+use Rattle.bb_classes.specs.declared.fault.SchemaFlaw.TheVariants.{Name, Twice, Unknown, Inverse, Limit}
 use Rattle.bb_classes.specs.declared.draft.Draft.{Draft}
 use Rattle.bb_classes.specs.declared.draft.DraftContent.TheVariants.{Link}
 use Rattle.bb_basis.specs.Names.{is_name}
@@ -48,9 +49,9 @@ draft_of_link owner entry = record {
 unfoldable pub link_after : List ClassDeclaration → List ℕ → ℕ → ClassDraft → LinkDeclaration
     → Result ClassDraft SchemaFault
 link_after all class owner g entry =
-    if not (is_name entry.name) then Err Name
-    else if has_slot_named g entry.name then Err Twice
-    else ok_or (first_named (λ c. c.name) entry.to all) Unknown >>= λ target.
-    if not (leads_back target class entry) then Err Inverse
-    else if is_full g then Err Limit
+    if not (is_name entry.name) then Err (here Name)
+    else if has_slot_named g entry.name then Err (here Twice)
+    else ok_or (first_named (λ c. c.name) entry.to all) (here Unknown) >>= λ target.
+    if not (leads_back target class entry) then Err (here Inverse)
+    else if is_full g then Err (here Limit)
     else Ok (with_slot g (draft_of_link owner entry))

@@ -5,7 +5,8 @@ use Rattle.bb_basis.specs.Results.{◌>>=◌, ok_or}
 use Rattle.bb_document.specs.Document.{SlotDeclaration, DefaultDeclaration, int_default, text_default, bool_default, label_default, interval_default}
 use Rattle.bb_classes.specs.declared.value.TheConstants.{TEXT_LIMIT}
 use Rattle.bb_classes.specs.declared.fault.SchemaFault.{SchemaFault}
-use Rattle.bb_classes.specs.declared.fault.SchemaFault.TheVariants.{Name, Twice, Unknown, Limit}
+use Rattle.bb_classes.specs.Faults.{here}
+use Rattle.bb_classes.specs.declared.fault.SchemaFlaw.TheVariants.{Name, Twice, Unknown, Limit}
 use Rattle.bb_classes.specs.declared.label_set.LabelSet.{LabelSet}
 use Rattle.bb_classes.specs.declared.value.Value.{Value}
 use Rattle.bb_classes.specs.declared.value.Value.TheVariants.{Int, Text, Bool as Truth, Label, Interval}
@@ -25,8 +26,8 @@ label_set_number sets name = position (bytes_eq name) (map (λ s. s.name) sets)
 -- the label of a set that is the default, or Unknown where the set or the label is not there
 unfoldable pub label_value : List LabelSet → List ℕ → Option (List ℕ) → Result Value SchemaFault
 label_value sets of given = do
-  set ← ok_or (label_set_number sets of) Unknown
-  label ← ok_or (option_and_then (λ s. chosen_label s.values given) (slice_get sets set)) Unknown
+  set ← ok_or (label_set_number sets of) (here Unknown)
+  label ← ok_or (option_and_then (λ s. chosen_label s.values given) (slice_get sets set)) (here Unknown)
   Ok (Label set label)
 
 -- the default of a slot
@@ -48,8 +49,8 @@ is_long (interval_default low high) = false
 -- the slots with one more of the class of number owner, or what is wrong with it
 unfoldable pub slot_after : List LabelSet → ℕ → ClassDraft → SlotDeclaration → Result ClassDraft SchemaFault
 slot_after sets owner g entry =
-    if not (is_name entry.name) then Err Name
-    else if has_slot_named g entry.name then Err Twice
+    if not (is_name entry.name) then Err (here Name)
+    else if has_slot_named g entry.name then Err (here Twice)
     else default_value sets entry.default >>= λ value.
-    if is_full g || is_long entry.default then Err Limit
+    if is_full g || is_long entry.default then Err (here Limit)
     else Ok (with_slot g (record { name = entry.name; owner = owner; content = Default value }))

@@ -2,15 +2,17 @@
 //! the form and of spaces come.
 
 ghost use Rattle.std.specs.Prelude.{◌≡◌};
+ghost use Rattle.bb_basis.specs.Results.{map_err};
 ghost use Rattle.bb_classes.specs.declared.fault.SchemaFault.TheVariants.{Memory as OutOfMemory};
-ghost use Rattle.bb_classes.specs.Faults.{fault_number};
+ghost use Rattle.bb_classes.specs.Faults.{flaw_number, fault_number, here, inside};
 
+use bb_document::{DocumentPlace, ListKey};
 use std::alloc::{AllocError, AllocFailed};
 use thiserror::Error;
 
-/// Why a document means no schema: the first fault of its reading.
+/// What is wrong with a document, or with an entry of it.
 #[derive(Clone, Copy, Debug, PartialEq, Eq, Error)]
-pub enum SchemaFault {
+pub enum SchemaFlaw {
     /// The text is not JSON.
     #[error("the schema is not JSON")]
     Json,
@@ -35,6 +37,35 @@ pub enum SchemaFault {
     /// The entry is past the limit of its list.
     #[error("too many entries")]
     Limit,
+}
+
+impl SchemaFlaw {
+    /// The number by which a refusal line names the flaw, from 1 to 8.
+    pub fn number(self) -> u8
+        ensures { result ≡ flaw_number self }
+    {
+        match self {
+            SchemaFlaw::Json => 1,
+            SchemaFlaw::Shape => 2,
+            SchemaFlaw::Name => 3,
+            SchemaFlaw::Twice => 4,
+            SchemaFlaw::Unknown => 5,
+            SchemaFlaw::Inverse => 6,
+            SchemaFlaw::Dimension => 7,
+            SchemaFlaw::Limit => 8,
+        }
+    }
+}
+
+/// Why a document means no schema: the first flaw that its reading meets, and the entry at which it stands.
+#[derive(Clone, Copy, Debug, PartialEq, Eq, Error)]
+pub enum SchemaFault {
+    /// The flaw of the entry at the place; that of a text that is not JSON is of the whole document.
+    #[error("{flaw}")]
+    At {
+        flaw: SchemaFlaw,
+        place: DocumentPlace,
+    },
     /// Memory ran out.
     #[error("out of memory")]
     Memory,
@@ -46,16 +77,46 @@ impl SchemaFault {
         ensures { result ≡ fault_number self }
     {
         match self {
-            SchemaFault::Json => 1,
-            SchemaFault::Shape => 2,
-            SchemaFault::Name => 3,
-            SchemaFault::Twice => 4,
-            SchemaFault::Unknown => 5,
-            SchemaFault::Inverse => 6,
-            SchemaFault::Dimension => 7,
-            SchemaFault::Limit => 8,
+            SchemaFault::At { flaw, place: _ } => flaw.number(),
             SchemaFault::Memory => 9,
         }
+    }
+
+    /// The fault of what is read itself, and not of an entry of one of its lists.
+    pub fn here(flaw: SchemaFlaw) -> SchemaFault
+        ensures { result ≡ here flaw }
+    {
+        SchemaFault::At {
+            flaw,
+            place: DocumentPlace::Whole,
+        }
+    }
+
+    /// The fault of an entry, seen from where the entry is one of a list.
+    pub fn inside(self, list: ListKey, index: usize) -> SchemaFault
+        ensures { result ≡ inside list index self }
+    {
+        match self {
+            SchemaFault::At { flaw, place } => SchemaFault::At {
+                flaw,
+                place: place.inside(list, index),
+            },
+            SchemaFault::Memory => SchemaFault::Memory,
+        }
+    }
+}
+
+/// The answer of an entry of a list, a fault at its place in there.
+pub fn placed<T>(
+    answer: Result<T, SchemaFault>,
+    list: ListKey,
+    index: usize,
+) -> Result<T, SchemaFault>
+    ensures { result ≡ map_err (inside list index) answer }
+{
+    match answer {
+        Ok(value) => Ok(value),
+        Err(fault) => Err(fault.inside(list, index)),
     }
 }
 

@@ -11,9 +11,10 @@ mod read;
 mod span;
 mod value;
 
-pub use class::{Class, ClassId, descends_from_any, parent};
+pub use bb_document::{DocumentPlace, ListItem, ListKey};
+pub use class::{Class, ClassId, parent};
 pub use draft::{Draft, DraftContent, SLOT_LIMIT, SchemaDraft};
-pub use fault::SchemaFault;
+pub use fault::{SchemaFault, SchemaFlaw, placed};
 pub use kind::{Kind, Link, SlotId};
 pub use label_set::{LabelId, LabelSet, LabelSetId, Labels};
 pub use read::{CLASS_LIMIT, LABEL_SET_LIMIT, Walked, resolve_link};

@@ -6,10 +6,13 @@ use Rattle.std.specs.Str.{bytes_eq}
 use Rattle.std.proofs.lemmas.List.Elements.{All-nil, All-cons}
 use Rattle.serde_json.specs.Data.{Data}
 use Rattle.serde_json.specs.Find.{get, as_bool, as_i64, as_number, as_str}
-use Rattle.bb_basis.specs.Results.{◌>>=◌, ok_or, try_map, Gives}
+use Rattle.bb_basis.specs.Results.{◌>>=◌, ok_or, try_map, try_map_at, Gives}
 use Rattle.bb_basis.proofs.ResultLemmas.{bind_ok, ok_or_ok, same_ok}
+use Rattle.bb_basis.proofs.PlacedLemmas.{map_at_ok}
 use Rattle.bb_document.specs.declared.fault.DocumentFault.{DocumentFault}
-use Rattle.bb_document.specs.declared.fault.DocumentFault.TheVariants.{Shape, Memory}
+use Rattle.bb_document.specs.declared.fault.DocumentFault.TheVariants.{Memory}
+use Rattle.bb_document.specs.Faults.{misshapen, inside}
+use Rattle.bb_document.specs.declared.place.ListKey.TheVariants as lists
 use Rattle.bb_document.specs.Numbers.{is_i64}
 use Rattle.bb_document.specs.Shapes.{is_object_with, as_whole, as_list, text_at, list_at, optional_text_at}
 use Rattle.bb_document.specs.declared.document.Document.{Document}
@@ -92,55 +95,55 @@ interval_sound (Some d) z h = list_sound (as_list d) z h
 plain_sound : (kind : List ℕ) (given : Option Data) (y : DefaultDeclaration) → plain_default_of kind given ≡ Ok y → IsSound y
 unfolding plain_default_of
 plain_sound kind given y h =
-    by_test IsSound (bytes_eq kind (codes "int")) _ _ y (λ e. given_as IsSound int_default (option_map_or as_whole given (Some (pos 0))) Shape y (λ x is. int_sound given x is) e)
-    (λ h. by_test IsSound (bytes_eq kind (codes "text")) _ _ y (λ e. given_as IsSound text_default (option_map_or as_str given (Some [])) Shape y (λ x _. tt) e)
-    (λ h. by_test IsSound (bytes_eq kind (codes "bool")) _ _ y (λ e. given_as IsSound bool_default (option_map_or as_bool given (Some false)) Shape y (λ x _. tt) e)
-    (λ h. by_test IsSound (bytes_eq kind (codes "interval")) _ _ y (λ e. given_as IsSound (λ (z : ℤ × ℤ). interval_default z.0 z.1) (option_map_or as_interval given (Some (pos 0, pos 0))) Shape y (λ z is. interval_sound given z is) e)
+    by_test IsSound (bytes_eq kind (codes "int")) _ _ y (λ e. given_as IsSound int_default (option_map_or as_whole given (Some (pos 0))) misshapen y (λ x is. int_sound given x is) e)
+    (λ h. by_test IsSound (bytes_eq kind (codes "text")) _ _ y (λ e. given_as IsSound text_default (option_map_or as_str given (Some [])) misshapen y (λ x _. tt) e)
+    (λ h. by_test IsSound (bytes_eq kind (codes "bool")) _ _ y (λ e. given_as IsSound bool_default (option_map_or as_bool given (Some false)) misshapen y (λ x _. tt) e)
+    (λ h. by_test IsSound (bytes_eq kind (codes "interval")) _ _ y (λ e. given_as IsSound (λ (z : ℤ × ℤ). interval_default z.0 z.1) (option_map_or as_interval given (Some (pos 0, pos 0))) misshapen y (λ z is. interval_sound given z is) e)
     (λ h. absurd cc) h) h) h) h
 
 label_sound : (set : List ℕ) (given : Option Data) (y : DefaultDeclaration) → label_default_of set given ≡ Ok y → IsSound y
 unfolding label_default_of
-label_sound set given y h = given_as IsSound (label_default set) _ Shape y (λ x _. tt) h
+label_sound set given y h = given_as IsSound (label_default set) _ misshapen y (λ x _. tt) h
 
 default_sound : (kind : List ℕ) (set : Option (List ℕ)) (given : Option Data) (y : DefaultDeclaration) → default_of kind set given ≡ Ok y → IsSound y
 unfolding default_of
 default_sound kind None given y h = plain_sound kind given y h
-default_sound kind (Some set) given y h = label_sound set given y (passes (bytes_eq kind (codes "label")) (label_default_of set given) Shape y h)
+default_sound kind (Some set) given y h = label_sound set given y (passes (bytes_eq kind (codes "label")) (label_default_of set given) misshapen y h)
 
 slot_sound : (d : Data) (s : SlotDeclaration) → slot_of d ≡ Ok s → IsSound s.default
 unfolding slot_of
 slot_sound d s h =
-    let name = bind_ok (ok_or (text_at (codes "name") d) Shape) _ s (passes (is_object_with (codes "name" ∷ codes "kind" ∷ codes "of" ∷ codes "default" ∷ []) d) _ Shape s h) in
-    let kind = bind_ok (ok_or (text_at (codes "kind") d) Shape) _ s name.2 in
-    let set = bind_ok (ok_or (optional_text_at (codes "of") d) Shape) _ s kind.2 in
+    let name = bind_ok (ok_or (text_at (codes "name") d) misshapen) _ s (passes (is_object_with (codes "name" ∷ codes "kind" ∷ codes "of" ∷ codes "default" ∷ []) d) _ misshapen s h) in
+    let kind = bind_ok (ok_or (text_at (codes "kind") d) misshapen) _ s name.2 in
+    let set = bind_ok (ok_or (optional_text_at (codes "of") d) misshapen) _ s kind.2 in
     let default = bind_ok (default_of kind.0 set.0 (get (codes "default") d)) _ s set.2 in
     subst (λ (e : SlotDeclaration). IsSound e.default) (same_ok (record { name = name.0; default = default.0 }) s default.2) (default_sound kind.0 set.0 (get (codes "default") d) default.0 default.1)
 
 class_sound : (d : Data) (k : ClassDeclaration) → class_of d ≡ Ok k → HasSoundDefaults k
 unfolding class_of
 class_sound d k h =
-    let name = bind_ok (ok_or (text_at (codes "name") d) Shape) _ k (passes (is_object_with (codes "name" ∷ codes "parent" ∷ codes "slots" ∷ codes "links" ∷ []) d) _ Shape k h) in
-    let parent = bind_ok (ok_or (optional_text_at (codes "parent") d) Shape) _ k name.2 in
-    let given_slots = bind_ok (ok_or (list_at (codes "slots") d) Shape) _ k parent.2 in
-    let slots = bind_ok (try_map slot_of given_slots.0) _ k given_slots.2 in
-    let given_links = bind_ok (ok_or (list_at (codes "links") d) Shape) _ k slots.2 in
-    let links = bind_ok (try_map link_of given_links.0) _ k given_links.2 in
+    let name = bind_ok (ok_or (text_at (codes "name") d) misshapen) _ k (passes (is_object_with (codes "name" ∷ codes "parent" ∷ codes "slots" ∷ codes "links" ∷ []) d) _ misshapen k h) in
+    let parent = bind_ok (ok_or (optional_text_at (codes "parent") d) misshapen) _ k name.2 in
+    let given_slots = bind_ok (ok_or (list_at (codes "slots") d) misshapen) _ k parent.2 in
+    let slots = bind_ok (try_map_at (inside lists.Slots) slot_of 0 given_slots.0) _ k given_slots.2 in
+    let given_links = bind_ok (ok_or (list_at (codes "links") d) misshapen) _ k slots.2 in
+    let links = bind_ok (try_map_at (inside lists.Links) link_of 0 given_links.0) _ k given_links.2 in
     subst HasSoundDefaults (same_ok (record { name = name.0; parent = parent.0; slots = slots.0; links = links.0 }) k links.2)
-    (All-made (λ s. IsSound s.default) slot_of (λ d s h. slot_sound d s h) given_slots.0 slots.0 slots.1)
+    (All-made (λ s. IsSound s.default) slot_of (λ d s h. slot_sound d s h) given_slots.0 slots.0 (map_at_ok (inside lists.Slots) slot_of 0 given_slots.0 slots.0 slots.1))
 
 -- ---- the document
 
 declarations_sound : (d : Data) (all : Declarations) → declarations_of d ≡ Ok all → HaveSoundDefaults all
 unfolding declarations_of
 declarations_sound d all h =
-    let given_sets = bind_ok (ok_or (list_at (codes "labels") d) Shape) _ all (passes (is_object_with (codes "labels" ∷ codes "classes" ∷ codes "spaces" ∷ []) d) _ Shape all h) in
-    let label_sets = bind_ok (try_map label_set_of given_sets.0) _ all given_sets.2 in
-    let given_classes = bind_ok (ok_or (list_at (codes "classes") d) Shape) _ all label_sets.2 in
-    let classes = bind_ok (try_map class_of given_classes.0) _ all given_classes.2 in
-    let given_spaces = bind_ok (ok_or (list_at (codes "spaces") d) Shape) _ all classes.2 in
-    let spaces = bind_ok (try_map space_of given_spaces.0) _ all given_spaces.2 in
+    let given_sets = bind_ok (ok_or (list_at (codes "labels") d) misshapen) _ all (passes (is_object_with (codes "labels" ∷ codes "classes" ∷ codes "spaces" ∷ []) d) _ misshapen all h) in
+    let label_sets = bind_ok (try_map_at (inside lists.Labels) label_set_of 0 given_sets.0) _ all given_sets.2 in
+    let given_classes = bind_ok (ok_or (list_at (codes "classes") d) misshapen) _ all label_sets.2 in
+    let classes = bind_ok (try_map_at (inside lists.Classes) class_of 0 given_classes.0) _ all given_classes.2 in
+    let given_spaces = bind_ok (ok_or (list_at (codes "spaces") d) misshapen) _ all classes.2 in
+    let spaces = bind_ok (try_map_at (inside lists.Spaces) space_of 0 given_spaces.0) _ all given_spaces.2 in
     subst HaveSoundDefaults (same_ok (record { label_sets = label_sets.0; classes = classes.0; spaces = spaces.0 }) all spaces.2)
-    (All-made HasSoundDefaults class_of (λ d k h. class_sound d k h) given_classes.0 classes.0 classes.1)
+    (All-made HasSoundDefaults class_of (λ d k h. class_sound d k h) given_classes.0 classes.0 (map_at_ok (inside lists.Classes) class_of 0 given_classes.0 classes.0 classes.1))
 
 pub read_sound : (d : Data) (r : Result Document DocumentFault) → Gives Memory declarations r (declarations_of d) → IfOk r (λ document. HaveSoundDefaults (declarations document))
 read_sound d (Ok document) gives = declarations_sound d (declarations document) gives

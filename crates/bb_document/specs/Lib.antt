@@ -2,6 +2,10 @@
 pub mod Numbers
 -- the form of JSON, piece by piece
 pub mod Shapes
+-- where in a document a fault stands
+pub mod Places
+-- faults with their places
+pub mod Faults
 -- what a schema's document declares
 pub mod Document
 -- which JSON has the form of a schema's document, and what it declares

@@ -4,7 +4,7 @@ use Rattle.std.specs.Option.{option_map_or}
 use Rattle.serde_json.specs.Data.{Data, null, boolean, number, string, array, object, Members, no_members, member}
 use Rattle.serde_json.specs.Find.{get, as_i64, as_object}
 use Rattle.serde_json.specs.Read.{read}
-use Rattle.bb_basis.specs.Results.{◌>>=◌, ok_or, try_map}
+use Rattle.bb_basis.specs.Results.{◌>>=◌, ok_or, try_map_at}
 use Rattle.bb_document.specs.declared.document.FirstLinkEntry.{FirstLinkEntry}
 use Rattle.bb_document.specs.declared.document.GivenEntry.{GivenEntry}
 use Rattle.bb_document.specs.declared.document.GivenValue.{GivenValue}
@@ -13,7 +13,9 @@ use Rattle.bb_document.specs.declared.document.MemberEntry.{MemberEntry}
 use Rattle.bb_document.specs.declared.document.UnitEntry.{UnitEntry}
 use Rattle.bb_document.specs.declared.document.UnitsDocument.{UnitsDocument}
 use Rattle.bb_document.specs.declared.fault.DocumentFault.{DocumentFault}
-use Rattle.bb_document.specs.declared.fault.DocumentFault.TheVariants.{Json, Shape}
+use Rattle.bb_document.specs.declared.fault.DocumentFault.TheVariants.{Json}
+use Rattle.bb_document.specs.Faults.{misshapen, inside}
+use Rattle.bb_document.specs.declared.place.ListKey.TheVariants as lists
 use Rattle.bb_document.specs.Shapes.{list_of, is_object_with, as_list, text_at, list_at}
 use Rattle.bb_document.specs.Form.{text_of, ends_of}
 
@@ -101,60 +103,60 @@ givens_of (member k d ms) = record { slot = k; value = given_value_of d } ∷ gi
 -- what a unit gives for slots: an object of any keys and values, an absent one empty
 unfoldable pub given_slots_of : Option Data → Result (List GivenDeclaration) DocumentFault
 given_slots_of None = Ok []
-given_slots_of (Some d) = ok_or (option_map givens_of (as_object d)) Shape
+given_slots_of (Some d) = ok_or (option_map givens_of (as_object d)) misshapen
 
 -- a first unit: an object with a name, a class, slots if it gives any, and nothing else
 unfoldable pub unit_of : Data → Result UnitDeclaration DocumentFault
 unit_of d = if is_object_with (codes "name" ∷ codes "class" ∷ codes "slots" ∷ []) d then (do
-  name ← ok_or (text_at (codes "name") d) Shape
-  class ← ok_or (text_at (codes "class") d) Shape
+  name ← ok_or (text_at (codes "name") d) misshapen
+  class ← ok_or (text_at (codes "class") d) misshapen
   slots ← given_slots_of (get (codes "slots") d)
-  Ok (record { name = name; class = class; slots = slots })) else Err Shape
+  Ok (record { name = name; class = class; slots = slots })) else Err misshapen
 
 -- the three names of which a link is made, and nothing else
 unfoldable pub first_link_of_names : List Data → Result FirstLinkDeclaration DocumentFault
-first_link_of_names [] = Err Shape
-first_link_of_names (a ∷ []) = Err Shape
-first_link_of_names (a ∷ b ∷ []) = Err Shape
+first_link_of_names [] = Err misshapen
+first_link_of_names (a ∷ []) = Err misshapen
+first_link_of_names (a ∷ b ∷ []) = Err misshapen
 first_link_of_names (a ∷ b ∷ c ∷ []) = do
   from ← text_of a
   slot ← text_of b
   to ← text_of c
   Ok (record { from = from; slot = slot; to = to })
-first_link_of_names (a ∷ b ∷ c ∷ d ∷ ds) = Err Shape
+first_link_of_names (a ∷ b ∷ c ∷ d ∷ ds) = Err misshapen
 
 -- a link: an array of three texts
 unfoldable pub first_link_of : Data → Result FirstLinkDeclaration DocumentFault
 first_link_of d = do
-  names ← ok_or (as_list d) Shape
+  names ← ok_or (as_list d) misshapen
   first_link_of_names names
 
 -- the two names of a member and its space, and nothing else
 unfoldable pub member_of_names : List Data → Result MemberDeclaration DocumentFault
-member_of_names [] = Err Shape
-member_of_names (a ∷ []) = Err Shape
+member_of_names [] = Err misshapen
+member_of_names (a ∷ []) = Err misshapen
 member_of_names (a ∷ b ∷ []) = do
   unit ← text_of a
   space ← text_of b
   Ok (record { unit = unit; space = space })
-member_of_names (a ∷ b ∷ c ∷ ds) = Err Shape
+member_of_names (a ∷ b ∷ c ∷ ds) = Err misshapen
 
 -- a member: an array of two texts
 unfoldable pub member_of : Data → Result MemberDeclaration DocumentFault
 member_of d = do
-  names ← ok_or (as_list d) Shape
+  names ← ok_or (as_list d) misshapen
   member_of_names names
 
 -- the whole document: lists of units, of links and of members, an absent one empty
 unfoldable pub units_declaration_of : Data → Result UnitsDeclaration DocumentFault
 units_declaration_of d = if is_object_with (codes "units" ∷ codes "links" ∷ codes "spaces" ∷ []) d then (do
-  given_units ← ok_or (list_at (codes "units") d) Shape
-  units ← try_map unit_of given_units
-  given_links ← ok_or (list_at (codes "links") d) Shape
-  links ← try_map first_link_of given_links
-  given_spaces ← ok_or (list_at (codes "spaces") d) Shape
-  spaces ← try_map member_of given_spaces
-  Ok (record { units = units; links = links; spaces = spaces })) else Err Shape
+  given_units ← ok_or (list_at (codes "units") d) misshapen
+  units ← try_map_at (inside lists.Units) unit_of 0 given_units
+  given_links ← ok_or (list_at (codes "links") d) misshapen
+  links ← try_map_at (inside lists.Links) first_link_of 0 given_links
+  given_spaces ← ok_or (list_at (codes "spaces") d) misshapen
+  spaces ← try_map_at (inside lists.Spaces) member_of 0 given_spaces
+  Ok (record { units = units; links = links; spaces = spaces })) else Err misshapen
 
 -- what a text declares: the JSON, then its form
 unfoldable pub units_document_of : List ℕ → Result UnitsDeclaration DocumentFault

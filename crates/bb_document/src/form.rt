@@ -19,6 +19,7 @@ use crate::document::{
 use crate::entry::{Entry, entries, string_at};
 use crate::fault::DocumentFault;
 use crate::json::json;
+use crate::place::ListKey;
 use crate::shape::{
     as_list, bool_at, is_object_with, list_at, optional_text_at, required_list_at, text_at,
 };
@@ -28,7 +29,8 @@ use std::alloc::{AllocError, Global};
 impl Document {
     /// What a schema's document declares. `Json` where the text is not JSON, then `Shape` where the JSON does not have
     /// the form of a schema: a key that no such object has, a missing key, or a value of another form, `null`
-    /// included. `Memory` may come at any point.
+    /// included. Its place is that of the first entry with such a fault: label sets, classes with their slots and then
+    /// links, spaces with their classes and then dimensions. `Memory` may come at any point.
     #[tactic(auto, unfolding(crate::specs::Form::document_of))]
     pub fn read(alloc: Global, text: &str) -> Result<Document, DocumentFault>
         ensures gives { Gives OutOfMemory declarations result (document_of text.now) }
@@ -44,14 +46,14 @@ fn document(alloc: Global, value: &Value) -> Result<Document, DocumentFault>
     ensures { Gives OutOfMemory declarations result (declarations_of (view value.now)) }
 {
     if !is_object_with(value, &["labels", "classes", "spaces"]) {
-        return Err(DocumentFault::Shape);
+        return Err(DocumentFault::misshapen());
     }
-    let label_sets = list_at(value, "labels").ok_or(DocumentFault::Shape)?;
-    let label_sets = entries(alloc, label_sets)?;
-    let classes = list_at(value, "classes").ok_or(DocumentFault::Shape)?;
-    let classes = entries(alloc, classes)?;
-    let spaces = list_at(value, "spaces").ok_or(DocumentFault::Shape)?;
-    let spaces = entries(alloc, spaces)?;
+    let label_sets = list_at(value, "labels").ok_or(DocumentFault::misshapen())?;
+    let label_sets = entries(alloc, ListKey::Labels, label_sets)?;
+    let classes = list_at(value, "classes").ok_or(DocumentFault::misshapen())?;
+    let classes = entries(alloc, ListKey::Classes, classes)?;
+    let spaces = list_at(value, "spaces").ok_or(DocumentFault::misshapen())?;
+    let spaces = entries(alloc, ListKey::Spaces, spaces)?;
     Ok(Document {
         label_sets,
         classes,
@@ -71,7 +73,7 @@ impl Entry for String {
 
     #[tactic(auto, unfolding(crate::specs::Form::text_of))]
     fn of(alloc: Global, value: &Value) -> Result<String, DocumentFault> {
-        let text = value.as_str().ok_or(DocumentFault::Shape)?;
+        let text = value.as_str().ok_or(DocumentFault::misshapen())?;
         Ok(String::from_str(alloc, text)?)
     }
 }
@@ -89,13 +91,13 @@ impl Entry for LabelSetEntry {
     #[tactic(auto, unfolding(crate::specs::Form::label_set_of, crate::specs::Form::label_set_of_texts))]
     fn of(alloc: Global, value: &Value) -> Result<LabelSetEntry, DocumentFault> {
         if !is_object_with(value, &["name", "values"]) {
-            return Err(DocumentFault::Shape);
+            return Err(DocumentFault::misshapen());
         }
         let name = string_at(alloc, value, "name")?;
-        let values = required_list_at(value, "values").ok_or(DocumentFault::Shape)?;
-        let values: Vec<String> = entries(alloc, values)?;
+        let values = required_list_at(value, "values").ok_or(DocumentFault::misshapen())?;
+        let values: Vec<String> = entries(alloc, ListKey::Values, values)?;
         if values.is_empty() {
-            return Err(DocumentFault::Shape);
+            return Err(DocumentFault::misshapen());
         }
         Ok(LabelSetEntry { name, values })
     }
@@ -114,14 +116,14 @@ impl Entry for ClassEntry {
     #[tactic(auto, unfolding(crate::specs::Form::class_of))]
     fn of(alloc: Global, value: &Value) -> Result<ClassEntry, DocumentFault> {
         if !is_object_with(value, &["name", "parent", "slots", "links"]) {
-            return Err(DocumentFault::Shape);
+            return Err(DocumentFault::misshapen());
         }
         let name = string_at(alloc, value, "name")?;
-        let parent = optional_text_at(value, "parent").ok_or(DocumentFault::Shape)?;
-        let slots = list_at(value, "slots").ok_or(DocumentFault::Shape)?;
-        let slots = entries(alloc, slots)?;
-        let links = list_at(value, "links").ok_or(DocumentFault::Shape)?;
-        let links = entries(alloc, links)?;
+        let parent = optional_text_at(value, "parent").ok_or(DocumentFault::misshapen())?;
+        let slots = list_at(value, "slots").ok_or(DocumentFault::misshapen())?;
+        let slots = entries(alloc, ListKey::Slots, slots)?;
+        let links = list_at(value, "links").ok_or(DocumentFault::misshapen())?;
+        let links = entries(alloc, ListKey::Links, links)?;
         Ok(ClassEntry {
             name,
             parent: optional_string(alloc, parent)?,
@@ -144,11 +146,11 @@ impl Entry for SlotEntry {
     #[tactic(auto, unfolding(crate::specs::Form::slot_of))]
     fn of(alloc: Global, value: &Value) -> Result<SlotEntry, DocumentFault> {
         if !is_object_with(value, &["name", "kind", "of", "default"]) {
-            return Err(DocumentFault::Shape);
+            return Err(DocumentFault::misshapen());
         }
         let name = string_at(alloc, value, "name")?;
-        let kind = text_at(value, "kind").ok_or(DocumentFault::Shape)?;
-        let set = optional_text_at(value, "of").ok_or(DocumentFault::Shape)?;
+        let kind = text_at(value, "kind").ok_or(DocumentFault::misshapen())?;
+        let set = optional_text_at(value, "of").ok_or(DocumentFault::misshapen())?;
         let default = default(alloc, kind, set, value.get("default"))?;
         Ok(SlotEntry { name, default })
     }
@@ -167,11 +169,11 @@ impl Entry for LinkEntry {
     #[tactic(auto, unfolding(crate::specs::Form::link_of))]
     fn of(alloc: Global, value: &Value) -> Result<LinkEntry, DocumentFault> {
         if !is_object_with(value, &["name", "to", "many", "inverse"]) {
-            return Err(DocumentFault::Shape);
+            return Err(DocumentFault::misshapen());
         }
         let name = string_at(alloc, value, "name")?;
         let to = string_at(alloc, value, "to")?;
-        let many = bool_at(value, "many").ok_or(DocumentFault::Shape)?;
+        let many = bool_at(value, "many").ok_or(DocumentFault::misshapen())?;
         let inverse = string_at(alloc, value, "inverse")?;
         Ok(LinkEntry {
             name,
@@ -195,13 +197,13 @@ impl Entry for SpaceEntry {
     #[tactic(auto, unfolding(crate::specs::Form::space_of))]
     fn of(alloc: Global, value: &Value) -> Result<SpaceEntry, DocumentFault> {
         if !is_object_with(value, &["name", "classes", "dims"]) {
-            return Err(DocumentFault::Shape);
+            return Err(DocumentFault::misshapen());
         }
         let name = string_at(alloc, value, "name")?;
-        let classes = required_list_at(value, "classes").ok_or(DocumentFault::Shape)?;
-        let classes = entries(alloc, classes)?;
-        let dims = required_list_at(value, "dims").ok_or(DocumentFault::Shape)?;
-        let dims = entries(alloc, dims)?;
+        let classes = required_list_at(value, "classes").ok_or(DocumentFault::misshapen())?;
+        let classes = entries(alloc, ListKey::Classes, classes)?;
+        let dims = required_list_at(value, "dims").ok_or(DocumentFault::misshapen())?;
+        let dims = entries(alloc, ListKey::Dims, dims)?;
         Ok(SpaceEntry {
             name,
             classes,
@@ -223,13 +225,13 @@ impl Entry for DimEntry {
     #[tactic(auto, unfolding(crate::specs::Form::dim_of))]
     fn of(alloc: Global, value: &Value) -> Result<DimEntry, DocumentFault> {
         if !is_object_with(value, &["name", "kind", "of"]) {
-            return Err(DocumentFault::Shape);
+            return Err(DocumentFault::misshapen());
         }
         let name = string_at(alloc, value, "name")?;
-        let kind = text_at(value, "kind").ok_or(DocumentFault::Shape)?;
-        let set = optional_text_at(value, "of").ok_or(DocumentFault::Shape)?;
+        let kind = text_at(value, "kind").ok_or(DocumentFault::misshapen())?;
+        let set = optional_text_at(value, "of").ok_or(DocumentFault::misshapen())?;
         if !is_dim_kind(kind, set) {
-            return Err(DocumentFault::Shape);
+            return Err(DocumentFault::misshapen());
         }
         Ok(DimEntry {
             name,
@@ -271,7 +273,7 @@ fn default(
     match set {
         None => plain_default(alloc, kind, given),
         Some(set) if kind == "label" => label_default(alloc, set, given),
-        Some(_) => Err(DocumentFault::Shape),
+        Some(_) => Err(DocumentFault::misshapen()),
     }
 }
 
@@ -286,7 +288,7 @@ fn label_default(
 {
     let default = match given {
         None => None,
-        Some(value) => Some(value.as_str().ok_or(DocumentFault::Shape)?),
+        Some(value) => Some(value.as_str().ok_or(DocumentFault::misshapen())?),
     };
     Ok(DefaultEntry::Label {
         of: String::from_str(alloc, set)?,
@@ -305,20 +307,20 @@ fn plain_default(
         (plain_default_of kind.now (option_map (λ v. view v.now) given.entry)) }
 {
     if kind == "int" {
-        return Ok(DefaultEntry::Int(int_or_zero(given).ok_or(DocumentFault::Shape)?));
+        return Ok(DefaultEntry::Int(int_or_zero(given).ok_or(DocumentFault::misshapen())?));
     }
     if kind == "text" {
-        let text = text_or_empty(given).ok_or(DocumentFault::Shape)?;
+        let text = text_or_empty(given).ok_or(DocumentFault::misshapen())?;
         return Ok(DefaultEntry::Text(String::from_str(alloc, text)?));
     }
     if kind == "bool" {
-        return Ok(DefaultEntry::Bool(bool_or_false(given).ok_or(DocumentFault::Shape)?));
+        return Ok(DefaultEntry::Bool(bool_or_false(given).ok_or(DocumentFault::misshapen())?));
     }
     if kind == "interval" {
-        let (lo, hi) = interval_or_zero(given).ok_or(DocumentFault::Shape)?;
+        let (lo, hi) = interval_or_zero(given).ok_or(DocumentFault::misshapen())?;
         return Ok(DefaultEntry::Interval(lo, hi));
     }
-    Err(DocumentFault::Shape)
+    Err(DocumentFault::misshapen())
 }
 
 fn int_or_zero(given: Option<&Value>) -> Option<i64>

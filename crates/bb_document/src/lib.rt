@@ -7,6 +7,7 @@ mod entry;
 mod fault;
 mod form;
 mod json;
+mod place;
 mod shape;
 mod units_form;
 
@@ -15,3 +16,4 @@ pub use document::{
     LabelSetEntry, LinkEntry, MemberEntry, SlotEntry, SpaceEntry, UnitEntry, UnitsDocument,
 };
 pub use fault::DocumentFault;
+pub use place::{DocumentPlace, ListItem, ListKey};

@@ -17,6 +17,7 @@ use crate::entry::{Entry, entries, string_at};
 use crate::fault::DocumentFault;
 use crate::form::interval;
 use crate::json::json;
+use crate::place::ListKey;
 use crate::shape::{as_list, is_object_with, list_at};
 use serde_json::{Map, Value};
 use std::alloc::{AllocError, Global};
@@ -24,7 +25,8 @@ use std::alloc::{AllocError, Global};
 impl UnitsDocument {
     /// What the document of first units declares. `Json` where the text is not JSON, then `Shape` where the JSON does
     /// not have the form of first units: a key that no such object has, a missing key, or a value of another form,
-    /// `null` included. `Memory` may come at any point.
+    /// `null` included. Its place is that of the first entry with such a fault: units, links, spaces. `Memory` may come
+    /// at any point.
     #[tactic(auto, unfolding(crate::specs::UnitsDocument::units_document_of))]
     pub fn read(alloc: Global, text: &str) -> Result<UnitsDocument, DocumentFault>
         ensures { Gives OutOfMemory units_declaration result (units_document_of text.now) }
@@ -39,14 +41,14 @@ fn units_document(alloc: Global, value: &Value) -> Result<UnitsDocument, Documen
     ensures { Gives OutOfMemory units_declaration result (units_declaration_of (view value.now)) }
 {
     if !is_object_with(value, &["units", "links", "spaces"]) {
-        return Err(DocumentFault::Shape);
+        return Err(DocumentFault::misshapen());
     }
-    let units = list_at(value, "units").ok_or(DocumentFault::Shape)?;
-    let units = entries(alloc, units)?;
-    let links = list_at(value, "links").ok_or(DocumentFault::Shape)?;
-    let links = entries(alloc, links)?;
-    let spaces = list_at(value, "spaces").ok_or(DocumentFault::Shape)?;
-    let spaces = entries(alloc, spaces)?;
+    let units = list_at(value, "units").ok_or(DocumentFault::misshapen())?;
+    let units = entries(alloc, ListKey::Units, units)?;
+    let links = list_at(value, "links").ok_or(DocumentFault::misshapen())?;
+    let links = entries(alloc, ListKey::Links, links)?;
+    let spaces = list_at(value, "spaces").ok_or(DocumentFault::misshapen())?;
+    let spaces = entries(alloc, ListKey::Spaces, spaces)?;
     Ok(UnitsDocument {
         units,
         links,
@@ -66,7 +68,7 @@ impl Entry for UnitEntry {
     #[tactic(auto, unfolding(crate::specs::UnitsDocument::unit_of))]
     fn of(alloc: Global, value: &Value) -> Result<UnitEntry, DocumentFault> {
         if !is_object_with(value, &["name", "class", "slots"]) {
-            return Err(DocumentFault::Shape);
+            return Err(DocumentFault::misshapen());
         }
         let name = string_at(alloc, value, "name")?;
         let class = string_at(alloc, value, "class")?;
@@ -84,7 +86,7 @@ fn given_slots(alloc: Global, given: Option<&Value>) -> Result<Vec<GivenEntry>, 
     match given {
         None => Ok(Vec::new(alloc)),
         Some(value) => {
-            let members = value.as_object().ok_or(DocumentFault::Shape)?;
+            let members = value.as_object().ok_or(DocumentFault::misshapen())?;
             Ok(givens(alloc, members)?)
         }
     }
@@ -129,7 +131,7 @@ impl Entry for FirstLinkEntry {
 
     #[tactic(auto, unfolding(crate::specs::UnitsDocument::first_link_of))]
     fn of(alloc: Global, value: &Value) -> Result<FirstLinkEntry, DocumentFault> {
-        let names = as_list(value).ok_or(DocumentFault::Shape)?;
+        let names = as_list(value).ok_or(DocumentFault::misshapen())?;
         first_link(alloc, names)
     }
 }
@@ -146,7 +148,7 @@ fn first_link(alloc: Global, names: &[Value]) -> Result<FirstLinkEntry, Document
             let to = String::of(alloc, to)?;
             Ok(FirstLinkEntry { from, slot, to })
         }
-        _ => Err(DocumentFault::Shape),
+        _ => Err(DocumentFault::misshapen()),
     }
 }
 
@@ -161,7 +163,7 @@ impl Entry for MemberEntry {
 
     #[tactic(auto, unfolding(crate::specs::UnitsDocument::member_of))]
     fn of(alloc: Global, value: &Value) -> Result<MemberEntry, DocumentFault> {
-        let names = as_list(value).ok_or(DocumentFault::Shape)?;
+        let names = as_list(value).ok_or(DocumentFault::misshapen())?;
         member(alloc, names)
     }
 }
@@ -177,6 +179,6 @@ fn member(alloc: Global, names: &[Value]) -> Result<MemberEntry, DocumentFault>
             let space = String::of(alloc, space)?;
             Ok(MemberEntry { unit, space })
         }
-        _ => Err(DocumentFault::Shape),
+        _ => Err(DocumentFault::misshapen()),
     }
 }

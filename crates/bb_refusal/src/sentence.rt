@@ -2,9 +2,9 @@
 //! begin with it.
 
 use crate::input_fault::InputFault;
-use bb_board::UnitsFault;
+use bb_board::{UnitsFault, UnitsFlaw};
 use bb_bundle::BundleFault;
-use bb_classes::SchemaFault;
+use bb_classes::{DocumentPlace, SchemaFault, SchemaFlaw};
 use bb_code::CodeFault;
 use bb_judge::{CompileFault, Flaw as TextFlaw};
 use bb_rules::RuleFault;
@@ -22,8 +22,8 @@ impl Error for InputFault {}
 impl Display for InputFault {
     fn fmt<W: Write>(&self, f: &mut Formatter<W>) -> fmt::Result {
         match self {
-            InputFault::Schema(fault) => write!(f, "schema: {}", schema_reason(*fault)),
-            InputFault::Units(fault) => write!(f, "units: {}", units_reason(*fault)),
+            InputFault::Schema(fault) => write_schema(f, *fault),
+            InputFault::Units(fault) => write_units(f, *fault),
             InputFault::Lang(fault) => {
                 write!(f, "sources")?;
                 write_placed(f, self.place(), lang_reason(*fault))
@@ -53,6 +53,36 @@ fn write_placed<W: Write>(f: &mut Formatter<W>, place: Option<Place>, reason: &s
     write!(f, ": {reason}")
 }
 
+/// The entry of the schema's document, where there is one, and what is wrong there.
+fn write_schema<W: Write>(f: &mut Formatter<W>, fault: SchemaFault) -> fmt::Result {
+    match fault {
+        SchemaFault::At { flaw, place } => write_entry(f, "schema", place, schema_reason(flaw)),
+        SchemaFault::Memory => write!(f, "schema: {NO_MEMORY}"),
+    }
+}
+
+/// The entry of the document of first units, where there is one, and what is wrong there.
+fn write_units<W: Write>(f: &mut Formatter<W>, fault: UnitsFault) -> fmt::Result {
+    match fault {
+        UnitsFault::At { flaw, place } => write_entry(f, "units", place, units_reason(flaw)),
+        UnitsFault::Memory => write!(f, "units: {NO_MEMORY}"),
+    }
+}
+
+/// A document, the entry of it at which a fault stands, where there is one, and what is wrong there.
+fn write_entry<W: Write>(
+    f: &mut Formatter<W>,
+    document: &str,
+    place: DocumentPlace,
+    reason: &str,
+) -> fmt::Result {
+    write!(f, "{document}")?;
+    if place != DocumentPlace::Whole {
+        write!(f, ", {place}")?;
+    }
+    write!(f, ": {reason}")
+}
+
 fn write_bundle<W: Write>(f: &mut Formatter<W>, fault: BundleFault) -> fmt::Result {
     match fault {
         BundleFault::Line { line } => write!(
@@ -71,37 +101,35 @@ fn write_bundle<W: Write>(f: &mut Formatter<W>, fault: BundleFault) -> fmt::Resu
     }
 }
 
-fn schema_reason(fault: SchemaFault) -> &'static str {
-    match fault {
-        SchemaFault::Json => "it is not JSON",
-        SchemaFault::Shape => {
+fn schema_reason(flaw: SchemaFlaw) -> &'static str {
+    match flaw {
+        SchemaFlaw::Json => "it is not JSON",
+        SchemaFlaw::Shape => {
             "a key is missing or unknown, or a value has another form than is due"
         }
-        SchemaFault::Name => {
+        SchemaFlaw::Name => {
             "a declared name is none: a letter from a to z, then letters, digits and `_`, at most 31 bytes"
         }
-        SchemaFault::Twice => "a name is declared twice",
-        SchemaFault::Unknown => "a name is used that is not declared",
-        SchemaFault::Inverse => "the inverse of a link slot does not lead back to it",
-        SchemaFault::Dimension => "a class of a space has no slot that fits a dimension",
-        SchemaFault::Limit => "there are too many entries, or a default text is too long",
-        SchemaFault::Memory => NO_MEMORY,
+        SchemaFlaw::Twice => "a name is declared twice",
+        SchemaFlaw::Unknown => "a name is used that is not declared",
+        SchemaFlaw::Inverse => "the inverse of a link slot does not lead back to it",
+        SchemaFlaw::Dimension => "a class of a space has no slot that fits a dimension",
+        SchemaFlaw::Limit => "there are too many entries, or a default text is too long",
     }
 }
 
-fn units_reason(fault: UnitsFault) -> &'static str {
-    match fault {
-        UnitsFault::Json => "it is not JSON",
-        UnitsFault::Shape => "a key is missing or unknown, or a value has another form than is due",
-        UnitsFault::Unknown => "a class, slot, unit or space is named that is not there",
-        UnitsFault::Twice => "two units have one name",
-        UnitsFault::Kind => "a value does not fit its slot",
-        UnitsFault::LinkClass => {
+fn units_reason(flaw: UnitsFlaw) -> &'static str {
+    match flaw {
+        UnitsFlaw::Json => "it is not JSON",
+        UnitsFlaw::Shape => "a key is missing or unknown, or a value has another form than is due",
+        UnitsFlaw::Unknown => "a class, slot, unit or space is named that is not there",
+        UnitsFlaw::Twice => "two units have one name",
+        UnitsFlaw::Kind => "a value does not fit its slot",
+        UnitsFlaw::LinkClass => {
             "a unit is linked to one of a class that the link slot does not lead to"
         }
-        UnitsFault::Space => "a unit is to enter a space that does not admit its class",
-        UnitsFault::Full => "there are more than 65,536 units",
-        UnitsFault::Memory => NO_MEMORY,
+        UnitsFlaw::Space => "a unit is to enter a space that does not admit its class",
+        UnitsFlaw::Full => "there are more than 65,536 units",
     }
 }
 

@@ -13,9 +13,12 @@ use Rattle.bb_classes.specs.declared.draft.TheConstants.{SLOT_LIMIT}
 use Rattle.bb_schema.specs.declared.read.spaces.TheConstants.{DIM_LIMIT, SPACE_LIMIT}
 use Rattle.bb_classes.specs.Naming.{AreNames}
 use Rattle.bb_classes.proofs.Laws.{not_false, distinct_nil, no_names, one_more_name}
-use Rattle.bb_basis.specs.Results.{ok_or, try_map, try_fold}
+use Rattle.bb_basis.specs.Results.{ok_or, try_map, try_fold_at}
+use Rattle.bb_basis.proofs.PlacedLemmas.{bind_fold, fold_at_ok}
 use Rattle.bb_document.specs.Document.{SpaceDeclaration, DimDeclaration}
-use Rattle.bb_classes.specs.declared.fault.SchemaFault.TheVariants as faults
+use Rattle.bb_classes.specs.declared.fault.SchemaFlaw.TheVariants as flaws
+use Rattle.bb_classes.specs.Faults.{here, inside}
+use Rattle.bb_document.specs.declared.place.ListKey.TheVariants as lists
 use Rattle.bb_classes.specs.declared.label_set.LabelSet.{LabelSet}
 use Rattle.bb_classes.specs.declared.class.Class.{Class}
 use Rattle.bb_classes.specs.declared.value.Value.{Value}
@@ -113,9 +116,9 @@ listed_keeps : (s : Schema) (listed more : List ℕ) (name : List ℕ) → AreLi
     → space_class_after s listed name ≡ Ok more → AreListed s more
 unfolding space_class_after
 listed_keeps s listed more name all made =
-    let class = bind_ok (ok_or (class_named s name) faults.Unknown) (λ c. if is_among listed c then Err faults.Twice else Ok (listed ++ c ∷ [])) more made in
-    let fresh = guard_ok (is_among listed class.0) faults.Twice (Ok (listed ++ class.0 ∷ [])) more class.2 in
-    let within = position_within (bytes_eq name) (map (λ (k : Class). k.name) s.classes) class.0 (ok_or_ok faults.Unknown (class_named s name) class.0 class.1) in
+    let class = bind_ok (ok_or (class_named s name) (here flaws.Unknown)) (λ c. if is_among listed c then Err (here flaws.Twice) else Ok (listed ++ c ∷ [])) more made in
+    let fresh = guard_ok (is_among listed class.0) (here flaws.Twice) (Ok (listed ++ class.0 ∷ [])) more class.2 in
+    let within = position_within (bytes_eq name) (map (λ (k : Class). k.name) s.classes) class.0 (ok_or_ok (here flaws.Unknown) (class_named s name) class.0 class.1) in
     subst (AreListed s) (same_ok (listed ++ class.0 ∷ []) more fresh.1) (record {
       within = All-push (λ c. c < length s.classes) listed class.0 all.within (let lt : class.0 < length s.classes = omega (arith, within, length-map s.classes (λ (k : Class). k.name)) in lt);
       distinct = IsDistinct-push nat_eq_equiv listed class.0 all.distinct (flipped class.0 listed fresh.0);
@@ -125,8 +128,8 @@ set_within : (s : Schema) (of : Option (List ℕ)) (set : Option ℕ) → set_nu
     → IfSome set (λ n. n < length s.label_sets)
 set_within s None set h = subst (λ (o : Option ℕ). IfSome o (λ n. n < length s.label_sets)) (same_ok None set h) tt
 set_within s (Some name) set h =
-    let found = bind_ok (ok_or (label_set_named s name) faults.Unknown) (λ n. Ok (Some n)) set h in
-    let within = position_within (bytes_eq name) (map (λ (l : LabelSet). l.name) s.label_sets) found.0 (ok_or_ok faults.Unknown (label_set_named s name) found.0 found.1) in
+    let found = bind_ok (ok_or (label_set_named s name) (here flaws.Unknown)) (λ n. Ok (Some n)) set h in
+    let within = position_within (bytes_eq name) (map (λ (l : LabelSet). l.name) s.label_sets) found.0 (ok_or_ok (here flaws.Unknown) (label_set_named s name) found.0 found.1) in
     subst (λ (o : Option ℕ). IfSome o (λ n. n < length s.label_sets)) (same_ok (Some found.0) set found.2) (let lt : found.0 < length s.label_sets = omega (arith, within, length-map s.label_sets (λ (l : LabelSet). l.name)) in lt)
 
 abbrev SetIsThere : Schema → Dim → Type 0
@@ -145,11 +148,11 @@ dim_keeps : (s : Schema) (listed : List ℕ) (dims more : List Dim) (e : DimDecl
     → dim_after s listed dims e ≡ Ok more → AreDims s listed more
 unfolding dim_after
 dim_keeps s listed dims more e all made =
-    let named = guard_ok (not (is_name e.name)) faults.Name _ more made in
-    let fresh = guard_ok (list_any (bytes_eq e.name) (map (λ (d : Dim). d.name) dims)) faults.Twice _ more named.1 in
+    let named = guard_ok (not (is_name e.name)) (here flaws.Name) _ more made in
+    let fresh = guard_ok (list_any (bytes_eq e.name) (map (λ (d : Dim). d.name) dims)) (here flaws.Twice) _ more named.1 in
     let set = bind_ok (set_number s e.of) _ more fresh.1 in
-    let fitting = guard_ok (not (list_all (has_slot_for s e.name set.0) listed)) faults.Dimension _ more set.2 in
-    let room = guard_ok (nat_le DIM_LIMIT (length dims)) faults.Limit _ more fitting.1 in
+    let fitting = guard_ok (not (list_all (has_slot_for s e.name set.0) listed)) (here flaws.Dimension) _ more set.2 in
+    let room = guard_ok (nat_le DIM_LIMIT (length dims)) (here flaws.Limit) _ more fitting.1 in
     let dim : Dim = record { name = e.name; set = set.0 } in
     subst (AreDims s listed) (same_ok (dims ++ dim ∷ []) more room.1) (record {
       named = rw (map-last (λ (d : Dim). d.name) dims dim) (one_more_name DIM_LIMIT (map (λ (d : Dim). d.name) dims) e.name all.named named.0 fresh.0 (rw (length-map dims (λ (d : Dim). d.name)) room.0));
@@ -161,11 +164,11 @@ space_keeps : (s : Schema) (spaces more : List Space) (e : SpaceDeclaration) →
     → space_after s spaces e ≡ Ok more → AreSpaces s more
 unfolding space_after
 space_keeps s spaces more e all made =
-    let named = guard_ok (not (is_name e.name)) faults.Name _ more made in
-    let fresh = guard_ok (list_any (bytes_eq e.name) (map (λ (p : Space). p.name) spaces)) faults.Twice _ more named.1 in
-    let room = guard_ok (nat_le SPACE_LIMIT (length spaces)) faults.Limit _ more fresh.1 in
-    let listed = bind_ok (try_fold (space_class_after s) [] e.classes) _ more room.1 in
-    let dims = bind_ok (try_fold (dim_after s listed.0) [] e.dims) _ more listed.2 in
+    let named = guard_ok (not (is_name e.name)) (here flaws.Name) _ more made in
+    let fresh = guard_ok (list_any (bytes_eq e.name) (map (λ (p : Space). p.name) spaces)) (here flaws.Twice) _ more named.1 in
+    let room = guard_ok (nat_le SPACE_LIMIT (length spaces)) (here flaws.Limit) _ more fresh.1 in
+    let listed = bind_fold (inside lists.Classes) (space_class_after s) 0 [] e.classes _ more room.1 in
+    let dims = bind_fold (inside lists.Dims) (dim_after s listed.0) 0 [] e.dims _ more listed.2 in
     let classes = try_fold_keeps (AreListed s) (space_class_after s) (λ a b n. listed_keeps s a b n) [] listed.0 e.classes (record { within = All-nil (λ c. c < length s.classes); distinct = distinct_nil nat_eq }) listed.1 in
     let read = try_fold_keeps (AreDims s listed.0) (dim_after s listed.0) (λ a b d. dim_keeps s listed.0 a b d) [] dims.0 e.dims (record { named = no_names DIM_LIMIT; sets = All-nil (SetIsThere s); slots = All-nil (IsRead s listed.0) }) dims.1 in
     let space : Space = record { name = e.name; classes = listed.0; dims = dims.0 } in
@@ -175,8 +178,8 @@ space_keeps s spaces more e all made =
     })
 
 pub spaces_fit : (s : Schema) (entries : List SpaceDeclaration) (spaces : List Space)
-    → try_fold (space_after s) [] entries ≡ Ok spaces → AreSpaces s spaces
-spaces_fit s entries spaces made = try_fold_keeps (AreSpaces s) (space_after s) (λ a b e. space_keeps s a b e) [] spaces entries (no_spaces s) made
+    → try_fold_at (inside lists.Spaces) (space_after s) 0 [] entries ≡ Ok spaces → AreSpaces s spaces
+spaces_fit s entries spaces made = try_fold_keeps (AreSpaces s) (space_after s) (λ a b e. space_keeps s a b e) [] spaces entries (no_spaces s) (fold_at_ok (inside lists.Spaces) (space_after s) 0 [] spaces entries made)
 
 -- spaces ask for label sets, classes and slots alone
 same_slots : (s : Schema) (spaces : List Space) (name : List ℕ) (set : Option ℕ) (c : ℕ)

@@ -1,12 +1,15 @@
 -- The schema that a text means, or its first fault: the JSON, its form, then one walk over the entries.
 use Rattle.std.specs.Prelude.{ℕ, [], List, Result, Ok}
-use Rattle.bb_basis.specs.Results.{◌>>=◌, map_err, try_map, try_fold}
+use Rattle.bb_basis.specs.Results.{◌>>=◌, map_err, try_map, try_fold_at}
 use Rattle.bb_document.specs.Document.{Declarations, SpaceDeclaration}
 use Rattle.bb_document.specs.Form.{document_of}
 use Rattle.bb_document.specs.declared.fault.DocumentFault.{DocumentFault}
 use Rattle.bb_document.specs.declared.fault.DocumentFault.TheVariants.{Json, Shape, Memory}
 use Rattle.bb_classes.specs.declared.fault.SchemaFault.{SchemaFault}
-use Rattle.bb_classes.specs.declared.fault.SchemaFault.TheVariants as faults
+use Rattle.bb_classes.specs.declared.fault.SchemaFault.TheVariants.{At, Memory as OutOfMemory}
+use Rattle.bb_classes.specs.declared.fault.SchemaFlaw.TheVariants as flaws
+use Rattle.bb_classes.specs.Faults.{here, inside}
+use Rattle.bb_document.specs.declared.place.ListKey.TheVariants as lists
 use Rattle.bb_schema.specs.Schema.{Schema}
 use Rattle.bb_classes.specs.declared.read.Walked.{Walked}
 use Rattle.bb_classes.specs.Walk.{walk_of}
@@ -15,9 +18,9 @@ use Rattle.bb_schema.specs.SpaceReading.{space_after}
 
 -- a fault of the document as one of the schema
 abbrev pub fault_of : DocumentFault → SchemaFault
-fault_of Json = faults.Json
-fault_of Shape = faults.Shape
-fault_of Memory = faults.Memory
+fault_of Json = here flaws.Json
+fault_of (Shape place) = At flaws.Shape place
+fault_of Memory = OutOfMemory
 
 -- the schema of what the walk left, with numbers for names, and without spaces
 unfoldable pub bare_schema : Walked → Result Schema SchemaFault
@@ -28,7 +31,7 @@ bare_schema w = do
 -- the schema with the spaces of the entries
 unfoldable pub schema_with_spaces : Schema → List SpaceDeclaration → Result Schema SchemaFault
 schema_with_spaces bare entries =
-    try_fold (space_after bare) [] entries >>= λ spaces. Ok (record bare { spaces = spaces })
+    try_fold_at (inside lists.Spaces) (space_after bare) 0 [] entries >>= λ spaces. Ok (record bare { spaces = spaces })
 
 -- the whole walk: label sets and classes, then spaces with their classes and dimensions
 unfoldable pub declared_schema : Declarations → Result Schema SchemaFault

@@ -3,11 +3,13 @@ use Rattle.std.specs.Prelude.{ℕ, Bool, true, false, not, ◌==◌, ◌∷◌, 
 use Rattle.std.specs.List.{list_any, list_all}
 use Rattle.std.specs.Option.{option_map_or}
 use Rattle.std.specs.Str.{bytes_eq}
-use Rattle.bb_basis.specs.Results.{◌>>=◌, ok_or, try_fold}
+use Rattle.bb_basis.specs.Results.{◌>>=◌, ok_or, try_fold_at}
 use Rattle.bb_document.specs.Document.{SpaceDeclaration, DimDeclaration}
 use Rattle.bb_schema.specs.declared.read.spaces.TheConstants.{DIM_LIMIT, SPACE_LIMIT}
 use Rattle.bb_classes.specs.declared.fault.SchemaFault.{SchemaFault}
-use Rattle.bb_classes.specs.declared.fault.SchemaFault.TheVariants as faults
+use Rattle.bb_classes.specs.declared.fault.SchemaFlaw.TheVariants as flaws
+use Rattle.bb_classes.specs.Faults.{here, inside}
+use Rattle.bb_document.specs.declared.place.ListKey.TheVariants as lists
 use Rattle.bb_classes.specs.declared.kind.Kind.{Kind}
 use Rattle.bb_classes.specs.declared.kind.Kind.TheVariants.{Int, Label, Interval}
 use Rattle.bb_schema.specs.declared.space.Space.{Space}
@@ -18,8 +20,8 @@ use Rattle.bb_schema.specs.Schema.{Schema, class_named, label_set_named, slot_na
 
 -- the classes of a space with one more, or what is wrong with it
 unfoldable pub space_class_after : Schema → List ℕ → List ℕ → Result (List ℕ) SchemaFault
-space_class_after s listed name = ok_or (class_named s name) faults.Unknown >>= λ c.
-    if is_among listed c then Err faults.Twice else Ok (listed ++ c ∷ [])
+space_class_after s listed name = ok_or (class_named s name) (here flaws.Unknown) >>= λ c.
+    if is_among listed c then Err (here flaws.Twice) else Ok (listed ++ c ∷ [])
 
 -- an ordered dimension reads numbers and intervals, an enumerated one labels of its set
 abbrev pub suits : Option ℕ → Kind → Bool
@@ -36,24 +38,24 @@ has_slot_for s name set c =
 -- the label set of a dimension
 abbrev pub set_number : Schema → Option (List ℕ) → Result (Option ℕ) SchemaFault
 set_number s None = Ok None
-set_number s (Some name) = ok_or (label_set_named s name) faults.Unknown >>= λ set. Ok (Some set)
+set_number s (Some name) = ok_or (label_set_named s name) (here flaws.Unknown) >>= λ set. Ok (Some set)
 
 -- the dimensions with one more, of a space that lists these classes
 unfoldable pub dim_after : Schema → List ℕ → List Dim → DimDeclaration → Result (List Dim) SchemaFault
 dim_after s listed dims entry =
-    if not (is_name entry.name) then Err faults.Name
-    else if list_any (bytes_eq entry.name) (map (λ d. d.name) dims) then Err faults.Twice
+    if not (is_name entry.name) then Err (here flaws.Name)
+    else if list_any (bytes_eq entry.name) (map (λ d. d.name) dims) then Err (here flaws.Twice)
     else set_number s entry.of >>= λ set.
-    if not (list_all (has_slot_for s entry.name set) listed) then Err faults.Dimension
-    else if nat_le DIM_LIMIT (length dims) then Err faults.Limit
+    if not (list_all (has_slot_for s entry.name set) listed) then Err (here flaws.Dimension)
+    else if nat_le DIM_LIMIT (length dims) then Err (here flaws.Limit)
     else Ok (dims ++ record { name = entry.name; set = set } ∷ [])
 
 -- the spaces with one more
 unfoldable pub space_after : Schema → List Space → SpaceDeclaration → Result (List Space) SchemaFault
 space_after s spaces entry =
-    if not (is_name entry.name) then Err faults.Name
-    else if list_any (bytes_eq entry.name) (map (λ p. p.name) spaces) then Err faults.Twice
-    else if nat_le SPACE_LIMIT (length spaces) then Err faults.Limit
-    else try_fold (space_class_after s) [] entry.classes >>= λ listed.
-    try_fold (dim_after s listed) [] entry.dims >>= λ dims.
+    if not (is_name entry.name) then Err (here flaws.Name)
+    else if list_any (bytes_eq entry.name) (map (λ p. p.name) spaces) then Err (here flaws.Twice)
+    else if nat_le SPACE_LIMIT (length spaces) then Err (here flaws.Limit)
+    else try_fold_at (inside lists.Classes) (space_class_after s) 0 [] entry.classes >>= λ listed.
+    try_fold_at (inside lists.Dims) (dim_after s listed) 0 [] entry.dims >>= λ dims.
     Ok (spaces ++ record { name = entry.name; classes = listed; dims = dims } ∷ [])

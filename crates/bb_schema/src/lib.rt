@@ -11,7 +11,8 @@ mod space;
 mod unit;
 
 pub use bb_classes::{
-    ClassId, Kind, LabelId, LabelSetId, Link, SchemaFault, SlotId, TEXT_LIMIT, Value,
+    ClassId, DocumentPlace, Kind, LabelId, LabelSetId, Link, ListItem, ListKey, SchemaFault,
+    SchemaFlaw, SlotId, TEXT_LIMIT, Value,
 };
 pub use couple::{CoupleId, Side};
 pub use schema::Schema;

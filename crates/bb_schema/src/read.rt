@@ -15,7 +15,7 @@ mod spaces;
 use crate::couple::count_couples;
 use crate::schema::Schema;
 use bb_basis::Table;
-use bb_classes::{SchemaFault, Walked, spans_of};
+use bb_classes::{SchemaFault, SchemaFlaw, Walked, spans_of};
 use bb_document::{Document, DocumentFault, SpaceEntry};
 use resolve::resolve_slots;
 use spaces::spaces_of;
@@ -27,8 +27,11 @@ fn document(alloc: Global, text: &str) -> Result<Document, SchemaFault>
 {
     match Document::read(alloc, text) {
         Ok(document) => Ok(document),
-        Err(DocumentFault::Json) => Err(SchemaFault::Json),
-        Err(DocumentFault::Shape) => Err(SchemaFault::Shape),
+        Err(DocumentFault::Json) => Err(SchemaFault::here(SchemaFlaw::Json)),
+        Err(DocumentFault::Shape { place }) => Err(SchemaFault::At {
+            flaw: SchemaFlaw::Shape,
+            place,
+        }),
         Err(DocumentFault::Memory) => Err(SchemaFault::Memory),
     }
 }
@@ -89,7 +92,9 @@ impl Schema {
     /// The schema that a JSON document means, or its first fault: `Json` where the text is not JSON, then `Shape`
     /// where the JSON has another form, then the first fault of a walk over the entries: label sets with their labels,
     /// classes with their slots and then links, spaces with their classes and then dimensions. At each entry the
-    /// checks come in the order of the faults' numbers. `Memory` may come at any point.
+    /// checks come in the order of the faults' numbers. The place is that of the entry with the fault; `Json` has that
+    /// of the whole document, and so has the form of the document itself. `Memory`, which has no place, may come at any
+    /// point.
     #[tactic(auto, unfolding(crate::specs::Reading::schema_of))]
     pub fn read(alloc: Global, text: &str) -> Result<Schema, SchemaFault>
         ensures { Gives OutOfMemory (λ s. s) result (schema_of text.now) }

@@ -16,10 +16,10 @@ ghost use Rattle.bb_schema.specs.Spaces.{allowed, IsAllowed};
 use crate::couple::{CoupleId, Side, couple_end};
 use crate::slot::{Content, Slot, find_slot, link_at};
 use crate::space::{Dim, Space, SpaceId};
-use bb_basis::{IdSet, Table};
+use bb_basis::Table;
 use bb_classes::{
     Class, ClassId, Kind, LabelId, LabelSet, LabelSetId, Link, SlotId, Span, Value,
-    descends_from_any, parent, span_at,
+    parent, span_at,
 };
 use std::marker::Model;
 
@@ -211,11 +211,11 @@ impl Schema {
         }
     }
 
-    /// Whether a class descends from one of some others, however many these are.
-    pub fn descends_from_any(&self, class: ClassId, ancestors: &IdSet) -> bool
+    /// Whether a class descends from one of some others: two comparisons for each of these, however deep the class is.
+    pub fn descends_from_any(&self, class: ClassId, ancestors: &[ClassId]) -> bool
         ensures { result ≡ list_any (λ d. descends self.now class d) ancestors.now }
     {
-        descends_from_any(self.classes.as_slice(), class, ancestors)
+        ancestors.iter().any(|above| self.descends(class, *above))
     }
 
     /// Whether one of two classes descends from the other.
@@ -331,7 +331,7 @@ impl Schema {
     {
         match self.spaces.get(space as usize) {
             None => false,
-            Some(found) => descends_from_any(self.classes.as_slice(), class, &found.classes),
+            Some(found) => self.descends_from_any(class, found.classes.as_slice()),
         }
     }
 

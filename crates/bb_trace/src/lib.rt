@@ -10,7 +10,10 @@ mod output;
 mod page;
 mod plan;
 
-pub use bb_board::{Board, Event, Note as BoardNote, SharedSchema, UnitsFault};
+pub use bb_board::{
+    Board, DocumentPlace, Event, ListItem, ListKey, Note as BoardNote, SharedSchema, UnitsFault,
+    UnitsFlaw,
+};
 pub use bb_native::{
     Ask, Closed, Closing, Denial, DimValue, NativeSource, Node, OperandKind, Pattern, Query,
     Refusal, Relation, Roster, View, apply, close_each,

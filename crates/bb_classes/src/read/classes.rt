@@ -1,21 +1,21 @@
 //! The classes of a schema, read one entry after another.
 
 ghost use Rattle.std.specs.Prelude.{◌≡◌, [], map, option_map, string_bytes, IfOk};
-ghost use Rattle.bb_basis.specs.Results.{Gives, try_fold};
+ghost use Rattle.bb_basis.specs.Results.{Gives};
 ghost use Rattle.bb_document.specs.Document.{class_declaration};
 ghost use Rattle.bb_classes.specs.declared.fault.SchemaFault.TheVariants.{Memory as OutOfMemory};
 ghost use Rattle.bb_classes.specs.ClassReading.{parent_number, inherited_slots, class_after, draft_of};
 
 use crate::class::{Class, ClassId};
 use crate::draft::{ClassDraft, Owner, SchemaDraft};
-use crate::fault::SchemaFault;
+use crate::fault::{SchemaFault, SchemaFlaw, placed};
 use crate::kind::SlotId;
 use crate::label_set::LabelSet;
 use crate::read::entries::Entries;
 use crate::read::links::add_links;
 use crate::read::slots::add_slots;
 use bb_basis::{Items, Table, Text, is_name};
-use bb_document::ClassEntry;
+use bb_document::{ClassEntry, ListKey};
 use std::alloc::{AllocError, Global};
 use std::mem;
 
@@ -31,7 +31,9 @@ fn parent_number(
     match parent {
         None => Ok(None),
         Some(name) => {
-            let number = classes.index_of(name.as_str()).ok_or(SchemaFault::Unknown)?;
+            let number = classes
+                .index_of(name.as_str())
+                .ok_or(SchemaFault::here(SchemaFlaw::Unknown))?;
             Ok(Some(number))
         }
     }
@@ -68,14 +70,14 @@ fn add_class(
 {
     let name = entry.name.as_str();
     if !is_name(name) {
-        return Err(SchemaFault::Name);
+        return Err(SchemaFault::here(SchemaFlaw::Name));
     }
     if draft.classes.contains(name) {
-        return Err(SchemaFault::Twice);
+        return Err(SchemaFault::here(SchemaFlaw::Twice));
     }
     let parent = parent_number(&draft.classes, &entry.parent)?;
     if draft.classes.len() >= CLASS_LIMIT {
-        return Err(SchemaFault::Limit);
+        return Err(SchemaFault::here(SchemaFlaw::Limit));
     }
     let owner = Owner {
         name: Text::from_str(alloc, name)?,
@@ -112,8 +114,13 @@ fn add_classes(
         classes: Table::new(alloc),
         slots: Items::new(alloc),
     };
-    for entry in entries {
-        add_class(alloc, sets, all, &mut draft, entry)?;
+    for (number, entry) in entries.iter().enumerate() {
+        // `focus`, of number 0, has no entry in the document.
+        placed(
+            add_class(alloc, sets, all, &mut draft, entry),
+            ListKey::Classes,
+            number.saturating_sub(1),
+        )?;
     }
     Ok(draft)
 }

@@ -1,15 +1,17 @@
 //! The label sets of a schema, read one entry after another.
 
 ghost use Rattle.std.specs.Prelude.{map, [], string_bytes};
-ghost use Rattle.bb_basis.specs.Results.{Gives, try_fold};
+ghost use Rattle.bb_basis.specs.Results.{Gives, try_fold_at};
 ghost use Rattle.bb_document.specs.Document.{label_set_declaration};
 ghost use Rattle.bb_classes.specs.declared.fault.SchemaFault.TheVariants.{Memory as OutOfMemory};
+ghost use Rattle.bb_document.specs.declared.place.ListKey.TheVariants as lists;
+ghost use Rattle.bb_classes.specs.Faults.{inside};
 ghost use Rattle.bb_classes.specs.LabelReading.{label_after, label_set_after};
 
-use crate::fault::SchemaFault;
+use crate::fault::{SchemaFault, SchemaFlaw, placed};
 use crate::label_set::{LABEL_LIMIT, LabelSet, Labels};
 use bb_basis::{Table, Text, is_name};
-use bb_document::LabelSetEntry;
+use bb_document::{LabelSetEntry, ListKey};
 use std::alloc::Global;
 
 /// The greatest number of label sets.
@@ -20,24 +22,29 @@ fn add_label(alloc: Global, labels: &mut Labels, name: &str) -> Result<(), Schem
     ensures { Gives OutOfMemory (λ _. labels.new) result (label_after labels.old name.now) }
 {
     if !is_name(name) {
-        return Err(SchemaFault::Name);
+        return Err(SchemaFault::here(SchemaFlaw::Name));
     }
     if labels.contains(name) {
-        return Err(SchemaFault::Twice);
+        return Err(SchemaFault::here(SchemaFlaw::Twice));
     }
     if labels.len() >= LABEL_LIMIT {
-        return Err(SchemaFault::Limit);
+        return Err(SchemaFault::here(SchemaFlaw::Limit));
     }
     labels.push(alloc, Text::from_str(alloc, name)?)?;
     Ok(())
 }
 
 fn labels_of(alloc: Global, names: &[String]) -> Result<Labels, SchemaFault>
-    ensures { Gives OutOfMemory (λ ls. ls) result (try_fold label_after [] (map string_bytes names.now)) }
+    ensures { Gives OutOfMemory (λ ls. ls) result
+        (try_fold_at (inside lists.Values) label_after 0 [] (map string_bytes names.now)) }
 {
     let mut labels = Labels::new(alloc);
-    for name in names {
-        add_label(alloc, &mut labels, name.as_str())?;
+    for (index, name) in names.iter().enumerate() {
+        placed(
+            add_label(alloc, &mut labels, name.as_str()),
+            ListKey::Values,
+            index,
+        )?;
     }
     Ok(labels)
 }
@@ -52,13 +59,13 @@ fn add_label_set(
 {
     let name = entry.name.as_str();
     if !is_name(name) {
-        return Err(SchemaFault::Name);
+        return Err(SchemaFault::here(SchemaFlaw::Name));
     }
     if sets.contains(name) {
-        return Err(SchemaFault::Twice);
+        return Err(SchemaFault::here(SchemaFlaw::Twice));
     }
     if sets.len() >= LABEL_SET_LIMIT {
-        return Err(SchemaFault::Limit);
+        return Err(SchemaFault::here(SchemaFlaw::Limit));
     }
     let values = labels_of(alloc, &entry.values)?;
     let name = Text::from_str(alloc, name)?;
@@ -72,11 +79,15 @@ pub(crate) fn label_sets_of(
     entries: &[LabelSetEntry],
 ) -> Result<Table<LabelSet>, SchemaFault>
     ensures { Gives OutOfMemory (λ sets. sets) result
-        (try_fold label_set_after [] (map label_set_declaration entries.now)) }
+        (try_fold_at (inside lists.Labels) label_set_after 0 [] (map label_set_declaration entries.now)) }
 {
     let mut sets = Table::new(alloc);
-    for entry in entries {
-        add_label_set(alloc, &mut sets, entry)?;
+    for (index, entry) in entries.iter().enumerate() {
+        placed(
+            add_label_set(alloc, &mut sets, entry),
+            ListKey::Labels,
+            index,
+        )?;
     }
     Ok(sets)
 }

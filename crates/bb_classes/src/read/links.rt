@@ -1,17 +1,19 @@
 //! The link slots of a class, read one entry after another.
 
 ghost use Rattle.std.specs.Prelude.{◌≡◌, IfOk, map, string_bytes};
-ghost use Rattle.bb_basis.specs.Results.{Gives, try_fold};
+ghost use Rattle.bb_basis.specs.Results.{Gives, try_fold_at};
 ghost use Rattle.bb_document.specs.Document.{link_declaration};
 ghost use Rattle.bb_classes.specs.declared.fault.SchemaFault.TheVariants.{Memory as OutOfMemory};
 ghost use Rattle.bb_classes.specs.declared.draft.DraftContent.TheVariants.{Link as LinkByName};
+ghost use Rattle.bb_document.specs.declared.place.ListKey.TheVariants as lists;
+ghost use Rattle.bb_classes.specs.Faults.{inside};
 ghost use Rattle.bb_classes.specs.LinkReading.{leads_to, leads_back, link_after};
 
 use crate::draft::{ClassDraft, Draft, DraftContent, Owner};
-use crate::fault::SchemaFault;
+use crate::fault::{SchemaFault, SchemaFlaw, placed};
 use crate::read::entries::{ClassIndex, Entries};
 use bb_basis::{Text, is_name};
-use bb_document::LinkEntry;
+use bb_document::{LinkEntry, ListKey};
 use std::alloc::{AllocError, Global};
 
 fn leads_to(link: &LinkEntry, class: &str, inverse: &str) -> bool
@@ -59,17 +61,19 @@ fn add_link(
 {
     let name = entry.name.as_str();
     if !is_name(name) {
-        return Err(SchemaFault::Name);
+        return Err(SchemaFault::here(SchemaFlaw::Name));
     }
     if draft.has_slot_named(name) {
-        return Err(SchemaFault::Twice);
+        return Err(SchemaFault::here(SchemaFlaw::Twice));
     }
-    let target = all.named(entry.to.as_str()).ok_or(SchemaFault::Unknown)?;
+    let target = all
+        .named(entry.to.as_str())
+        .ok_or(SchemaFault::here(SchemaFlaw::Unknown))?;
     if !leads_back(target, owner.name.as_str(), entry) {
-        return Err(SchemaFault::Inverse);
+        return Err(SchemaFault::here(SchemaFlaw::Inverse));
     }
     if draft.is_full() {
-        return Err(SchemaFault::Limit);
+        return Err(SchemaFault::here(SchemaFlaw::Limit));
     }
     let name = Text::from_str(alloc, name)?;
     let content = link_content(alloc, entry)?;
@@ -90,10 +94,15 @@ pub(crate) fn add_links(
     entries: &[LinkEntry],
 ) -> Result<(), SchemaFault>
     ensures { Gives OutOfMemory (λ _. draft.new) result
-        (try_fold (link_after all.now owner.now.name owner.now.number) draft.old (map link_declaration entries.now)) }
+        (try_fold_at (inside lists.Links) (link_after all.now owner.now.name owner.now.number) 0 draft.old
+        (map link_declaration entries.now)) }
 {
-    for entry in entries {
-        add_link(alloc, all, owner, draft, entry)?;
+    for (index, entry) in entries.iter().enumerate() {
+        placed(
+            add_link(alloc, all, owner, draft, entry),
+            ListKey::Links,
+            index,
+        )?;
     }
     Ok(())
 }

@@ -7,7 +7,7 @@ ghost use Rattle.bb_classes.specs.Resolution.{resolved_link};
 
 use crate::class::{Class, ClassId};
 use crate::draft::{Draft, draft_has_name};
-use crate::fault::SchemaFault;
+use crate::fault::{SchemaFault, SchemaFlaw};
 use crate::kind::{Link, SlotId};
 use bb_basis::Table;
 
@@ -40,7 +40,11 @@ pub fn resolve_link(
 ) -> Result<Link, SchemaFault>
     ensures { result ≡ resolved_link classes.now slots.now to.now many inverse.now }
 {
-    let to = classes.index_of(to).ok_or(SchemaFault::Unknown)?;
-    let inverse = slot_named(classes, slots, to, inverse).ok_or(SchemaFault::Inverse)?;
+    let to = classes
+        .index_of(to)
+        .ok_or(SchemaFault::here(SchemaFlaw::Unknown))?;
+    let inverse = slot_named(classes, slots, to, inverse).ok_or(SchemaFault::here(
+        SchemaFlaw::Inverse,
+    ))?;
     Ok(Link { to, many, inverse })
 }

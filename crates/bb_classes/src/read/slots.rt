@@ -1,18 +1,20 @@
 //! The ordinary slots of a class, read one entry after another.
 
 ghost use Rattle.std.specs.Prelude.{◌≡◌, map, option_map, string_bytes};
-ghost use Rattle.bb_basis.specs.Results.{Gives, try_fold};
+ghost use Rattle.bb_basis.specs.Results.{Gives, try_fold_at};
 ghost use Rattle.bb_document.specs.Document.{default_declaration, slot_declaration};
 ghost use Rattle.bb_classes.specs.declared.fault.SchemaFault.TheVariants.{Memory as OutOfMemory};
+ghost use Rattle.bb_document.specs.declared.place.ListKey.TheVariants as lists;
+ghost use Rattle.bb_classes.specs.Faults.{inside};
 ghost use Rattle.bb_classes.specs.SlotReading.{chosen_label, label_value, default_value, is_long, slot_after};
 
 use crate::class::ClassId;
 use crate::draft::{ClassDraft, Draft, DraftContent};
-use crate::fault::SchemaFault;
+use crate::fault::{SchemaFault, SchemaFlaw, placed};
 use crate::label_set::{LabelId, LabelSet, LabelSetId, Labels};
 use crate::value::{TEXT_LIMIT, Value};
 use bb_basis::{Table, Text, is_name};
-use bb_document::{DefaultEntry, SlotEntry};
+use bb_document::{DefaultEntry, ListKey, SlotEntry};
 use std::alloc::Global;
 
 fn chosen_label(labels: &Labels, given: &Option<String>) -> Option<LabelId>
@@ -33,9 +35,13 @@ fn label_value(
 ) -> Result<Value, SchemaFault>
     ensures { result ≡ label_value sets.now of.now (option_map string_bytes given.now) }
 {
-    let set = sets.index_of(of).ok_or(SchemaFault::Unknown)?;
-    let labels = sets.get(set as usize).ok_or(SchemaFault::Unknown)?;
-    let label = chosen_label(&labels.values, given).ok_or(SchemaFault::Unknown)?;
+    let set = sets
+        .index_of(of)
+        .ok_or(SchemaFault::here(SchemaFlaw::Unknown))?;
+    let labels = sets
+        .get(set as usize)
+        .ok_or(SchemaFault::here(SchemaFlaw::Unknown))?;
+    let label = chosen_label(&labels.values, given).ok_or(SchemaFault::here(SchemaFlaw::Unknown))?;
     Ok(Value::Label(set, label))
 }
 
@@ -78,14 +84,14 @@ fn add_slot(
 {
     let name = entry.name.as_str();
     if !is_name(name) {
-        return Err(SchemaFault::Name);
+        return Err(SchemaFault::here(SchemaFlaw::Name));
     }
     if class.has_slot_named(name) {
-        return Err(SchemaFault::Twice);
+        return Err(SchemaFault::here(SchemaFlaw::Twice));
     }
     let value = default_value(alloc, sets, &entry.default)?;
     if class.is_full() || is_long(&entry.default) {
-        return Err(SchemaFault::Limit);
+        return Err(SchemaFault::here(SchemaFlaw::Limit));
     }
     let name = Text::from_str(alloc, name)?;
     let content = DraftContent::Default(value);
@@ -106,10 +112,14 @@ pub(crate) fn add_slots(
     entries: &[SlotEntry],
 ) -> Result<(), SchemaFault>
     ensures { Gives OutOfMemory (λ _. class.new) result
-        (try_fold (slot_after sets.now owner) class.old (map slot_declaration entries.now)) }
+        (try_fold_at (inside lists.Slots) (slot_after sets.now owner) 0 class.old (map slot_declaration entries.now)) }
 {
-    for entry in entries {
-        add_slot(alloc, sets, owner, class, entry)?;
+    for (index, entry) in entries.iter().enumerate() {
+        placed(
+            add_slot(alloc, sets, owner, class, entry),
+            ListKey::Slots,
+            index,
+        )?;
     }
     Ok(())
 }

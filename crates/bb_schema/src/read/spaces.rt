@@ -2,15 +2,17 @@
 
 ghost use Rattle.std.specs.Prelude.{◌≡◌, [], map, option_map, string_bytes};
 ghost use Rattle.std.specs.List.{list_all};
-ghost use Rattle.bb_basis.specs.Results.{Gives, try_fold};
+ghost use Rattle.bb_basis.specs.Results.{Gives, try_fold_at};
 ghost use Rattle.bb_document.specs.Document.{dim_declaration, space_declaration};
 ghost use Rattle.bb_classes.specs.declared.fault.SchemaFault.TheVariants.{Memory as OutOfMemory};
+ghost use Rattle.bb_document.specs.declared.place.ListKey.TheVariants as lists;
+ghost use Rattle.bb_classes.specs.Faults.{inside};
 ghost use Rattle.bb_schema.specs.SpaceReading.{space_class_after, suits, has_slot_for, set_number, dim_after, space_after};
 
 use crate::schema::Schema;
 use crate::space::{Dim, Space};
 use bb_basis::{IdSet, Table, Text, is_name};
-use bb_classes::{ClassId, Kind, LabelSetId, SchemaFault};
+use bb_classes::{ClassId, Kind, LabelSetId, ListKey, SchemaFault, SchemaFlaw, placed};
 use bb_document::{DimEntry, SpaceEntry};
 use std::alloc::Global;
 
@@ -24,9 +26,11 @@ pub(crate) const DIM_LIMIT: usize = 16;
 fn add_space_class(schema: &Schema, listed: &mut IdSet, name: &str) -> Result<(), SchemaFault>
     ensures { Gives OutOfMemory (λ _. listed.new) result (space_class_after schema.now listed.old name.now) }
 {
-    let class = schema.class(name).ok_or(SchemaFault::Unknown)?;
+    let class = schema
+        .class(name)
+        .ok_or(SchemaFault::here(SchemaFlaw::Unknown))?;
     if listed.contains(class) {
-        return Err(SchemaFault::Twice);
+        return Err(SchemaFault::here(SchemaFlaw::Twice));
     }
     listed.push(class)?;
     Ok(())
@@ -34,11 +38,15 @@ fn add_space_class(schema: &Schema, listed: &mut IdSet, name: &str) -> Result<()
 
 fn space_classes_of(alloc: Global, schema: &Schema, names: &[String]) -> Result<IdSet, SchemaFault>
     ensures { Gives OutOfMemory (λ listed. listed) result
-        (try_fold (space_class_after schema.now) [] (map string_bytes names.now)) }
+        (try_fold_at (inside lists.Classes) (space_class_after schema.now) 0 [] (map string_bytes names.now)) }
 {
     let mut listed = IdSet::new(alloc);
-    for name in names {
-        add_space_class(schema, &mut listed, name.as_str())?;
+    for (index, name) in names.iter().enumerate() {
+        placed(
+            add_space_class(schema, &mut listed, name.as_str()),
+            ListKey::Classes,
+            index,
+        )?;
     }
     Ok(listed)
 }
@@ -83,7 +91,9 @@ fn set_number(schema: &Schema, of: &Option<String>) -> Result<Option<LabelSetId>
     match of {
         None => Ok(None),
         Some(name) => {
-            let set = schema.label_set(name.as_str()).ok_or(SchemaFault::Unknown)?;
+            let set = schema
+                .label_set(name.as_str())
+                .ok_or(SchemaFault::here(SchemaFlaw::Unknown))?;
             Ok(Some(set))
         }
     }
@@ -102,17 +112,17 @@ fn add_dim(
 {
     let name = entry.name.as_str();
     if !is_name(name) {
-        return Err(SchemaFault::Name);
+        return Err(SchemaFault::here(SchemaFlaw::Name));
     }
     if dims.contains(name) {
-        return Err(SchemaFault::Twice);
+        return Err(SchemaFault::here(SchemaFlaw::Twice));
     }
     let set = set_number(schema, &entry.of)?;
     if !have_slots_for(schema, name, set, listed) {
-        return Err(SchemaFault::Dimension);
+        return Err(SchemaFault::here(SchemaFlaw::Dimension));
     }
     if dims.len() >= DIM_LIMIT {
-        return Err(SchemaFault::Limit);
+        return Err(SchemaFault::here(SchemaFlaw::Limit));
     }
     let name = Text::from_str(alloc, name)?;
     dims.push(alloc, Dim { name, set })?;
@@ -126,11 +136,15 @@ fn dims_of(
     entries: &[DimEntry],
 ) -> Result<Table<Dim>, SchemaFault>
     ensures { Gives OutOfMemory (λ dims. dims) result
-        (try_fold (dim_after schema.now listed.now) [] (map dim_declaration entries.now)) }
+        (try_fold_at (inside lists.Dims) (dim_after schema.now listed.now) 0 [] (map dim_declaration entries.now)) }
 {
     let mut dims = Table::new(alloc);
-    for entry in entries {
-        add_dim(alloc, schema, listed, &mut dims, entry)?;
+    for (index, entry) in entries.iter().enumerate() {
+        placed(
+            add_dim(alloc, schema, listed, &mut dims, entry),
+            ListKey::Dims,
+            index,
+        )?;
     }
     Ok(dims)
 }
@@ -147,13 +161,13 @@ fn add_space(
 {
     let name = entry.name.as_str();
     if !is_name(name) {
-        return Err(SchemaFault::Name);
+        return Err(SchemaFault::here(SchemaFlaw::Name));
     }
     if spaces.contains(name) {
-        return Err(SchemaFault::Twice);
+        return Err(SchemaFault::here(SchemaFlaw::Twice));
     }
     if spaces.len() >= SPACE_LIMIT {
-        return Err(SchemaFault::Limit);
+        return Err(SchemaFault::here(SchemaFlaw::Limit));
     }
     let classes = space_classes_of(alloc, schema, &entry.classes)?;
     let dims = dims_of(alloc, schema, classes.as_slice(), &entry.dims)?;
@@ -176,11 +190,15 @@ pub(crate) fn spaces_of(
     entries: &[SpaceEntry],
 ) -> Result<Table<Space>, SchemaFault>
     ensures { Gives OutOfMemory (λ spaces. spaces) result
-        (try_fold (space_after schema.now) [] (map space_declaration entries.now)) }
+        (try_fold_at (inside lists.Spaces) (space_after schema.now) 0 [] (map space_declaration entries.now)) }
 {
     let mut spaces = Table::new(alloc);
-    for entry in entries {
-        add_space(alloc, schema, &mut spaces, entry)?;
+    for (index, entry) in entries.iter().enumerate() {
+        placed(
+            add_space(alloc, schema, &mut spaces, entry),
+            ListKey::Spaces,
+            index,
+        )?;
     }
     Ok(spaces)
 }

@@ -1,11 +1,13 @@
 use Rattle.std.proofs.Common.{◌≡◌, drop, map}
-use Rattle.bb_basis.specs.Results.{try_fold}
+use Rattle.bb_basis.specs.Results.{try_fold_at}
 use Rattle.bb_document.specs.UnitsDocument.{first_link_declaration}
+use Rattle.bb_document.specs.declared.place.ListKey.TheVariants as lists
+use Rattle.bb_board.specs.UnitsFaults.{inside}
 use Rattle.bb_board.specs.Load.{link_after}
 use Rattle.bb_board.proofs.loader.add_links.Given as goal
 
-abbrev pub invariant-loop-entry : goal.invariant-loop-entry
-invariant-loop-entry l =
-    (try_fold (link_after l.schema l.names) l.world.world (drop l.entry-index (map first_link_declaration l.entries))
-    ≡ try_fold (link_after l.fn.schema l.fn.names) l.fn.world.world (map first_link_declaration l.fn.entries))
+abbrev pub invariant-loop-index : goal.invariant-loop-index
+invariant-loop-index l =
+    (try_fold_at (inside lists.Links) (link_after l.schema l.names) l.index l.world.world (drop l.index (map first_link_declaration l.entries))
+    ≡ try_fold_at (inside lists.Links) (link_after l.fn.schema l.fn.names) 0 l.fn.world.world (map first_link_declaration l.fn.entries))
     × (l.world.schema ≡ l.fn.world.schema)

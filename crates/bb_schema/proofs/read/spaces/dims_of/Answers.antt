@@ -1,17 +1,24 @@
+use Rattle.std.proofs.Common.{refl}
 use Rattle.std.proofs.lemmas.Result.{err_from_is_err_and}
 use Rattle.bb_document.specs.Document.{dim_declaration}
+use Rattle.bb_document.specs.declared.place.ListKey.TheVariants as lists
+use Rattle.bb_classes.specs.Faults.{inside}
 use Rattle.bb_schema.specs.SpaceReading.{dim_after}
 use Rattle.bb_classes.specs.declared.fault.SchemaFault.TheVariants.{Memory}
-use Rattle.bb_basis.proofs.SliceFoldLemmas.{slice_fold_next, slice_fold_error, slice_fold_end}
+use Rattle.bb_basis.proofs.PlacedLemmas.{placed_err, placed_ok}
+use Rattle.bb_basis.proofs.FoldAtLemmas.{fold_at_next, fold_at_error, fold_at_end}
 use Rattle.bb_schema.proofs.read.spaces.dims_of.Goals as goal
 
-pub returns-in_err-add_dim : goal.returns-in_err-add_dim
-returns-in_err-add_dim c =
+pub returns-in_err-placed : goal.returns-in_err-placed
+returns-in_err-placed c =
     let p = err_from_is_err_and c.from_residual.result c.from_residual.ensures.1 in
-    rw (p.1, p.2) (slice_fold_error Memory (dim_after c.args.schema.now c.args.listed.now) dim_declaration c.loop-entry.dims c.args.entries.now c.loop-entry.entry-index c.entry-item.result c.in_err-add_dim.field-0.0 _ c.loop-entry-test.true c.entry-item.is c.in_err-add_dim.ensures c.loop-entry.invariant)
+    rw (p.1, p.2) (fold_at_error Memory (inside lists.Dims) (dim_after c.args.schema.now c.args.listed.now) dim_declaration c.loop-index.dims c.args.entries.now c.loop-index.index c.index-entries-index.result c.in_err-placed.field-0.0 _ c.loop-index-test.true c.index-entries-index.is
+    (placed_err Memory Memory (inside lists.Dims c.loop-index.index) (λ _. c.add_dim.new.dims) c.add_dim.result ((dim_after c.args.schema.now c.args.listed.now) c.loop-index.dims (dim_declaration c.index-entries-index.result)) c.in_err-placed.field-0.0 refl c.add_dim.ensures c.in_err-placed.ensures) c.loop-index.invariant)
 
-pub loop-entry-preserved : goal.loop-entry-preserved
-loop-entry-preserved c = slice_fold_next (dim_after c.args.schema.now c.args.listed.now) dim_declaration c.loop-entry.dims c.add_dim.new.dims c.args.entries.now c.loop-entry.entry-index c.entry-item.result _ c.loop-entry-test.true c.entry-item.is c.in_ok-add_dim.ensures c.loop-entry.invariant
+pub loop-index-preserved : goal.loop-index-preserved
+loop-index-preserved c =
+    fold_at_next (inside lists.Dims) (dim_after c.args.schema.now c.args.listed.now) dim_declaration c.loop-index.dims c.add_dim.new.dims c.args.entries.now c.loop-index.index c.index-entries-index.result _ c.loop-index-test.true c.index-entries-index.is
+    (placed_ok Memory (inside lists.Dims c.loop-index.index) (λ _. c.add_dim.new.dims) c.add_dim.result ((dim_after c.args.schema.now c.args.listed.now) c.loop-index.dims (dim_declaration c.index-entries-index.result)) c.in_ok-placed.field-0 c.add_dim.ensures c.in_ok-placed.ensures) c.loop-index.invariant
 
 pub returns : goal.returns
-returns c = slice_fold_end (dim_after c.args.schema.now c.args.listed.now) dim_declaration c.loop-entry.dims c.args.entries.now c.loop-entry.entry-index _ c.loop-entry-test.false c.loop-entry.invariant
+returns c = fold_at_end (inside lists.Dims) (dim_after c.args.schema.now c.args.listed.now) dim_declaration c.loop-index.dims c.args.entries.now c.loop-index.index _ c.loop-index-test.false c.loop-index.invariant

@@ -1,17 +1,24 @@
+use Rattle.std.proofs.Common.{refl}
 use Rattle.std.proofs.lemmas.Result.{err_from_is_err_and}
 use Rattle.std.specs.Prelude.{string_bytes}
+use Rattle.bb_document.specs.declared.place.ListKey.TheVariants as lists
+use Rattle.bb_classes.specs.Faults.{inside}
 use Rattle.bb_schema.specs.SpaceReading.{space_class_after}
 use Rattle.bb_classes.specs.declared.fault.SchemaFault.TheVariants.{Memory}
-use Rattle.bb_basis.proofs.SliceFoldLemmas.{slice_fold_next, slice_fold_error, slice_fold_end}
+use Rattle.bb_basis.proofs.PlacedLemmas.{placed_err, placed_ok}
+use Rattle.bb_basis.proofs.FoldAtLemmas.{fold_at_next, fold_at_error, fold_at_end}
 use Rattle.bb_schema.proofs.read.spaces.space_classes_of.Goals as goal
 
-pub returns-in_err-add_space_class : goal.returns-in_err-add_space_class
-returns-in_err-add_space_class c =
+pub returns-in_err-placed : goal.returns-in_err-placed
+returns-in_err-placed c =
     let p = err_from_is_err_and c.from_residual.result c.from_residual.ensures.1 in
-    rw (p.1, p.2) (slice_fold_error Memory (space_class_after c.args.schema.now) string_bytes c.loop-name.listed c.args.names.now c.loop-name.name-index c.name-item.result c.in_err-add_space_class.field-0.0 _ c.loop-name-test.true c.name-item.is (rw c.as_str.ensures.value at c.in_err-add_space_class.ensures) c.loop-name.invariant)
+    rw (p.1, p.2) (fold_at_error Memory (inside lists.Classes) (space_class_after c.args.schema.now) string_bytes c.loop-index.listed c.args.names.now c.loop-index.index c.index-names-index.result c.in_err-placed.field-0.0 _ c.loop-index-test.true c.index-names-index.is
+    (placed_err Memory Memory (inside lists.Classes c.loop-index.index) (λ _. c.add_space_class.new.listed) c.add_space_class.result ((space_class_after c.args.schema.now) c.loop-index.listed (string_bytes c.index-names-index.result)) c.in_err-placed.field-0.0 refl (rw c.as_str.ensures.value at c.add_space_class.ensures) c.in_err-placed.ensures) c.loop-index.invariant)
 
-pub loop-name-preserved : goal.loop-name-preserved
-loop-name-preserved c = slice_fold_next (space_class_after c.args.schema.now) string_bytes c.loop-name.listed c.add_space_class.new.listed c.args.names.now c.loop-name.name-index c.name-item.result _ c.loop-name-test.true c.name-item.is (rw c.as_str.ensures.value at c.in_ok-add_space_class.ensures) c.loop-name.invariant
+pub loop-index-preserved : goal.loop-index-preserved
+loop-index-preserved c =
+    fold_at_next (inside lists.Classes) (space_class_after c.args.schema.now) string_bytes c.loop-index.listed c.add_space_class.new.listed c.args.names.now c.loop-index.index c.index-names-index.result _ c.loop-index-test.true c.index-names-index.is
+    (placed_ok Memory (inside lists.Classes c.loop-index.index) (λ _. c.add_space_class.new.listed) c.add_space_class.result ((space_class_after c.args.schema.now) c.loop-index.listed (string_bytes c.index-names-index.result)) c.in_ok-placed.field-0 (rw c.as_str.ensures.value at c.add_space_class.ensures) c.in_ok-placed.ensures) c.loop-index.invariant
 
 pub returns : goal.returns
-returns c = slice_fold_end (space_class_after c.args.schema.now) string_bytes c.loop-name.listed c.args.names.now c.loop-name.name-index _ c.loop-name-test.false c.loop-name.invariant
+returns c = fold_at_end (inside lists.Classes) (space_class_after c.args.schema.now) string_bytes c.loop-index.listed c.args.names.now c.loop-index.index _ c.loop-index-test.false c.loop-index.invariant

@@ -1,17 +1,24 @@
+use Rattle.std.proofs.Common.{refl}
 use Rattle.std.proofs.lemmas.Result.{err_from_is_err_and}
 use Rattle.bb_document.specs.Document.{space_declaration}
+use Rattle.bb_document.specs.declared.place.ListKey.TheVariants as lists
+use Rattle.bb_classes.specs.Faults.{inside}
 use Rattle.bb_schema.specs.SpaceReading.{space_after}
 use Rattle.bb_classes.specs.declared.fault.SchemaFault.TheVariants.{Memory}
-use Rattle.bb_basis.proofs.SliceFoldLemmas.{slice_fold_next, slice_fold_error, slice_fold_end}
+use Rattle.bb_basis.proofs.PlacedLemmas.{placed_err, placed_ok}
+use Rattle.bb_basis.proofs.FoldAtLemmas.{fold_at_next, fold_at_error, fold_at_end}
 use Rattle.bb_schema.proofs.read.spaces.spaces_of.Goals as goal
 
-pub returns-in_err-add_space : goal.returns-in_err-add_space
-returns-in_err-add_space c =
+pub returns-in_err-placed : goal.returns-in_err-placed
+returns-in_err-placed c =
     let p = err_from_is_err_and c.from_residual.result c.from_residual.ensures.1 in
-    rw (p.1, p.2) (slice_fold_error Memory (space_after c.args.schema.now) space_declaration c.loop-entry.spaces c.args.entries.now c.loop-entry.entry-index c.entry-item.result c.in_err-add_space.field-0.0 _ c.loop-entry-test.true c.entry-item.is c.in_err-add_space.ensures c.loop-entry.invariant)
+    rw (p.1, p.2) (fold_at_error Memory (inside lists.Spaces) (space_after c.args.schema.now) space_declaration c.loop-index.spaces c.args.entries.now c.loop-index.index c.index-entries-index.result c.in_err-placed.field-0.0 _ c.loop-index-test.true c.index-entries-index.is
+    (placed_err Memory Memory (inside lists.Spaces c.loop-index.index) (λ _. c.add_space.new.spaces) c.add_space.result ((space_after c.args.schema.now) c.loop-index.spaces (space_declaration c.index-entries-index.result)) c.in_err-placed.field-0.0 refl c.add_space.ensures c.in_err-placed.ensures) c.loop-index.invariant)
 
-pub loop-entry-preserved : goal.loop-entry-preserved
-loop-entry-preserved c = slice_fold_next (space_after c.args.schema.now) space_declaration c.loop-entry.spaces c.add_space.new.spaces c.args.entries.now c.loop-entry.entry-index c.entry-item.result _ c.loop-entry-test.true c.entry-item.is c.in_ok-add_space.ensures c.loop-entry.invariant
+pub loop-index-preserved : goal.loop-index-preserved
+loop-index-preserved c =
+    fold_at_next (inside lists.Spaces) (space_after c.args.schema.now) space_declaration c.loop-index.spaces c.add_space.new.spaces c.args.entries.now c.loop-index.index c.index-entries-index.result _ c.loop-index-test.true c.index-entries-index.is
+    (placed_ok Memory (inside lists.Spaces c.loop-index.index) (λ _. c.add_space.new.spaces) c.add_space.result ((space_after c.args.schema.now) c.loop-index.spaces (space_declaration c.index-entries-index.result)) c.in_ok-placed.field-0 c.add_space.ensures c.in_ok-placed.ensures) c.loop-index.invariant
 
 pub returns : goal.returns
-returns c = slice_fold_end (space_after c.args.schema.now) space_declaration c.loop-entry.spaces c.args.entries.now c.loop-entry.entry-index _ c.loop-entry-test.false c.loop-entry.invariant
+returns c = fold_at_end (inside lists.Spaces) (space_after c.args.schema.now) space_declaration c.loop-index.spaces c.args.entries.now c.loop-index.index _ c.loop-index-test.false c.loop-index.invariant
