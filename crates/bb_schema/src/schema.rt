@@ -18,8 +18,7 @@ use crate::slot::{Content, Slot, find_slot, link_at};
 use crate::space::{Dim, Space, SpaceId};
 use bb_basis::Table;
 use bb_classes::{
-    Class, ClassId, Kind, LabelId, LabelSet, LabelSetId, Link, SlotId, Span, Value,
-    parent, span_at,
+    Class, ClassId, Kind, LabelId, LabelSet, LabelSetId, Link, SlotId, Span, Value, parent, span_at,
 };
 use std::marker::Model;
 

@@ -165,8 +165,8 @@ same_items (x ∷ xs) (y ∷ ys) same = let e : Some x ≡ Some y = same 0 in le
 pub cleared_all : (n : ℕ) (list : List ℕ) (at : ℕ) (old now : List Members) → length list ≤ at → ((i : ℕ) → is_member (seen old) i n ≡ true → is_in list i ≡ true) → AreCleared n (take at list) old now → seen now ≡ after_forget (seen old) n
 cleared_all n list at old now le each so_far =
     ap of_list (same_items (map membership now) (map (left n) (map membership old)) (λ i.
-        so_far.each i ∙ (ap (λ l. option_map (left_if n l i) (slice_get (map membership old) i)) (take_all at list le)
-        ∙ (by i (slice_get (map membership old) i) refl ∙ sym (slice_get-map (left n) (map membership old) i)))))
+    so_far.each i ∙ (ap (λ l. option_map (left_if n l i) (slice_get (map membership old) i)) (take_all at list le)
+    ∙ (by i (slice_get (map membership old) i) refl ∙ sym (slice_get-map (left n) (map membership old) i)))))
   where
     moved : (i : ℕ) (w : Membership) → slice_get (map membership old) i ≡ Some w → (b : Bool) → is_in list i ≡ b → left_if n list i w ≡ left n w
     moved i w was true h = ap (λ b. cond b (left n w) w) h

@@ -249,14 +249,14 @@ module _ (t : Spaces) (s : Standing) (x n : ℕ) (lt : x < length t.spaces) (are
       ap (with_number x) (are m)
       ∙ (put_passed (λ q. is_member t q m) x (length t.spaces) 0 (ap (is_member t x) (eqb-true m n same) ∙ out) (omega arith) (omega (arith, lt))
       ∙ agree t (after_enter t x n values) m (λ q. (q == x) || is_member t q m) (changed_long (entered n values) t x)
-          (λ q. sym (member_entered n t x values q m lt ∙ ap (λ b. ((q == x) && b) || is_member t q m) same ∙ ap (λ b. b || is_member t q m) (and_true (q == x)))))
+      (λ q. sym (member_entered n t x values q m lt ∙ ap (λ b. ((q == x) && b) || is_member t q m) same ∙ ap (λ b. b || is_member t q m) (and_true (q == x)))))
     where
       and_true : (b : Bool) → (b && true) ≡ b
       and_true true = refl
       and_true false = refl
   with_by values m false other out =
       are m ∙ agree t (after_enter t x n values) m (λ q. is_member t q m) (changed_long (entered n values) t x)
-          (λ q. sym (member_entered n t x values q m lt ∙ ap (λ b. ((q == x) && b) || is_member t q m) other ∙ ap (λ b. b || is_member t q m) (and_false (q == x))))
+      (λ q. sym (member_entered n t x values q m lt ∙ ap (λ b. ((q == x) && b) || is_member t q m) other ∙ ap (λ b. b || is_member t q m) (and_false (q == x))))
     where
       and_false : (b : Bool) → (b && false) ≡ false
       and_false true = refl
@@ -293,7 +293,7 @@ module _ (t : Spaces) (s : Standing) (x n : ℕ) (lt : x < length t.spaces) (are
       ap (filter (λ k. not (k == x))) (are m)
       ∙ (both (λ q. is_member t q m) (range_with_len 0 (length t.spaces))
       ∙ agree t (after_leave t x n) m (λ q. not (q == x) && is_member t q m) (changed_long (left n) t x)
-          (λ q. sym (member_left n t x q m lt ∙ ap (λ b. not ((q == x) && b) && is_member t q m) same ∙ ap (λ b. not b && is_member t q m) (and_true (q == x)))))
+      (λ q. sym (member_left n t x q m lt ∙ ap (λ b. not ((q == x) && b) && is_member t q m) same ∙ ap (λ b. not b && is_member t q m) (and_true (q == x)))))
     where
       and_true : (b : Bool) → (b && true) ≡ b
       and_true true = refl
@@ -311,7 +311,7 @@ module _ (t : Spaces) (s : Standing) (x n : ℕ) (lt : x < length t.spaces) (are
       both p (k ∷ ks) = one p k (not (k == x)) (p k) (filter p ks) (filter (λ k. not (k == x) && p k) ks) refl (both p ks)
   left_by m false other =
       are m ∙ agree t (after_leave t x n) m (λ q. is_member t q m) (changed_long (left n) t x)
-          (λ q. sym (member_left n t x q m lt ∙ ap (λ b. not ((q == x) && b) && is_member t q m) other ∙ ap (λ b. not b && is_member t q m) (and_false (q == x))))
+      (λ q. sym (member_left n t x q m lt ∙ ap (λ b. not ((q == x) && b) && is_member t q m) other ∙ ap (λ b. not b && is_member t q m) (and_false (q == x))))
     where
       and_false : (b : Bool) → (b && false) ≡ false
       and_false true = refl

@@ -110,11 +110,7 @@ pub(crate) fn pop_live(machine: &mut Machine<'_>, board: &Board) -> Result<UnitI
 
 /// Pops a unit that is live and pushes the value of one of its ordinary slots.
 #[tactic(auto, unfolding(crate::specs::Reading::get))]
-pub(crate) fn get(
-    machine: &mut Machine<'_>,
-    board: &Board,
-    slot: SlotId,
-) -> Result<(), Halt>
+pub(crate) fn get(machine: &mut Machine<'_>, board: &Board, slot: SlotId) -> Result<(), Halt>
     ensures { Gives OutOfMemory (λ _. machine.new) result (def.get board.now slot machine.old) }
 {
     let unit = pop_live(machine, board)?;
@@ -199,11 +195,7 @@ pub(crate) fn one(
 
 /// Pops a unit that is live and pushes the sequence of its partners by a link slot.
 #[tactic(auto, unfolding(crate::specs::Reading::links))]
-pub(crate) fn links(
-    machine: &mut Machine<'_>,
-    board: &Board,
-    slot: SlotId,
-) -> Result<(), Halt>
+pub(crate) fn links(machine: &mut Machine<'_>, board: &Board, slot: SlotId) -> Result<(), Halt>
     ensures { Gives OutOfMemory (λ _. machine.new) result (def.links board.now slot machine.old) }
 {
     let unit = pop_live(machine, board)?;
