@@ -67,7 +67,7 @@ module _ {X : Type 0} where
   drop_next xs k x there = from_next xs k x there ∙ ap (λ j. x ∷ drop j xs) (sym (add-one k))
 
 -- where each holds, one of them does
-each_one : (operands values : List DimValue) (ps : List Tree) (k : ℕ) (p : Tree) → slice_get ps k ≡ Some p → holds_each operands values (trees_of ps) ≡ true → holds operands values p ≡ true
+pub each_one : (operands values : List DimValue) (ps : List Tree) (k : ℕ) (p : Tree) → slice_get ps k ≡ Some p → holds_each operands values (trees_of ps) ≡ true → holds operands values p ≡ true
 unfolding holds
 each_one operands values [] zero p there h = absurd cc
 each_one operands values [] (suc k) p there h = absurd cc

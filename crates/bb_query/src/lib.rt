@@ -3,6 +3,7 @@
 #![tactic(auto)]
 
 mod answer;
+mod narrow;
 mod near;
 mod values;
 

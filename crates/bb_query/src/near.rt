@@ -7,6 +7,7 @@ ghost use Rattle.bb_pattern.specs.Holds.{ordered_holds, is_holds, holds, holds_e
 ghost use Rattle.bb_pattern.specs.View.{trees_of};
 ghost use Rattle.bb_query.specs.proving.Enough.{AreEnough, HasAlso};
 
+use crate::narrow::{narrow, operand_at};
 use bb_basis::Memory;
 use bb_pattern::{DimValue, Node, Pattern, Relation};
 use bb_schema::{SpaceId, UnitId};
@@ -14,11 +15,14 @@ use bb_space::{Leaf, Spaces};
 use std::alloc::Global;
 use std::collections::BTreeSet;
 
-/// The operand of a number, if there is one.
-fn operand_at(operands: &[DimValue], number: u8) -> Option<DimValue>
-    ensures { result ≡ slice_get operands.now number }
-{
-    Some(*operands.get(number as usize)?)
+/// How many candidates a test of an ordered dimension may have. Those of one low end alone are found in rising order;
+/// others have to be sorted, and count fourfold.
+fn at_most(relation: Relation, low: i64, high: i64, most: usize) -> usize {
+    if relation == Relation::Within && low == high {
+        most
+    } else {
+        most / 4
+    }
 }
 
 /// The candidates for a test of an ordered dimension, or `None` where they are more than so many, or its operand is no
@@ -43,7 +47,7 @@ fn near_interval(
                 low,
                 high,
             };
-            spaces.few(space, &leaf, most)
+            spaces.few(space, &leaf, at_most(relation, low, high, most))
         }
         _ => Ok(None),
     }
@@ -178,8 +182,8 @@ fn near_pattern(
 }
 
 /// Members of a space, rising, among them all of which a pattern holds, or `None` where it does not bound them. The
-/// number of candidates that a test may have begins at 16 and doubles: so an `and` goes by a part that has at most twice
-/// as many as the one with the fewest, and costs no more where that one stands last.
+/// number of candidates that a test may have begins at 64 and grows fourfold: so an `and` goes by a part with 64, or
+/// with at most sixteen times as many as the one with the fewest, and costs no more where that one stands last.
 fn near_few(
     alloc: Global,
     spaces: &Spaces,
@@ -191,18 +195,19 @@ fn near_few(
     ensures { IfOk result (λ near. IfSome near (λ list. AreEnough spaces.now space
         (λ values. holds operands.now values pattern.now) list.items)) }
 {
-    let mut most: usize = 16;
-    for _ in 0..12 {
+    let mut most: usize = 64;
+    for _ in 0..6 {
         let near = near_pattern(alloc, spaces, space, pattern, operands, most)?;
         if let Some(list) = near {
             return Ok(Some(list));
         }
-        most = most.saturating_mul(2);
+        most = most.saturating_mul(4);
     }
     near_pattern(alloc, spaces, space, pattern, operands, usize::MAX)
 }
 
-/// Members of a space, rising, among them all of which a pattern holds.
+/// Members of a space, rising, among them all of which a pattern holds. Those are left out that fail a test which the
+/// pattern is an `and` of.
 pub(crate) fn near(
     alloc: Global,
     spaces: &Spaces,
@@ -215,7 +220,7 @@ pub(crate) fn near(
         (λ values. holds operands.now values pattern.now) list.items) }
 {
     match near_few(alloc, spaces, space, pattern, operands)? {
-        Some(list) => Ok(list),
+        Some(list) => narrow(alloc, spaces, space, pattern, operands, list),
         None => spaces.members(space),
     }
 }

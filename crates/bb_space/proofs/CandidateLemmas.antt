@@ -52,7 +52,7 @@ reach Less from to low high le h = below from to low le h
     below a b c one other = grind (arith, ints)
 reach More from to low high le h = h
 
-passing : (leaf : Leaf) (values : List DimValue) → fits_leaf leaf values ≡ true → option_map_or (may_pass leaf) (slice_get values (dim_of leaf)) false ≡ true
+pub passing : (leaf : Leaf) (values : List DimValue) → fits_leaf leaf values ≡ true → option_map_or (may_pass leaf) (slice_get values (dim_of leaf)) false ≡ true
 unfolding fits_leaf
 passing (Ordered relation dim low high) values fits = at (slice_get values dim) fits
   where

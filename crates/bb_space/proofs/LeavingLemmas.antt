@@ -1,5 +1,5 @@
 -- A unit leaves the spaces that it is in, one after another.
-use Rattle.std.proofs.Common.{◌≡◌, ℕ, zero, suc, ◌+◌, ◌<◌, ◌≤◌, ◌==◌, ◌||◌, ◌⊎◌, inl, inr, Bool, true, false, cond, List, [], ◌∷◌, ◌++◌, map, length, take, set, length-set, get_or, Option, Some, None, option_map, refl, sym, ap, subst, ◌∙◌, arith, add-one}
+use Rattle.std.proofs.Common.{◌≡◌, ℕ, zero, suc, ◌+◌, ◌<◌, ◌≤◌, ◌==◌, ◌||◌, inl, inr, Bool, true, false, cond, List, [], ◌∷◌, ◌++◌, map, length, take, set, length-set, get_or, Option, Some, None, option_map, refl, sym, ap, subst, ◌∙◌, arith, add-one}
 use Rattle.std.specs.Prelude.{is_some, slice_get}
 use Rattle.std.specs.List.{filter, list_any, range_with_len}
 use Rattle.std.specs.Option.{option_map_or}
@@ -13,7 +13,7 @@ use Rattle.std.proofs.lemmas.List.Folds.{list_any-append}
 use Rattle.std.proofs.lemmas.Option.{slice_get-map, slice_get_past, slice_get_within}
 use Rattle.bb_pattern.specs.declared.value.DimValue.{DimValue}
 use Rattle.bb_space.specs.declared.members.Members.{Members}
-use Rattle.bb_space.specs.Spaces.{Membership, Spaces, membership as membership_in, is_member, spaces_of, left, after_forget}
+use Rattle.bb_space.specs.Spaces.{Membership, Spaces, is_member, spaces_of, left, after_forget}
 use Rattle.bb_space.specs.proving.Indexed.{membership, seen, IsIndexed, AreIndexed}
 use Rattle.bb_space.proofs.ListLemmas.{of_list, get_set_here, get_set_other, map_set, seen_at, indexed_set}
 

@@ -7,6 +7,9 @@ pub mod ListLemmas
 pub mod MovingLemmas
 pub mod NearLemmas
 pub mod SpotLemmas
+pub mod AmongLemmas
+pub mod KnownLemmas
+pub mod MarkLemmas
 pub mod CandidateLemmas
 pub mod Laws
 pub mod StandingLemmas

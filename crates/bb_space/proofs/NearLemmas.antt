@@ -14,7 +14,7 @@ use Rattle.bb_space.specs.proving.Indexed.{membership, IsIndexed}
 use Rattle.bb_space.proofs.PlaceLemmas.{place_itself, by_place, is_here, stands}
 use Rattle.bb_space.proofs.LooseLemmas.{by_bool, at_of, place_from}
 
-first_or : (a b : Bool) → (a || b) ≡ true → (a ≡ true) ⊎ (b ≡ true)
+pub first_or : (a b : Bool) → (a || b) ≡ true → (a ≡ true) ⊎ (b ≡ true)
 first_or true b h = inl refl
 first_or false b h = inr h
 
@@ -74,7 +74,7 @@ never false h g = absurd cc
 told_value : (m : Members) → IsIndexed m → (p : Place) → has m.places p ≡ true → is_told (membership m) p ≡ true
 told_value m indexed p there = by_bool (is_told (membership m) p) _ (λ told. told) (λ out. let never = indexed.only p there out in absurd cc)
 
-same_truth : (s t : Bool) → (s ≡ true → t ≡ true) → (t ≡ true → s ≡ true) → s ≡ t
+pub same_truth : (s t : Bool) → (s ≡ true → t ≡ true) → (t ≡ true → s ≡ true) → s ≡ t
 same_truth true t f g = sym (f refl)
 same_truth false true f g = g refl
 same_truth false false f g = refl

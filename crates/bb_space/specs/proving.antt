@@ -11,3 +11,7 @@ pub mod Indexed
 pub mod Spots
 -- the spaces that each unit is in
 pub mod Standing
+-- what is noted of units that lie close together
+pub mod Known
+-- which of some units are left by marks
+pub mod Marks

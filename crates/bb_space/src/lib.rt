@@ -7,9 +7,11 @@ mod leaf;
 mod members;
 mod moving;
 mod near;
+mod passing;
 mod place;
 mod spaces;
 mod standing;
+mod thin;
 
 pub use bb_schema::{SpaceId, UnitId};
 pub use leaf::Leaf;

@@ -1,10 +1,11 @@
 //! The members of one space. spaces.rt keeps them for each space.
 
-ghost use Rattle.std.specs.Prelude.{◌≡◌, [], IfOk, IfSome, OnOk, OnErr, true, not, option_map};
+ghost use Rattle.std.specs.Prelude.{◌≡◌, [], IfOk, IfSome, OnOk, OnErr, true, not, option_map, filter};
 ghost use Rattle.std.specs.Option.{unwrap_or};
 ghost use Rattle.std.specs.FinMap as map;
 ghost use Rattle.bb_space.specs.Spaces.{entered, left, moved};
 ghost use Rattle.bb_space.specs.Candidates.{candidates_of};
+ghost use Rattle.bb_space.specs.Passing.{passes};
 ghost use Rattle.bb_space.specs.declared.place.Place.{Place as At};
 ghost use Rattle.bb_space.specs.proving.Entries.{members_of_entries};
 ghost use Rattle.bb_space.specs.proving.Places.{has, is_place_of, ArePut, AreTaken};
@@ -12,8 +13,10 @@ ghost use Rattle.bb_space.specs.proving.Indexed.{membership, IsIndexed};
 
 use crate::index::{put_all, take_all};
 use crate::leaf::Leaf;
-use crate::near::{collect_near, is_few, list_of};
+use crate::near::{collect_near, is_few, rise};
+use crate::passing::{passing, room};
 use crate::place::Place;
+use crate::thin::thin;
 use bb_basis::{Items, Memory};
 use bb_pattern::DimValue;
 use bb_schema::UnitId;
@@ -49,6 +52,14 @@ fn keys_of(alloc: Global, values: &BTreeMap<UnitId, Items<DimValue>>) -> Result<
         list.push(*unit)?;
     }
     Ok(list)
+}
+
+/// How many marks tell of some units, or 0 where the units are few, lie close together, or would need too many.
+fn room_for_marks(among: &[UnitId]) -> usize {
+    if among.len() < 16 || room(among, 4) > 0 {
+        return 0;
+    }
+    room(among, 512)
 }
 
 impl Members {
@@ -183,9 +194,10 @@ impl Members {
         requires { IsIndexed self.now }
         ensures { IfOk result (λ list. list.items ≡ candidates_of (membership self.now) leaf.now) }
     {
-        let mut found = BTreeSet::new(alloc);
+        let mut found = Vec::new(alloc);
         collect_near(&self.places, leaf, &mut found)?;
-        list_of(alloc, &found)
+        rise(&mut found);
+        Ok(found)
     }
 
     /// The same, or `None` where more than so many values can pass.
@@ -203,5 +215,24 @@ impl Members {
             return Ok(None);
         }
         Ok(Some(self.candidates(alloc, leaf)?))
+    }
+
+    /// Those of some units that are members whose values pass each of some tests, in their order.
+    pub(crate) fn passing(
+        &self,
+        alloc: Global,
+        tests: &[Leaf],
+        among: &[UnitId],
+    ) -> Result<Vec<UnitId>, Memory>
+        requires { IsIndexed self.now }
+        ensures { IfOk result (λ list.
+            list.items ≡ filter (passes (membership self.now) tests.now) among.now) }
+    {
+        let room = room_for_marks(among);
+        if room == 0 {
+            return passing(alloc, &self.values, tests, among);
+        }
+        let list = thin(alloc, &self.places, tests, room, among)?;
+        passing(alloc, &self.values, tests, &list)
     }
 }

@@ -1,20 +1,19 @@
 //! Where in the index the candidates for a test stand, and which units do. members.rt asks for them.
 
-ghost use Rattle.std.specs.Prelude.{◌≡◌, ℕ, ◌||◌, IfOk, OnOk};
-ghost use Rattle.std.specs.BTreeSet.{contains, IsOrdered};
+ghost use Rattle.std.specs.Prelude.{◌≡◌, ℕ, ◌||◌, OnOk};
+ghost use Rattle.std.specs.List.Sorted.{IsStrictlySortedBy};
 ghost use Rattle.std.specs.Ordering.{nat_cmp};
-ghost use Rattle.bb_space.specs.proving.Spots.{spot, first_spot, end_spot, stands_in, is_near};
+ghost use Rattle.bb_space.specs.proving.Spots.{spot, first_spot, end_spot, stands_in, is_near, is_among};
 
 use crate::leaf::Leaf;
 use crate::place::Place;
 use bb_basis::Memory;
 use bb_pattern::Relation;
 use bb_schema::UnitId;
-use std::alloc::Global;
 use std::collections::BTreeSet;
 
 /// A place where no value stands: before the values of a sort and key by the edge 0, behind them by 2.
-fn spot(dim: usize, sort: u32, key: i64, edge: u8) -> Place
+pub(crate) fn spot(dim: usize, sort: u32, key: i64, edge: u8) -> Place
     ensures { result ≡ spot dim sort key edge }
 {
     Place {
@@ -27,7 +26,7 @@ fn spot(dim: usize, sort: u32, key: i64, edge: u8) -> Place
 }
 
 /// Where the intervals begin that can be in a relation to `[low, high]`.
-fn first_spot(relation: Relation, dim: usize, low: i64, high: i64) -> Place
+pub(crate) fn first_spot(relation: Relation, dim: usize, low: i64, high: i64) -> Place
     ensures { result ≡ first_spot relation dim low high }
 {
     match relation {
@@ -38,7 +37,7 @@ fn first_spot(relation: Relation, dim: usize, low: i64, high: i64) -> Place
 }
 
 /// Where they end.
-fn end_spot(relation: Relation, dim: usize, low: i64, high: i64) -> Place
+pub(crate) fn end_spot(relation: Relation, dim: usize, low: i64, high: i64) -> Place
     ensures { result ≡ end_spot relation dim low high }
 {
     match relation {
@@ -54,16 +53,16 @@ fn collect(
     places: &BTreeSet<Place>,
     from: Place,
     to: Place,
-    found: &mut BTreeSet<UnitId>,
+    found: &mut Vec<UnitId>,
 ) -> Result<(), Memory>
-    ensures { OnOk result ((n : ℕ) → contains nat_cmp found.new n
-        ≡ (contains nat_cmp found.old n || stands_in from to places.now n)) }
+    ensures { OnOk result ((n : ℕ) → is_among n found.new.items
+        ≡ (is_among n found.old.items || stands_in from to places.now n)) }
 {
     if to < from {
         return Ok(());
     }
     for place in places.range(from..to) {
-        found.insert(place.unit)?;
+        found.push(place.unit)?;
     }
     Ok(())
 }
@@ -72,10 +71,10 @@ fn collect(
 pub(crate) fn collect_near(
     places: &BTreeSet<Place>,
     leaf: &Leaf,
-    found: &mut BTreeSet<UnitId>,
+    found: &mut Vec<UnitId>,
 ) -> Result<(), Memory>
-    ensures { OnOk result ((n : ℕ) → contains nat_cmp found.new n
-        ≡ (contains nat_cmp found.old n || is_near leaf.now places.now n)) }
+    ensures { OnOk result ((n : ℕ) → is_among n found.new.items
+        ≡ (is_among n found.old.items || is_near leaf.now places.now n)) }
 {
     match *leaf {
         Leaf::Ordered {
@@ -139,14 +138,11 @@ pub(crate) fn is_few(places: &BTreeSet<Place>, leaf: &Leaf, most: usize) -> bool
     }
 }
 
-/// The units, rising.
-pub(crate) fn list_of(alloc: Global, found: &BTreeSet<UnitId>) -> Result<Vec<UnitId>, Memory>
-    ensures list { IfOk result (λ list. list.items ≡ found.now.keys) }
-    ensures rising { IsOrdered nat_cmp found.now }
+/// Puts units in rising order, each once.
+pub(crate) fn rise(list: &mut Vec<UnitId>)
+    ensures rises { IsStrictlySortedBy nat_cmp list.new.items }
+    ensures same { (n : ℕ) → is_among n list.new.items ≡ is_among n list.old.items }
 {
-    let mut list = Vec::new(alloc);
-    for unit in found {
-        list.push(*unit)?;
-    }
-    Ok(list)
+    list.sort_unstable();
+    list.dedup();
 }

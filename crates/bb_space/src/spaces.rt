@@ -1,10 +1,11 @@
 //! All spaces. The board changes them, and queries read them.
 
-ghost use Rattle.std.specs.Prelude.{◌≡◌, ◌<◌, IfOk, IfSome, OnOk, OnErr, length, not, option_map};
+ghost use Rattle.std.specs.Prelude.{◌≡◌, ◌<◌, IfOk, IfSome, OnOk, OnErr, length, not, option_map, filter};
 ghost use Rattle.bb_space.specs.Fits.{Fits};
 ghost use Rattle.bb_space.specs.Spaces.{no_spaces, is_member, values_in, membership, members};
 ghost use Rattle.bb_space.specs.Spaces.{AreCandidates, spaces_of};
 ghost use Rattle.bb_space.specs.Candidates.{candidates_of};
+ghost use Rattle.bb_space.specs.Passing.{passes};
 ghost use Rattle.bb_space.specs.Spaces.{after_enter, after_leave, after_moved, after_moves, after_forget};
 ghost use Rattle.bb_space.specs.proving.Indexed.{seen, AreIndexed};
 ghost use Rattle.bb_space.specs.proving.Standing.{AreStanding};
@@ -252,6 +253,21 @@ impl Spaces {
         ensures { IfOk result (λ few. IfSome few (λ list. AreCandidates self.now space leaf.now list.items)) }
     {
         self.spaces[space as usize].few(self.alloc, leaf, most)
+    }
+
+    /// Those of some units that are members of a space whose values, as they were told last, pass each of some tests,
+    /// in their order. It is quicker where the units rise: then few of them are looked up one by one.
+    pub fn passing(
+        &self,
+        space: SpaceId,
+        tests: &[Leaf],
+        among: &[UnitId],
+    ) -> Result<Vec<UnitId>, Memory>
+        requires { space < length self.now.spaces }
+        ensures { IfOk result (λ list.
+            list.items ≡ filter (passes (membership self.now space) tests.now) among.now) }
+    {
+        self.spaces[space as usize].passing(self.alloc, tests, among)
     }
 
     /// Does nothing, and says what holds of the spaces at any time: the members of each rise.

@@ -1,5 +1,5 @@
 -- Between which places of the index the candidates for a test stand.
-use Rattle.std.specs.Prelude.{ℕ, ℤ, pos, Bool, ◌==◌, ◌+◌, ◌||◌}
+use Rattle.std.specs.Prelude.{ℕ, ℤ, pos, Bool, ◌==◌, ◌+◌, ◌||◌, List}
 use Rattle.std.specs.List.{list_any}
 use Rattle.std.specs.BTreeSet.{BTreeSet, keys_between}
 use Rattle.std.specs.declared.ops.Bound.TheVariants.{Included, Excluded}
@@ -28,6 +28,10 @@ end_spot Covers dim low high = spot dim 1 low 2
 end_spot Overlaps dim low high = spot dim 1 high 2
 end_spot Less dim low high = spot dim 1 low 0
 end_spot More dim low high = spot dim 2 (pos 0) 0
+
+-- the unit is in a list
+abbrev pub is_among : ℕ → List ℕ → Bool
+is_among n list = list_any (λ m. m == n) list
 
 -- a place of the unit stands between two places
 abbrev pub stands_in : Place → Place → BTreeSet Place → ℕ → Bool

@@ -1,0 +1,14 @@
+-- Tests that stand for patterns, or for parts of them.
+use Rattle.std.specs.Prelude.{◌≡◌, Bool, true, List}
+use Rattle.bb_pattern.specs.declared.value.DimValue.{DimValue}
+use Rattle.bb_space.specs.declared.leaf.Leaf.{Leaf}
+use Rattle.bb_space.specs.Leaf.{fits_leaf}
+use Rattle.bb_space.specs.Passing.{fit_each}
+
+-- the test asks the same of a unit's values
+abbrev pub Asks : (List DimValue → Bool) → Leaf → Type 0
+Asks asked test = (values : List DimValue) → fits_leaf test values ≡ asked values
+
+-- values of which what is asked holds pass each of some tests
+abbrev pub AskNoMore : (List DimValue → Bool) → List Leaf → Type 0
+AskNoMore asked tests = (values : List DimValue) → asked values ≡ true → fit_each tests values ≡ true

@@ -1,0 +1,111 @@
+//! Which candidates are left once each test has been asked that a pattern is an `and` of. near.rs asks for them.
+
+ghost use Rattle.std.specs.Prelude.{◌≡◌, ◌<◌, length, IfOk, IfSome, slice_get};
+ghost use Rattle.bb_pattern.specs.Holds.{ordered_holds, is_holds, holds, holds_each};
+ghost use Rattle.bb_pattern.specs.View.{trees_of};
+ghost use Rattle.bb_query.specs.proving.Enough.{AreEnough};
+ghost use Rattle.bb_query.specs.proving.Tests.{Asks, AskNoMore};
+
+use bb_basis::Memory;
+use bb_pattern::{DimValue, Node, Pattern, Relation};
+use bb_schema::{SpaceId, UnitId};
+use bb_space::{Leaf, Spaces};
+use std::alloc::Global;
+
+/// The operand of a number, if there is one.
+pub(crate) fn operand_at(operands: &[DimValue], number: u8) -> Option<DimValue>
+    ensures { result ≡ slice_get operands.now number }
+{
+    Some(*operands.get(number as usize)?)
+}
+
+/// The test of an ordered dimension, if its operand is an interval.
+fn interval_test(relation: Relation, dim: u8, operand: Option<DimValue>) -> Option<Leaf>
+    ensures { IfSome result (Asks (λ values. ordered_holds relation (slice_get values dim) operand)) }
+{
+    match operand {
+        Some(DimValue::Interval(low, high)) => Some(Leaf::Ordered {
+            relation,
+            dim,
+            low,
+            high,
+        }),
+        _ => None,
+    }
+}
+
+/// The test of an enumerated dimension, if its operand is a label.
+fn label_test(dim: u8, operand: Option<DimValue>) -> Option<Leaf>
+    ensures { IfSome result (Asks (λ values. is_holds (slice_get values dim) operand)) }
+{
+    match operand {
+        Some(DimValue::Label(set, label)) => Some(Leaf::Is { dim, set, label }),
+        _ => None,
+    }
+}
+
+/// The test that a pattern is, if it is one and has an operand of its sort.
+fn test_of(pattern: &Pattern, operands: &[DimValue]) -> Option<Leaf>
+    ensures { IfSome result (Asks (λ values. holds operands.now values pattern.now)) }
+{
+    match pattern.node() {
+        Node::Ordered {
+            relation,
+            dim,
+            operand,
+        } => interval_test(*relation, *dim, operand_at(operands, *operand)),
+        Node::Is { dim, operand } => label_test(*dim, operand_at(operands, *operand)),
+        _ => None,
+    }
+}
+
+/// The tests among some patterns.
+fn tests_among(
+    alloc: Global,
+    patterns: &[Pattern],
+    operands: &[DimValue],
+) -> Result<Vec<Leaf>, Memory>
+    ensures { IfOk result (λ tests.
+        AskNoMore (λ values. holds_each operands.now values (trees_of patterns.now)) tests.items) }
+{
+    let mut tests = Vec::new(alloc);
+    for pattern in patterns {
+        let Some(test) = test_of(pattern, operands) else {
+            continue;
+        };
+        tests.push(test)?;
+    }
+    Ok(tests)
+}
+
+/// The tests that a pattern is an `and` of, beside whatever else.
+fn tests_of(alloc: Global, pattern: &Pattern, operands: &[DimValue]) -> Result<Vec<Leaf>, Memory>
+    ensures { IfOk result (λ tests. AskNoMore (λ values. holds operands.now values pattern.now) tests.items) }
+{
+    match pattern.node() {
+        Node::And(parts) => tests_among(alloc, parts.as_slice(), operands),
+        _ => Ok(Vec::new(alloc)),
+    }
+}
+
+/// Those of some units that pass each test that a pattern is an `and` of. Among them are all of which it holds, as
+/// among the units before.
+pub(crate) fn narrow(
+    alloc: Global,
+    spaces: &Spaces,
+    space: SpaceId,
+    pattern: &Pattern,
+    operands: &[DimValue],
+    list: Vec<UnitId>,
+) -> Result<Vec<UnitId>, Memory>
+    requires space { space < length spaces.now.spaces }
+    requires enough { AreEnough spaces.now space (λ values. holds operands.now values pattern.now) list.items }
+    ensures { IfOk result (λ left. AreEnough spaces.now space
+        (λ values. holds operands.now values pattern.now) left.items) }
+{
+    let tests = tests_of(alloc, pattern, operands)?;
+    if tests.len() < 2 {
+        return Ok(list);
+    }
+    spaces.passing(space, &tests, &list)
+}

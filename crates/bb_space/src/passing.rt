@@ -1,0 +1,148 @@
+//! Which of some units pass some tests. Where they lie close together, all members between the first and the last are
+//! looked at in their order, which is quicker than a search for each. members.rt asks for them.
+
+ghost use Rattle.std.specs.Prelude.{◌≡◌, ◌+◌, ◌-◌, ◌⊎◌, ℕ, Bool, List, Some, IfOk, filter, slice_get};
+ghost use Rattle.bb_space.specs.Passing.{fit_each, passes};
+ghost use Rattle.bb_space.specs.proving.Entries.{members_of_entries};
+ghost use Rattle.bb_space.specs.proving.Known.{AreKnown};
+
+use crate::leaf::Leaf;
+use bb_basis::{Items, Memory};
+use bb_pattern::DimValue;
+use bb_schema::UnitId;
+use std::alloc::Global;
+use std::collections::BTreeMap;
+
+/// Whether values pass each of some tests.
+fn fit_each(tests: &[Leaf], values: &[DimValue]) -> bool
+    ensures { result ≡ fit_each tests.now values.now }
+{
+    for leaf in tests {
+        if !leaf.fits(values) {
+            return false;
+        }
+    }
+    true
+}
+
+/// Whether a unit is a member whose values pass each of some tests.
+fn passes(values: &BTreeMap<UnitId, Items<DimValue>>, tests: &[Leaf], unit: UnitId) -> bool
+    ensures { result ≡ passes (members_of_entries values.now.entries) tests.now unit }
+{
+    match values.get(&unit) {
+        None => false,
+        Some(found) => fit_each(tests, found.as_slice()),
+    }
+}
+
+/// Notes of a unit whether it passes, if the table, which begins with a first one, has a place for it.
+fn note(table: &mut Vec<Option<bool>>, first: UnitId, unit: UnitId, passes: bool)
+    ensures { (k : ℕ) (b : Bool) → slice_get table.new.items k ≡ Some (Some b)
+        → (slice_get table.old.items k ≡ Some (Some b)) ⊎ ((first + k ≡ unit) × (passes ≡ b)) }
+{
+    let Some(at) = unit.checked_sub(first) else {
+        return;
+    };
+    let at = at as usize;
+    if at < table.len() {
+        table[at] = Some(passes);
+    }
+}
+
+/// Notes of the members from one on, before another, whether they pass.
+fn look(
+    values: &BTreeMap<UnitId, Items<DimValue>>,
+    tests: &[Leaf],
+    first: UnitId,
+    end: UnitId,
+    table: &mut Vec<Option<bool>>,
+)
+    requires { AreKnown (members_of_entries values.now.entries) tests.now first table.old.items }
+    ensures { AreKnown (members_of_entries values.now.entries) tests.now first table.new.items }
+{
+    if end < first {
+        return;
+    }
+    for (unit, found) in values.range(first..end) {
+        note(table, first, *unit, fit_each(tests, found.as_slice()));
+    }
+}
+
+/// What is noted of a unit.
+fn noted(table: &[Option<bool>], first: UnitId, unit: UnitId) -> Option<bool>
+    ensures { (b : Bool) → result ≡ Some b
+        → (first + (unit - first) ≡ unit) × (slice_get table.now (unit - first) ≡ Some (Some b)) }
+{
+    let at = unit.checked_sub(first)?;
+    *table.get(at as usize)?
+}
+
+/// Whether a unit passes, by what is noted, or by a search where nothing is.
+fn passes_by(
+    values: &BTreeMap<UnitId, Items<DimValue>>,
+    tests: &[Leaf],
+    table: &[Option<bool>],
+    first: UnitId,
+    unit: UnitId,
+) -> bool
+    requires { AreKnown (members_of_entries values.now.entries) tests.now first table.now }
+    ensures { result ≡ passes (members_of_entries values.now.entries) tests.now unit }
+{
+    match noted(table, first, unit) {
+        Some(known) => known,
+        None => passes(values, tests, unit),
+    }
+}
+
+/// How many units there are from the first to the last of some that rise, or 0 where more than so many come to one of
+/// them.
+pub(crate) fn room(among: &[UnitId], most: u64) -> usize {
+    let (Some(first), Some(last)) = (among.first(), among.last()) else {
+        return 0;
+    };
+    let between = last.saturating_sub(*first);
+    if between / most.max(1) < among.len() as u64 {
+        (between as usize).saturating_add(1)
+    } else {
+        0
+    }
+}
+
+/// Notes of so many units, from a first one on, whether they pass.
+fn noted_all(
+    alloc: Global,
+    values: &BTreeMap<UnitId, Items<DimValue>>,
+    tests: &[Leaf],
+    first: UnitId,
+    room: usize,
+) -> Result<Vec<Option<bool>>, Memory>
+    ensures { IfOk result (λ table.
+        AreKnown (members_of_entries values.now.entries) tests.now first table.items) }
+{
+    let mut table = Vec::new(alloc);
+    table.resize(room, None)?;
+    let end = first.saturating_add(room as u64);
+    look(values, tests, first, end, &mut table);
+    Ok(table)
+}
+
+/// Those of some units that are members whose values pass each of some tests, in their order.
+pub(crate) fn passing(
+    alloc: Global,
+    values: &BTreeMap<UnitId, Items<DimValue>>,
+    tests: &[Leaf],
+    among: &[UnitId],
+) -> Result<Vec<UnitId>, Memory>
+    ensures { IfOk result (λ list.
+        list.items ≡ filter (passes (members_of_entries values.now.entries) tests.now) among.now) }
+{
+    let first = among.first().copied().unwrap_or(0);
+    let table = noted_all(alloc, values, tests, first, room(among, 4))?;
+    let mut found = Vec::new(alloc);
+    for unit in among {
+        if passes_by(values, tests, &table, first, *unit) {
+            found.push(*unit)?;
+        }
+    }
+    Ok(found)
+}
