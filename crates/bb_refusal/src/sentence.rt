@@ -206,10 +206,12 @@ fn flaw_reason(flaw: Flaw) -> &'static str {
 
 fn rule_reason(fault: RuleFault) -> &'static str {
     match fault {
-        RuleFault::Slot => "a clause names a slot that its class has not, or one of the wrong sort",
-        RuleFault::Space => "a clause names a space that is not there",
+        RuleFault::Slot { .. } => {
+            "a clause names a slot that its class has not, or one of the wrong sort"
+        }
+        RuleFault::Space { .. } => "a clause names a space that is not there",
         RuleFault::Part => "a part was verified for something else",
-        RuleFault::Class => {
+        RuleFault::Class { .. } => {
             "a class is not there, or is neither that of the source or of its reaction nor below it"
         }
         RuleFault::Twice { .. } => "an earlier source has this name",

@@ -3,9 +3,10 @@ use Rattle.std.proofs.Common.{◌≡◌, ℕ, Bool, true, false, ◌==◌, cond,
 use Rattle.std.specs.Prelude.{All, IfSome, option_map}
 use Rattle.std.proofs.lemmas.Bool.{and_parts}
 use Rattle.std.proofs.lemmas.List.Elements.{All-nil, All-cons}
-use Rattle.bb_basis.specs.Results.{◌>>=◌}
+use Rattle.bb_basis.specs.Results.{◌>>=◌, ok_or}
+use Rattle.bb_basis.proofs.PlacedLemmas.{map_at_ok}
 use Rattle.bb_basis.proofs.ResultLemmas.{bind_ok, same_ok, All-try_map}
-use Rattle.bb_schema.specs.Schema.{Schema, descends}
+use Rattle.bb_schema.specs.Schema.{Schema, class_named, descends}
 use Rattle.bb_verify.specs.Accepted.{Checked}
 use Rattle.bb_verify.specs.Flaw.TheVariants as flaws
 use Rattle.bb_verify.specs.Part.{writes}
@@ -19,13 +20,17 @@ use Rattle.bb_bundle.specs.declared.source_code.ActDraft.TheVariants as drafts
 use Rattle.bb_bundle.specs.declared.source_code.SourceDraft.{SourceDraft}
 use Rattle.bb_rules.specs.declared.clause.Clause.{Clause}
 use Rattle.bb_rules.specs.declared.clause.Clause.TheVariants as clauses
+use Rattle.bb_rules.specs.declared.fault.ClauseFlaw.TheVariants as flawed
 use Rattle.bb_rules.specs.declared.fault.RuleFault.{RuleFault}
 use Rattle.bb_rules.specs.declared.fault.RuleFault.TheVariants as faults
+use Rattle.bb_rules.specs.declared.place.ClauseList.{ClauseList}
+use Rattle.bb_rules.specs.declared.place.ClauseList.TheVariants as lists
 use Rattle.bb_rules.specs.declared.resolve.Classes.{Classes}
 use Rattle.bb_rules.specs.declared.source.Act.TheVariants as acts
 use Rattle.bb_rules.specs.declared.source.Reaction.{Reaction}
 use Rattle.bb_rules.specs.declared.source.Source.{Source}
-use Rattle.bb_rules.specs.Source.{class_of, classes_of, obviate_part, retrigger_part, is_same_part, is_for, is_for_reaction, reaction_code, act_code, parts_fit, class_within, kind_of, clause_of, clauses_of, reaction_of, act_of, source_of}
+use Rattle.bb_rules.specs.Faults.{at_clause}
+use Rattle.bb_rules.specs.Source.{classes_of, obviate_part, retrigger_part, is_same_part, is_for, is_for_reaction, reaction_code, act_code, parts_fit, class_within, kind_of, clause_of, clauses_of, reaction_of, act_of, source_of}
 use Rattle.bb_rules.specs.Law.{IsWithin, IsPart, Reacts, IsOf, IsAccepted, AreAccepted, IsMade}
 
 -- ---- clauses
@@ -36,8 +41,8 @@ guarded false x y e h = absurd cc
 
 within : (s : Schema) (class : ℕ) (name : List ℕ) (changed : ℕ) → class_within s class name ≡ Ok changed → descends s changed class ≡ true
 within s class name changed h =
-    let one = bind_ok (class_of s name) (λ c. cond (descends s c class) (Ok c) (Err faults.Class)) changed h in
-    let two = guarded (descends s one.0 class) one.0 changed faults.Class one.2 in
+    let one = bind_ok (ok_or (class_named s name) flawed.Class) (λ c. cond (descends s c class) (Ok c) (Err flawed.Class)) changed h in
+    let two = guarded (descends s one.0 class) one.0 changed flawed.Class one.2 in
     ap (λ c. descends s c class) (sym two.1) ∙ two.0
 
 clause_within : (s : Schema) (class : ℕ) (text : ClauseText) (clause : Clause) → clause_of s class text ≡ Ok clause → IsWithin s class clause
@@ -51,8 +56,10 @@ all_any : {X : Type 0} (xs : List X) → All (λ _. Unit {0}) xs
 all_any [] = All-nil (λ _. Unit {0})
 all_any (x ∷ xs) = All-cons (λ _. Unit {0}) x xs tt (all_any xs)
 
-clauses_within : (s : Schema) (class : ℕ) (texts : List ClauseText) (made : List Clause) → clauses_of s class texts ≡ Ok made → All (IsWithin s class) made
-clauses_within s class texts made h = All-try_map (λ _. Unit {0}) (IsWithin s class) (clause_of s class) (λ text clause _ is. clause_within s class text clause is) texts made (all_any texts) h
+clauses_within : (s : Schema) (list : ClauseList) (class : ℕ) (texts : List ClauseText) (made : List Clause) → clauses_of s list class texts ≡ Ok made → All (IsWithin s class) made
+clauses_within s list class texts made h =
+    All-try_map (λ _. Unit {0}) (IsWithin s class) (clause_of s class) (λ text clause _ is. clause_within s class text clause is) texts made (all_any texts)
+    (map_at_ok (at_clause list) (clause_of s class) 0 texts made h)
 
 -- ---- codes
 
@@ -93,8 +100,8 @@ is_part part (Some code) done h c is =
     let same : code ≡ c = cc in
     ap (λ d. d.part) (sym same) ∙ same_part code.part part (guarded (is_same_part code.part part) tt done faults.Part h).0
 
-module _ (s : Schema) (part : ℕ → Part) where
-  reacts : (of : Option ℕ) (draft : Option (ReactionDraft Checked)) (made : Option Reaction) (done : Unit {0}) → is_for_reaction (option_map part of) (reaction_code draft) ≡ Ok done → reaction_of s of draft ≡ Ok made → Reacts s part made
+module _ (s : Schema) (list : ClauseList) (part : ℕ → Part) where
+  reacts : (of : Option ℕ) (draft : Option (ReactionDraft Checked)) (made : Option Reaction) (done : Unit {0}) → is_for_reaction (option_map part of) (reaction_code draft) ≡ Ok done → reaction_of s list of draft ≡ Ok made → Reacts s part made
   reacts None draft made done fit h =
       let none : None ≡ made = same_ok None made h in
       record { clauses = λ r is. absurd cc; code = λ r is. absurd cc }
@@ -102,11 +109,11 @@ module _ (s : Schema) (part : ℕ → Part) where
       let none : None ≡ made = same_ok None made h in
       record { clauses = λ r is. absurd cc; code = λ r is. absurd cc }
   reacts (Some class) (Some draft) made done fit h =
-      let one = bind_ok (clauses_of s class draft.clauses) (λ found. Ok (Some (record { class = class; clauses = found; code = draft.code }))) made h in
+      let one = bind_ok (clauses_of s list class draft.clauses) (λ found. Ok (Some (record { class = class; clauses = found; code = draft.code }))) made h in
       let whole : Reaction = record { class = class; clauses = one.0; code = draft.code } in
       let is_made : Some whole ≡ made = same_ok (Some whole) made one.2 in
       subst (Reacts s part) is_made (record {
-        clauses = λ r is. let same : whole ≡ r = cc in subst (λ t. All (IsWithin s t.class) t.clauses) same (clauses_within s class draft.clauses one.0 one.1);
+        clauses = λ r is. let same : whole ≡ r = cc in subst (λ t. All (IsWithin s t.class) t.clauses) same (clauses_within s list class draft.clauses one.0 one.1);
         code = λ r is. let same : whole ≡ r = cc in subst (λ t. t.code.part ≡ part t.class) same (is_part (part class) (Some draft.code) done fit draft.code refl);
       })
 
@@ -188,23 +195,23 @@ pub record Steps (s : Schema) (draft : SourceDraft Checked) (source : Source) : 
   pub done : Unit {0}
   pub fit : parts_fit classes draft ≡ Ok done
   pub triggers : List Clause
-  pub triggers_are : clauses_of s classes.own draft.triggers ≡ Ok triggers
+  pub triggers_are : clauses_of s lists.Triggers classes.own draft.triggers ≡ Ok triggers
   pub obviate : Option Reaction
-  pub obviate_is : reaction_of s classes.obviated draft.obviate ≡ Ok obviate
+  pub obviate_is : reaction_of s lists.Obviate classes.obviated draft.obviate ≡ Ok obviate
   pub retrigger : Option Reaction
-  pub retrigger_is : reaction_of s classes.retriggered draft.retrigger ≡ Ok retrigger
+  pub retrigger_is : reaction_of s lists.Retrigger classes.retriggered draft.retrigger ≡ Ok retrigger
   pub made : with_all draft classes triggers obviate retrigger ≡ source
 
 pub steps_of : (s : Schema) (draft : SourceDraft Checked) (source : Source) → source_of s draft ≡ Ok source → Steps s draft source
 unfolding source_of
 steps_of s draft source h =
     let made = with_all draft in
-    let after : Classes → List Clause → Result Source RuleFault = λ c ts. reaction_of s c.obviated draft.obviate >>= λ o. reaction_of s c.retriggered draft.retrigger >>= λ r. Ok (made c ts o r) in
-    let c = bind_ok (classes_of s draft) (λ c. parts_fit c draft >>= λ _. clauses_of s c.own draft.triggers >>= λ ts. after c ts) source h in
-    let p = bind_ok (parts_fit c.0 draft) (λ _. clauses_of s c.0.own draft.triggers >>= λ ts. after c.0 ts) source c.2 in
-    let t = bind_ok (clauses_of s c.0.own draft.triggers) (λ ts. after c.0 ts) source p.2 in
-    let o = bind_ok (reaction_of s c.0.obviated draft.obviate) (λ o. reaction_of s c.0.retriggered draft.retrigger >>= λ r. Ok (made c.0 t.0 o r)) source t.2 in
-    let r = bind_ok (reaction_of s c.0.retriggered draft.retrigger) (λ r. Ok (made c.0 t.0 o.0 r)) source o.2 in
+    let after : Classes → List Clause → Result Source RuleFault = λ c ts. reaction_of s lists.Obviate c.obviated draft.obviate >>= λ o. reaction_of s lists.Retrigger c.retriggered draft.retrigger >>= λ r. Ok (made c ts o r) in
+    let c = bind_ok (classes_of s draft) (λ c. parts_fit c draft >>= λ _. clauses_of s lists.Triggers c.own draft.triggers >>= λ ts. after c ts) source h in
+    let p = bind_ok (parts_fit c.0 draft) (λ _. clauses_of s lists.Triggers c.0.own draft.triggers >>= λ ts. after c.0 ts) source c.2 in
+    let t = bind_ok (clauses_of s lists.Triggers c.0.own draft.triggers) (λ ts. after c.0 ts) source p.2 in
+    let o = bind_ok (reaction_of s lists.Obviate c.0.obviated draft.obviate) (λ o. reaction_of s lists.Retrigger c.0.retriggered draft.retrigger >>= λ r. Ok (made c.0 t.0 o r)) source t.2 in
+    let r = bind_ok (reaction_of s lists.Retrigger c.0.retriggered draft.retrigger) (λ r. Ok (made c.0 t.0 o.0 r)) source o.2 in
     record {
       classes = c.0;
       done = p.0;
@@ -224,26 +231,26 @@ source_law s draft source h =
     let c = steps.classes in
     let fit = fit_parts c draft steps.done steps.fit in
     subst (IsOf s) steps.made (record {
-      triggers = clauses_within s c.own draft.triggers steps.triggers steps.triggers_are;
+      triggers = clauses_within s lists.Triggers c.own draft.triggers steps.triggers steps.triggers_are;
       require = is_part (parts.Require c.own) draft.require fit.done fit.require;
-      obviate = reacts s (parts.Obviate c.own) c.obviated draft.obviate steps.obviate fit.done fit.obviate steps.obviate_is;
-      retrigger = reacts s (parts.Retrigger c.own) c.retriggered draft.retrigger steps.retrigger fit.done fit.retrigger steps.retrigger_is;
+      obviate = reacts s lists.Obviate (parts.Obviate c.own) c.obviated draft.obviate steps.obviate fit.done fit.obviate steps.obviate_is;
+      retrigger = reacts s lists.Retrigger (parts.Retrigger c.own) c.retriggered draft.retrigger steps.retrigger fit.done fit.retrigger steps.retrigger_is;
       revalidate = is_part (parts.Revalidate c.own) draft.revalidate fit.done fit.revalidate;
       act = act_part c.own draft.act fit.done fit.act;
     })
 
 -- ---- codes that were accepted
 
-reaction_accepted : (s : Schema) (of : Option ℕ) (draft : Option (ReactionDraft Checked)) (made : Option Reaction) → reaction_of s of draft ≡ Ok made → ((d : ReactionDraft Checked) → draft ≡ Some d → IsAccepted s d.code)
+reaction_accepted : (s : Schema) (list : ClauseList) (of : Option ℕ) (draft : Option (ReactionDraft Checked)) (made : Option Reaction) → reaction_of s list of draft ≡ Ok made → ((d : ReactionDraft Checked) → draft ≡ Some d → IsAccepted s d.code)
     → (r : Reaction) → made ≡ Some r → IsAccepted s r.code
-reaction_accepted s None draft made h are r is =
+reaction_accepted s list None draft made h are r is =
     let none : None ≡ made = same_ok None made h in
     absurd cc
-reaction_accepted s (Some class) None made h are r is =
+reaction_accepted s list (Some class) None made h are r is =
     let none : None ≡ made = same_ok None made h in
     absurd cc
-reaction_accepted s (Some class) (Some draft) made h are r is =
-    let one = bind_ok (clauses_of s class draft.clauses) (λ found. Ok (Some (record { class = class; clauses = found; code = draft.code }))) made h in
+reaction_accepted s list (Some class) (Some draft) made h are r is =
+    let one = bind_ok (clauses_of s list class draft.clauses) (λ found. Ok (Some (record { class = class; clauses = found; code = draft.code }))) made h in
     let whole : Reaction = record { class = class; clauses = one.0; code = draft.code } in
     let is_made : Some whole ≡ made = same_ok (Some whole) made one.2 in
     let same : whole ≡ r = cc in
@@ -261,8 +268,8 @@ source_made_of s draft source h are =
     subst (IsMade s) steps.made (record {
       law = subst (IsOf s) (sym steps.made) (source_law s draft source h);
       require = are.require;
-      obviate = reaction_accepted s steps.classes.obviated draft.obviate steps.obviate steps.obviate_is are.obviate;
-      retrigger = reaction_accepted s steps.classes.retriggered draft.retrigger steps.retrigger steps.retrigger_is are.retrigger;
+      obviate = reaction_accepted s lists.Obviate steps.classes.obviated draft.obviate steps.obviate steps.obviate_is are.obviate;
+      retrigger = reaction_accepted s lists.Retrigger steps.classes.retriggered draft.retrigger steps.retrigger steps.retrigger_is are.retrigger;
       revalidate = are.revalidate;
       act = act_accepted s draft.act are.act;
     })

@@ -12,6 +12,8 @@ use Rattle.bb_rules.specs.declared.answered.Found.{Found}
 use Rattle.bb_rules.specs.declared.clause.Clause.{Clause}
 use Rattle.bb_rules.specs.declared.fault.RuleFault.{RuleFault}
 use Rattle.bb_rules.specs.declared.fault.RuleFault.TheVariants.{Memory}
+use Rattle.bb_rules.specs.declared.place.ClauseList.{ClauseList}
+use Rattle.bb_rules.specs.declared.place.ClauseList.TheVariants as lists
 use Rattle.bb_rules.specs.declared.resolve.Classes.{Classes}
 use Rattle.bb_rules.specs.declared.source.Reaction.{Reaction}
 use Rattle.bb_rules.specs.declared.source.Source.{Source}
@@ -26,28 +28,28 @@ module _ {C : Type 0} (s : Schema) (c : Classes) (draft : SourceDraft C) where
   answers ts o r = Ok (record { triggers = ts; obviating = o; retriggering = r })
 
   abbrev after_obviating : List Clause → Option (List Clause) → Result Answered RuleFault
-  after_obviating ts o = reaction_clauses s c.retriggered draft.retrigger >>= answers ts o
+  after_obviating ts o = reaction_clauses s lists.Retrigger c.retriggered draft.retrigger >>= answers ts o
 
   abbrev after_triggers : List Clause → Result Answered RuleFault
-  after_triggers ts = reaction_clauses s c.obviated draft.obviate >>= after_obviating ts
+  after_triggers ts = reaction_clauses s lists.Obviate c.obviated draft.obviate >>= after_obviating ts
 
-  triggered : (texts : List ClauseText) (ts : List Clause) → texts ≡ draft.triggers → clauses_of s c.own texts ≡ Ok ts → answered s c draft ≡ after_triggers ts
+  triggered : (texts : List ClauseText) (ts : List Clause) → texts ≡ draft.triggers → clauses_of s lists.Triggers c.own texts ≡ Ok ts → answered s c draft ≡ after_triggers ts
   unfolding answered
-  triggered texts ts read found = ap (λ r. r >>= after_triggers) (ap (clauses_of s c.own) (sym read) ∙ found)
+  triggered texts ts read found = ap (λ r. r >>= after_triggers) (ap (clauses_of s lists.Triggers c.own) (sym read) ∙ found)
 
-  pub obviating_fails : (texts : List ClauseText) (ts : List Clause) (e : RuleFault) → texts ≡ draft.triggers → clauses_of s c.own texts ≡ Ok ts
-      → (e ≡ Memory) ⊎ (reaction_clauses s c.obviated draft.obviate ≡ Err e) → (e ≡ Memory) ⊎ (answered s c draft ≡ Err e)
+  pub obviating_fails : (texts : List ClauseText) (ts : List Clause) (e : RuleFault) → texts ≡ draft.triggers → clauses_of s lists.Triggers c.own texts ≡ Ok ts
+      → (e ≡ Memory) ⊎ (reaction_clauses s lists.Obviate c.obviated draft.obviate ≡ Err e) → (e ≡ Memory) ⊎ (answered s c draft ≡ Err e)
   obviating_fails texts ts e read found (inl memory) = inl memory
   obviating_fails texts ts e read found (inr failed) = inr (triggered texts ts read found ∙ ap (λ r. r >>= after_obviating ts) failed)
 
-  pub retriggering_fails : (texts : List ClauseText) (ts : List Clause) (o : Option (List Clause)) (e : RuleFault) → texts ≡ draft.triggers → clauses_of s c.own texts ≡ Ok ts → reaction_clauses s c.obviated draft.obviate ≡ Ok o
-      → (e ≡ Memory) ⊎ (reaction_clauses s c.retriggered draft.retrigger ≡ Err e) → (e ≡ Memory) ⊎ (answered s c draft ≡ Err e)
+  pub retriggering_fails : (texts : List ClauseText) (ts : List Clause) (o : Option (List Clause)) (e : RuleFault) → texts ≡ draft.triggers → clauses_of s lists.Triggers c.own texts ≡ Ok ts → reaction_clauses s lists.Obviate c.obviated draft.obviate ≡ Ok o
+      → (e ≡ Memory) ⊎ (reaction_clauses s lists.Retrigger c.retriggered draft.retrigger ≡ Err e) → (e ≡ Memory) ⊎ (answered s c draft ≡ Err e)
   retriggering_fails texts ts o e read found obviating (inl memory) = inl memory
   retriggering_fails texts ts o e read found obviating (inr failed) =
       inr (triggered texts ts read found ∙ (ap (λ r. r >>= after_obviating ts) obviating ∙ ap (λ r. r >>= answers ts o) failed))
 
-  pub all_found : (texts : List ClauseText) (ts : List Clause) (o r : Option (List Clause)) → texts ≡ draft.triggers → clauses_of s c.own texts ≡ Ok ts → reaction_clauses s c.obviated draft.obviate ≡ Ok o
-      → reaction_clauses s c.retriggered draft.retrigger ≡ Ok r → answered s c draft ≡ answers ts o r
+  pub all_found : (texts : List ClauseText) (ts : List Clause) (o r : Option (List Clause)) → texts ≡ draft.triggers → clauses_of s lists.Triggers c.own texts ≡ Ok ts → reaction_clauses s lists.Obviate c.obviated draft.obviate ≡ Ok o
+      → reaction_clauses s lists.Retrigger c.retriggered draft.retrigger ≡ Ok r → answered s c draft ≡ answers ts o r
   all_found texts ts o r read found obviating retriggering =
       triggered texts ts read found ∙ (ap (λ x. x >>= after_obviating ts) obviating ∙ ap (λ x. x >>= answers ts o) retriggering)
 
@@ -60,11 +62,11 @@ with_clauses class draft (Ok cs) = refl
 with_clauses class draft (Err e) = refl
 
 -- a reaction is its clauses, put together with its class and its code
-reaction_is : (s : Schema) (class : Option ℕ) (draft : Option (ReactionDraft Checked)) → reaction_of s class draft ≡ (reaction_clauses s class draft >>= λ cs. Ok (reaction_with class cs draft))
-reaction_is s (Some class) (Some draft) = with_clauses class draft (clauses_of s class draft.clauses)
-reaction_is s (Some class) None = refl
-reaction_is s None (Some draft) = refl
-reaction_is s None None = refl
+reaction_is : (s : Schema) (list : ClauseList) (class : Option ℕ) (draft : Option (ReactionDraft Checked)) → reaction_of s list class draft ≡ (reaction_clauses s list class draft >>= λ cs. Ok (reaction_with class cs draft))
+reaction_is s list (Some class) (Some draft) = with_clauses class draft (clauses_of s list class draft.clauses)
+reaction_is s list (Some class) None = refl
+reaction_is s list None (Some draft) = refl
+reaction_is s list None None = refl
 
 module _ (s : Schema) (draft : SourceDraft Checked) where
   abbrev made : Classes → List Clause → Option Reaction → Option Reaction → Result Source RuleFault
@@ -82,7 +84,7 @@ module _ (s : Schema) (draft : SourceDraft Checked) where
 
   -- what follows once each code is for its part, by either order of the steps
   abbrev at_once : Classes → Result Source RuleFault
-  at_once c = clauses_of s c.own draft.triggers >>= λ ts. reaction_of s c.obviated draft.obviate >>= λ o. reaction_of s c.retriggered draft.retrigger >>= made c ts o
+  at_once c = clauses_of s lists.Triggers c.own draft.triggers >>= λ ts. reaction_of s lists.Obviate c.obviated draft.obviate >>= λ o. reaction_of s lists.Retrigger c.retriggered draft.retrigger >>= made c ts o
 
   abbrev at_the_end : Classes → Result Source RuleFault
   at_the_end c = (answered s c draft >>= λ a. Ok (record { classes = c; answered = a })) >>= λ f. Ok (source_with f draft)
@@ -98,9 +100,9 @@ module _ (s : Schema) (draft : SourceDraft Checked) where
   same_source : (c : Classes) → at_once c ≡ at_the_end c
   unfolding answered
   same_source c =
-      ap (λ o. clauses_of s c.own draft.triggers >>= λ ts. o >>= λ obviate. reaction_of s c.retriggered draft.retrigger >>= made c ts obviate) (reaction_is s c.obviated draft.obviate)
-      ∙ (ap (λ r. clauses_of s c.own draft.triggers >>= λ ts. (reaction_clauses s c.obviated draft.obviate >>= λ cs. Ok (reaction_with c.obviated cs draft.obviate)) >>= λ obviate. r >>= made c ts obviate) (reaction_is s c.retriggered draft.retrigger)
-      ∙ put_off c (clauses_of s c.own draft.triggers) (reaction_clauses s c.obviated draft.obviate) (reaction_clauses s c.retriggered draft.retrigger))
+      ap (λ o. clauses_of s lists.Triggers c.own draft.triggers >>= λ ts. o >>= λ obviate. reaction_of s lists.Retrigger c.retriggered draft.retrigger >>= made c ts obviate) (reaction_is s lists.Obviate c.obviated draft.obviate)
+      ∙ (ap (λ r. clauses_of s lists.Triggers c.own draft.triggers >>= λ ts. (reaction_clauses s lists.Obviate c.obviated draft.obviate >>= λ cs. Ok (reaction_with c.obviated cs draft.obviate)) >>= λ obviate. r >>= made c ts obviate) (reaction_is s lists.Retrigger c.retriggered draft.retrigger)
+      ∙ put_off c (clauses_of s lists.Triggers c.own draft.triggers) (reaction_clauses s lists.Obviate c.obviated draft.obviate) (reaction_clauses s lists.Retrigger c.retriggered draft.retrigger))
 
   once_fit : (c : Classes) (fit : Result (Unit {0}) RuleFault) → (fit >>= λ _. at_once c) ≡ ((fit >>= λ _. answered s c draft >>= λ a. Ok (record { classes = c; answered = a })) >>= λ f. Ok (source_with f draft))
   once_fit c (Ok done) = same_source c

@@ -1,7 +1,7 @@
 -- The source that a draft makes under a schema: its names are looked up, up to the first that does not fit.
 use Rattle.std.specs.Prelude.{ℕ, Bool, false, ◌&&◌, ◌==◌, List, Option, Some, None, option_map, is_some}
 use Rattle.std.specs.Prelude.{Result, Ok, Err, if◌then◌else◌}
-use Rattle.bb_basis.specs.Results.{◌>>=◌, ok_or, try_map}
+use Rattle.bb_basis.specs.Results.{◌>>=◌, ok_or, try_map_at}
 use Rattle.bb_board.specs.ChangeKind.{ChangeKind}
 use Rattle.bb_board.specs.ChangeKind.TheVariants as kinds
 use Rattle.bb_bundle.specs.ChangeText.{ChangeText}
@@ -18,33 +18,40 @@ use Rattle.bb_verify.specs.PartType.{Part}
 use Rattle.bb_verify.specs.PartType.TheVariants as parts
 use Rattle.bb_rules.specs.declared.clause.Clause.{Clause}
 use Rattle.bb_rules.specs.declared.clause.Clause.TheVariants as clauses
+use Rattle.bb_rules.specs.declared.fault.ClauseFlaw.{ClauseFlaw}
+use Rattle.bb_rules.specs.declared.fault.ClauseFlaw.TheVariants as flaws
 use Rattle.bb_rules.specs.declared.fault.RuleFault.{RuleFault}
 use Rattle.bb_rules.specs.declared.fault.RuleFault.TheVariants as faults
+use Rattle.bb_rules.specs.declared.place.ClassPlace.{ClassPlace}
+use Rattle.bb_rules.specs.declared.place.ClassPlace.TheVariants as places
+use Rattle.bb_rules.specs.declared.place.ClauseList.{ClauseList}
+use Rattle.bb_rules.specs.declared.place.ClauseList.TheVariants as lists
 use Rattle.bb_rules.specs.declared.resolve.Classes.{Classes}
 use Rattle.bb_rules.specs.declared.source.Act.{Act}
 use Rattle.bb_rules.specs.declared.source.Act.TheVariants as acts
 use Rattle.bb_rules.specs.declared.source.Reaction.{Reaction}
 use Rattle.bb_rules.specs.declared.source.Source.{Source}
+use Rattle.bb_rules.specs.Faults.{at_clause}
 
 -- ---- classes
 
--- the class of a name
-abbrev pub class_of : Schema → List ℕ → Result ℕ RuleFault
-class_of s name = ok_or (class_named s name) faults.Class
+-- the class of a name at this place
+abbrev pub class_of : Schema → ClassPlace → List ℕ → Result ℕ RuleFault
+class_of s place name = ok_or (class_named s name) (faults.Class place)
 
--- the class of a reaction, if there is one
-abbrev pub reaction_class : {C : Type 0} → Schema → Option (ReactionDraft C) → Result (Option ℕ) RuleFault
-reaction_class s None = Ok None
-reaction_class s (Some draft) = do
-  class ← class_of s draft.class
+-- the class of a reaction, if there is one, which is named at this place
+abbrev pub reaction_class : {C : Type 0} → Schema → ClassPlace → Option (ReactionDraft C) → Result (Option ℕ) RuleFault
+reaction_class s place None = Ok None
+reaction_class s place (Some draft) = do
+  class ← class_of s place draft.class
   Ok (Some class)
 
 -- the class of a source, and those of its reactions
 unfoldable pub classes_of : {C : Type 0} → Schema → SourceDraft C → Result Classes RuleFault
 classes_of s draft = do
-  own ← class_of s draft.class
-  obviated ← reaction_class s draft.obviate
-  retriggered ← reaction_class s draft.retrigger
+  own ← class_of s places.Source draft.class
+  obviated ← reaction_class s places.Obviate draft.obviate
+  retriggered ← reaction_class s places.Retrigger draft.retrigger
   Ok (record { own = own; obviated = obviated; retriggered = retriggered })
 
 -- the parts of its reactions, which go by their classes
@@ -96,29 +103,29 @@ parts_fit c draft = do
 -- ---- clauses
 
 -- the class of a name, where it is this one or descends from it
-abbrev pub class_within : Schema → ℕ → List ℕ → Result ℕ RuleFault
+abbrev pub class_within : Schema → ℕ → List ℕ → Result ℕ ClauseFlaw
 class_within s class name = do
-  changed ← class_of s name
-  if descends s changed class then Ok changed else Err faults.Class
+  changed ← ok_or (class_named s name) flaws.Class
+  if descends s changed class then Ok changed else Err flaws.Class
 
 -- the ordinary slot of a name in a class
-abbrev pub ordinary_slot : Schema → ℕ → List ℕ → Result ℕ RuleFault
+abbrev pub ordinary_slot : Schema → ℕ → List ℕ → Result ℕ ClauseFlaw
 ordinary_slot s class name = do
-  slot ← ok_or (slot_named s class name) faults.Slot
-  if is_some (default_of s slot) then Ok slot else Err faults.Slot
+  slot ← ok_or (slot_named s class name) flaws.Slot
+  if is_some (default_of s slot) then Ok slot else Err flaws.Slot
 
 -- the link slot of a name in a class
-abbrev pub link_slot : Schema → ℕ → List ℕ → Result ℕ RuleFault
+abbrev pub link_slot : Schema → ℕ → List ℕ → Result ℕ ClauseFlaw
 link_slot s class name = do
-  slot ← ok_or (slot_named s class name) faults.Slot
-  if is_some (link_of s.slots slot) then Ok slot else Err faults.Slot
+  slot ← ok_or (slot_named s class name) flaws.Slot
+  if is_some (link_of s.slots slot) then Ok slot else Err flaws.Slot
 
 -- the space of a name
-abbrev pub space_of : Schema → List ℕ → Result ℕ RuleFault
-space_of s name = ok_or (space_named s name) faults.Space
+abbrev pub space_of : Schema → List ℕ → Result ℕ ClauseFlaw
+space_of s name = ok_or (space_named s name) flaws.Space
 
 -- the kind of change of a clause of this class
-abbrev pub kind_of : Schema → ℕ → ChangeText → Result ChangeKind RuleFault
+abbrev pub kind_of : Schema → ℕ → ChangeText → Result ChangeKind ClauseFlaw
 kind_of s class changes.Create = Ok kinds.Create
 kind_of s class changes.Delete = Ok kinds.Delete
 kind_of s class (changes.Update name) = do
@@ -138,25 +145,25 @@ kind_of s class (changes.Leave name) = do
   Ok (kinds.Leave space)
 
 -- a clause about units of this class
-abbrev pub clause_of : Schema → ℕ → ClauseText → Result Clause RuleFault
+abbrev pub clause_of : Schema → ℕ → ClauseText → Result Clause ClauseFlaw
 clause_of s within (texts.Change kind name) = do
   class ← class_within s within name
   change ← kind_of s class kind
   Ok (clauses.Change change class)
 clause_of s within texts.Quiescence = Ok clauses.Quiescence
 
--- all of them, in order
-abbrev pub clauses_of : Schema → ℕ → List ClauseText → Result (List Clause) RuleFault
-clauses_of s within texts = try_map (clause_of s within) texts
+-- all clauses of a list, in order, a flaw with its place in there
+abbrev pub clauses_of : Schema → ClauseList → (within : ℕ) → List ClauseText → Result (List Clause) RuleFault
+clauses_of s list within texts = try_map_at (at_clause list) (clause_of s within) 0 texts
 
 -- ---- the source
 
--- a reaction, if there is one
-abbrev pub reaction_of : Schema → Option ℕ → Option (ReactionDraft Checked) → Result (Option Reaction) RuleFault
-reaction_of s (Some class) (Some draft) = do
-  found ← clauses_of s class draft.clauses
+-- a reaction, if there is one, whose clauses are this list
+abbrev pub reaction_of : Schema → ClauseList → Option ℕ → Option (ReactionDraft Checked) → Result (Option Reaction) RuleFault
+reaction_of s list (Some class) (Some draft) = do
+  found ← clauses_of s list class draft.clauses
   Ok (Some (record { class = class; clauses = found; code = draft.code }))
-reaction_of s _ _ = Ok None
+reaction_of s list _ _ = Ok None
 
 -- what an activation does
 abbrev pub act_of : ActDraft Checked → Act
@@ -168,9 +175,9 @@ unfoldable pub source_of : Schema → SourceDraft Checked → Result Source Rule
 source_of s draft = do
   c ← classes_of s draft
   _ ← parts_fit c draft
-  triggers ← clauses_of s c.own draft.triggers
-  obviate ← reaction_of s c.obviated draft.obviate
-  retrigger ← reaction_of s c.retriggered draft.retrigger
+  triggers ← clauses_of s lists.Triggers c.own draft.triggers
+  obviate ← reaction_of s lists.Obviate c.obviated draft.obviate
+  retrigger ← reaction_of s lists.Retrigger c.retriggered draft.retrigger
   Ok (record {
     name = draft.name;
     class = c.own;

@@ -6,6 +6,7 @@ ghost use Rattle.bb_rules.specs.proving.Steps.{answered, found};
 use crate::clauses::Clauses;
 use crate::fault::RuleFault;
 use crate::parts::parts_fit;
+use crate::place::ClauseList;
 use crate::resolve::{Classes, clauses_of, reaction_clauses};
 use bb_bundle::SourceDraft;
 use bb_schema::Schema;
@@ -34,9 +35,27 @@ impl Answered {
     ) -> Result<Answered, RuleFault>
         ensures { Gives RuleFault.Memory (λ a. a) result (answered schema.now classes draft.now) }
     {
-        let triggers = clauses_of(alloc, schema, classes.own, draft.triggers.as_slice())?;
-        let obviating = reaction_clauses(alloc, schema, classes.obviated, &draft.obviate)?;
-        let retriggering = reaction_clauses(alloc, schema, classes.retriggered, &draft.retrigger)?;
+        let triggers = clauses_of(
+            alloc,
+            schema,
+            ClauseList::Triggers,
+            classes.own,
+            draft.triggers.as_slice(),
+        )?;
+        let obviating = reaction_clauses(
+            alloc,
+            schema,
+            ClauseList::Obviate,
+            classes.obviated,
+            &draft.obviate,
+        )?;
+        let retriggering = reaction_clauses(
+            alloc,
+            schema,
+            ClauseList::Retrigger,
+            classes.retriggered,
+            &draft.retrigger,
+        )?;
         Ok(Answered {
             triggers,
             obviating,

@@ -1,30 +1,33 @@
-//! Why a source is refused. Refusal lines name it by its number.
+//! Why a source is refused, and where in it that is. Refusal lines name it by its number.
 
 ghost use Rattle.std.specs.Prelude.{◌≡◌};
+ghost use Rattle.bb_basis.specs.Results.{map_err};
 ghost use Rattle.bb_rules.specs.declared.fault.RuleFault.TheVariants.{Memory as OutOfMemory};
-ghost use Rattle.bb_rules.specs.Faults.{fault_number};
+ghost use Rattle.bb_rules.specs.Faults.{at_clause, fault_number};
 
+use crate::place::{ClassPlace, ClausePlace};
 use std::alloc::{AllocError, AllocFailed};
 use thiserror::Error;
 
 /// Why a source does not fit a schema, or the sources before it.
 #[derive(Clone, Copy, Debug, PartialEq, Eq, Error)]
 pub enum RuleFault {
-    /// The class of a clause has no slot of that name and sort.
+    /// The class of the clause at this place has no slot of that name and sort.
     #[error("a clause names a slot that its class has not")]
-    Slot,
-    /// No space has the name.
+    Slot { place: ClausePlace },
+    /// No space has the name in the clause at this place.
     #[error("a clause names a space that is not there")]
-    Space,
+    Space { place: ClausePlace },
     /// A part was checked as another part, or for other classes.
     #[error("a part was checked for something else")]
     Part,
     /// Memory ran out.
     #[error("out of memory")]
     Memory,
-    /// No class has the name, or the class of a clause does not descend from that of its source.
+    /// No class has the name at this place, or the class of the clause there does not descend from that of its source
+    /// or reaction.
     #[error("a class that is unknown or outside that of the source")]
-    Class,
+    Class { place: ClassPlace },
     /// An earlier source has the name of the source at this place, from 0.
     #[error("source {place} has the name of an earlier one")]
     Twice { place: u64 },
@@ -42,11 +45,11 @@ impl RuleFault {
         ensures { result ≡ fault_number self }
     {
         match self {
-            RuleFault::Slot => 1,
-            RuleFault::Space => 2,
+            RuleFault::Slot { .. } => 1,
+            RuleFault::Space { .. } => 2,
             RuleFault::Part => 3,
             RuleFault::Memory => 4,
-            RuleFault::Class => 5,
+            RuleFault::Class { .. } => 5,
             RuleFault::Twice { .. } => 6,
             RuleFault::Limit { .. } => 7,
             RuleFault::Native { .. } => 8,
@@ -67,5 +70,41 @@ impl<T: Drop> From<AllocFailed<T>> for RuleFault {
 
     fn from(_refused: AllocFailed<T>) -> RuleFault {
         RuleFault::Memory
+    }
+}
+
+/// What is wrong with a clause, wherever it stands.
+#[derive(Clone, Copy, Debug, PartialEq, Eq)]
+pub(crate) enum ClauseFlaw {
+    /// Its class has no slot of that name and sort.
+    Slot,
+    /// No space has the name.
+    Space,
+    /// No class has the name, or the class does not descend from the one that is due.
+    Class,
+}
+
+impl ClauseFlaw {
+    /// The fault of the clause at a place that has this flaw.
+    pub(crate) fn at(self, place: ClausePlace) -> RuleFault
+        ensures { result ≡ at_clause place.list place.index self }
+    {
+        match self {
+            ClauseFlaw::Slot => RuleFault::Slot { place },
+            ClauseFlaw::Space => RuleFault::Space { place },
+            ClauseFlaw::Class => RuleFault::Class {
+                place: ClassPlace::Clause(place),
+            },
+        }
+    }
+}
+
+/// The answer of the clause at a place, a flaw as the fault there.
+pub(crate) fn placed<T>(answer: Result<T, ClauseFlaw>, place: ClausePlace) -> Result<T, RuleFault>
+    ensures { result ≡ map_err (at_clause place.list place.index) answer }
+{
+    match answer {
+        Ok(value) => Ok(value),
+        Err(flaw) => Err(flaw.at(place)),
     }
 }

@@ -1,7 +1,7 @@
 //! The classes and clauses of a source by their names. `Source::new` looks them up.
 
 ghost use Rattle.std.specs.Prelude.{◌≡◌};
-ghost use Rattle.bb_basis.specs.Results.{Gives, try_map};
+ghost use Rattle.bb_basis.specs.Results.{Gives};
 ghost use Rattle.bb_rules.specs.Source.{class_of, class_within, classes_of, clause_of, clauses_of, kind_of};
 ghost use Rattle.bb_rules.specs.Source.{link_slot, obviate_part, ordinary_slot, reaction_class};
 ghost use Rattle.bb_rules.specs.Source.{retrigger_part, space_of};
@@ -9,7 +9,8 @@ ghost use Rattle.bb_rules.specs.proving.Steps.{reaction_clauses};
 
 use crate::clause::Clause;
 use crate::clauses::Clauses;
-use crate::fault::RuleFault;
+use crate::fault::{ClauseFlaw, RuleFault, placed};
+use crate::place::{ClassPlace, ClauseList, ClausePlace};
 use bb_board::ChangeKind;
 use bb_bundle::{ChangeText, ClauseText, ReactionDraft, SourceDraft};
 use bb_schema::{ClassId, Schema, SlotId, SpaceId};
@@ -28,14 +29,14 @@ pub struct Classes {
 }
 
 impl Classes {
-    /// Looks up the classes that a draft names, its own first. The fault is `Class` where one is unknown.
+    /// Looks up the classes that a draft names, its own first. The fault is `Class` where one is unknown, and tells which.
     #[tactic(auto, unfolding(crate::specs::Source::classes_of))]
     pub fn find<C>(schema: &Schema, draft: &SourceDraft<C>) -> Result<Classes, RuleFault>
         ensures { result ≡ classes_of schema.now draft.now }
     {
-        let own = class_of(schema, draft.class.as_str())?;
-        let obviated = reaction_class(schema, &draft.obviate)?;
-        let retriggered = reaction_class(schema, &draft.retrigger)?;
+        let own = class_of(schema, ClassPlace::Source, draft.class.as_str())?;
+        let obviated = reaction_class(schema, ClassPlace::Obviate, &draft.obviate)?;
+        let retriggered = reaction_class(schema, ClassPlace::Retrigger, &draft.retrigger)?;
         Ok(Classes {
             own,
             obviated,
@@ -64,62 +65,64 @@ impl Classes {
     }
 }
 
-fn class_of(schema: &Schema, name: &str) -> Result<ClassId, RuleFault>
-    ensures { result ≡ class_of schema.now name.now }
+// The class of a name at a place outside clauses.
+fn class_of(schema: &Schema, place: ClassPlace, name: &str) -> Result<ClassId, RuleFault>
+    ensures { result ≡ class_of schema.now place name.now }
 {
-    schema.class(name).ok_or(RuleFault::Class)
+    schema.class(name).ok_or(RuleFault::Class { place })
 }
 
 fn reaction_class<C>(
     schema: &Schema,
+    place: ClassPlace,
     draft: &Option<ReactionDraft<C>>,
 ) -> Result<Option<ClassId>, RuleFault>
-    ensures { result ≡ reaction_class schema.now draft.now }
+    ensures { result ≡ reaction_class schema.now place draft.now }
 {
     match draft {
         None => Ok(None),
-        Some(draft) => Ok(Some(class_of(schema, draft.class.as_str())?)),
+        Some(draft) => Ok(Some(class_of(schema, place, draft.class.as_str())?)),
     }
 }
 
 // The class of a clause, which is this one or descends from it.
-fn class_within(schema: &Schema, within: ClassId, name: &str) -> Result<ClassId, RuleFault>
+fn class_within(schema: &Schema, within: ClassId, name: &str) -> Result<ClassId, ClauseFlaw>
     ensures { result ≡ class_within schema.now within name.now }
 {
-    let class = class_of(schema, name)?;
+    let class = schema.class(name).ok_or(ClauseFlaw::Class)?;
     if !schema.descends(class, within) {
-        return Err(RuleFault::Class);
+        return Err(ClauseFlaw::Class);
     }
     Ok(class)
 }
 
-fn ordinary_slot(schema: &Schema, class: ClassId, name: &str) -> Result<SlotId, RuleFault>
+fn ordinary_slot(schema: &Schema, class: ClassId, name: &str) -> Result<SlotId, ClauseFlaw>
     ensures { result ≡ ordinary_slot schema.now class name.now }
 {
-    let slot = schema.slot(class, name).ok_or(RuleFault::Slot)?;
+    let slot = schema.slot(class, name).ok_or(ClauseFlaw::Slot)?;
     if !schema.is_ordinary(slot) {
-        return Err(RuleFault::Slot);
+        return Err(ClauseFlaw::Slot);
     }
     Ok(slot)
 }
 
-fn link_slot(schema: &Schema, class: ClassId, name: &str) -> Result<SlotId, RuleFault>
+fn link_slot(schema: &Schema, class: ClassId, name: &str) -> Result<SlotId, ClauseFlaw>
     ensures { result ≡ link_slot schema.now class name.now }
 {
-    let slot = schema.slot(class, name).ok_or(RuleFault::Slot)?;
+    let slot = schema.slot(class, name).ok_or(ClauseFlaw::Slot)?;
     if !schema.is_link(slot) {
-        return Err(RuleFault::Slot);
+        return Err(ClauseFlaw::Slot);
     }
     Ok(slot)
 }
 
-fn space_of(schema: &Schema, name: &str) -> Result<SpaceId, RuleFault>
+fn space_of(schema: &Schema, name: &str) -> Result<SpaceId, ClauseFlaw>
     ensures { result ≡ space_of schema.now name.now }
 {
-    schema.space(name).ok_or(RuleFault::Space)
+    schema.space(name).ok_or(ClauseFlaw::Space)
 }
 
-fn kind_of(schema: &Schema, class: ClassId, text: &ChangeText) -> Result<ChangeKind, RuleFault>
+fn kind_of(schema: &Schema, class: ClassId, text: &ChangeText) -> Result<ChangeKind, ClauseFlaw>
     ensures { result ≡ kind_of schema.now class text.now }
 {
     match text {
@@ -137,7 +140,7 @@ fn kind_of(schema: &Schema, class: ClassId, text: &ChangeText) -> Result<ChangeK
     }
 }
 
-fn clause_of(schema: &Schema, within: ClassId, text: &ClauseText) -> Result<Clause, RuleFault>
+fn clause_of(schema: &Schema, within: ClassId, text: &ClauseText) -> Result<Clause, ClauseFlaw>
     ensures { result ≡ clause_of schema.now within text.now }
 {
     match text {
@@ -150,18 +153,21 @@ fn clause_of(schema: &Schema, within: ClassId, text: &ClauseText) -> Result<Clau
     }
 }
 
-/// Looks up clauses about units of a class, in order.
+/// Looks up a list of clauses about units of a class, in order.
 pub(crate) fn clauses_of(
     alloc: Global,
     schema: &Schema,
+    list: ClauseList,
     within: ClassId,
     texts: &[ClauseText],
 ) -> Result<Clauses, RuleFault>
-    ensures { Gives RuleFault.Memory (λ c. c) result (clauses_of schema.now within texts.now) }
+    ensures { Gives RuleFault.Memory (λ c. c) result (clauses_of schema.now list within texts.now) }
 {
     let mut clauses = Clauses::new(alloc);
-    for text in texts {
-        clauses = clauses.and(clause_of(schema, within, text)?)?;
+    for (index, text) in texts.iter().enumerate() {
+        let place = ClausePlace { list, index };
+        let clause = placed(clause_of(schema, within, text), place)?;
+        clauses = clauses.and(clause)?;
     }
     Ok(clauses)
 }
@@ -170,14 +176,15 @@ pub(crate) fn clauses_of(
 pub(crate) fn reaction_clauses<C>(
     alloc: Global,
     schema: &Schema,
+    list: ClauseList,
     class: Option<ClassId>,
     draft: &Option<ReactionDraft<C>>,
 ) -> Result<Option<Clauses>, RuleFault>
-    ensures { Gives RuleFault.Memory (λ c. c) result (reaction_clauses schema.now class draft.now) }
+    ensures { Gives RuleFault.Memory (λ c. c) result (reaction_clauses schema.now list class draft.now) }
 {
     match (class, draft) {
         (Some(class), Some(draft)) => {
-            let clauses = clauses_of(alloc, schema, class, draft.clauses.as_slice())?;
+            let clauses = clauses_of(alloc, schema, list, class, draft.clauses.as_slice())?;
             Ok(Some(clauses))
         }
         _ => Ok(None),

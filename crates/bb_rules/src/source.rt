@@ -67,6 +67,7 @@ impl Source {
     /// A source from its draft. The fault is the first of these: `Class` where its class, or that of a reaction, is
     /// unknown; `Part` where a code was accepted for another part or other classes; and, clause by clause, `Class`
     /// where the class is unknown or does not descend from that of the source, or of the reaction, `Slot`, `Space`.
+    /// It tells which of the three classes, or which clause of which list.
     pub fn new(
         alloc: Global,
         schema: &Schema,

@@ -17,10 +17,10 @@ mod teller;
 mod triggering;
 
 pub use bb_trace::{
-    Act, Ask, Board, Classes, Closed, Closing, Denial, DimValue, DocumentPlace, End, ListItem,
-    ListKey, NativeSource, Node, OperandKind, Out, Pattern, Pipe, Plan, Query, Refusal, Relation,
-    Roster, RuleFault, SOURCE_LIMIT, SharedSchema, Source, Stuck, UnitsFault, UnitsFlaw, View,
-    close_each, put_all,
+    Act, Ask, Board, ClassPlace, Classes, ClauseList, ClausePlace, Closed, Closing, Denial,
+    DimValue, DocumentPlace, End, ListItem, ListKey, NativeSource, Node, OperandKind, Out, Pattern,
+    Pipe, Plan, Query, Refusal, Relation, Roster, RuleFault, SOURCE_LIMIT, SharedSchema, Source,
+    Stuck, UnitsFault, UnitsFlaw, View, close_each, put_all,
 };
 pub use cycles::run;
 pub use finish::Finish;

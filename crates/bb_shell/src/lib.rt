@@ -20,9 +20,10 @@ pub use bb_judge::{CompileFault, Flaw as TextFlaw};
 pub use bb_lang::{LangFault, Place};
 pub use bb_refusal::{InputFault, Report};
 pub use bb_run::{
-    Ask, Board, Closed, Closing, DimValue, DocumentPlace, End, Finish, ListItem, ListKey,
-    NativeSource, Node, OperandKind, Out, Pattern, Pipe, Query, Relation, Roster, RuleFault,
-    Source, Stuck, UnitsFault, UnitsFlaw, View, close_each, put_all, runs_are_orderly,
+    Ask, Board, ClassPlace, ClauseList, ClausePlace, Closed, Closing, DimValue, DocumentPlace, End,
+    Finish, ListItem, ListKey, NativeSource, Node, OperandKind, Out, Pattern, Pipe, Query,
+    Relation, Roster, RuleFault, Source, Stuck, UnitsFault, UnitsFlaw, View, close_each, put_all,
+    runs_are_orderly,
 };
 pub use bb_schema::{SchemaFault, SchemaFlaw, UnitId, Value};
 pub use bb_verify::{Flaw, Part, VerifyFault};

@@ -18,7 +18,10 @@ pub use bb_native::{
     Ask, Closed, Closing, Denial, DimValue, NativeSource, Node, OperandKind, Pattern, Query,
     Refusal, Relation, Roster, View, apply, close_each,
 };
-pub use bb_rules::{Act, Classes, Clauses, Question, Reaction, RuleFault, Source};
+pub use bb_rules::{
+    Act, ClassPlace, Classes, ClauseList, ClausePlace, Clauses, Question, Reaction, RuleFault,
+    Source,
+};
 pub use bb_state::Stuck;
 pub use end::End;
 pub use halt::Halt;

@@ -9,24 +9,26 @@ use Rattle.bb_rules.specs.declared.answered.Answered.{Answered}
 use Rattle.bb_rules.specs.declared.answered.Found.{Found}
 use Rattle.bb_rules.specs.declared.clause.Clause.{Clause}
 use Rattle.bb_rules.specs.declared.fault.RuleFault.{RuleFault}
+use Rattle.bb_rules.specs.declared.place.ClauseList.{ClauseList}
+use Rattle.bb_rules.specs.declared.place.ClauseList.TheVariants as lists
 use Rattle.bb_rules.specs.declared.resolve.Classes.{Classes}
 use Rattle.bb_rules.specs.declared.source.Reaction.{Reaction}
 use Rattle.bb_rules.specs.declared.source.Source.{Source}
 use Rattle.bb_rules.specs.Source.{act_of, classes_of, clauses_of, parts_fit}
 
--- the clauses of a reaction, if there is one
-abbrev pub reaction_clauses : {C : Type 0} → Schema → Option ℕ → Option (ReactionDraft C) → Result (Option (List Clause)) RuleFault
-reaction_clauses s (Some class) (Some draft) = do
-  found ← clauses_of s class draft.clauses
+-- the clauses of a reaction, if there is one, which are this list
+abbrev pub reaction_clauses : {C : Type 0} → Schema → ClauseList → Option ℕ → Option (ReactionDraft C) → Result (Option (List Clause)) RuleFault
+reaction_clauses s list (Some class) (Some draft) = do
+  found ← clauses_of s list class draft.clauses
   Ok (Some found)
-reaction_clauses s _ _ = Ok None
+reaction_clauses s list _ _ = Ok None
 
 -- the events that a source answers
 unfoldable pub answered : {C : Type 0} → Schema → Classes → SourceDraft C → Result Answered RuleFault
 answered s c draft = do
-  triggers ← clauses_of s c.own draft.triggers
-  obviating ← reaction_clauses s c.obviated draft.obviate
-  retriggering ← reaction_clauses s c.retriggered draft.retrigger
+  triggers ← clauses_of s lists.Triggers c.own draft.triggers
+  obviating ← reaction_clauses s lists.Obviate c.obviated draft.obviate
+  retriggering ← reaction_clauses s lists.Retrigger c.retriggered draft.retrigger
   Ok (record { triggers = triggers; obviating = obviating; retriggering = retriggering })
 
 -- what the names in a draft stand for, where each code is for its part

@@ -1,19 +1,34 @@
-use Rattle.std.proofs.Common.{inr, sym}
+use Rattle.std.proofs.Common.{◌≡◌, ◌⊎◌, inr, sym, ap, ◌∙◌, subst, map, Err}
+use Rattle.std.proofs.lemmas.List.{map-id}
 use Rattle.std.proofs.lemmas.Result.{err_from_is_err_and}
+use Rattle.bb_basis.specs.Results.{map_err, try_map_at}
+use Rattle.bb_basis.proofs.MapAtLemmas.{map_at_error, map_at_next, map_at_end}
+use Rattle.bb_rules.specs.Faults.{at_clause}
 use Rattle.bb_rules.specs.Source.{clause_of}
 use Rattle.bb_rules.specs.declared.fault.RuleFault.TheVariants.{Memory}
-use Rattle.bb_basis.proofs.IntoMapLemmas.{into_map_error, into_map_next, into_map_end, next_one, none_left}
 use Rattle.bb_rules.proofs.resolve.clauses_of.Goals as goal
 
-pub returns-in_err-clause_of : goal.returns-in_err-clause_of
-returns-in_err-clause_of c =
+pub returns-in_err-clause : goal.returns-in_err-clause
+returns-in_err-clause c =
     let p = err_from_is_err_and c.from_residual.result c.from_residual.ensures.1 in
-    rw (p.1, p.2) (into_map_error Memory (clause_of c.args.schema.now c.args.within) c.loop-text.clauses _ _ c.text-item.result c.in_err-clause_of.field-0.0 _
-    (next_one c.args.texts.now c.loop-text.text-index c.text-item.result c.loop-text-test.true c.text-item.is) (inr (sym c.in_err-clause_of.ensures)) c.loop-text.invariant)
+    let at = at_clause c.args.list in
+    let each = clause_of c.args.schema.now c.args.within in
+    let failed = sym (c.in_err-clause.ensures ∙ ap (map_err (at c.loop-index.index)) c.clause_of.ensures) in
+    rw (p.1, p.2) (subst (λ ts. (c.in_err-clause.field-0.0 ≡ Memory) ⊎ (try_map_at at each 0 ts ≡ Err c.in_err-clause.field-0.0)) (map-id c.args.texts.now)
+    (map_at_error Memory at each (λ t. t) c.loop-index.clauses c.args.texts.now c.loop-index.index c.index-texts-index.result c.in_err-clause.field-0.0 (try_map_at at each 0 (map (λ t. t) c.args.texts.now)) c.loop-index-test.true c.index-texts-index.is
+    (inr failed) c.loop-index.invariant))
 
-pub loop-text-preserved : goal.loop-text-preserved
-loop-text-preserved c = rw c.in_ok-clauses.ensures (into_map_next (clause_of c.args.schema.now c.args.within) c.loop-text.clauses _ _ c.text-item.result c.in_ok-clause_of.field-0 _
-    (next_one c.args.texts.now c.loop-text.text-index c.text-item.result c.loop-text-test.true c.text-item.is) (sym c.in_ok-clause_of.ensures) c.loop-text.invariant)
+pub loop-index-preserved : goal.loop-index-preserved
+loop-index-preserved c =
+    let at = at_clause c.args.list in
+    let each = clause_of c.args.schema.now c.args.within in
+    let gives = sym (c.in_ok-clause.ensures ∙ ap (map_err (at c.loop-index.index)) c.clause_of.ensures) in
+    rw c.in_ok-clauses.ensures (map_at_next at each (λ t. t) c.loop-index.clauses c.args.texts.now c.loop-index.index c.index-texts-index.result c.in_ok-clause.clause (try_map_at at each 0 (map (λ t. t) c.args.texts.now)) c.loop-index-test.true c.index-texts-index.is
+    gives c.loop-index.invariant)
 
 pub returns : goal.returns
-returns c = into_map_end (clause_of c.args.schema.now c.args.within) c.loop-text.clauses _ _ (none_left c.args.texts.now c.loop-text.text-index c.loop-text-test.false) c.loop-text.invariant
+returns c =
+    let at = at_clause c.args.list in
+    let each = clause_of c.args.schema.now c.args.within in
+    ap (try_map_at at each 0) (sym (map-id c.args.texts.now))
+    ∙ map_at_end at each (λ t. t) c.loop-index.clauses c.args.texts.now c.loop-index.index _ c.loop-index-test.false c.loop-index.invariant
