@@ -1,5 +1,5 @@
 -- The index of clauses has what the clauses name.
-use Rattle.std.proofs.Common.{◌≡◌, ℕ, Bool, true, false, ◌&&◌, ◌||◌, ◌==◌, List, [], ◌∷◌, ◌++◌, refl, sym, ap, ◌∙◌, eqb-true, eq-eqb}
+use Rattle.std.proofs.Common.{◌≡◌, ℕ, Bool, true, false, cond, ◌&&◌, ◌||◌, ◌==◌, List, [], ◌∷◌, ◌++◌, refl, sym, ap, ◌∙◌, eqb-true, eq-eqb}
 use Rattle.std.specs.List.{list_any}
 use Rattle.std.proofs.lemmas.Bool.{and_parts}
 use Rattle.std.proofs.lemmas.List.Folds.{list_any-append}
@@ -11,9 +11,10 @@ use Rattle.bb_board.specs.Event.TheVariants as events
 use Rattle.bb_board.specs.Events.{kind_of}
 use Rattle.bb_rules.specs.declared.clause.Clause.{Clause}
 use Rattle.bb_rules.specs.declared.clause.Clause.TheVariants as clauses
-use Rattle.bb_rules.specs.declared.index.Index.{Index}
+use Rattle.bb_rules.specs.declared.kind_index.KindIndex.{KindIndex}
+use Rattle.bb_rules.specs.KindIndex.{has, ids_for, put_if}
 use Rattle.bb_rules.specs.Match.{is_same_kind, matches, any_match}
-use Rattle.bb_rules.specs.proving.Index.{IsIndex, has, names_class, classes_for, is_about, is_quiescence}
+use Rattle.bb_rules.specs.proving.Index.{IsIndex, names_class, is_about, is_quiescence}
 
 -- ---- one clause more
 
@@ -29,16 +30,29 @@ or_true : (b : Bool) → true ≡ (b || true)
 or_true true = refl
 or_true false = refl
 
-pub change_indexed : (list : List Clause) (index new : Index) (quiescence : Bool) (kind : ChangeKind) (class : ℕ)
+-- what is there after a number was put
+there_at : (ns : List ℕ) (n c : ℕ) (there same : Bool) → has ns n ≡ there → (n == c) ≡ same → has (cond there ns (ns ++ n ∷ [])) c ≡ (has ns c || same)
+there_at ns n c false same is is_same = any_more (λ d. d == c) ns n ∙ ap (λ b. has ns c || b) is_same
+there_at ns n c true false is is_same = sym (or_false (has ns c))
+there_at ns n c true true is is_same = ap (has ns) (sym (eqb-true n c is_same)) ∙ (is ∙ or_true (has ns c))
+
+has_put : (ns : List ℕ) (n : ℕ) (added : Bool) (c : ℕ) → has (put_if added ns n) c ≡ (has ns c || (added && n == c))
+has_put ns n false c = sym (or_false (has ns c))
+has_put ns n true c = there_at ns n c (has ns n) (n == c) refl refl
+
+has_more : (old new : List ℕ) (n : ℕ) (added : Bool) (c : ℕ) → new ≡ put_if added old n → has new c ≡ (has old c || (added && n == c))
+has_more old new n added c is = ap (λ ns. has ns c) is ∙ has_put old n added c
+
+pub change_indexed : (list : List Clause) (index new : KindIndex) (quiescence : Bool) (kind : ChangeKind) (class : ℕ)
     → IsIndex list index quiescence
-    → ((k : ChangeKind) (c : ℕ) → names_class new k c ≡ (names_class index k c || (is_same_kind kind k && class == c)))
+    → ((k : ChangeKind) → ids_for new k ≡ put_if (is_same_kind kind k) (ids_for index k) class)
     → IsIndex (list ++ clauses.Change kind class ∷ []) new quiescence
 change_indexed list index new quiescence kind class old added = record {
-  kinds = λ k c. added k c ∙ (ap (λ b. b || (is_same_kind kind k && class == c)) (old.kinds k c) ∙ sym (any_more (is_about k c) list (clauses.Change kind class)));
+  kinds = λ k c. has_more (ids_for index k) (ids_for new k) class (is_same_kind kind k) c (added k) ∙ (ap (λ b. b || (is_same_kind kind k && class == c)) (old.kinds k c) ∙ sym (any_more (is_about k c) list (clauses.Change kind class)));
   quiet = old.quiet ∙ (sym (or_false (list_any is_quiescence list)) ∙ sym (any_more is_quiescence list (clauses.Change kind class)));
 }
 
-pub quiescence_indexed : (list : List Clause) (index : Index) (quiescence : Bool) → IsIndex list index quiescence → IsIndex (list ++ clauses.Quiescence ∷ []) index true
+pub quiescence_indexed : (list : List Clause) (index : KindIndex) (quiescence : Bool) → IsIndex list index quiescence → IsIndex (list ++ clauses.Quiescence ∷ []) index true
 quiescence_indexed list index quiescence old = record {
   kinds = λ k c. sym (or_false (names_class index k c)) ∙ (ap (λ b. b || false) (old.kinds k c) ∙ sym (any_more (is_about k c) list clauses.Quiescence));
   quiet = or_true (list_any is_quiescence list) ∙ sym (any_more is_quiescence list clauses.Quiescence);
@@ -115,13 +129,13 @@ module _ (s : Schema) (unit of : ℕ) (change : Change) where
   about [] h = absurd cc
   about (clause ∷ rest) h = about_at clause rest (matches s clause event) refl (about rest) h
 
-  pub change_named : (list : List Clause) (index : Index) (quiescence : Bool) → IsIndex list index quiescence → list_any (λ d. descends s of d) (classes_for index kind) ≡ any_match s list event
+  pub change_named : (list : List Clause) (index : KindIndex) (quiescence : Bool) → IsIndex list index quiescence → list_any (λ d. descends s of d) (ids_for index kind) ≡ any_match s list event
   change_named list index quiescence i =
-      same_truth (list_any (λ d. descends s of d) (classes_for index kind)) (any_match s list event)
-      (λ h. let one = settled (λ d. descends s of d) (classes_for index kind) h in names one.0 list one.2 (sym (i.kinds kind one.0) ∙ one.1))
-      (λ h. let one = about list h in passes_in (λ d. descends s of d) one.0 (classes_for index kind) one.2 (i.kinds kind one.0 ∙ one.1))
+      same_truth (list_any (λ d. descends s of d) (ids_for index kind)) (any_match s list event)
+      (λ h. let one = settled (λ d. descends s of d) (ids_for index kind) h in names one.0 list one.2 (sym (i.kinds kind one.0) ∙ one.1))
+      (λ h. let one = about list h in passes_in (λ d. descends s of d) one.0 (ids_for index kind) one.2 (i.kinds kind one.0 ∙ one.1))
 
-pub quiescence_named : (s : Schema) (list : List Clause) (index : Index) (quiescence : Bool) → IsIndex list index quiescence → quiescence ≡ any_match s list events.Quiescence
+pub quiescence_named : (s : Schema) (list : List Clause) (index : KindIndex) (quiescence : Bool) → IsIndex list index quiescence → quiescence ≡ any_match s list events.Quiescence
 quiescence_named s list index quiescence i = i.quiet ∙ each list
   where
     one : (clause : Clause) → is_quiescence clause ≡ matches s clause events.Quiescence

@@ -8,5 +8,7 @@ pub mod Source
 pub mod Questions
 -- what holds of every source
 pub mod Law
+-- numbers that are kept for each kind of change
+pub mod KindIndex
 -- for proofs alone
 pub mod proving

@@ -4,10 +4,10 @@ ghost use Rattle.std.specs.Prelude.{◌≡◌, ◌∷◌, ◌++◌, [], IfOk};
 ghost use Rattle.std.specs.List.{list_any};
 ghost use Rattle.bb_schema.specs.Schema.{descends};
 ghost use Rattle.bb_rules.specs.Match.{any_match};
-ghost use Rattle.bb_rules.specs.proving.Index.{classes_for};
+ghost use Rattle.bb_rules.specs.KindIndex.{ids_for};
 
 use crate::clause::Clause;
-use crate::index::Index;
+use crate::kind_index::KindIndex;
 use bb_basis::Items;
 use bb_board::{ChangeKind, Event};
 use bb_schema::{ClassId, Schema};
@@ -19,7 +19,8 @@ use std::marker::Model;
 #[derive(Drop)]
 pub struct Clauses {
     list: Items<Clause>,
-    index: Index,
+    // Of the classes that they name.
+    index: KindIndex,
     // One of them is `Quiescence`.
     quiescence: bool,
 }
@@ -43,7 +44,7 @@ impl Clauses {
     {
         Clauses {
             list: Items::new(alloc),
-            index: Index::new(alloc),
+            index: KindIndex::new(alloc),
             quiescence: false,
         }
     }
@@ -93,8 +94,8 @@ impl Clauses {
 }
 
 // Whether a class descends from one that the index has for a kind.
-fn descends_from_named(schema: &Schema, class: ClassId, index: &Index, kind: ChangeKind) -> bool
-    ensures { result ≡ list_any (λ d. descends schema.now class d) (classes_for index.now kind) }
+fn descends_from_named(schema: &Schema, class: ClassId, index: &KindIndex, kind: ChangeKind) -> bool
+    ensures { result ≡ list_any (λ d. descends schema.now class d) (ids_for index.now kind) }
 {
     match index.at(kind) {
         None => false,

@@ -29,7 +29,8 @@ pub struct Classes {
 }
 
 impl Classes {
-    /// Looks up the classes that a draft names, its own first. The fault is `Class` where one is unknown, and tells which.
+    /// Looks up the classes that a draft names, its own first. The fault is `Class` where one is unknown, with its
+    /// place.
     #[tactic(auto, unfolding(crate::specs::Source::classes_of))]
     pub fn find<C>(schema: &Schema, draft: &SourceDraft<C>) -> Result<Classes, RuleFault>
         ensures { result ≡ classes_of schema.now draft.now }

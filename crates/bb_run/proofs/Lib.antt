@@ -6,6 +6,8 @@ pub mod SegmentLemmas
 pub mod TellLemmas
 -- the whole run
 pub mod WholeLemmas
+-- who answers an event
+pub mod ConcernedLemmas
 -- the response of one source after another
 pub mod ResponseLemmas
 -- executions

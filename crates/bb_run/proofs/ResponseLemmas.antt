@@ -1,19 +1,24 @@
 -- A response is made part by part, and is over in one of its parts or in none.
-use Rattle.std.proofs.Common.{◌≡◌, ◌<◌, ◌≤◌, ℕ, ◌+◌, List, [], ◌∷◌, ◌++◌, length, drop, get_or, Option, None, Some, refl, subst, sym, ap, ◌∙◌, append_assoc}
-use Rattle.std.proofs.lemmas.List.{append-nil, drop_all}
-use Rattle.bb_basis.proofs.IntoMapLemmas.{next_one}
+use Rattle.std.proofs.Common.{◌≡◌, ◌<◌, ◌≤◌, ℕ, ◌+◌, List, [], ◌∷◌, ◌++◌, length, drop, get_or, Option, None, Some, Result, refl, subst, sym, ap, ◌∙◌, append_assoc}
+use Rattle.std.proofs.lemmas.List.{append-nil, drop_all, drop_more}
+use Rattle.std.specs.Prelude.{IfOk, slice_get}
+use Rattle.std.specs.Option.{option_map_or}
 use Rattle.bb_schema.specs.Schema.{Schema}
 use Rattle.bb_trace.specs.Event.{Event}
 use Rattle.bb_agenda.specs.Activation.{Activation}
 use Rattle.bb_machine.specs.Answer.{Answer}
+use Rattle.bb_trace.specs.Concerned.{concerned}
+use Rattle.bb_trace.specs.Plan.{Plan}
 use Rattle.bb_trace.specs.Reaction.{Reaction}
 use Rattle.bb_trace.specs.Source.{Source}
 use Rattle.bb_trace.specs.declared.end.End.{End}
 use Rattle.bb_trace.specs.declared.note.Note.{Note}
 use Rattle.bb_run.specs.State.{State}
 use Rattle.bb_run.specs.Told.{Response, after_told, and_then, and_then_unless, idle}
-use Rattle.bb_run.specs.Processing.{reacting_to, reacting_to_each, response_by, source_response}
+use Rattle.bb_run.specs.Processing.{reacting_to, reacting_to_each, response, source_response}
+use Rattle.bb_run.specs.proving.Responding.{response_at, responses_at}
 use Rattle.bb_run.specs.proving.Telling.{IsResponse}
+use Rattle.bb_run.proofs.ConcernedLemmas.{all_by_concerned}
 
 -- ---- one part and then the next
 
@@ -54,36 +59,54 @@ module _ (old mid new : List Note) (whole p : Response) (next : State → Respon
         end = r.end ∙ sym (h.end ∙ ap (λ q. q.end) stops);
       }
 
+-- ---- the source at a place
+
+-- there is none
+pub none_responds : (schema : Schema) (event : Event) (sources read : List Source) (place : ℕ) (s : State) (notes : List Note) → None ≡ slice_get read place → read ≡ sources → IsResponse (response_at schema event sources place s) notes notes s None
+none_responds schema event sources read place s notes none are =
+    let same = ap (λ o. option_map_or (λ source. source_response schema event place source s) o (idle s)) (none ∙ ap (λ xs. slice_get xs place) are) in
+    subst (λ p. IsResponse p notes notes s None) same (nothing_told notes s)
+
+-- it responds, asked under the schema as it was read
+pub one_responds : {E : Type 0} (r : Result (Option End) E) (old new : List Note) (t : State) (schema asked : Schema) (event : Event) (sources read : List Source) (place : ℕ) (source : Source) (s : State)
+    → Some source ≡ slice_get read place → read ≡ sources → asked ≡ schema → IfOk r (IsResponse (source_response asked event place source s) old new t) → IfOk r (IsResponse (response_at schema event sources place s) old new t)
+one_responds r old new t schema asked event sources read place source s found are same h =
+    let one = ap (λ x. source_response x event place source s) same in
+    let here = ap (λ o. option_map_or (λ x. source_response schema event place x s) o (idle s)) (found ∙ ap (λ xs. slice_get xs place) are) in
+    subst (λ p. IfOk r (IsResponse p old new t)) (one ∙ here) h
+
 -- ---- sources, one after another
 
-module _ (old now : List Note) (whole : Response) (schema : Schema) (event : Event) (place : ℕ) (sources : List Source) (s : State) where
-  -- what the sources after this one bring about
-  abbrev after_source : State → Response
-  after_source = response_by schema event (place + 1) (drop (place + 1) sources)
+module _ (old now : List Note) (whole : Response) (schema : Schema) (event : Event) (sources : List Source) (places : List ℕ) (i : ℕ) (s : State) where
+  -- what the source at this place brings about, and those at the places after it
+  abbrev by_place : Response
+  by_place = response_at schema event sources (get_or places i 0) s
 
-  pub at_source : (source : Source) → place < length sources → source ≡ get_or sources place source
-      → HasNoted old now whole (response_by schema event place (drop place sources) s) → HasNoted old now whole (and_then (source_response schema event place source s) after_source)
-  unfolding response_by
-  at_source source lt is h = subst (HasNoted old now whole) (ap (λ xs. response_by schema event place xs s) (next_one sources place source lt is)) h
+  abbrev after_place : State → Response
+  after_place = responses_at schema event sources (drop (i + 1) places)
 
-  abbrev by_source : Source → Response
-  by_source source = source_response schema event place source s
+  at_place : i < length places → HasNoted old now whole (responses_at schema event sources (drop i places) s) → HasNoted old now whole (and_then by_place after_place)
+  unfolding responses_at
+  at_place lt h = subst (HasNoted old now whole) (ap (λ ps. responses_at schema event sources ps s) (drop_more places i 0 lt)) h
 
-  -- the source at this place responds, asked under the schema as it was read, and the response is over or goes on
-  module _ (source : Source) (new : List Note) (t : State) (o : Option End) (asked : Schema) (lt : place < length sources) (is : source ≡ get_or sources place source) (same : asked ≡ schema)
-      (h : HasNoted old now whole (response_by schema event place (drop place sources) s)) (r : IsResponse (source_response asked event place source s) now new t o) where
-    responded : IsResponse (by_source source) now new t o
-    responded = subst (λ x. IsResponse (source_response x event place source s) now new t o) same r
+  -- the source at this place responds, and the response is over or goes on
+  module _ (new : List Note) (t : State) (o : Option End) (lt : i < length places)
+      (h : HasNoted old now whole (responses_at schema event sources (drop i places) s)) (r : IsResponse by_place now new t o) where
+    pub place_over : (end : End) → o ≡ Some end → IsResponse whole old new t (Some end)
+    place_over end some = part_over old now new whole by_place after_place t end (at_place lt h) (subst (IsResponse by_place now new t) some r)
 
-    pub source_over : (end : End) → o ≡ Some end → IsResponse whole old new t (Some end)
-    source_over end some = part_over old now new whole (by_source source) after_source t end (at_source source lt is h) (subst (IsResponse (by_source source) now new t) some responded)
+    pub place_made : o ≡ None → HasNoted old new whole (responses_at schema event sources (drop (i + 1) places) t)
+    place_made none = part_made old now new whole by_place after_place t (at_place lt h) (subst (IsResponse by_place now new t) none r)
 
-    pub source_made : o ≡ None → HasNoted old new whole (response_by schema event (place + 1) (drop (place + 1) sources) t)
-    source_made none = part_made old now new whole (by_source source) after_source t (at_source source lt is h) (subst (IsResponse (by_source source) now new t) none responded)
+  pub places_done : length places ≤ i → HasNoted old now whole (responses_at schema event sources (drop i places) s) → IsResponse whole old now s None
+  unfolding responses_at
+  places_done le h = rest_made old now now whole (idle s) s None (subst (HasNoted old now whole) (ap (λ ps. responses_at schema event sources ps s) (drop_all i places le)) h) (nothing_told now s)
 
-  pub sources_done : length sources ≤ place → HasNoted old now whole (response_by schema event place (drop place sources) s) → IsResponse whole old now s None
-  unfolding response_by
-  sources_done le h = rest_made old now now whole (idle s) s None (subst (HasNoted old now whole) (ap (λ xs. response_by schema event place xs s) (drop_all place sources le)) h) (nothing_told now s)
+-- nothing was noted yet of what the sources that the event concerns bring about, which is all of the response
+pub begun_at : (old : List Note) (plan : Plan) (event : Event) (places : List ℕ) (s : State) → places ≡ concerned event plan.sources
+    → HasNoted old old (response plan event s) (responses_at plan.schema event plan.sources places s)
+begun_at old plan event places s are =
+    subst (HasNoted old old (response plan event s)) (all_by_concerned plan.schema event plan.sources 0 plan.sources refl s ∙ ap (λ ps. responses_at plan.schema event plan.sources ps s) (sym are)) (nothing_noted old (response plan event s))
 
 -- ---- pending activations, one after another
 

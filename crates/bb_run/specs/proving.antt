@@ -7,3 +7,5 @@ pub mod Knowing
 -- of bb_trace: how sources, a plan and a blackboard are stored
 pub use Rattle.bb_trace.specs.proving.Codes
 pub use Rattle.bb_trace.specs.proving.BoardCodes
+-- what the sources at some places answer to an event
+pub mod Responding

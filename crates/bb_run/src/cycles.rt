@@ -1,7 +1,6 @@
 //! The run of the blackboard machine, in parts as its definition is. `run_texts` calls `run`.
 
 ghost use Rattle.std.specs.Prelude.{◌≡◌, [], ◌∷◌, All, Some, IfOk, IfSome, false, map, option_and_then, option_map};
-ghost use Rattle.std.specs.Prelude.{slice_get};
 ghost use Rattle.std.specs.Io.KnownBytes.{Appends};
 ghost use Rattle.bb_run.specs.Foci.{first_agenda};
 ghost use Rattle.bb_trace.specs.Law.{IsMade};
@@ -20,6 +19,7 @@ use crate::execution::{Verdict, execute, take_choice, validate};
 use crate::finish::Finish;
 use crate::foci::{rated_sources, tell_all};
 use crate::noting::take_noted;
+use crate::processing::source_at;
 use crate::state::{Start, State};
 use crate::teller::Teller;
 use bb_agenda::{Activation, Agenda};
@@ -40,12 +40,6 @@ fn choose<N: NativeSource>(plan: &Plan, state: &State<N>) -> Option<Activation>
 {
     let number = state.agenda.choose(plan.floor())?;
     Some(state.agenda.activation(number))
-}
-
-fn source_at(sources: &[Source], place: u16) -> Option<&Source>
-    ensures { option_map (λ s. s.now) result ≡ slice_get sources.now place }
-{
-    sources.get(place as usize)
 }
 
 // The code by which a source revalidates, if it has one.

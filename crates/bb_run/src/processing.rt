@@ -1,7 +1,8 @@
 //! The processing of an event. The teller (teller.rt) calls it for each event, and for quiescence.
 
-ghost use Rattle.std.specs.Prelude.{◌≡◌, ◌<◌, ◌≤◌, IfOk, length};
+ghost use Rattle.std.specs.Prelude.{◌≡◌, IfOk, option_map, slice_get};
 ghost use Rattle.bb_run.specs.Processing.{if_triggered, obviated_by, reacting, rerated_by, response, source_response};
+ghost use Rattle.bb_run.specs.proving.Responding.{response_at};
 ghost use Rattle.bb_run.specs.proving.Seen.{seen};
 ghost use Rattle.bb_run.specs.proving.Telling.{IsResponse};
 
@@ -104,8 +105,37 @@ fn source_responds<N: NativeSource>(
     trigger(schema, placed, event, state, notes)
 }
 
+/// The source at a place, if there is one.
+pub(crate) fn source_at(sources: &[Source], place: u16) -> Option<&Source>
+    ensures { option_map (λ s. s.now) result ≡ slice_get sources.now place }
+{
+    sources.get(place as usize)
+}
+
+// Has the source at a place respond to an event.
+fn place_responds<N: NativeSource>(
+    plan: &Plan,
+    place: u16,
+    event: Event,
+    state: &mut State<N>,
+    notes: &mut Vec<Note>,
+) -> Result<Option<End>, AllocError>
+    ensures { IfOk result (IsResponse
+        (response_at plan.now.schema event plan.now.sources place (seen N.meaning state.old))
+        notes.old.items notes.new.items (seen N.meaning state.new)) }
+{
+    match source_at(plan.sources(), place) {
+        None => Ok(None),
+        Some(source) => {
+            let placed = Placed { source, place };
+            source_responds(plan.schema(), placed, event, state, notes)
+        }
+    }
+}
+
 /// Processes an event: each source in order obviates and retriggers its pending activations, and is triggered, and the
-/// notes tell of it. Returns the end of the run where it ends in that.
+/// notes tell of it. Those without a clause of the kind of the event are passed over, as they do nothing of that.
+/// Returns the end of the run where it ends in that.
 pub(crate) fn respond<N: NativeSource>(
     plan: &Plan,
     event: Event,
@@ -115,13 +145,8 @@ pub(crate) fn respond<N: NativeSource>(
     ensures { IfOk result (IsResponse (response plan.now event (seen N.meaning state.old))
         notes.old.items notes.new.items (seen N.meaning state.new)) }
 {
-    let sources = plan.sources();
-    for (place, source) in sources.iter().enumerate() {
-        let placed = Placed {
-            source,
-            place: place as u16,
-        };
-        if let Some(end) = source_responds(plan.schema(), placed, event, state, notes)? {
+    for place in plan.concerned(event) {
+        if let Some(end) = place_responds(plan, *place, event, state, notes)? {
             return Ok(Some(end));
         }
     }

@@ -96,7 +96,10 @@ fn plan_for(
 {
     let schema = board.shared_schema()?;
     match fit_all(alloc, natives, sources) {
-        Ok(together) => Ok(Plan::new(schema, together.into_sources(), floor)),
+        Ok(together) => {
+            let plan = Plan::new(alloc, schema, together.into_sources(), floor)?;
+            Ok(plan)
+        }
         Err(Unfit::Source { fault, .. }) => Err(fault),
         Err(Unfit::Memory) => Err(RuleFault::Memory),
     }

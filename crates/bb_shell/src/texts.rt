@@ -102,7 +102,8 @@ fn read_input(
     let schema = read_schema(alloc, schema)?;
     let (shared, board) = first_board(alloc, schema, units)?;
     let sources = given(alloc, natives, shared.get(), sources, bundle)?;
-    Ok((Plan::new(shared, sources, floor), board))
+    let plan = Plan::new(alloc, shared, sources, floor)?;
+    Ok((plan, board))
 }
 
 pub(crate) fn read_schema(alloc: Global, text: &str) -> Result<Schema, InputFault>

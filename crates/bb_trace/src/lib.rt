@@ -2,6 +2,7 @@
 //! parts of blackboards, natives and sources that a run is made of from here too.
 #![tactic(auto)]
 
+mod concerned;
 mod end;
 mod halt;
 mod line;

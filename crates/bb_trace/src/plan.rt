@@ -2,11 +2,14 @@
 
 ghost use Rattle.std.specs.Prelude.{◌≡◌, ◌≤◌, All, IfOk, length};
 ghost use Rattle.bb_rules.specs.Law.{HasSoundCodes};
+ghost use Rattle.bb_trace.specs.Concerned.{concerned};
 
+use crate::concerned::Concerned;
 use bb_basis::{Items, Memory};
-use bb_board::SharedSchema;
+use bb_board::{Event, SharedSchema};
 use bb_rules::Source;
 use bb_schema::Schema;
+use std::alloc::{AllocError, Global};
 use std::marker::Model;
 
 /// The greatest number of sources.
@@ -19,6 +22,7 @@ pub struct Plan {
     schema: SharedSchema,
     sources: Items<Source>,
     floor: i64,
+    concerned: Concerned,
 }
 
 impl Model for Plan {
@@ -27,6 +31,7 @@ impl Model for Plan {
     ghost use Rattle.bb_trace.specs.declared.plan.TheConstants.{SOURCE_LIMIT};
     ghost use Rattle.bb_trace.specs.Plan.{Plan as Planned};
     ghost use Rattle.bb_trace.specs.proving.Codes.{plan_code};
+    ghost use Rattle.bb_trace.specs.proving.Concerned.{AreConcerned};
 
     ghost Value = { Planned };
 
@@ -34,21 +39,30 @@ impl Model for Plan {
 
     ghost view = { λ p. record { schema = p.schema; sources = p.sources; floor = p.floor } };
 
-    ghost invariant = { λ p. (length p.sources ≤ SOURCE_LIMIT) × All HasSoundCodes p.sources };
+    ghost invariant = { λ p. (length p.sources ≤ SOURCE_LIMIT) × All HasSoundCodes p.sources
+        × AreConcerned p.sources p.concerned };
 }
 
 impl Plan {
     /// A plan of these sources in their order, 256 at most.
-    pub fn new(schema: SharedSchema, sources: Vec<Source>, floor: i64) -> Plan
+    pub fn new(
+        alloc: Global,
+        schema: SharedSchema,
+        sources: Vec<Source>,
+        floor: i64,
+    ) -> Result<Plan, AllocError>
         requires { length sources.items ≤ SOURCE_LIMIT }
-        ensures { result ≡ record { schema = schema; sources = sources.items; floor = floor } }
+        ensures { IfOk result (λ plan.
+            plan ≡ record { schema = schema; sources = sources.items; floor = floor }) }
     {
         all_fit(sources.as_slice());
-        Plan {
+        let concerned = Concerned::of(alloc, sources.as_slice())?;
+        Ok(Plan {
             schema,
             sources: Items::from(sources),
             floor,
-        }
+            concerned,
+        })
     }
 
     /// The schema.
@@ -72,6 +86,14 @@ impl Plan {
         ensures sound { All HasSoundCodes self.now.sources }
     {
         self.sources.as_slice()
+    }
+
+    /// The places of the sources that have a clause of the kind of an event, in order. They are found by that kind,
+    /// whatever the number of sources.
+    pub fn concerned(&self, event: Event) -> &[u16]
+        ensures { result.now ≡ concerned event self.now.sources }
+    {
+        self.concerned.by(event)
     }
 
     /// The least rating that can be chosen.

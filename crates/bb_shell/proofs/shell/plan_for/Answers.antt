@@ -6,10 +6,10 @@ use Rattle.bb_shell.proofs.UnstuckLemmas.{fitted_acts}
 use Rattle.bb_shell.proofs.shell.plan_for.Goals as goal
 
 pub returns-in-Ok-clause-of_schema : goal.returns-in-Ok-clause-of_schema
-returns-in-Ok-clause-of_schema c = sym c.in_ok-schema.ensures ∙ sym (ap (λ (p : Plan). p.schema) c.new.ensures)
+returns-in-Ok-clause-of_schema c = sym c.in_ok-schema.ensures ∙ sym (ap (λ (p : Plan). p.schema) c.in_ok-plan-in-Ok.ensures)
 
 pub returns-in-Ok-clause-acts : goal.returns-in-Ok-clause-acts
 returns-in-Ok-clause-acts c =
     let natives = names_in c.args.natives.now in
     let acts : All (HasAct natives) c.into_sources.result.items = subst (All (HasAct natives)) (sym c.into_sources.ensures.sources) (fitted_acts natives c.args.sources.items c.in-Ok.together c.in-Ok.ensures) in
-    subst (λ (p : Plan). All (HasAct natives) p.sources) (sym c.new.ensures) acts
+    subst (λ (p : Plan). All (HasAct natives) p.sources) (sym c.in_ok-plan-in-Ok.ensures) acts

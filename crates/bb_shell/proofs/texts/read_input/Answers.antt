@@ -26,8 +26,8 @@ returns-in_err-sources-clause-means c =
 
 pub returns-clause-means : goal.returns-clause-means
 returns-clause-means c =
-    rw (c.new.ensures, to_z-of_z w64 c.args.floor c.ranges.floor, c.in_ok-shared.ensures.schema) (means (names_in c.args.natives.now) c.args.schema.now c.args.units.now c.args.sources.now c.args.bundle.now c.args.floor c.in_ok-schema.schema c.in_ok-shared.board c.in_ok-sources.sources.items c.get.result.now (c.get.ensures ∙ c.in_ok-shared.ensures.schema) c.in_ok-schema.ensures c.in_ok-shared.ensures.means c.in_ok-sources.ensures.given)
+    rw (c.in_ok-plan.ensures, to_z-of_z w64 c.args.floor c.ranges.floor, c.in_ok-shared.ensures.schema) (means (names_in c.args.natives.now) c.args.schema.now c.args.units.now c.args.sources.now c.args.bundle.now c.args.floor c.in_ok-schema.schema c.in_ok-shared.board c.in_ok-sources.sources.items c.get.result.now (c.get.ensures ∙ c.in_ok-shared.ensures.schema) c.in_ok-schema.ensures c.in_ok-shared.ensures.means c.in_ok-sources.ensures.given)
 
 pub returns-clause-made : goal.returns-clause-made
 returns-clause-made c =
-    rw c.new.ensures (subst (λ (s : Schema). All (IsMade s) c.in_ok-sources.sources.items) c.get.ensures (given_made (names_in c.args.natives.now) c.get.result.now c.args.sources.now c.args.bundle.now c.in_ok-sources.sources.items c.in_ok-sources.ensures.given))
+    rw c.in_ok-plan.ensures (subst (λ (s : Schema). All (IsMade s) c.in_ok-sources.sources.items) c.get.ensures (given_made (names_in c.args.natives.now) c.get.result.now c.args.sources.now c.args.bundle.now c.in_ok-sources.sources.items c.in_ok-sources.ensures.given))
