@@ -1,0 +1,23 @@
+-- Searches that find nothing.
+use Rattle.std.specs.Prelude.{ℕ, Bool, false, not, ◌&&◌, length, slice_get}
+use Rattle.std.specs.List.{list_any, range_with_len}
+use Rattle.std.specs.Option.{option_map_or}
+use Rattle.bb_schema.specs.Schema.{Schema, descends}
+use Rattle.bb_schema.specs.Spaces.{allowed}
+use Rattle.bb_code.specs.Code.{Code}
+use Rattle.bb_code.specs.Query.{Query}
+use Rattle.bb_code.specs.Op.{Op}
+use Rattle.bb_code.specs.Op.TheVariants as ops
+
+-- the query asks for units of this class, and its space admits them
+abbrev pub is_asked : Schema → Query → ℕ → Bool
+is_asked s q class = descends s class q.class && allowed s q.space class
+
+-- it is so of no class
+abbrev pub is_barren : Schema → Query → Bool
+is_barren s q = not (list_any (is_asked s q) (range_with_len 0 (length s.classes)))
+
+-- the op asks a query that finds nothing
+abbrev pub finds_nothing : Schema → Code → Op → Bool
+finds_nothing s code (ops.Find query) = option_map_or (is_barren s) (slice_get code.queries query) false
+finds_nothing s code _ = false

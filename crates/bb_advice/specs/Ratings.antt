@@ -1,0 +1,31 @@
+-- Sources whose activations are never chosen, as long as no unit is a focus.
+use Rattle.std.specs.Prelude.{ℤ, Bool, true, false, not, ◌&&◌, int_lt, List, is_some}
+use Rattle.std.specs.List.{list_any}
+use Rattle.bb_schema.specs.Schema.{Schema, descends}
+use Rattle.bb_code.specs.Op.{Op}
+use Rattle.bb_code.specs.Op.TheVariants as ops
+use Rattle.bb_rules.specs.declared.source.Act.{Act}
+use Rattle.bb_rules.specs.declared.source.Act.TheVariants as acts
+use Rattle.bb_rules.specs.declared.source.Source.{Source}
+
+-- the op creates a focus: a unit of class 0, or of one below it
+abbrev pub makes_focus : Schema → Op → Bool
+makes_focus s (ops.New class) = descends s class 0
+makes_focus s _ = false
+
+-- what an activation does may create a focus; what a source asks creates nothing
+abbrev pub may_make_focus : Schema → Act → Bool
+may_make_focus s (acts.Code c) = list_any (makes_focus s) c.code.ops
+may_make_focus s acts.Native = true
+
+-- one of the sources may create a focus
+abbrev pub any_makes_focus : Schema → List Source → Bool
+any_makes_focus s sources = list_any (λ source. may_make_focus s source.act) sources
+
+-- each activation of the source has its rate for a base, which is below the floor
+abbrev pub starts_below : ℤ → Source → Bool
+starts_below floor source = not (is_some source.require) && not (is_some source.retrigger) && int_lt source.rate floor
+
+-- and they stay there, if no source makes a focus
+abbrev pub stays_below : Bool → ℤ → Source → Bool
+stays_below raised floor source = not raised && starts_below floor source
