@@ -5,7 +5,7 @@
 
 fire: notes, one source that says a line of each, beside CLIPS (Debian's package `clips`). chain: an activation makes the
 next unit, again and again, beside CLIPS. retrieve: queries with some hits each in a space of two dimensions, beside a
-plain program over Rust's ordered map (`rustc`). steer: a focus that comes and goes with each cycle, beside activations
+plain program over Rust's ordered map (`rustc`), which reads the units from the same input. steer: a focus that comes and goes with each cycle, beside activations
 that wait; alone. The figures are the fastest of some runs. The trace goes nowhere, as does what the others print.
 """
 
@@ -96,13 +96,112 @@ def retrieve(count):
     return "\n".join(["%schema", json.dumps(SPACE), "%units", text, "%sources", ASK % (count - 1)]) + "\n"
 
 
-PLAIN = """
+PLAIN = r"""
 use std::collections::BTreeMap;
+use std::io::Read;
+
+enum Json {
+    Number(i64),
+    Text(String),
+    List(Vec<Json>),
+    Object(BTreeMap<String, Json>),
+}
+
+impl Json {
+    fn list(&self) -> &[Json] {
+        if let Json::List(list) = self { list } else { &[] }
+    }
+
+    fn get(&self, key: &str) -> Option<&Json> {
+        if let Json::Object(members) = self { members.get(key) } else { None }
+    }
+
+    fn number(&self) -> Option<i64> {
+        if let Json::Number(number) = self { Some(*number) } else { None }
+    }
+
+    fn is(&self, text: &str) -> bool {
+        if let Json::Text(found) = self { found == text } else { false }
+    }
+}
+
+struct Reader<'a> {
+    bytes: &'a [u8],
+    at: usize,
+}
+
+impl Reader<'_> {
+    fn next(&mut self) -> u8 {
+        while self.bytes[self.at].is_ascii_whitespace() {
+            self.at += 1;
+        }
+        self.bytes[self.at]
+    }
+
+    fn take(&mut self, byte: u8) -> bool {
+        let is_there = self.next() == byte;
+        self.at += is_there as usize;
+        is_there
+    }
+
+    fn text(&mut self) -> String {
+        assert!(self.take(b'"'));
+        let from = self.at;
+        while self.bytes[self.at] != b'"' {
+            assert_ne!(self.bytes[self.at], b'\\');
+            self.at += 1;
+        }
+        self.at += 1;
+        String::from_utf8(self.bytes[from..self.at - 1].to_vec()).unwrap()
+    }
+
+    fn value(&mut self) -> Json {
+        match self.next() {
+            b'"' => Json::Text(self.text()),
+            b'[' => {
+                self.at += 1;
+                let mut list = Vec::new();
+                while !self.take(b']') {
+                    list.push(self.value());
+                    self.take(b',');
+                }
+                Json::List(list)
+            }
+            b'{' => {
+                self.at += 1;
+                let mut members = BTreeMap::new();
+                while !self.take(b'}') {
+                    let key = self.text();
+                    assert!(self.take(b':'));
+                    members.insert(key, self.value());
+                    self.take(b',');
+                }
+                Json::Object(members)
+            }
+            _ => {
+                let from = self.at;
+                while matches!(self.bytes[self.at], b'-' | b'0'..=b'9') {
+                    self.at += 1;
+                }
+                Json::Number(std::str::from_utf8(&self.bytes[from..self.at]).unwrap().parse().unwrap())
+            }
+        }
+    }
+}
 
 fn main() {
+    let mut input = String::new();
+    std::io::stdin().read_to_string(&mut input).unwrap();
+    let from = input.find("%units\n").unwrap() + 7;
+    let to = input.find("\n%sources").unwrap() + 1;
+    let document = Reader { bytes: input[from..to].as_bytes(), at: 0 }.value();
     let mut by_x: BTreeMap<i64, Vec<(i64, u32)>> = BTreeMap::new();
-    for i in 0..SIDE * SIDE - 1 {
-        by_x.entry(i % SIDE).or_default().push((i / SIDE, i as u32));
+    for (unit, entry) in document.get("units").unwrap().list().iter().enumerate() {
+        if entry.get("class").unwrap().is("box") {
+            let slots = entry.get("slots").unwrap();
+            let (x, y) = (slots.get("x").unwrap().number().unwrap(), slots.get("y").unwrap().number().unwrap());
+            by_x.entry(x).or_default().push((y, unit as u32));
+        }
     }
     let mut seen = 0;
     for at in 0..COUNT {
@@ -161,7 +260,7 @@ def clips(folder, text):
 
 
 def plain(folder, count):
-    (folder / "plain.rs").write_text(PLAIN.replace("SIDE", str(SIDE)).replace("COUNT", str(count)))
+    (folder / "plain.rs").write_text(PLAIN.replace("COUNT", str(count)))
     subprocess.run(["rustc", "-O", "-o", folder / "plain", folder / "plain.rs"], check=True, cwd=folder)
     return [str(folder / "plain")]
 
@@ -192,7 +291,8 @@ def main():
             print("| %s | %d | %.2f | %s | | |" % (title, count, ours, rival or ""), flush=True)
             continue
         with tempfile.TemporaryDirectory() as room:
-            theirs = fastest(command(Path(room), count), "", given.runs)
+            # The plain program reads the same input; CLIPS has its own.
+            theirs = fastest(command(Path(room), count), make(count) if rival == "ordered map" else "", given.runs)
         print("| %s | %d | %.2f | %s | %.2f | %.1f |" % (title, count, ours, rival, theirs, ours / theirs), flush=True)
 
 

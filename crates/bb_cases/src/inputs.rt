@@ -1,5 +1,5 @@
-//! Inputs go through `serve_with`, and the output and the status are compared, and what there is to say of a refusal. The
-//! suite calls it for a case, and tables for their rows.
+//! Inputs go through `serve_with`, and the output and the status are compared, and what there is to say of a refusal or
+//! of a check. The suite calls it for a case, and tables for their rows.
 
 ghost use Rattle.std.specs.Prelude.{◌≡◌, Some, true, false, map, IfOk};
 ghost use Rattle.bb_main.specs.Roster.{all_open};
@@ -37,6 +37,15 @@ impl Out for Narrow {
     fn failed(&self) -> bool {
         self.failed
     }
+}
+
+/// What is to come of an input.
+#[derive(Drop)]
+pub(crate) struct Wanted {
+    status: u8,
+    output: Vec<u8>,
+    /// What is to be said of a check, where that is compared.
+    said: Option<Vec<u8>>,
 }
 
 /// How inputs are served.
@@ -83,16 +92,24 @@ impl Serving {
         Ok((served, out.taken))
     }
 
-    /// The first difference between what comes of an input and what is to come of it.
+    /// The first difference between what comes of an input and what is to come of it, and then, where lines are to be
+    /// said of a check, between these and what there is to say of it.
     pub fn compare(
         self,
         alloc: Global,
         input: &[u8],
-        status: u8,
-        output: &[u8],
+        wanted: &Wanted,
     ) -> Result<Option<Difference>, AllocError> {
         let (served, taken) = self.serve(alloc, input)?;
-        differs(alloc, &served, taken.as_slice(), status, output)
+        let output = wanted.output.as_slice();
+        let difference = differs(alloc, &served, taken.as_slice(), wanted.status, output)?;
+        match &wanted.said {
+            Some(said) if difference.is_none() => {
+                let advice = served.advice.as_deref().unwrap_or("");
+                Difference::of(alloc, said, advice.as_bytes())
+            }
+            _ => Ok(difference),
+        }
     }
 
     /// The first difference between what comes of a refused input and the line that is to come of it, and then between
@@ -164,6 +181,19 @@ fn mode_of(header: &Header<'_>) -> Result<Mode, Fault> {
     }
 }
 
+/// What a header wants to be said of a check: the lines of the `let` that its option `said` names.
+fn said(alloc: Global, scope: Scope<'_>, gives: &Header<'_>) -> Result<Option<Vec<u8>>, Fault> {
+    let Some(name) = gives.option("said") else {
+        return Ok(None);
+    };
+    let insert = format!(in alloc; "$({name})")?;
+    let mut lines = expanded(scope, insert.as_str())?;
+    if lines.len() > 0 {
+        lines.push(b'\n')?;
+    }
+    Ok(Some(lines))
+}
+
 /// Compares a case of an input.
 pub(crate) fn compare_input(
     alloc: Global,
@@ -172,8 +202,12 @@ pub(crate) fn compare_input(
 ) -> Result<Option<Difference>, Fault> {
     let serving = Serving::of(&entry.first.header)?;
     let gives = entry.second("gives")?;
-    let status = number(gives.header.name)?;
+    gives.header.check(&["said"])?;
     let input = expanded(scope, entry.first.text(alloc)?.as_str())?;
-    let output = expanded(scope, gives.text(alloc)?.as_str())?;
-    Ok(serving.compare(alloc, &input, status, &output)?)
+    let wanted = Wanted {
+        status: number(gives.header.name)?,
+        output: expanded(scope, gives.text(alloc)?.as_str())?,
+        said: said(alloc, scope, &gives.header)?,
+    };
+    Ok(serving.compare(alloc, &input, &wanted)?)
 }

@@ -13,6 +13,7 @@ mod section_fault;
 mod sections;
 mod served;
 mod serving;
+mod telling;
 #[cfg(test)]
 mod tests;
 
@@ -22,4 +23,5 @@ pub use input::{In, Intake};
 pub use program_native::{ProgramNative, Trade, program_natives};
 pub use read::INPUT_LIMIT;
 pub use served::Served;
-pub use serving::{program, serve, serve_with, tell};
+pub use serving::{program, serve, serve_with};
+pub use telling::tell;

@@ -7,24 +7,60 @@ ghost use Rattle.bb_shell.specs.Refusals.{refusal_text};
 ghost use Rattle.bb_main.specs.Serve.{CutShort, Delivers, refusal};
 ghost use Rattle.bb_main.specs.declared.serving.TheConstants.{REFUSED, WRITE};
 
+use crate::sections::Sections;
 use crate::served::Served;
 use crate::serving::{MEMORY, REFUSED, WRITE};
-use bb_shell::{NativeSource, Out, Report, close_each, put_all};
+use bb_report::{Input, report};
+use bb_shell::{InputFault, NativeSource, Out, close_each, put_all};
 use std::alloc::Global;
 use std::fmt::Display;
 
-/// Writes the line by which the sections of an input are refused.
-pub(crate) fn refuse<O: Out>(alloc: Global, report: Report<'_>, writer: &mut O) -> Served
+/// Writes the line by which the sections of an input are refused, and then makes a text of the reason. Where memory for
+/// the notes runs out it is the sentence alone.
+pub(crate) fn refuse<O: Out>(
+    alloc: Global,
+    fault: &InputFault,
+    sections: Sections<'_>,
+    writer: &mut O,
+) -> Served
     requires { O.has_failed writer.old ≡ false }
-    ensures answer { let a = refusal (refusal_text report.entry.fault.now) in
+    ensures answer { let a = refusal (refusal_text fault.now) in
         Delivers a (O.taken writer.old) (O.taken writer.new) result.status
         ⊎ CutShort a (O.taken writer.old) (O.taken writer.new) result.status }
     ensures failed { O.has_failed writer.new ≡ (result.status == WRITE) }
     ensures silent { result.status ≢ REFUSED → IsNone result.report }
+    ensures unasked { IsNone result.advice }
 {
-    match report.fault.line(alloc) {
-        Ok(line) => answer(alloc, line.as_str(), report, writer),
-        Err(_) => Served::quiet(MEMORY),
+    let Ok(line) = fault.line(alloc) else {
+        return Served::quiet(MEMORY);
+    };
+    match write_refusal(line.as_str(), writer) {
+        REFUSED => Served {
+            status: REFUSED,
+            report: reason(alloc, fault, sections),
+            advice: None,
+        },
+        status => Served::quiet(status),
+    }
+}
+
+// The sentence and the notes, or the sentence alone, or nothing, as memory allows.
+fn reason(alloc: Global, fault: &InputFault, sections: Sections<'_>) -> Option<String> {
+    let Sections {
+        schema,
+        units,
+        sources,
+        bundle,
+    } = sections;
+    let input = Input {
+        schema,
+        units,
+        sources,
+        bundle,
+    };
+    match report(alloc, fault, input) {
+        Ok(text) => Some(text),
+        Err(_) => fault.to_string(alloc).ok(),
     }
 }
 
@@ -41,6 +77,7 @@ pub(crate) fn refuse_input<D: Display + Drop, N: NativeSource, O: Out>(
     ensures answer { Delivers (refusal line.now) (O.taken writer.old) (O.taken writer.new) result.status }
     ensures failed { O.has_failed writer.new ≡ (result.status == WRITE) }
     ensures silent { result.status ≢ REFUSED → IsNone result.report }
+    ensures unasked { IsNone result.advice }
 {
     close_each(natives);
     answer(alloc, line, reason, writer)
@@ -52,6 +89,7 @@ fn answer<D: Display + Drop, O: Out>(alloc: Global, line: &str, reason: D, write
     ensures answer { Delivers (refusal line.now) (O.taken writer.old) (O.taken writer.new) result.status }
     ensures failed { O.has_failed writer.new ≡ (result.status == WRITE) }
     ensures silent { result.status ≢ REFUSED → IsNone result.report }
+    ensures unasked { IsNone result.advice }
 {
     let status = write_refusal(line, writer);
     if status != REFUSED {
@@ -60,6 +98,7 @@ fn answer<D: Display + Drop, O: Out>(alloc: Global, line: &str, reason: D, write
     Served {
         status,
         report: reason.to_string(alloc).ok(),
+        advice: None,
     }
 }
 

@@ -1,8 +1,7 @@
 //! The program: an input is read, cut into sections, and run, checked or compiled; its trace, the lines of its check,
-//! its bundle, or the line that refuses it, is written, and why it is refused is said beside that. Where the words of
-//! the command line choose nothing, their text is written.
+//! its bundle, or the line that refuses it, is written, and what there is to say of it is said beside that.
 
-ghost use Rattle.std.specs.Prelude.{◌≡◌, ◌≢◌, ◌==◌, ◌+◌, ◌∷◌, ◌⊎◌, [], true, false, map};
+ghost use Rattle.std.specs.Prelude.{◌≡◌, ◌≢◌, ◌==◌, ◌+◌, ◌⊎◌, true, false, map};
 ghost use Rattle.std.specs.Prelude.{IfErr, IsNone};
 ghost use Rattle.std.specs.Bool.{OnFalse, OnTrue};
 ghost use Rattle.bb_shell.specs.Check.{sources_in};
@@ -15,7 +14,7 @@ ghost use Rattle.bb_main.specs.Natives.{program_natives};
 ghost use Rattle.bb_main.specs.Reading.{HasTaken, TakesAtMost};
 ghost use Rattle.bb_main.specs.Refusals.{section_line};
 ghost use Rattle.bb_main.specs.Serve.{CutShort, Delivers, Serves, answer, answer_in, answer_to_check};
-ghost use Rattle.bb_main.specs.Serve.{answer_to_compile, answer_to_meaning, done_status, fault_answer};
+ghost use Rattle.bb_main.specs.Serve.{answer_to_compile, answer_to_meaning, done_status};
 ghost use Rattle.bb_main.specs.Serve.{limit_refusal, read_refusal, refusal, status_of};
 ghost use Rattle.bb_main.specs.declared.serving.TheConstants.{REFUSED, WRITE};
 
@@ -26,10 +25,11 @@ use crate::refusing::{refuse, refuse_input};
 use crate::section_fault::SectionFault;
 use crate::sections::Sections;
 use crate::served::Served;
-use bb_options::{Mode, Options, OptionsFault};
+use bb_advice::advice;
+use bb_options::{Mode, Options};
 use bb_shell::{
-    Done, Finish, InputFault, NativeSource, Out, Report, check_texts, close_each, compile_texts,
-    put_all, run_texts,
+    Check, Done, Finish, InputFault, NativeSource, Out, check_sources, close_each, compile_texts,
+    run_texts,
 };
 use std::alloc::Global;
 use std::io::Write;
@@ -44,7 +44,8 @@ pub(crate) const MEMORY: u8 = 5;
 pub(crate) const WRITE: u8 = 6;
 
 /// What the program does: `serve`, as the words of its command line choose, with its natives `tally` and `reaper`.
-/// After the line of a refusal it says on `errors` why. Answers the status of the program, whatever `errors` does.
+/// After the line of a refusal it says on `errors` why, and after the lines of a check what there is to say of its
+/// sources. Answers the status of the program, whatever `errors` does.
 pub fn program<R: In, O: Out, E: Write>(
     alloc: Global,
     options: Options,
@@ -63,14 +64,19 @@ pub fn program<R: In, O: Out, E: Write>(
         → Delivers limit_refusal (O.taken writer.old) (O.taken writer.new) result }
     ensures failed { O.has_failed writer.new ≡ (result == WRITE) }
     ensures unstuck { result ≢ 7 }
-    // Nothing is said but of a refused input.
-    ensures silent { result ≢ REFUSED → errors.new ≡ errors.old }
+    // Nothing is said but of a refused input, and of one that is checked.
+    ensures silent { result ≢ REFUSED → options.mode ≢ Mode.Check → errors.new ≡ errors.old }
 {
     let Ok(natives) = program_natives(alloc) else {
         return MEMORY;
     };
-    let Served { status, report } = serve_with(alloc, options, natives, reader, writer);
+    let Served {
+        status,
+        report,
+        advice,
+    } = serve_with(alloc, options, natives, reader, writer);
     say(report, errors);
+    say_advice(advice, errors);
     status
 }
 
@@ -84,32 +90,12 @@ fn say<E: Write>(report: Option<String>, errors: &mut E)
     let _ = writeln!(errors, "bb: {report}");
 }
 
-/// Writes the text of words that choose nothing. Answers the status of the program: 0 where help or the version was
-/// asked for, 2 where the words are refused, 5 no memory, 6 the output failed.
-pub fn tell<O: Out>(fault: &OptionsFault, writer: &mut O) -> u8
-    requires { O.has_failed writer.old ≡ false }
-    ensures answer { Delivers (fault_answer fault.now) (O.taken writer.old) (O.taken writer.new) result }
-    ensures failed { O.has_failed writer.new ≡ (result == WRITE) }
+/// Says what there is to say of an input that was checked, if there is something. What cannot be written is left out.
+fn say_advice<E: Write>(advice: Option<String>, errors: &mut E)
+    ensures { IsNone advice → errors.new ≡ errors.old }
 {
-    match fault {
-        OptionsFault::Help(text) => write_text(text.as_str(), 0, writer),
-        OptionsFault::Words(text) => write_text(text.as_str(), REFUSED, writer),
-        OptionsFault::Memory => MEMORY,
-    }
-}
-
-/// Writes a text, and answers this status unless the output fails.
-fn write_text<O: Out>(text: &str, status: u8, writer: &mut O) -> u8
-    requires open { O.has_failed writer.old ≡ false }
-    requires other { (status == WRITE) ≡ false }
-    ensures answer { Delivers (record { pieces = text.now ∷ []; status = status })
-        (O.taken writer.old) (O.taken writer.new) result }
-    ensures failed { O.has_failed writer.new ≡ (result == WRITE) }
-{
-    if put_all(writer, text.as_bytes()) {
-        status
-    } else {
-        WRITE
+    if let Some(advice) = advice {
+        let _ = write!(errors, "{advice}");
     }
 }
 
@@ -174,6 +160,7 @@ pub fn serve_with<N: NativeSource, R: In, O: Out>(
     ensures failed { O.has_failed writer.new ≡ (result.status == WRITE) }
     ensures unstuck { result.status ≢ 7 }
     ensures silent { result.status ≢ REFUSED → IsNone result.report }
+    ensures unasked { options.mode ≢ Mode.Check → IsNone result.advice }
 {
     match read_input(alloc, reader) {
         Ok(bytes) => serve_bytes(alloc, options, natives, bytes.as_slice(), writer),
@@ -215,6 +202,7 @@ fn serve_bytes<N: NativeSource, O: Out>(
     ensures failed { O.has_failed writer.new ≡ (result.status == WRITE) }
     ensures unstuck { result.status ≢ 7 }
     ensures silent { result.status ≢ REFUSED → IsNone result.report }
+    ensures unasked { options.mode ≢ Mode.Check → IsNone result.advice }
 {
     match Sections::of_bytes(bytes) {
         Ok(sections) => serve_sections(alloc, options, natives, sections, writer),
@@ -240,10 +228,11 @@ fn serve_sections<N: NativeSource, O: Out>(
     ensures failed { O.has_failed writer.new ≡ (result.status == WRITE) }
     ensures unstuck { result.status ≢ 7 }
     ensures silent { result.status ≢ REFUSED → IsNone result.report }
+    ensures unasked { options.mode ≢ Mode.Check → IsNone result.advice }
 {
     match options.mode {
         Mode::Run => run_sections(alloc, options, natives, sections, writer),
-        Mode::Check => check_sections(alloc, natives, sections, writer),
+        Mode::Check => check_sections(alloc, options.floor, natives, sections, writer),
         Mode::Compile => compile_sections(alloc, natives, sections, writer),
     }
 }
@@ -267,6 +256,7 @@ fn run_sections<N: NativeSource, O: Out>(
     ensures failed { O.has_failed writer.new ≡ (result.status == WRITE) }
     ensures unstuck { result.status ≢ 7 }
     ensures silent { result.status ≢ REFUSED → IsNone result.report }
+    ensures unasked { IsNone result.advice }
 {
     let Sections {
         schema,
@@ -280,20 +270,14 @@ fn run_sections<N: NativeSource, O: Out>(
     ) {
         Ok(finish) => Served::quiet(status(finish)),
         Err(InputFault::Memory) => Served::quiet(MEMORY),
-        Err(fault) => refuse(
-            alloc,
-            Report {
-                fault: &fault,
-                sources,
-            },
-            writer,
-        ),
+        Err(fault) => refuse(alloc, &fault, sections, writer),
     }
 }
 
 /// Checks these sections. The units are not looked at.
 fn check_sections<N: NativeSource, O: Out>(
     alloc: Global,
+    floor: i64,
     natives: Vec<N>,
     sections: Sections<'_>,
     writer: &mut O,
@@ -315,17 +299,23 @@ fn check_sections<N: NativeSource, O: Out>(
         sources,
         bundle,
     } = sections;
-    match check_texts(alloc, schema, sources, bundle, natives, writer) {
-        Ok(done) => Served::quiet(done_status(done)),
+    match check_sources(alloc, schema, sources, bundle, natives, writer) {
+        Ok(checked) => advise(alloc, &checked, floor),
         Err(InputFault::Memory) => Served::quiet(MEMORY),
-        Err(fault) => refuse(
-            alloc,
-            Report {
-                fault: &fault,
-                sources,
-            },
-            writer,
-        ),
+        Err(fault) => refuse(alloc, &fault, sections, writer),
+    }
+}
+
+/// The status of an input that was checked, and what there is to say of it.
+fn advise(alloc: Global, checked: &Check, floor: i64) -> Served
+    ensures status { result.status ≡ done_status checked.now.done }
+    ensures silent { IsNone result.report }
+{
+    let sources = checked.sources.as_slice();
+    Served {
+        status: done_status(checked.done),
+        report: None,
+        advice: advice(alloc, &checked.schema, sources, floor).ok(),
     }
 }
 
@@ -345,6 +335,7 @@ fn compile_sections<N: NativeSource, O: Out>(
     ensures failed { O.has_failed writer.new ≡ (result.status == WRITE) }
     ensures unstuck { result.status ≢ 7 }
     ensures silent { result.status ≢ REFUSED → IsNone result.report }
+    ensures unasked { IsNone result.advice }
 {
     let Sections {
         schema,
@@ -355,14 +346,7 @@ fn compile_sections<N: NativeSource, O: Out>(
     match compile_texts(alloc, schema, sources, natives, writer) {
         Ok(done) => Served::quiet(done_status(done)),
         Err(InputFault::Memory) => Served::quiet(MEMORY),
-        Err(fault) => refuse(
-            alloc,
-            Report {
-                fault: &fault,
-                sources,
-            },
-            writer,
-        ),
+        Err(fault) => refuse(alloc, &fault, sections, writer),
     }
 }
 

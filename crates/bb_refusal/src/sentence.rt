@@ -1,4 +1,4 @@
-//! Why an input is refused, as a sentence for people: where the fault is, and what is wrong there. Reports (`report`)
+//! Why an input is refused, as a sentence for people: where the fault is, and what is wrong there. Reports (bb_report)
 //! begin with it.
 
 use crate::input_fault::InputFault;

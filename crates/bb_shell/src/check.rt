@@ -1,8 +1,9 @@
 //! The check of an input: its sources are verified and made, nothing is run, and what their parts cost is written.
-//! Programs (bb_main) call `check_texts`.
+//! Programs (bb_main) call `check_sources`, hosts `check_texts`.
 
-ghost use Rattle.std.specs.Prelude.{◌≡◌, ◌⊎◌, true, false, map, IfErr, IfOk, OnErr};
-ghost use Rattle.bb_basis.specs.Results.{Gives};
+ghost use Rattle.std.specs.Prelude.{◌≡◌, ◌⊎◌, Ok, true, false, map, IfErr, IfOk, OnErr};
+ghost use Rattle.bb_basis.specs.Results.{Gives, map_err};
+ghost use Rattle.bb_schema.specs.Reading.{schema_of};
 ghost use Rattle.bb_run.specs.Roster.{all_open};
 ghost use Rattle.bb_shell.specs.Fitting.{names_in, native_names};
 ghost use Rattle.bb_shell.specs.Check.{WritesCheck, sources_in};
@@ -14,11 +15,64 @@ use crate::texts::read_schema;
 use crate::written::{Done, write};
 use bb_refusal::InputFault;
 use bb_run::{Closing, NativeSource, Out, Roster, Source};
+use bb_schema::Schema;
 use std::alloc::Global;
+
+/// An input that was checked.
+#[derive(Drop)]
+pub struct Check {
+    /// How far the lines on it were written.
+    pub done: Done,
+    pub schema: Schema,
+    /// Its sources: those that are text, then those of the bundle.
+    pub sources: Vec<Source>,
+}
 
 /// Reads a schema and sources, as text and of a bundle, verifies all codes of all of them, and writes what the parts of
 /// each source cost, and how many sources there are. It refuses as `run_texts` does where it reads no units; then
 /// nothing is written. Each native is closed once, in order, and none is called. `Memory`: memory ran out.
+pub fn check_sources<N: NativeSource, O: Out>(
+    alloc: Global,
+    schema: &str,
+    sources: &str,
+    bundle: &str,
+    natives: Vec<N>,
+    out: &mut O,
+) -> Result<Check, InputFault>
+    requires open { O.has_failed out.old ≡ false }
+    requires natives { all_open (map N.meaning natives.items) ≡ true }
+
+    // At `Ok` the sources are those of the texts, and the output took the lines on them, at `Write` a front of these.
+    ensures text { IfOk result (λ c.
+        WritesCheck (sources_in (native_names (map N.meaning natives.items)) schema.now sources.now bundle.now)
+        c.done (O.taken out.old) (O.taken out.new)) }
+    ensures sources { IfOk result (λ c.
+        sources_in (native_names (map N.meaning natives.items)) schema.now sources.now bundle.now ≡ Ok c.sources.items) }
+    ensures schema { IfOk result (λ c. map_err InputFault.Schema (schema_of schema.now) ≡ Ok c.schema) }
+
+    // `Write` tells that the output has failed.
+    ensures failed { IfOk result (λ c. O.has_failed out.new ≡ is_cut c.done) }
+
+    // At `Err` it is the first refusal, and the output is as it was.
+    ensures refused { IfErr result (λ e. (e ≡ InputFault.Memory)
+        ⊎ (sources_in (native_names (map N.meaning natives.items)) schema.now sources.now bundle.now ≡ Err e)) }
+    ensures quiet { OnErr result (out.new ≡ out.old) }
+{
+    let roster = Roster::new(alloc, natives)?;
+    let read = read_sources(alloc, roster.handed_in(), schema, sources, bundle);
+    drop(roster.close_all());
+    let checked = read?;
+    let text = check_text(alloc, checked.1.as_slice())?;
+    let done = write(text.as_str(), out);
+    let (schema, sources) = checked;
+    Ok(Check {
+        done,
+        schema,
+        sources,
+    })
+}
+
+/// `check_sources`, without what was checked.
 pub fn check_texts<N: NativeSource, O: Out>(
     alloc: Global,
     schema: &str,
@@ -43,12 +97,8 @@ pub fn check_texts<N: NativeSource, O: Out>(
         ⊎ (sources_in (native_names (map N.meaning natives.items)) schema.now sources.now bundle.now ≡ Err e)) }
     ensures quiet { OnErr result (out.new ≡ out.old) }
 {
-    let roster = Roster::new(alloc, natives)?;
-    let read = read_sources(alloc, roster.handed_in(), schema, sources, bundle);
-    drop(roster.close_all());
-    let checked = read?;
-    let text = check_text(alloc, checked.as_slice())?;
-    Ok(write(text.as_str(), out))
+    let checked = check_sources(alloc, schema, sources, bundle, natives, out)?;
+    Ok(checked.done)
 }
 
 #[tactic(auto, unfolding(crate::specs::Check::sources_in))]
@@ -58,10 +108,12 @@ fn read_sources(
     schema: &str,
     sources: &str,
     bundle: &str,
-) -> Result<Vec<Source>, InputFault>
-    ensures { Gives InputFault.Memory (λ v. v.items) result
+) -> Result<(Schema, Vec<Source>), InputFault>
+    ensures sources { Gives InputFault.Memory (λ v. v.1.items) result
         (sources_in (names_in natives.now) schema.now sources.now bundle.now) }
+    ensures schema { IfOk result (λ v. map_err InputFault.Schema (schema_of schema.now) ≡ Ok v.0) }
 {
     let schema = read_schema(alloc, schema)?;
-    given(alloc, natives, &schema, sources, bundle)
+    let sources = given(alloc, natives, &schema, sources, bundle)?;
+    Ok((schema, sources))
 }

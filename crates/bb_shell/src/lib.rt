@@ -18,7 +18,7 @@ pub use bb_basis::{Items, Memory, Text};
 pub use bb_bundle::BundleFault;
 pub use bb_judge::{CompileFault, Flaw as TextFlaw};
 pub use bb_lang::{LangFault, Place};
-pub use bb_refusal::{InputFault, Report};
+pub use bb_refusal::InputFault;
 pub use bb_run::{
     Ask, Board, ClassPlace, ClauseList, ClausePlace, Closed, Closing, DimValue, DocumentPlace, End,
     Finish, ListItem, ListKey, NativeSource, Node, OperandKind, Out, Pattern, Pipe, Query,
@@ -27,7 +27,7 @@ pub use bb_run::{
 };
 pub use bb_schema::{SchemaFault, SchemaFlaw, UnitId, Value};
 pub use bb_verify::{Flaw, Part, VerifyFault};
-pub use check::check_texts;
+pub use check::{Check, check_sources, check_texts};
 pub use compile::compile_texts;
 pub use shell::Shell;
 pub use texts::run_texts;

@@ -9,12 +9,12 @@ use Rattle.bb_main.proofs.serving.check_sections.Goals as goal
 
 pub returns-in-Ok-clause-answer : goal.returns-in-Ok-clause-answer
 returns-in-Ok-clause-answer g c =
-    rw c.quiet.ensures.status (served_check (sources_in (native_names (map g.N.NativeSource.meaning c.args.natives.items)) c.args.sections.schema.now c.args.sections.sources.now c.args.sections.bundle.now) c.in-Ok.done c.done_status.result
-    (g.O.Out.taken c.args.writer.now) (g.O.Out.taken c.check_texts.new.out) c.done_status.ensures c.in-Ok.ensures.text)
+    (served_check (sources_in (native_names (map g.N.NativeSource.meaning c.args.natives.items)) c.args.sections.schema.now c.args.sections.sources.now c.args.sections.bundle.now) c.in-Ok.checked.done c.advise.result.status
+    (g.O.Out.taken c.args.writer.now) (g.O.Out.taken c.check_sources.new.out) c.advise.ensures.status c.in-Ok.ensures.text)
 
 pub returns-in-Ok-clause-unstuck : goal.returns-in-Ok-clause-unstuck
-returns-in-Ok-clause-unstuck g c = rw c.quiet.ensures.status (written_status c.in-Ok.done c.done_status.result c.done_status.ensures)
+returns-in-Ok-clause-unstuck g c = (written_status c.in-Ok.checked.done c.advise.result.status c.advise.ensures.status)
 
 pub returns-in-Err-clause-unstuck : goal.returns-in-Err-clause-unstuck
 returns-in-Err-clause-unstuck g c =
-    refusal_status (refusal_text c.in-Err.fault) (g.O.Out.taken c.check_texts.new.out) (g.O.Out.taken c.refuse.new.writer) c.refuse.result.status c.refuse.ensures.answer
+    refusal_status (refusal_text c.in-Err.fault) (g.O.Out.taken c.check_sources.new.out) (g.O.Out.taken c.refuse.new.writer) c.refuse.result.status c.refuse.ensures.answer

@@ -1,6 +1,6 @@
 -- One piece is written, or a front of it.
 use Rattle.bb_main.proofs.ServeLemmas.{wrote_front, wrote_whole}
-use Rattle.bb_main.proofs.serving.write_text.Goals as goal
+use Rattle.bb_main.proofs.telling.write_text.Goals as goal
 
 pub returns-then-put_all-clause-answer : goal.returns-then-put_all-clause-answer
 returns-then-put_all-clause-answer g c =

@@ -1,0 +1,63 @@
+//! The line of a text at which a fault stands, with a caret under the column. Reports show it below the sentence.
+
+use crate::words::{MORE, begin_line};
+use bb_basis::Memory;
+use std::fmt::Write;
+
+/// The most characters of a line that are shown.
+const WIDTH: usize = 160;
+
+/// How many of them stand before the fault, where the line goes on at both ends.
+const BEFORE: usize = 80;
+
+/// Appends a line of a text and, below it, a caret under a column, both from 1; columns count characters.
+pub fn write_excerpt(
+    text: &mut String,
+    source: &str,
+    line: u64,
+    column: u64,
+) -> Result<(), Memory> {
+    let column = usize::try_from(column.saturating_sub(1)).unwrap_or(usize::MAX);
+    let line = line_at(source, line);
+    let start = start_of(line, column);
+    write_line(text, line, start)?;
+    begin_line(text)?;
+    let front = if start > 0 { MORE.len() } else { 0 };
+    let indent = front.saturating_add(column.saturating_sub(start));
+    write!(text, "{:indent$}^", "")
+}
+
+/// Appends a line of a text, from 1, without a caret.
+pub fn write_whole_line(text: &mut String, source: &str, line: u64) -> Result<(), Memory> {
+    write_line(text, line_at(source, line), 0)
+}
+
+/// The line of a number, from 1, without its end. Behind the last line feed of a text is an empty one.
+pub fn line_at(source: &str, line: u64) -> &str {
+    let index = usize::try_from(line.saturating_sub(1)).unwrap_or(usize::MAX);
+    source.lines().nth(index).unwrap_or("")
+}
+
+// The first character that is shown, so that the column is.
+fn start_of(line: &str, column: usize) -> usize {
+    let length = line.chars().count();
+    column
+        .saturating_sub(BEFORE)
+        .min(length.saturating_sub(WIDTH))
+}
+
+// What is shown of a line. A tab or another control character is a blank, so that the columns stay in place, and a text
+// of a stranger does nothing to a terminal.
+fn write_line(text: &mut String, line: &str, start: usize) -> Result<(), Memory> {
+    begin_line(text)?;
+    if start > 0 {
+        text.push_str(MORE)?;
+    }
+    for c in line.chars().skip(start).take(WIDTH) {
+        text.push(if c.is_control() { ' ' } else { c })?;
+    }
+    if line.chars().nth(start.saturating_add(WIDTH)).is_some() {
+        text.push_str(MORE)?;
+    }
+    Ok(())
+}

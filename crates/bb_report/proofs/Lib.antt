@@ -1,0 +1,2 @@
+-- where the bytes of a code show a fault
+pub mod EarlyLemmas

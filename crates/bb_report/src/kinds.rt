@@ -1,0 +1,79 @@
+//! Kinds of values and of slots in words, with the names of the schema. The notes on first units and codes use them.
+
+use bb_basis::Memory;
+use bb_code::Kind as FrameKind;
+use bb_schema::{ClassId, Kind, LabelSetId, Schema, SlotId};
+use std::fmt::Write;
+
+/// Appends what an ordinary slot holds.
+pub(crate) fn write_slot_kind(
+    text: &mut String,
+    schema: &Schema,
+    slot: SlotId,
+) -> Result<(), Memory> {
+    if slot as usize >= schema.slot_count() {
+        return Ok(());
+    }
+    match schema.kind(slot) {
+        Kind::Int => text.push_str("a whole number of 64 bits"),
+        Kind::Text => text.push_str("a text of at most 65,535 bytes"),
+        Kind::Bool => text.push_str("`true` or `false`"),
+        Kind::Label(set) => write_labels(text, schema, set),
+        Kind::Interval => text.push_str("a list of two whole numbers, the lesser first"),
+        Kind::Link(link) => {
+            text.push_str("a link to ")?;
+            write_class(text, schema, link.to)
+        }
+    }
+}
+
+/// Appends the kind of an entry of a frame, by names: `Old(box)`. What the schema has not stays a number.
+pub(crate) fn write_kind(
+    text: &mut String,
+    schema: &Schema,
+    kind: FrameKind,
+) -> Result<(), Memory> {
+    match kind {
+        FrameKind::Any => text.push_str("Any"),
+        FrameKind::Int => text.push_str("Int"),
+        FrameKind::Text => text.push_str("Text"),
+        FrameKind::Bool => text.push_str("Bool"),
+        FrameKind::Interval => text.push_str("Interval"),
+        FrameKind::Label(set) => write!(text, "Label({set})"),
+        FrameKind::Ref(class) => write_of_class(text, "Ref(", schema, class),
+        FrameKind::Old(class) => write_of_class(text, "Old(", schema, class),
+        FrameKind::Seq(class) => write_of_class(text, "Seq(", schema, class),
+    }
+}
+
+fn write_of_class(
+    text: &mut String,
+    front: &str,
+    schema: &Schema,
+    class: ClassId,
+) -> Result<(), Memory> {
+    text.push_str(front)?;
+    write_class(text, schema, class)?;
+    text.push_str(")")
+}
+
+/// Appends the name of a class.
+pub(crate) fn write_class(
+    text: &mut String,
+    schema: &Schema,
+    class: ClassId,
+) -> Result<(), Memory> {
+    match schema.class_name(class) {
+        None => write!(text, "{class}"),
+        Some(name) => text.push_str(name),
+    }
+}
+
+// Appends that a value is one of the labels of a set, with the first of them.
+fn write_labels(text: &mut String, schema: &Schema, set: LabelSetId) -> Result<(), Memory> {
+    text.push_str("a label of its set")?;
+    match schema.label_name(set, 0) {
+        None => Ok(()),
+        Some(first) => write!(text, ", as \"{first}\""),
+    }
+}

@@ -1,0 +1,17 @@
+//! What programs tell people of a refused input (bb_main): the sentence of the fault, and below it notes with the names
+//! and the text at that place. A fault has numbers only, so the notes are looked up in the input once more.
+#![tactic(auto)]
+
+mod bundle_notes;
+mod code_notes;
+mod due;
+mod entry;
+mod json_notes;
+mod kinds;
+mod reporting;
+mod rule_notes;
+mod schema_notes;
+mod shape_notes;
+mod units_notes;
+
+pub use reporting::{Input, report};
