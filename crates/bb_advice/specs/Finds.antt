@@ -1,5 +1,5 @@
 -- Searches that find nothing.
-use Rattle.std.specs.Prelude.{ℕ, Bool, false, not, ◌&&◌, length, slice_get}
+use Rattle.std.specs.Prelude.{ℕ, Bool, false, not, List, filter, length, slice_get}
 use Rattle.std.specs.List.{list_any, range_with_len}
 use Rattle.std.specs.Option.{option_map_or}
 use Rattle.bb_schema.specs.Schema.{Schema, descends}
@@ -9,13 +9,13 @@ use Rattle.bb_code.specs.Query.{Query}
 use Rattle.bb_code.specs.Op.{Op}
 use Rattle.bb_code.specs.Op.TheVariants as ops
 
--- the query asks for units of this class, and its space admits them
-abbrev pub is_asked : Schema → Query → ℕ → Bool
-is_asked s q class = descends s class q.class && allowed s q.space class
+-- the classes that a space admits, rising
+abbrev pub admitted_classes : Schema → (space : ℕ) → List ℕ
+admitted_classes s space = filter (allowed s space) (range_with_len 0 (length s.classes))
 
--- it is so of no class
+-- none of those of the query's space is its class or below it
 abbrev pub is_barren : Schema → Query → Bool
-is_barren s q = not (list_any (is_asked s q) (range_with_len 0 (length s.classes)))
+is_barren s q = not (list_any (λ c. descends s c q.class) (admitted_classes s q.space))
 
 -- the op asks a query that finds nothing
 abbrev pub finds_nothing : Schema → Code → Op → Bool

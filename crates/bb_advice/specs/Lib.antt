@@ -10,3 +10,5 @@ pub mod Warnings
 pub mod Ratings
 -- the codes of a source, in order
 pub mod Codes
+-- what only proofs speak of
+pub mod proving

@@ -1,6 +1,7 @@
 //! What is said of sources: their warnings, then what their parts cost.
 
 use crate::costs::write_costs;
+use crate::finds::Admitted;
 use crate::rating::{any_makes_focus, stays_below};
 use crate::sentence::{write_codes, write_rating};
 use bb_basis::Memory;
@@ -19,9 +20,10 @@ pub fn advice(
     floor: i64,
 ) -> Result<String, Memory> {
     let mut text = String::new(alloc);
+    let admitted = Admitted::of(alloc, schema)?;
     let raised = any_makes_focus(schema, sources);
     for source in sources {
-        write_codes(alloc, &mut text, schema, source)?;
+        write_codes(alloc, &mut text, schema, &admitted, source)?;
         if stays_below(raised, floor, source) {
             write_rating(&mut text, source, floor)?;
         }

@@ -1,8 +1,10 @@
 //! Warnings as sentences, with the names of the schema. `advice` writes them.
 
 ghost use Rattle.std.specs.Prelude.{◌<◌, length};
+ghost use Rattle.bb_advice.specs.proving.Admitted.{AreAdmitted};
 
 use crate::codes::codes_of;
+use crate::finds::Admitted;
 use crate::vain::held_class;
 use crate::warning::{Warning, code_warnings};
 use bb_asm::write_op;
@@ -74,15 +76,25 @@ fn write_slip(
     }
 }
 
+// A code, and the name of its source.
+#[derive(Clone, Copy)]
+struct Part<'a> {
+    name: &'a str,
+    checked: &'a Checked,
+}
+
 // Appends the warnings of a code.
 fn write_code(
     alloc: Global,
     text: &mut String,
     schema: &Schema,
-    name: &str,
-    checked: &Checked,
-) -> Result<(), Memory> {
-    let warnings = code_warnings(alloc, schema, checked)?;
+    admitted: &Admitted,
+    part: Part<'_>,
+) -> Result<(), Memory>
+    requires { AreAdmitted schema.now admitted.now.lists.items }
+{
+    let Part { name, checked } = part;
+    let warnings = code_warnings(alloc, schema, admitted, checked)?;
     let part = checked.part().word();
     for warning in &warnings {
         write!(text, "warning: source {name}, {part}")?;
@@ -96,11 +108,15 @@ pub(crate) fn write_codes(
     alloc: Global,
     text: &mut String,
     schema: &Schema,
+    admitted: &Admitted,
     source: &Source,
-) -> Result<(), Memory> {
+) -> Result<(), Memory>
+    requires { AreAdmitted schema.now admitted.now.lists.items }
+{
     for code in codes_of(source) {
         if let Some(checked) = code {
-            write_code(alloc, text, schema, source.name.as_str(), checked)?;
+            let name = source.name.as_str();
+            write_code(alloc, text, schema, admitted, Part { name, checked })?;
         }
     }
     Ok(())

@@ -2,10 +2,11 @@
 
 ghost use Rattle.std.specs.Prelude.{◌≡◌, ◌++◌, IfOk, OnOk, length, map};
 ghost use Rattle.bb_advice.specs.Finds.{is_barren};
+ghost use Rattle.bb_advice.specs.proving.Admitted.{AreAdmitted};
 ghost use Rattle.bb_advice.specs.Unused.{IsTold};
 ghost use Rattle.bb_advice.specs.Warnings.{code_warnings, op_warnings, query_warnings, warning_at};
 
-use crate::finds::{barren_queries, finds_nothing};
+use crate::finds::{Admitted, finds_nothing};
 use crate::unused::named_queries;
 use crate::vain::is_vain_at;
 use bb_basis::Memory;
@@ -79,12 +80,14 @@ fn warn_of_queries(warnings: &mut Vec<Warning>, code: &Code, named: &[bool]) -> 
 pub(crate) fn code_warnings(
     alloc: Global,
     schema: &Schema,
+    admitted: &Admitted,
     checked: &Checked,
 ) -> Result<Vec<Warning>, Memory>
+    requires { AreAdmitted schema.now admitted.now.lists.items }
     ensures { IfOk result (λ v. v.items ≡ code_warnings schema.now checked.now) }
 {
     let code = checked.code();
-    let barren = barren_queries(alloc, schema, code)?;
+    let barren = admitted.barren_queries(alloc, schema, code)?;
     let named = named_queries(alloc, code)?;
     let mut warnings = Vec::new(alloc);
     warn_of_ops(&mut warnings, schema, checked, barren.as_slice())?;
