@@ -1,7 +1,8 @@
 //! What the tests of refusals hand in, and what comes of it.
 
 use crate::natives::no_natives;
-use bb_shell::{Pipe, Report, run_texts};
+use bb_report::{Input as Sections, report};
+use bb_shell::{Pipe, run_texts};
 use std::alloc::Global;
 use std::test::Fail;
 
@@ -69,17 +70,20 @@ pub(crate) fn run_input(alloc: Global, input: Input<'_>) -> Result<Outcome, Fail
             number: None,
             report: String::new(alloc),
         }),
-        Err(fault) => {
-            let sources = input.sources;
-            let report = Report {
-                fault: &fault,
-                sources,
-            };
-            Ok(Outcome {
-                refusal: fault.line(alloc)?,
-                number: Some(fault.number()),
-                report: report.to_string(alloc)?,
-            })
-        }
+        Err(fault) => Ok(Outcome {
+            refusal: fault.line(alloc)?,
+            number: Some(fault.number()),
+            report: report(alloc, &fault, sections_of(input))?,
+        }),
+    }
+}
+
+/// The sections that the texts are.
+pub(crate) fn sections_of(input: Input<'_>) -> Sections<'_> {
+    Sections {
+        schema: input.schema,
+        units: input.units,
+        sources: input.sources,
+        bundle: input.bundle,
     }
 }

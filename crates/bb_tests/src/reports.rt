@@ -1,8 +1,10 @@
-//! What is said of refused inputs: the sentence of each step, and the line with its caret.
+//! What is said of refused inputs: the sentence of each step and what is shown of its place, and the line with its
+//! caret.
 
-use crate::input::{FIRST, HAIL, Input, NOTE_SCHEMA, ONE_NOTE, run_input};
+use crate::input::{FIRST, HAIL, Input, NOTE_SCHEMA, ONE_NOTE, run_input, sections_of};
 use crate::refusals::{NOT_ACCEPTED, NOT_COMPILED};
-use bb_shell::{InputFault, Report};
+use bb_report::report;
+use bb_shell::InputFault;
 use std::alloc::Global;
 use std::test::Fail;
 
@@ -22,41 +24,61 @@ fn said_of(alloc: Global, sources: &str) -> Result<String, Fail> {
     Ok(run_input(alloc, input)?.report)
 }
 
-// The sentence of each step that has no place in the text of sources.
+// What is said at each step that has no place in the text of sources.
 #[test]
 fn sentences(rt: HostRuntime) -> Result<(), Fail> {
     for (schema, units, bundle, sentence) in [
-        ("", ONE_NOTE, HAIL, "schema: it is not JSON"),
-        (NOTE_SCHEMA, "", HAIL, "units: it is not JSON"),
+        (
+            "",
+            ONE_NOTE,
+            HAIL,
+            "schema: it is not JSON
+  | line 1, column 1
+  | \n  | ^",
+        ),
+        (
+            NOTE_SCHEMA,
+            "",
+            HAIL,
+            "units: it is not JSON
+  | line 1, column 1
+  | \n  | ^",
+        ),
         (
             NOTE_SCHEMA,
             ONE_NOTE,
             "x",
-            "bundle, line 1: this is no line of a bundle, or it does not belong here",
+            "bundle, line 1: this is no line of a bundle, or it does not belong here
+  | x",
         ),
         (
             NOTE_SCHEMA,
             ONE_NOTE,
             NO_HEX,
-            "bundle, line 3: the code is not in pairs of hex digits",
+            "bundle, line 3: the code is not in pairs of hex digits
+  | do 4",
         ),
         (
             NOTE_SCHEMA,
             ONE_NOTE,
             NO_CODE,
-            "bundle, line 3: the bytes are no code: their version is not 1",
+            "bundle, line 3: the bytes are no code: their version is not 1
+  | byte 3 of the code, which has 4",
         ),
         (
             NOTE_SCHEMA,
             ONE_NOTE,
             NOT_ACCEPTED,
-            "source hail, do, op 1: no frame stands here, or what the op leaves does not fit a declared one",
+            "source hail, do, op 1: no frame stands here, or what the op leaves does not fit a declared one
+  | op 1 \"Done\"",
         ),
         (
             "{}",
             "{}",
             HAIL,
-            "source hail: a class is not there, or is neither that of the source or of its reaction nor below it",
+            "source hail: a class is not there, or is neither that of the source or of its reaction nor below it
+  | line 1 of the bundle
+  | source hail note 100",
         ),
     ] {
         let input = Input {
@@ -72,11 +94,8 @@ fn sentences(rt: HostRuntime) -> Result<(), Fail> {
 
 #[test]
 fn nothing_said(rt: HostRuntime) -> Result<(), Fail> {
-    let report = Report {
-        fault: &InputFault::Memory,
-        sources: NOT_COMPILED,
-    };
-    assert_eq!(rt; report.to_string(rt.alloc())?.as_str(), "memory ran out");
+    let said = report(rt.alloc(), &InputFault::Memory, sections_of(FIRST))?;
+    assert_eq!(rt; said.as_str(), "memory ran out");
     assert_eq!(rt; run_input(rt.alloc(), FIRST)?.report.as_str(), "");
     Ok(())
 }
