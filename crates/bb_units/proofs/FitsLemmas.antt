@@ -11,7 +11,15 @@ use Rattle.bb_units.specs.declared.units.TheConstants.{UNIT_LIMIT}
 use Rattle.bb_units.specs.Layout.{Layout, can_hold}
 use Rattle.bb_units.specs.Units.{Units, no_units, new_unit, after_create, after_delete, with_slot, after_set}
 use Rattle.bb_units.specs.Fits.{HoldsDefaults, IsUnitOf, Fits}
+use Rattle.bb_units.specs.proving.Numbered.{Given}
 use Rattle.bb_units.proofs.KindLemmas.{new_unit_fits, other_unit_fits}
+
+-- units as the code keeps them, with their layout
+abbrev pub with_layout : Layout → Given → Units
+with_layout l g = record { next = g.next; units = g.units; layout = l }
+
+abbrev pub FitsWith : Layout → Given → Type 0
+FitsWith l g = Fits (with_layout l g)
 
 same_number : (n k : ℕ) → eq_by_cmp nat_cmp n k ≡ true → n ≡ k
 same_number n k e = nat_cmp-IsAntisymmetric n k ((Equal-is (nat_cmp n k)).0 e)

@@ -1,9 +1,9 @@
-pub mod MapLemmas
 pub mod PlaceLemmas
 pub mod LayoutLemmas
 pub mod KindLemmas
 pub mod FitsLemmas
-pub mod KeptLemmas
+pub mod EntryLemmas
+pub mod ChangeLemmas
 pub mod HasLemmas
 pub mod Laws
 pub mod Limits

@@ -4,6 +4,7 @@
 mod fault;
 mod held;
 mod layout;
+mod numbered;
 mod shared_value;
 mod unit;
 mod units;

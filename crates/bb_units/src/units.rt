@@ -6,15 +6,15 @@ ghost use Rattle.bb_basis.specs.Results.{Gives};
 ghost use Rattle.bb_units.specs.Fits.{Fits};
 ghost use Rattle.bb_units.specs.Layout.{layout_of, can_hold};
 ghost use Rattle.bb_units.specs.Units.{no_units, is_live, class_of, value_of, has_slot, takes, next_number};
-ghost use Rattle.bb_units.specs.Units.{after_create, after_delete, after_set, units_of, value_among, with_value_of};
+ghost use Rattle.bb_units.specs.Units.{after_create, after_delete, after_set, value_among};
 
 use crate::fault::CreateFault;
 use crate::layout::Layout;
+use crate::numbered::Numbered;
 use crate::unit::Unit;
 use bb_basis::Memory;
 use bb_schema::{ClassId, Schema, SlotId, UnitId, Value};
 use std::alloc::Global;
-use std::collections::BTreeMap;
 use std::marker::Model;
 
 /// The greatest number of live units.
@@ -27,49 +27,30 @@ const NUMBER_LIMIT: u64 = (1 << 63) - 1;
 #[derive(Drop)]
 pub struct Units {
     alloc: Global,
-    next: UnitId,
-    units: BTreeMap<UnitId, Unit>,
+    units: Numbered,
     layout: Layout,
 }
 
 impl Model for Units {
-    ghost use Rattle.bb_units.specs.Units.{Units as Numbered, units_of};
+    ghost use Rattle.bb_units.specs.Units.{Units as Known};
     ghost use Rattle.bb_units.specs.proving.Codes.{units_code};
 
-    ghost Value = { Numbered };
+    ghost Value = { Known };
 
     ghost coded = { units_code };
 
-    ghost view = { λ u. record { next = u.next; units = units_of u.units.entries; layout = u.layout } };
+    ghost view = { λ u. record { next = u.units.next; units = u.units.units; layout = u.layout } };
 
-    ghost use Rattle.bb_units.specs.proving.Kept.{AreKept};
+    ghost use Rattle.bb_units.specs.Fits.{Fits};
 
-    ghost invariant = { λ u. AreKept u.next u.units.entries u.layout };
-}
-
-/// The unit of a number, if it is live.
-fn unit_at(units: &BTreeMap<UnitId, Unit>, unit: UnitId) -> Option<&Unit>
-    ensures { option_map (λ x. x.now) result ≡ map.get (units_of units.now.entries) unit }
-{
-    units.get(&unit)
+    ghost invariant = { λ u. Fits (record { next = u.units.next; units = u.units.units; layout = u.layout }) };
 }
 
 /// The value of a slot of a unit, if the unit is live and has the slot.
-fn value_in(units: &BTreeMap<UnitId, Unit>, unit: UnitId, slot: SlotId) -> Option<&Value>
-    ensures { option_map (λ v. v.now) result ≡ value_among (units_of units.now.entries) unit slot }
+fn value_in(units: &Numbered, unit: UnitId, slot: SlotId) -> Option<&Value>
+    ensures { option_map (λ v. v.now) result ≡ value_among units.now.units unit slot }
 {
-    unit_at(units, unit)?.values.get(slot)
-}
-
-/// Gives a slot of a live unit another value.
-fn update(units: &mut BTreeMap<UnitId, Unit>, unit: UnitId, slot: SlotId, value: Value)
-    ensures updated { units_of units.new.entries ≡ with_value_of (units_of units.old.entries) unit slot value }
-    ensures len { length units.new.entries ≡ length units.old.entries }
-{
-    match units.get_mut(&unit) {
-        None => drop(value),
-        Some(found) => found.values.set(slot, value),
-    }
+    units.get(unit)?.values.get(slot)
 }
 
 impl Units {
@@ -81,8 +62,7 @@ impl Units {
         schema.fits();
         Ok(Units {
             alloc,
-            next: 1,
-            units: BTreeMap::new(alloc),
+            units: Numbered::new(alloc),
             layout: Layout::of(alloc, schema)?,
         })
     }
@@ -98,7 +78,7 @@ impl Units {
     pub fn next(&self) -> UnitId
         ensures { result ≡ self.now.next }
     {
-        self.next
+        self.units.next()
     }
 
     /// Whether a number names a class, so that units of it can be created.
@@ -112,7 +92,7 @@ impl Units {
     pub fn live(&self, unit: UnitId) -> bool
         ensures { result ≡ is_live self.now unit }
     {
-        self.units.contains_key(&unit)
+        self.units.get(unit).is_some()
     }
 
     /// The class of a live unit.
@@ -120,7 +100,14 @@ impl Units {
         requires { IsTrue (is_live self.now unit) }
         ensures { class_of self.now unit ≡ Some result }
     {
-        unit_at(&self.units, unit).unwrap().class
+        self.units.get(unit).unwrap().class
+    }
+
+    /// The class of a unit, if it is live.
+    pub fn class_if_live(&self, unit: UnitId) -> Option<ClassId>
+        ensures { result ≡ class_of self.now unit }
+    {
+        Some(self.units.get(unit)?.class)
     }
 
     /// The value of an ordinary slot of a live unit, one that its class has.
@@ -163,14 +150,11 @@ impl Units {
         ensures created { OnOk result (self.new ≡ after_create self.old class) }
         ensures err { OnErr result (self.new ≡ self.old) }
     {
-        if self.units.len() >= UNIT_LIMIT || self.next > NUMBER_LIMIT {
+        if self.units.len() >= UNIT_LIMIT || self.units.next() > NUMBER_LIMIT {
             return Err(CreateFault::Full);
         }
-        let number = self.next;
         let values = self.layout.blank(self.alloc, class)?;
-        self.units.insert(number, Unit { class, values })?;
-        self.next += 1;
-        Ok(number)
+        Ok(self.units.push(Unit { class, values })?)
     }
 
     /// Gives an ordinary slot of a live unit another value, one that the slot can hold.
@@ -178,7 +162,7 @@ impl Units {
         requires { IsTrue (takes self.old unit slot value) }
         ensures { self.new ≡ after_set self.old unit slot value }
     {
-        update(&mut self.units, unit, slot, value);
+        self.units.set(unit, slot, value);
     }
 
     /// Deletes a live unit. Its number is never used again.
@@ -186,7 +170,7 @@ impl Units {
         requires { IsTrue (is_live self.old unit) }
         ensures { self.new ≡ after_delete self.old unit }
     {
-        self.units.remove(&unit);
+        self.units.remove(unit);
     }
 
     /// Does nothing, and says what holds of the units at any time: each number is above 0 and below the next one; at
@@ -195,6 +179,6 @@ impl Units {
     pub fn fits(&self)
         ensures { Fits self.now }
     {
-        let _next = self.next;
+        let _next = self.units.next();
     }
 }

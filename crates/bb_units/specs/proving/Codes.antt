@@ -9,6 +9,7 @@ use Rattle.bb_classes.specs.declared.value.Value.TheVariants.{Int, Text, Bool as
 use Rattle.bb_units.specs.declared.unit.Unit.{Unit}
 use Rattle.bb_units.specs.Layout.{Layout}
 use Rattle.bb_units.specs.Units.{Units}
+use Rattle.bb_units.specs.proving.Numbered.{Given}
 
 abbrev Cases : Type 0
 Cases = ℤ ⊎ (List ℕ ⊎ (Bool ⊎ ((ℕ × ℕ) ⊎ (ℤ × ℤ))))
@@ -56,3 +57,8 @@ units_code =
     code_by (ℕ × (map.FinMap nat_cmp Unit × Layout))
     (coded× coded_ℕ (coded× (map.code coded_ℕ unit_code) layout_code)) (λ u. (u.next, (u.units, u.layout)))
     (λ p. record { next = p.0; units = p.1.0; layout = p.1.1 }) (λ _. refl)
+
+abbrev pub given_code : Coded Given
+given_code =
+    code_by (ℕ × map.FinMap nat_cmp Unit) (coded× coded_ℕ (map.code coded_ℕ unit_code)) (λ g. (g.next, g.units))
+    (λ p. record { next = p.0; units = p.1 }) (λ _. refl)
