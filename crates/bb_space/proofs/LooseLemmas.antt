@@ -13,7 +13,7 @@ use Rattle.bb_pattern.specs.declared.value.DimValue.{DimValue}
 use Rattle.bb_space.specs.declared.members.Members.{Members}
 use Rattle.bb_space.specs.declared.place.Place.{Place}
 use Rattle.bb_space.specs.Spaces.{Membership, left, moved}
-use Rattle.bb_space.specs.proving.Places.{place_cmp, sort_of, key_of, is_at, is_told, is_place_of, has, ArePut, AreTaken}
+use Rattle.bb_space.specs.proving.Places.{place_cmp, next_of, is_value_at, is_at, is_told, is_place_of, has, ArePut, AreTaken}
 use Rattle.bb_space.specs.proving.Indexed.{membership, IsLoose, IsIndexed}
 use Rattle.bb_space.specs.proving.Entries.{members_of_entries}
 use Rattle.bb_space.proofs.EntryLemmas.{get_is_lookup}
@@ -39,7 +39,7 @@ nothing zero = refl
 nothing (suc n) = refl
 
 pub none_at : (p : Place) → is_at [] p ≡ false
-none_at p = ap (λ o. option_map_or (λ v. (sort_of v == p.sort) && (int_eq (key_of v) p.key && (1 == p.edge))) o false) (nothing p.dim)
+none_at p = ap (λ o. option_map_or (is_value_at p (next_of [] p.dim)) o false) (nothing p.dim)
 
 -- ---- what is told of a place
 

@@ -70,7 +70,7 @@ leaves_more tests places k test among old new there less was = λ pass asks. les
 
 -- ---- who passes is near
 
-each_fits : (tests : List Leaf) (values : List DimValue) (k : ℕ) (test : Leaf) → slice_get tests k ≡ Some test → fit_each tests values ≡ true → fits_leaf test values ≡ true
+pub each_fits : (tests : List Leaf) (values : List DimValue) (k : ℕ) (test : Leaf) → slice_get tests k ≡ Some test → fit_each tests values ≡ true → fits_leaf test values ≡ true
 each_fits [] values k test there h = absurd cc
 each_fits (t ∷ ts) values zero test there h = ap (λ o. option_map_or (λ leaf. fits_leaf leaf values) o true) (sym there) ∙ (and_parts (fits_leaf t values) (fit_each ts values) h).0
 each_fits (t ∷ ts) values (suc k) test there h = each_fits ts values k test there (and_parts (fits_leaf t values) (fit_each ts values) h).1

@@ -9,9 +9,9 @@ use Rattle.std.proofs.lemmas.Bool.{and_parts, and_from, or_left, or_right}
 use Rattle.bb_pattern.specs.declared.value.DimValue.{DimValue}
 use Rattle.bb_space.specs.declared.members.Members.{Members}
 use Rattle.bb_space.specs.declared.place.Place.{Place}
-use Rattle.bb_space.specs.proving.Places.{place_cmp, place_of, is_at, is_told, has}
+use Rattle.bb_space.specs.proving.Places.{place_cmp, place_of, next_of, is_at, is_told, has}
 use Rattle.bb_space.specs.proving.Indexed.{membership, IsIndexed}
-use Rattle.bb_space.proofs.PlaceLemmas.{place_itself, by_place, is_here, stands}
+use Rattle.bb_space.proofs.PlaceLemmas.{place_in, place_itself, by_place, is_here, stands}
 use Rattle.bb_space.proofs.LooseLemmas.{by_bool, at_of, place_from}
 
 pub first_or : (a b : Bool) → (a || b) ≡ true → (a ≡ true) ⊎ (b ≡ true)
@@ -61,7 +61,7 @@ module _ (n : ℕ) (test : Place → Bool) where
       (λ other. absurd cc)
   kept_by p k ks passes unit (inr rest) others = kept_after k ks (test k) (others rest)
 
-  kept : (p : Place) (ks : List Place) → list_any (meets (place_cmp p)) ks ≡ true → test p ≡ true → p.unit ≡ n → among (filter test ks) ≡ true
+  pub kept : (p : Place) (ks : List Place) → list_any (meets (place_cmp p)) ks ≡ true → test p ≡ true → p.unit ≡ n → among (filter test ks) ≡ true
   kept p [] there passes unit = absurd cc
   kept p (k ∷ ks) there passes unit = kept_by p k ks passes unit (first_or (is_eq (place_cmp p k)) (list_any (meets (place_cmp p)) ks) there) (λ rest. kept p ks rest passes unit)
 
@@ -71,7 +71,7 @@ never : (b : Bool) → b ≡ true → b ≡ false → ⊥
 never true h g = absurd cc
 never false h g = absurd cc
 
-told_value : (m : Members) → IsIndexed m → (p : Place) → has m.places p ≡ true → is_told (membership m) p ≡ true
+pub told_value : (m : Members) → IsIndexed m → (p : Place) → has m.places p ≡ true → is_told (membership m) p ≡ true
 told_value m indexed p there = by_bool (is_told (membership m) p) _ (λ told. told) (λ out. let never = indexed.only p there out in absurd cc)
 
 pub same_truth : (s t : Bool) → (s ≡ true → t ≡ true) → (t ≡ true → s ≡ true) → s ≡ t
@@ -81,7 +81,7 @@ same_truth false false f g = refl
 
 -- by what a test says of a place, it says of a member's value
 pub found_by : (m : Members) → IsIndexed m → (test : Place → Bool) (dim : ℕ) (f : DimValue → Bool)
-    → ((d n : ℕ) (v : DimValue) → test (place_of d n v) ≡ ((d == dim) && f v)) → (n : ℕ)
+    → ((d n : ℕ) (v : DimValue) (next : Option DimValue) → test (place_of d n v next) ≡ ((d == dim) && f v)) → (n : ℕ)
     → list_any (λ p. p.unit == n) (filter test m.places.keys) ≡ option_map_or (λ told. option_map_or f (slice_get told dim) false) (fin.get (membership m) n) false
 found_by m indexed test dim f says n = same_truth _ _ (λ h. there (found n test m.places.keys h)) back
   where
@@ -99,7 +99,7 @@ found_by m indexed test dim f says n = same_truth _ _ (λ h. there (found n test
         by_get (Some values) some =
             let at : is_at values g.place ≡ true = sym (ap (λ o. option_map_or (λ values. is_at values g.place) o false) some) ∙ told in
             let s = stands g.place.unit values g.place (place_from g.place.unit values g.place refl at) in
-            let parts = and_parts (g.place.dim == dim) (f s.value) (sym (says g.place.dim g.place.unit s.value) ∙ (ap test s.place ∙ g.passes)) in
+            let parts = and_parts (g.place.dim == dim) (f s.value) (sym (says g.place.dim g.place.unit s.value (next_of values g.place.dim)) ∙ (ap test s.place ∙ g.passes)) in
             let member : fin.get (membership m) n ≡ Some values = ap (fin.get (membership m)) (sym g.unit) ∙ some in
             let value : slice_get values dim ≡ Some s.value = ap (slice_get values) (sym (eqb-true g.place.dim dim parts.0)) ∙ s.there in
             ap (λ o. option_map_or (λ told. option_map_or f (slice_get told dim) false) o false) member ∙ (ap (λ o. option_map_or f o false) value ∙ parts.1)
@@ -114,7 +114,7 @@ found_by m indexed test dim f says n = same_truth _ _ (λ h. there (found n test
             by_value : (o : Option DimValue) → slice_get values dim ≡ o → option_map_or f o false ≡ true → list_any (λ p. p.unit == n) (filter test m.places.keys) ≡ true
             by_value None none g2 = absurd cc
             by_value (Some v) value g2 =
-                let p = place_of dim n v in
+                let p = place_in dim n values v in
                 let at : is_at values p ≡ true = at_of n values p (is_here n dim values v value) in
                 let told : is_told (membership m) p ≡ true = ap (λ o. option_map_or (λ values. is_at values p) o false) some ∙ at in
-                kept n test p m.places.keys (indexed.full p told) (says dim n v ∙ and_from (dim == dim) (f v) (eq-eqb dim dim refl) g2) refl
+                kept n test p m.places.keys (indexed.full p told) (says dim n v (next_of values dim) ∙ and_from (dim == dim) (f v) (eq-eqb dim dim refl) g2) refl

@@ -5,7 +5,7 @@ use Rattle.std.specs.Option.{option_map_or}
 use Rattle.std.specs.declared.cmp.Ordering.{Ordering}
 use Rattle.std.specs.declared.cmp.Ordering.TheVariants as orderings
 use Rattle.std.specs.declared.ops.Bound.TheVariants.{Included, Excluded}
-use Rattle.std.specs.Ordering.{is_le, is_gt, is_lt, ordering_then, partial_ordering_then, is_some_and, nat_cmp, int_cmp}
+use Rattle.std.specs.Ordering.{is_le, is_gt, is_lt, ordering_then, ordering_reverse, partial_ordering_then, is_some_and, nat_cmp, int_cmp}
 use Rattle.std.specs.BTreeMap.Range.{range_contains}
 use Rattle.std.specs.BTreeSet.{BTreeSet}
 use Rattle.std.specs.FinMap as fin
@@ -40,20 +40,25 @@ then_int false true o = refl
 then_int false false o = refl
 
 -- a spot of a sort and key is no further than a value's place, on one dimension; on an edge that is before all values or behind them
-abbrev is_up_to : ℕ → ℤ → Bool → ℕ → ℤ → Bool
+abbrev pub is_up_to : ℕ → ℤ → Bool → ℕ → ℤ → Bool
 is_up_to s k before sort key = nat_lt s sort || ((s == sort) && (int_lt k key || (not (int_lt key k) && before)))
 
-spot_le : (dim s : ℕ) (k : ℤ) (edge : ℕ) (before : Bool) (d n : ℕ) (v : DimValue) → is_le (ordering_then (nat_cmp edge 1) (nat_cmp 0 n)) ≡ before
-    → is_le (place_cmp (spot dim s k edge) (place_of d n v)) ≡ (nat_lt dim d || ((dim == d) && is_up_to s k before (sort_of v) (key_of v)))
-spot_le dim s k edge before d n v edges =
-    let last = ordering_then (nat_cmp edge 1) (nat_cmp 0 n) in
-    let keys = ordering_then (int_cmp k (key_of v)) last in
-    let sorts = ordering_then (nat_cmp s (sort_of v)) keys in
-    let key : is_le keys ≡ (int_lt k (key_of v) || (not (int_lt (key_of v) k) && before)) = then_int (int_lt k (key_of v)) (int_lt (key_of v) k) last ∙ ap (λ b. int_lt k (key_of v) || (not (int_lt (key_of v) k) && b)) edges in
-    let sort : is_le sorts ≡ is_up_to s k before (sort_of v) (key_of v) = then_nat (nat_lt s (sort_of v)) (s == sort_of v) keys ∙ ap (λ b. nat_lt s (sort_of v) || ((s == sort_of v) && b)) key in
-    then_nat (nat_lt dim d) (dim == d) sorts ∙ ap (λ b. nat_lt dim d || ((dim == d) && b)) sort
+-- how a sort and key stand to another, before what comes behind them
+pub up_to_says : (s : ℕ) (k : ℤ) (sort : ℕ) (key : ℤ) (last : Ordering) (before : Bool) → is_le last ≡ before → is_le (ordering_then (nat_cmp s sort) (ordering_then (int_cmp k key) last)) ≡ is_up_to s k before sort key
+up_to_says s k sort key last before edges =
+    let keys = ordering_then (int_cmp k key) last in
+    let by_key : is_le keys ≡ (int_lt k key || (not (int_lt key k) && before)) = then_int (int_lt k key) (int_lt key k) last ∙ ap (λ b. int_lt k key || (not (int_lt key k) && b)) edges in
+    then_nat (nat_lt s sort) (s == sort) keys ∙ ap (λ b. nat_lt s sort || ((s == sort) && b)) by_key
 
-not_less : (a b : ℕ) → b ≤ a → nat_lt a b ≡ false
+pub spot_le : (dim s : ℕ) (k : ℤ) (edge : ℕ) (before : Bool) (d n : ℕ) (v : DimValue) (next : Option DimValue) → ((last : Ordering) → is_le (ordering_then (nat_cmp edge 1) last) ≡ before)
+    → is_le (place_cmp (spot dim s k edge) (place_of d n v next)) ≡ (nat_lt dim d || ((dim == d) && is_up_to s k before (sort_of v) (key_of v)))
+spot_le dim s k edge before d n v next edges =
+    let nexts = ordering_then (nat_cmp 0 (option_map_or sort_of next 0)) (ordering_then (int_cmp (pos 0) (option_map_or key_of next (pos 0))) (ordering_then (nat_cmp 0 (option_map_or (λ _. 1) next 0)) (nat_cmp 0 n))) in
+    let last = ordering_then (nat_cmp edge 1) nexts in
+    let sorts = ordering_then (nat_cmp s (sort_of v)) (ordering_then (int_cmp k (key_of v)) last) in
+    then_nat (nat_lt dim d) (dim == d) sorts ∙ ap (λ b. nat_lt dim d || ((dim == d) && b)) (up_to_says s k (sort_of v) (key_of v) last before (edges nexts))
+
+pub not_less : (a b : ℕ) → b ≤ a → nat_lt a b ≡ false
 not_less a b le = by_bool (nat_lt a b) _ (λ h. let lt = ltb-true a b h in absurd (omega (arith, lt, le))) (λ h. h)
 
 -- on another dimension none is between two spots
@@ -71,11 +76,11 @@ between_dims dim d x y = by_number dim d _
     none false e f off too = rw (off, too) refl
 
 -- between two spots of a dimension
-between : (dim s t : ℕ) (k l : ℤ) (e f : ℕ) (b c : Bool) (d n : ℕ) (v : DimValue) → is_le (ordering_then (nat_cmp e 1) (nat_cmp 0 n)) ≡ b → is_le (ordering_then (nat_cmp f 1) (nat_cmp 0 n)) ≡ c
-    → range_contains place_cmp (Included (spot dim s k e)) (Excluded (spot dim t l f)) (place_of d n v) ≡ ((d == dim) && (is_up_to s k b (sort_of v) (key_of v) && not (is_up_to t l c (sort_of v) (key_of v))))
-between dim s t k l e f b c d n v eb fc =
-    ap (λ x. x && not (is_le (place_cmp (spot dim t l f) (place_of d n v)))) (spot_le dim s k e b d n v eb)
-    ∙ ap (λ y. (nat_lt dim d || ((dim == d) && is_up_to s k b (sort_of v) (key_of v))) && not y) (spot_le dim t l f c d n v fc)
+pub between : (dim s t : ℕ) (k l : ℤ) (e f : ℕ) (b c : Bool) (d n : ℕ) (v : DimValue) (next : Option DimValue) → ((last : Ordering) → is_le (ordering_then (nat_cmp e 1) last) ≡ b) → ((last : Ordering) → is_le (ordering_then (nat_cmp f 1) last) ≡ c)
+    → range_contains place_cmp (Included (spot dim s k e)) (Excluded (spot dim t l f)) (place_of d n v next) ≡ ((d == dim) && (is_up_to s k b (sort_of v) (key_of v) && not (is_up_to t l c (sort_of v) (key_of v))))
+between dim s t k l e f b c d n v next eb fc =
+    ap (λ x. x && not (is_le (place_cmp (spot dim t l f) (place_of d n v next)))) (spot_le dim s k e b d n v next eb)
+    ∙ ap (λ y. (nat_lt dim d || ((dim == d) && is_up_to s k b (sort_of v) (key_of v))) && not y) (spot_le dim t l f c d n v next fc)
     ∙ between_dims dim d (is_up_to s k b (sort_of v) (key_of v)) (is_up_to t l c (sort_of v) (key_of v))
 
 -- ---- keys
@@ -148,17 +153,17 @@ end_before Overlaps = false
 end_before Less = true
 end_before More = true
 
-abbrev between_ends : Relation → ℤ → ℤ → ℕ → ℤ → Bool
+abbrev pub between_ends : Relation → ℤ → ℤ → ℕ → ℤ → Bool
 between_ends r low high sort key =
     is_up_to (first_sort r) (first_key r low high) (first_before r) sort key && not (is_up_to (end_sort r) (end_key r low high) (end_before r) sort key)
 
-in_relation : (r : Relation) (dim : ℕ) (low high : ℤ) (d n : ℕ) (v : DimValue)
-    → range_contains place_cmp (Included (first_spot r dim low high)) (Excluded (end_spot r dim low high)) (place_of d n v) ≡ ((d == dim) && between_ends r low high (sort_of v) (key_of v))
-in_relation Within dim low high d n v = between dim 1 1 low high 0 2 true false d n v refl refl
-in_relation Covers dim low high d n v = between dim 0 1 (pos 0) low 0 2 true false d n v refl refl
-in_relation Overlaps dim low high d n v = between dim 0 1 (pos 0) high 0 2 true false d n v refl refl
-in_relation Less dim low high d n v = between dim 0 1 (pos 0) low 0 0 true true d n v refl refl
-in_relation More dim low high d n v = between dim 1 2 high (pos 0) 2 0 false true d n v refl refl
+in_relation : (r : Relation) (dim : ℕ) (low high : ℤ) (d n : ℕ) (v : DimValue) (next : Option DimValue)
+    → range_contains place_cmp (Included (first_spot r dim low high)) (Excluded (end_spot r dim low high)) (place_of d n v next) ≡ ((d == dim) && between_ends r low high (sort_of v) (key_of v))
+in_relation Within dim low high d n v next = between dim 1 1 low high 0 2 true false d n v next (λ _. refl) (λ _. refl)
+in_relation Covers dim low high d n v next = between dim 0 1 (pos 0) low 0 2 true false d n v next (λ _. refl) (λ _. refl)
+in_relation Overlaps dim low high d n v next = between dim 0 1 (pos 0) high 0 2 true false d n v next (λ _. refl) (λ _. refl)
+in_relation Less dim low high d n v next = between dim 0 1 (pos 0) low 0 0 true true d n v next (λ _. refl) (λ _. refl)
+in_relation More dim low high d n v next = between dim 1 2 high (pos 0) 2 0 false true d n v next (λ _. refl) (λ _. refl)
 
 and_true : (b : Bool) → (b && true) ≡ b
 and_true true = refl
@@ -188,15 +193,15 @@ turned_out More low high = refl
 label_out : (s : ℕ) (k : ℤ) (before : Bool) (t : ℕ) (l : ℤ) (c : Bool) (sort : ℕ) (key : ℤ) → t < sort → (is_up_to s k before sort key && not (is_up_to t l c sort key)) ≡ false
 label_out s k before t l c sort key lt = ap (λ x. is_up_to s k before sort key && not (x || ((t == sort) && (int_lt l key || (not (int_lt key l) && c))))) (lt-ltb t sort lt) ∙ and_false (is_up_to s k before sort key)
 
-abbrev low_reaches : Relation → ℤ → ℤ → DimValue → Bool
+abbrev pub low_reaches : Relation → ℤ → ℤ → DimValue → Bool
 low_reaches r low high (Interval from to) = cond (int_le from to) (reaches r from low high) false
 low_reaches r low high (Label set label) = false
 
-abbrev is_turned : DimValue → Bool
+abbrev pub is_turned : DimValue → Bool
 is_turned (Interval from to) = not (int_le from to)
 is_turned (Label set label) = false
 
-low_says : (r : Relation) (low high : ℤ) (v : DimValue) → between_ends r low high (sort_of v) (key_of v) ≡ low_reaches r low high v
+pub low_says : (r : Relation) (low high : ℤ) (v : DimValue) → between_ends r low high (sort_of v) (key_of v) ≡ low_reaches r low high v
 low_says r low high (Interval from to) = by (int_le from to)
   where
     by : (b : Bool) → between_ends r low high (cond b 1 2) (cond b from (pos 0)) ≡ cond b (reaches r from low high) false
@@ -211,7 +216,7 @@ low_says r low high (Label set label) = label_out (first_sort r) (first_key r lo
     few Less = omega arith
     few More = omega arith
 
-turned_says : (v : DimValue) → (is_up_to 2 (pos 0) true (sort_of v) (key_of v) && not (is_up_to 3 (pos 0) true (sort_of v) (key_of v))) ≡ is_turned v
+pub turned_says : (v : DimValue) → (is_up_to 2 (pos 0) true (sort_of v) (key_of v) && not (is_up_to 3 (pos 0) true (sort_of v) (key_of v))) ≡ is_turned v
 turned_says (Interval from to) = by (int_le from to)
   where
     by : (b : Bool) → (is_up_to 2 (pos 0) true (cond b 1 2) (cond b from (pos 0)) && not (is_up_to 3 (pos 0) true (cond b 1 2) (cond b from (pos 0)))) ≡ not b
@@ -221,7 +226,7 @@ turned_says (Label set label) = label_out 2 (pos 0) true 3 (pos 0) true (4 + set
 
 -- ---- labels
 
-abbrev has_label : ℕ → ℕ → DimValue → Bool
+abbrev pub has_label : ℕ → ℕ → DimValue → Bool
 has_label set label (Interval from to) = false
 has_label set label (Label of other) = (of == set) && (other == label)
 
@@ -238,7 +243,7 @@ same_label l o = by_number o l _
     other true false up down apart = refl
     other false y up down apart = refl
 
-label_says : (set label : ℕ) (v : DimValue) → (is_up_to (4 + set) (pos label) true (sort_of v) (key_of v) && not (is_up_to (4 + set) (pos label) false (sort_of v) (key_of v))) ≡ has_label set label v
+pub label_says : (set label : ℕ) (v : DimValue) → (is_up_to (4 + set) (pos label) true (sort_of v) (key_of v) && not (is_up_to (4 + set) (pos label) false (sort_of v) (key_of v))) ≡ has_label set label v
 label_says set label (Interval from to) = by (int_le from to)
   where
     out : (s : ℕ) (k : ℤ) (x : Bool) → s < 4 + set → (is_up_to (4 + set) (pos label) true s k && x) ≡ false
@@ -277,7 +282,7 @@ or_false : (b : Bool) → (b || false) ≡ b
 or_false true = refl
 or_false false = refl
 
-either_way : (relation : Relation) (dim : ℕ) (low high : ℤ) (v : DimValue) → (low_reaches relation low high v || is_turned v) ≡ may_pass (Ordered relation dim low high) v
+pub either_way : (relation : Relation) (dim : ℕ) (low high : ℤ) (v : DimValue) → (low_reaches relation low high v || is_turned v) ≡ may_pass (Ordered relation dim low high) v
 either_way relation dim low high (Interval from to) = by (int_le from to)
   where
     by : (b : Bool) → (cond b (reaches relation from low high) false || not b) ≡ cond b (reaches relation from low high) true
@@ -290,12 +295,12 @@ near_is m indexed (Ordered relation dim low high) n =
     let first = range_contains place_cmp (Included (first_spot relation dim low high)) (Excluded (end_spot relation dim low high)) in
     let second = range_contains place_cmp (Included (spot dim 2 (pos 0) 0)) (Excluded (spot dim 3 (pos 0) 0)) in
     ap₂ (λ a b. a || b)
-    (found_by m indexed first dim (low_reaches relation low high) (λ d k v. in_relation relation dim low high d k v ∙ ap (λ b. (d == dim) && b) (low_says relation low high v)) n)
-    (found_by m indexed second dim is_turned (λ d k v. between dim 2 3 (pos 0) (pos 0) 0 0 true true d k v refl refl ∙ ap (λ b. (d == dim) && b) (turned_says v)) n)
+    (found_by m indexed first dim (low_reaches relation low high) (λ d k v next. in_relation relation dim low high d k v next ∙ ap (λ b. (d == dim) && b) (low_says relation low high v)) n)
+    (found_by m indexed second dim is_turned (λ d k v next. between dim 2 3 (pos 0) (pos 0) 0 0 true true d k v next (λ _. refl) (λ _. refl) ∙ ap (λ b. (d == dim) && b) (turned_says v)) n)
     ∙ either (Ordered relation dim low high) (low_reaches relation low high) is_turned (may_pass (Ordered relation dim low high)) (either_way relation dim low high) (fin.get (membership m) n)
 near_is m indexed (Is dim set label) n =
-    found_by m indexed (range_contains place_cmp (Included (spot dim (4 + set) (pos label) 0)) (Excluded (spot dim (4 + set) (pos label) 2))) dim (may_pass (Is dim set label)) (λ d k v.
-    between dim (4 + set) (4 + set) (pos label) (pos label) 0 2 true false d k v refl refl ∙ ap (λ b. (d == dim) && b) (label_says set label v ∙ same v)) n
+    found_by m indexed (range_contains place_cmp (Included (spot dim (4 + set) (pos label) 0)) (Excluded (spot dim (4 + set) (pos label) 2))) dim (may_pass (Is dim set label)) (λ d k v next.
+    between dim (4 + set) (4 + set) (pos label) (pos label) 0 2 true false d k v next (λ _. refl) (λ _. refl) ∙ ap (λ b. (d == dim) && b) (label_says set label v ∙ same v)) n
   where
     same : (v : DimValue) → has_label set label v ≡ may_pass (Is dim set label) v
     same (Interval from to) = refl
@@ -339,26 +344,23 @@ none_between from to n less places b = at b (none places.keys)
 
 -- ---- what `<` says of places
 
-by_last : (e f : Ordering) → is_some_and is_lt (partial_ordering_then (Some e) (Some f)) ≡ is_lt (ordering_then e f)
-by_last orderings.Less f = refl
-by_last orderings.Equal f = refl
-by_last orderings.Greater f = refl
+-- one more part
+by_one : (p : Option Ordering) (o : Ordering) → is_some_and is_lt p ≡ is_lt o → (a : Ordering) → is_some_and is_lt (partial_ordering_then (Some a) p) ≡ is_lt (ordering_then a o)
+by_one p o rest orderings.Less = refl
+by_one p o rest orderings.Equal = rest
+by_one p o rest orderings.Greater = refl
 
-by_key : (d e f : Ordering) → is_some_and is_lt (partial_ordering_then (Some d) (partial_ordering_then (Some e) (Some f))) ≡ is_lt (ordering_then d (ordering_then e f))
-by_key orderings.Less e f = refl
-by_key orderings.Equal e f = by_last e f
-by_key orderings.Greater e f = refl
-
-by_sort : (b d e f : Ordering) → is_some_and is_lt (partial_ordering_then (Some b) (partial_ordering_then (Some d) (partial_ordering_then (Some e) (Some f)))) ≡ is_lt (ordering_then b (ordering_then d (ordering_then e f)))
-by_sort orderings.Less d e f = refl
-by_sort orderings.Equal d e f = by_key d e f
-by_sort orderings.Greater d e f = refl
-
-by_dim : (a b d e f : Ordering) → is_some_and is_lt (partial_ordering_then (Some a) (partial_ordering_then (Some b) (partial_ordering_then (Some d) (partial_ordering_then (Some e) (Some f))))) ≡ is_lt (ordering_then a (ordering_then b (ordering_then d (ordering_then e f))))
-by_dim orderings.Less b d e f = refl
-by_dim orderings.Equal b d e f = by_sort b d e f
-by_dim orderings.Greater b d e f = refl
-
-pub is_less : (p q : Place) → is_some_and is_lt (partial_ordering_then (Some (nat_cmp p.dim q.dim)) (partial_ordering_then (Some (nat_cmp p.sort q.sort)) (partial_ordering_then (Some (int_cmp p.key q.key)) (partial_ordering_then (Some (nat_cmp p.edge q.edge)) (Some (nat_cmp p.unit q.unit))))))
+pub is_less : (p q : Place) → is_some_and is_lt (partial_ordering_then (Some (nat_cmp p.dim q.dim)) (partial_ordering_then (Some (nat_cmp p.sort q.sort)) (partial_ordering_then (Some (int_cmp p.key q.key)) (partial_ordering_then (Some (nat_cmp p.edge q.edge))
+    (partial_ordering_then (Some (nat_cmp p.next_sort q.next_sort)) (partial_ordering_then (Some (int_cmp p.next_key q.next_key)) (partial_ordering_then (Some (nat_cmp p.next_edge q.next_edge)) (Some (nat_cmp p.unit q.unit)))))))))
     ≡ is_lt (place_cmp p q)
-is_less p q = by_dim (nat_cmp p.dim q.dim) (nat_cmp p.sort q.sort) (int_cmp p.key q.key) (nat_cmp p.edge q.edge) (nat_cmp p.unit q.unit)
+is_less p q =
+    by_one _ _ (by_one _ _ (by_one _ _ (by_one _ _ (by_one _ _ (by_one _ _ (by_one (Some (nat_cmp p.unit q.unit)) (nat_cmp p.unit q.unit) refl (nat_cmp p.next_edge q.next_edge)) (int_cmp p.next_key q.next_key)) (nat_cmp p.next_sort q.next_sort)) (nat_cmp p.edge q.edge)) (int_cmp p.key q.key)) (nat_cmp p.sort q.sort)) (nat_cmp p.dim q.dim)
+
+-- what is not the wrong way round
+pub in_turn : (from to : Place) → is_lt (place_cmp to from) ≡ false → is_gt (place_cmp from to) ≡ false
+in_turn from to h = ap is_gt (place_total.antisymm from to) ∙ (turned (place_cmp to from) ∙ h)
+  where
+    turned : (o : Ordering) → is_gt (ordering_reverse o) ≡ is_lt o
+    turned orderings.Less = refl
+    turned orderings.Equal = refl
+    turned orderings.Greater = refl

@@ -4,7 +4,7 @@ ghost use Rattle.std.specs.Prelude.{◌≡◌, true, OnOk};
 ghost use Rattle.bb_space.specs.declared.place.Place.{Place as At};
 ghost use Rattle.bb_space.specs.proving.Places.{has, is_place_of, ArePut, AreTaken};
 
-use crate::place::Place;
+use crate::place::{Place, next_of};
 use bb_basis::Memory;
 use bb_pattern::DimValue;
 use bb_schema::UnitId;
@@ -20,7 +20,7 @@ pub(crate) fn put_all(
     ensures all { OnOk result ((p : At) → is_place_of unit values.now p ≡ true → has places.new p ≡ true) }
 {
     for dim in 0..values.len() {
-        places.insert(Place::of(dim, values[dim], unit))?;
+        places.insert(Place::of(dim, values[dim], next_of(values, dim), unit))?;
     }
     Ok(())
 }
@@ -35,7 +35,7 @@ pub(crate) fn take_all(
     ensures { AreTaken unit values.now except.now places.old places.new }
 {
     for dim in 0..values.len() {
-        let place = Place::of(dim, values[dim], unit);
+        let place = Place::of(dim, values[dim], next_of(values, dim), unit);
         if place.is_of(except) {
             continue;
         }

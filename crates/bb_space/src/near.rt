@@ -21,6 +21,9 @@ pub(crate) fn spot(dim: usize, sort: u32, key: i64, edge: u8) -> Place
         sort,
         key,
         edge,
+        next_sort: 0,
+        next_key: 0,
+        next_edge: 0,
         unit: 0,
     }
 }
@@ -49,7 +52,7 @@ pub(crate) fn end_spot(relation: Relation, dim: usize, low: i64, high: i64) -> P
 }
 
 /// Adds the units whose places stand between two.
-fn collect(
+pub(crate) fn collect(
     places: &BTreeSet<Place>,
     from: Place,
     to: Place,
@@ -104,7 +107,7 @@ pub(crate) fn collect_near(
 }
 
 /// Whether no more than so many places stand between two.
-fn are_few(places: &BTreeSet<Place>, from: Place, to: Place, most: usize) -> bool {
+pub(crate) fn are_few(places: &BTreeSet<Place>, from: Place, to: Place, most: usize) -> bool {
     if to < from {
         return true;
     }

@@ -12,7 +12,16 @@ use Rattle.bb_space.specs.proving.Places.{place_cmp}
 
 -- a place where no value stands: before the values of a sort and key, or behind them
 abbrev pub spot : ℕ → ℕ → ℤ → ℕ → Place
-spot dim sort key edge = record { dim = dim; sort = sort; key = key; edge = edge; unit = 0 }
+spot dim sort key edge = record {
+  dim = dim;
+  sort = sort;
+  key = key;
+  edge = edge;
+  next_sort = 0;
+  next_key = pos 0;
+  next_edge = 0;
+  unit = 0;
+}
 
 -- where the intervals begin and end that can be in a relation to [low, high]
 abbrev pub first_spot : Relation → ℕ → ℤ → ℤ → Place

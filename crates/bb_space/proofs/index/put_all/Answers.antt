@@ -3,7 +3,7 @@ use Rattle.std.proofs.lemmas.Option.{slice_get-get_or}
 use Rattle.bb_space.specs.proving.Places.{place_cmp, place_of, has}
 use Rattle.bb_pattern.specs.declared.value.DimValue.TheVariants.{Interval}
 use Rattle.bb_space.specs.declared.place.Place.{Place}
-use Rattle.bb_space.proofs.PlaceLemmas.{put_none, put_more, in_more, in_all}
+use Rattle.bb_space.proofs.PlaceLemmas.{place_in, put_none, put_more, in_more, in_all}
 use Rattle.bb_space.proofs.index.put_all.Goals as goal
 
 pub loop-dim-init : goal.loop-dim-init
@@ -15,7 +15,7 @@ loop-dim-preserved c =
     let n = c.loop-dim.dim in
     let lt : n < length values = omega (arith, c.loop-dim-test.true, c.loop-dim.auto.dim-end) in
     let there = slice_get-get_or values n (Interval (pos 0) (pos 0)) lt in
-    let more : (q : Place) → has c.insert.new.self q ≡ cond (is_eq (place_cmp (place_of n c.args.unit (get_or values n (Interval (pos 0) (pos 0)))) q)) true (has c.loop-dim.places q) = λ q. c.in_ok-insert.ensures.updates.0 q ∙ ap (λ k. cond (is_eq (place_cmp k q)) true (has c.loop-dim.places q)) c.of.ensures in (
+    let more : (q : Place) → has c.insert.new.self q ≡ cond (is_eq (place_cmp (place_in n c.args.unit values (get_or values n (Interval (pos 0) (pos 0)))) q)) true (has c.loop-dim.places q) = λ q. c.in_ok-insert.ensures.updates.0 q ∙ ap (λ k. cond (is_eq (place_cmp k q)) true (has c.loop-dim.places q)) (c.of.ensures ∙ ap (place_of n c.args.unit (get_or values n (Interval (pos 0) (pos 0)))) c.next_of.ensures) in (
       put_more c.args.unit values n _ there c.args.places.now c.loop-dim.places c.insert.new.self more c.loop-dim.invariant.0,
       in_more c.args.unit values n _ there c.args.places.now c.loop-dim.places c.insert.new.self more c.loop-dim.invariant.1,
     )

@@ -2,8 +2,11 @@ use Rattle.std.proofs.Common.{◌≡◌, ◌∷◌, ℕ, Bool, false, sym, subst
 use Rattle.bb_space.specs.proving.Spots.{stands_in}
 use Rattle.bb_space.specs.proving.Marks.{is_kept, is_left}
 use Rattle.bb_space.proofs.MarkLemmas.{LeftBut, left_but_less}
-use Rattle.bb_space.proofs.SpotLemmas.{none_between, is_less}
+use Rattle.bb_space.proofs.SpotLemmas.{none_between, is_less, in_turn}
 use Rattle.bb_space.proofs.thin.mark_between.Goals as goal
+
+pub range-place-items-requires : goal.range-place-items-requires
+range-place-items-requires c = in_turn c.args.from c.args.to (sym (is_less c.args.to c.args.from) ∙ (sym c.lt.ensures ∙ c.if-lt.false))
 
 pub returns-then-lt-clause-marked : goal.returns-then-lt-clause-marked
 returns-then-lt-clause-marked c = λ _ n h.
