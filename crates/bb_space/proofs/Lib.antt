@@ -11,6 +11,7 @@ pub mod AmongLemmas
 pub mod KnownLemmas
 pub mod MarkLemmas
 pub mod CandidateLemmas
+pub mod PairLemmas
 pub mod Laws
 pub mod StandingLemmas
 pub mod LeavingLemmas

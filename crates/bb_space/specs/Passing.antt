@@ -1,6 +1,8 @@
 -- Which units pass several tests.
-use Rattle.std.specs.Prelude.{ℕ, Bool, false, List}
-use Rattle.std.specs.List.{list_all}
+use Rattle.std.specs.Prelude.{◌≡◌, ℕ, Bool, true, false, ◌==◌, List}
+use Rattle.std.specs.List.{list_all, list_any}
+use Rattle.std.specs.List.Sorted.{IsStrictlySortedBy}
+use Rattle.std.specs.Ordering.{nat_cmp}
 use Rattle.std.specs.Option.{option_map_or}
 use Rattle.std.specs.FinMap as fin
 use Rattle.bb_pattern.specs.declared.value.DimValue.{DimValue}
@@ -15,3 +17,9 @@ fit_each tests values = list_all (λ leaf. fits_leaf leaf values) tests
 -- the unit is a member, and its values pass each of some tests
 abbrev pub passes : Membership → List Leaf → ℕ → Bool
 passes m tests n = option_map_or (fit_each tests) (fin.get m n) false
+
+-- members, rising, among them all whose values pass each of some tests
+pub record HaveAllPassing (m : Membership) (tests : List Leaf) (list : List ℕ) : Type 0 where
+  pub rises : IsStrictlySortedBy nat_cmp list
+  pub members : (n : ℕ) → list_any (λ k. k == n) list ≡ true → fin.contains_key m n ≡ true
+  pub all : (n : ℕ) → passes m tests n ≡ true → list_any (λ k. k == n) list ≡ true

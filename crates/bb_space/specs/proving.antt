@@ -9,6 +9,8 @@ pub mod Places
 pub mod Indexed
 -- between which places of the index the candidates for a test stand
 pub mod Spots
+-- the same for two tests together
+pub mod Pairs
 -- the spaces that each unit is in
 pub mod Standing
 -- what is noted of units that lie close together

@@ -1,6 +1,7 @@
 //! One test of a pattern with its operand's value. Queries ask the spaces for the members that pass one.
 
 ghost use Rattle.std.specs.Prelude.{◌≡◌, slice_get};
+ghost use Rattle.bb_space.specs.Candidates.{dim_of};
 ghost use Rattle.bb_space.specs.Leaf.{related, labelled, fits_leaf};
 
 use bb_pattern::{DimValue, Relation};
@@ -52,6 +53,16 @@ fn labelled(set: LabelSetId, label: LabelId, value: Option<DimValue>) -> bool
 }
 
 impl Leaf {
+    /// The dimension that the test is of.
+    pub(crate) fn dim(&self) -> u8
+        ensures { result ≡ dim_of self.now }
+    {
+        match *self {
+            Leaf::Ordered { dim, .. } => dim,
+            Leaf::Is { dim, .. } => dim,
+        }
+    }
+
     /// Whether a unit with these values, one for each dimension in order, passes the test. None does whose dimension
     /// is not there or of another sort.
     #[tactic(auto, unfolding(crate::specs::Leaf::fits_leaf))]

@@ -7,6 +7,7 @@ mod leaf;
 mod members;
 mod moving;
 mod near;
+mod pair;
 mod passing;
 mod place;
 mod spaces;

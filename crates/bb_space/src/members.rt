@@ -5,7 +5,7 @@ ghost use Rattle.std.specs.Option.{unwrap_or};
 ghost use Rattle.std.specs.FinMap as map;
 ghost use Rattle.bb_space.specs.Spaces.{entered, left, moved};
 ghost use Rattle.bb_space.specs.Candidates.{candidates_of};
-ghost use Rattle.bb_space.specs.Passing.{passes};
+ghost use Rattle.bb_space.specs.Passing.{passes, HaveAllPassing};
 ghost use Rattle.bb_space.specs.declared.place.Place.{Place as At};
 ghost use Rattle.bb_space.specs.proving.Entries.{members_of_entries};
 ghost use Rattle.bb_space.specs.proving.Places.{has, is_place_of, ArePut, AreTaken};
@@ -14,6 +14,7 @@ ghost use Rattle.bb_space.specs.proving.Indexed.{membership, IsIndexed};
 use crate::index::{put_all, take_all};
 use crate::leaf::Leaf;
 use crate::near::{collect_near, is_few, rise};
+use crate::pair::few_by_two;
 use crate::passing::{passing, room};
 use crate::place::Place;
 use crate::thin::thin;
@@ -215,6 +216,21 @@ impl Members {
             return Ok(None);
         }
         Ok(Some(self.candidates(alloc, leaf)?))
+    }
+
+    /// Members, rising, among them all whose values pass each of some tests: by two of these of neighbouring dimensions.
+    /// `None` where no two are so, or more than so many values can pass both.
+    pub(crate) fn few_passing(
+        &self,
+        alloc: Global,
+        tests: &[Leaf],
+        most: usize,
+    ) -> Result<Option<Vec<UnitId>>, Memory>
+        requires { IsIndexed self.now }
+        ensures { IfOk result (λ few. IfSome few (λ list.
+            HaveAllPassing (membership self.now) tests.now list.items)) }
+    {
+        few_by_two(alloc, &self.places, tests, most)
     }
 
     /// Those of some units that are members whose values pass each of some tests, in their order.

@@ -5,7 +5,7 @@ ghost use Rattle.bb_space.specs.Fits.{Fits};
 ghost use Rattle.bb_space.specs.Spaces.{no_spaces, is_member, values_in, membership, members};
 ghost use Rattle.bb_space.specs.Spaces.{AreCandidates, spaces_of};
 ghost use Rattle.bb_space.specs.Candidates.{candidates_of};
-ghost use Rattle.bb_space.specs.Passing.{passes};
+ghost use Rattle.bb_space.specs.Passing.{passes, HaveAllPassing};
 ghost use Rattle.bb_space.specs.Spaces.{after_enter, after_leave, after_moved, after_moves, after_forget};
 ghost use Rattle.bb_space.specs.proving.Indexed.{seen, AreIndexed};
 ghost use Rattle.bb_space.specs.proving.Standing.{AreStanding};
@@ -253,6 +253,23 @@ impl Spaces {
         ensures { IfOk result (λ few. IfSome few (λ list. AreCandidates self.now space leaf.now list.items)) }
     {
         self.spaces[space as usize].few(self.alloc, leaf, most)
+    }
+
+    /// Members of a space, rising, among them all whose values, as they were told last, pass each of some tests: by two
+    /// of these of neighbouring dimensions, of which the first asks for one low end or one label. After the last
+    /// dimension comes the first. `None` where no two are so, or more than so many values can pass both. It goes over no
+    /// more than these.
+    pub fn few_passing(
+        &self,
+        space: SpaceId,
+        tests: &[Leaf],
+        most: usize,
+    ) -> Result<Option<Vec<UnitId>>, Memory>
+        requires { space < length self.now.spaces }
+        ensures { IfOk result (λ few. IfSome few (λ list.
+            HaveAllPassing (membership self.now space) tests.now list.items)) }
+    {
+        self.spaces[space as usize].few_passing(self.alloc, tests, most)
     }
 
     /// Those of some units that are members of a space whose values, as they were told last, pass each of some tests,
