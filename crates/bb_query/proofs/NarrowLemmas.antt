@@ -16,12 +16,12 @@ use Rattle.bb_pattern.specs.View.{trees_of}
 use Rattle.bb_space.specs.declared.leaf.Leaf.{Leaf}
 use Rattle.bb_space.specs.declared.leaf.Leaf.TheVariants.{Ordered, Is}
 use Rattle.bb_space.specs.Leaf.{fits_leaf}
-use Rattle.bb_space.specs.Passing.{fit_each, passes}
+use Rattle.bb_space.specs.Passing.{fit_each, passes, HaveAllPassing}
 use Rattle.bb_space.specs.Spaces.{Spaces, membership}
 use Rattle.bb_query.specs.proving.Enough.{AreEnough, among}
 use Rattle.bb_query.specs.proving.Tests.{Asks, AskNoMore}
 use Rattle.bb_query.proofs.NearLemmas.{each_one}
-use Rattle.bb_space.proofs.Laws.{any_filter}
+use Rattle.bb_space.proofs.Laws.{any_filter, meets_among}
 
 pub interval_asks : (r : Relation) (dim : ℕ) (low high : ℤ) → Asks (λ values. ordered_holds r (slice_get values dim) (Some (Interval low high))) (Ordered r dim low high)
 unfolding fits_leaf
@@ -63,4 +63,11 @@ left_enough t space asked tests list left ask is e = record {
   rises = subst (IsStrictlySortedBy nat_cmp) (sym is) (IsStrictlySortedBy-filter nat_cmp (passes (membership t space) tests) list e.rises);
   enough = λ n values there h. ap (among n) is ∙ (any_filter (passes (membership t space) tests) n list
       ∙ and_from (among n list) (passes (membership t space) tests n) (e.enough n values there h) (ap (λ o. option_map_or (fit_each tests) o false) there ∙ ask values h));
+}
+
+-- the few that pass all tests
+pub passing_enough : (t : Spaces) (space : ℕ) (asked : List DimValue → Bool) (tests : List Leaf) (list : List ℕ) → AskNoMore asked tests → HaveAllPassing (membership t space) tests list → AreEnough t space asked list
+passing_enough t space asked tests list ask have = record {
+  rises = have.rises;
+  enough = λ n values there h. meets_among n list ∙ have.all n (ap (λ o. option_map_or (fit_each tests) o false) there ∙ ask values h);
 }

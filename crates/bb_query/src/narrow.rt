@@ -1,15 +1,13 @@
-//! Which candidates are left once each test has been asked that a pattern is an `and` of. near.rs asks for them.
+//! The tests that a pattern is an `and` of. near.rs goes by them.
 
-ghost use Rattle.std.specs.Prelude.{◌≡◌, ◌<◌, length, IfOk, IfSome, slice_get};
+ghost use Rattle.std.specs.Prelude.{◌≡◌, IfOk, IfSome, slice_get};
 ghost use Rattle.bb_pattern.specs.Holds.{ordered_holds, is_holds, holds, holds_each};
 ghost use Rattle.bb_pattern.specs.View.{trees_of};
-ghost use Rattle.bb_query.specs.proving.Enough.{AreEnough};
 ghost use Rattle.bb_query.specs.proving.Tests.{Asks, AskNoMore};
 
 use bb_basis::Memory;
 use bb_pattern::{DimValue, Node, Pattern, Relation};
-use bb_schema::{SpaceId, UnitId};
-use bb_space::{Leaf, Spaces};
+use bb_space::Leaf;
 use std::alloc::Global;
 
 /// The operand of a number, if there is one.
@@ -79,33 +77,15 @@ fn tests_among(
 }
 
 /// The tests that a pattern is an `and` of, beside whatever else.
-fn tests_of(alloc: Global, pattern: &Pattern, operands: &[DimValue]) -> Result<Vec<Leaf>, Memory>
+pub(crate) fn tests_of(
+    alloc: Global,
+    pattern: &Pattern,
+    operands: &[DimValue],
+) -> Result<Vec<Leaf>, Memory>
     ensures { IfOk result (λ tests. AskNoMore (λ values. holds operands.now values pattern.now) tests.items) }
 {
     match pattern.node() {
         Node::And(parts) => tests_among(alloc, parts.as_slice(), operands),
         _ => Ok(Vec::new(alloc)),
     }
-}
-
-/// Those of some units that pass each test that a pattern is an `and` of. Among them are all of which it holds, as
-/// among the units before.
-pub(crate) fn narrow(
-    alloc: Global,
-    spaces: &Spaces,
-    space: SpaceId,
-    pattern: &Pattern,
-    operands: &[DimValue],
-    list: Vec<UnitId>,
-) -> Result<Vec<UnitId>, Memory>
-    requires space { space < length spaces.now.spaces }
-    requires enough { AreEnough spaces.now space (λ values. holds operands.now values pattern.now) list.items }
-    ensures { IfOk result (λ left. AreEnough spaces.now space
-        (λ values. holds operands.now values pattern.now) left.items) }
-{
-    let tests = tests_of(alloc, pattern, operands)?;
-    if tests.len() < 2 {
-        return Ok(list);
-    }
-    spaces.passing(space, &tests, &list)
 }

@@ -6,8 +6,9 @@ ghost use Rattle.std.specs.Ordering.{nat_cmp};
 ghost use Rattle.bb_pattern.specs.Holds.{ordered_holds, is_holds, holds, holds_each, holds_some};
 ghost use Rattle.bb_pattern.specs.View.{trees_of};
 ghost use Rattle.bb_query.specs.proving.Enough.{AreEnough, HasAlso};
+ghost use Rattle.bb_query.specs.proving.Tests.{AskNoMore};
 
-use crate::narrow::{narrow, operand_at};
+use crate::narrow::{operand_at, tests_of};
 use bb_basis::Memory;
 use bb_pattern::{DimValue, Node, Pattern, Relation};
 use bb_schema::{SpaceId, UnitId};
@@ -181,29 +182,54 @@ fn near_pattern(
     }
 }
 
+/// The same by two of the tests that the pattern is an `and` of, or else by one test.
+fn near_within(
+    alloc: Global,
+    spaces: &Spaces,
+    space: SpaceId,
+    pattern: &Pattern,
+    operands: &[DimValue],
+    tests: &[Leaf],
+    most: usize,
+) -> Result<Option<Vec<UnitId>>, Memory>
+    requires space { space < length spaces.now.spaces }
+    requires ask { AskNoMore (λ values. holds operands.now values pattern.now) tests.now }
+    ensures { IfOk result (λ near. IfSome near (λ list. AreEnough spaces.now space
+        (λ values. holds operands.now values pattern.now) list.items)) }
+{
+    let both = spaces.few_passing(space, tests, most)?;
+    if let Some(list) = both {
+        return Ok(Some(list));
+    }
+    near_pattern(alloc, spaces, space, pattern, operands, most)
+}
+
 /// Members of a space, rising, among them all of which a pattern holds, or `None` where it does not bound them. The
 /// number of candidates that a test may have begins at 64 and grows fourfold: so an `and` goes by a part with 64, or
-/// with at most sixteen times as many as the one with the fewest, and costs no more where that one stands last.
+/// with at most sixteen times as many as the one with the fewest, and costs no more where that one stands last. Two
+/// tests that are asked together count as one.
 fn near_few(
     alloc: Global,
     spaces: &Spaces,
     space: SpaceId,
     pattern: &Pattern,
     operands: &[DimValue],
+    tests: &[Leaf],
 ) -> Result<Option<Vec<UnitId>>, Memory>
-    requires { space < length spaces.now.spaces }
+    requires space { space < length spaces.now.spaces }
+    requires ask { AskNoMore (λ values. holds operands.now values pattern.now) tests.now }
     ensures { IfOk result (λ near. IfSome near (λ list. AreEnough spaces.now space
         (λ values. holds operands.now values pattern.now) list.items)) }
 {
     let mut most: usize = 64;
     for _ in 0..6 {
-        let near = near_pattern(alloc, spaces, space, pattern, operands, most)?;
+        let near = near_within(alloc, spaces, space, pattern, operands, tests, most)?;
         if let Some(list) = near {
             return Ok(Some(list));
         }
         most = most.saturating_mul(4);
     }
-    near_pattern(alloc, spaces, space, pattern, operands, usize::MAX)
+    near_within(alloc, spaces, space, pattern, operands, tests, usize::MAX)
 }
 
 /// Members of a space, rising, among them all of which a pattern holds. Those are left out that fail a test which the
@@ -219,8 +245,12 @@ pub(crate) fn near(
     ensures { IfOk result (λ list. AreEnough spaces.now space
         (λ values. holds operands.now values pattern.now) list.items) }
 {
-    match near_few(alloc, spaces, space, pattern, operands)? {
-        Some(list) => narrow(alloc, spaces, space, pattern, operands, list),
-        None => spaces.members(space),
+    let tests = tests_of(alloc, pattern, operands)?;
+    let Some(list) = near_few(alloc, spaces, space, pattern, operands, &tests)? else {
+        return spaces.members(space);
+    };
+    if tests.len() < 2 {
+        return Ok(list);
     }
+    spaces.passing(space, &tests, &list)
 }
