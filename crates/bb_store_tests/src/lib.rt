@@ -7,6 +7,8 @@ mod basis;
 #[cfg(test)]
 mod document;
 #[cfg(test)]
+mod few;
+#[cfg(test)]
 mod links;
 #[cfg(test)]
 mod space;

@@ -16,13 +16,13 @@ const SCHEMA: &str = r#"{"labels":[{"name":"hue","values":["red","green"]}],
 {"name":"pos","kind":"ordered"},{"name":"hue","kind":"label","of":"hue"}]},
 {"name":"desk","classes":["word"],"dims":[]}]}"#;
 
-const BOARD: SpaceId = 0;
+pub(crate) const BOARD: SpaceId = 0;
 
 const DESK: SpaceId = 1;
 
 const RED: DimValue = DimValue::Label(0, 0);
 
-fn no_members(alloc: Global) -> Result<Spaces, Fail> {
+pub(crate) fn no_members(alloc: Global) -> Result<Spaces, Fail> {
     let schema = Schema::read(alloc, SCHEMA)?;
     Ok(Spaces::new(alloc, &schema)?)
 }
@@ -140,7 +140,7 @@ fn as_a_walk(alloc: Global, spaces: &Spaces, leaf: &Leaf) -> Result<bool, Fail> 
 }
 
 /// Lets a unit enter `board`, leave it or move there, by a number.
-fn change(spaces: &mut Spaces, alloc: Global, number: u64) -> Result<(), Fail> {
+pub(crate) fn change(spaces: &mut Spaces, alloc: Global, number: u64) -> Result<(), Fail> {
     if spaces.count() == 0 {
         return Ok(());
     }
@@ -263,7 +263,7 @@ fn moves_in_several_spaces(rt: HostRuntime) -> Result<(), Fail> {
 }
 
 /// Units 1 to 1,000 in `board`, each at its number.
-fn thousand(alloc: Global) -> Result<Spaces, Fail> {
+pub(crate) fn thousand(alloc: Global) -> Result<Spaces, Fail> {
     let mut spaces = no_members(alloc)?;
     for unit in 1..=1000u64 {
         let place = unit.cast_signed();
@@ -298,7 +298,7 @@ fn candidates_by_their_low_ends(rt: HostRuntime) -> Result<(), Fail> {
 }
 
 /// A relation and an interval by a number.
-fn test_of(number: u64) -> Leaf {
+pub(crate) fn test_of(number: u64) -> Leaf {
     let low = (number % 32) as i64;
     let high = low + ((number >> 8) % 16) as i64;
     let relation = match (number >> 16) % 5 {

@@ -3,6 +3,7 @@
 use bb_schema::{ClassId, Schema, SlotId, UnitId, Value};
 use bb_units::{CreateFault, Units};
 use std::alloc::Global;
+use std::collections::BTreeMap;
 use std::test::Fail;
 
 /// Slots 4 to 6 are `pos`, `hue` and `score`, 7 and 8 the links, 9 and 10 `count` and `tint`.
@@ -58,5 +59,54 @@ fn created_units(rt: HostRuntime) -> Result<(), Fail> {
     assert!(rt; !set(&mut units, 1, 5, Value::Label(0, 2)));
     assert!(rt; set(&mut units, 1, 4, Value::Interval(-1, 3)));
     assert!(rt; !set(&mut units, 1, 4, Value::Interval(3, 2)));
+    Ok(())
+}
+
+/// Creates a unit, or deletes one of the last 64, by a number, and does the same with a plain map from unit to class.
+fn change(
+    units: &mut Units,
+    plain: &mut BTreeMap<UnitId, ClassId>,
+    number: u64,
+) -> Result<(), Fail> {
+    let class = if number % 4 == 0 { WORD } else { THING };
+    let unit = units.next().saturating_sub(1 + (number >> 8) % 64);
+    if number % 16 < 7 {
+        let created = create(units, class)?;
+        plain.insert(created, class)?;
+    } else if units.live(unit) {
+        units.delete(unit);
+        plain.remove(&unit);
+    }
+    Ok(())
+}
+
+/// Whether both say the same of a unit.
+fn say_the_same(units: &Units, plain: &BTreeMap<UnitId, ClassId>, unit: UnitId) -> bool {
+    units.class_if_live(unit) == plain.get(&unit).copied()
+        && units.live(unit) == plain.contains_key(&unit)
+}
+
+/// Whether both say the same of some units: the one below the next number, a later one, and one by a number.
+fn are_alike(units: &Units, plain: &BTreeMap<UnitId, ClassId>, number: u64) -> bool {
+    let next = units.next();
+    units.count() == plain.len()
+        && say_the_same(units, plain, next - 1)
+        && say_the_same(units, plain, next)
+        && say_the_same(units, plain, number % next)
+        && say_the_same(units, plain, next.saturating_sub(number % 64))
+}
+
+#[test]
+fn as_a_map(rt: HostRuntime) -> Result<(), Fail> {
+    let mut units = units_of(rt.alloc(), &[])?;
+    let mut plain = BTreeMap::new(rt.alloc());
+    let mut number: u64 = 0x9E37_79B9_7F4A_7C15;
+    for _ in 0..2000 {
+        number ^= number << 13;
+        number ^= number >> 7;
+        number ^= number << 17;
+        change(&mut units, &mut plain, number)?;
+        assert!(rt; are_alike(&units, &plain, number >> 16));
+    }
     Ok(())
 }
