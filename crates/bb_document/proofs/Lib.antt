@@ -2,3 +2,5 @@ pub mod NumberLemmas
 pub mod Laws
 pub mod ShapeLemmas
 pub mod DefaultLemmas
+pub mod QuickLemmas
+pub mod DocumentLemmas

@@ -14,3 +14,5 @@ pub mod Form
 pub mod Defaults
 -- what the document of first units declares, and which JSON has its form
 pub mod UnitsDocument
+-- what the quick way to the document of first units goes by
+pub mod Quick

@@ -18,7 +18,7 @@ use crate::document::{
 };
 use crate::entry::{Entry, entries, string_at};
 use crate::fault::DocumentFault;
-use crate::json::json;
+use crate::parsed::json;
 use crate::place::ListKey;
 use crate::shape::{
     as_list, bool_at, is_object_with, list_at, optional_text_at, required_list_at, text_at,

@@ -6,8 +6,10 @@ mod document;
 mod entry;
 mod fault;
 mod form;
-mod json;
+mod parsed;
+mod owned;
 mod place;
+mod quick;
 mod shape;
 mod units_form;
 

@@ -16,8 +16,9 @@ use crate::document::{
 use crate::entry::{Entry, entries, string_at};
 use crate::fault::DocumentFault;
 use crate::form::interval;
-use crate::json::json;
+use crate::parsed::json;
 use crate::place::ListKey;
+use crate::quick::quick;
 use crate::shape::{as_list, is_object_with, list_at};
 use serde_json::{Map, Value};
 use std::alloc::{AllocError, Global};
@@ -31,6 +32,9 @@ impl UnitsDocument {
     pub fn read(alloc: Global, text: &str) -> Result<UnitsDocument, DocumentFault>
         ensures { Gives OutOfMemory units_declaration result (units_document_of text.now) }
     {
+        if let Some(document) = quick(alloc, text) {
+            return Ok(document);
+        }
         let value = json(alloc, text)?;
         units_document(alloc, &value)
     }
