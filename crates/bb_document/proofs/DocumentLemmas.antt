@@ -1,6 +1,6 @@
 -- A document of which each list was read from its members is what `serde_json` and the form give of all of them.
-use Rattle.std.proofs.Common.{◌≡◌, ℕ, Bool, true, false, List, [], ◌∷◌, map, Ordering, Less, Equal, Greater, Option, Some, None, Result, Ok, Err, refl, sym, ap, ◌∙◌, subst, Vec, bytes_eq}
-use Rattle.std.specs.Prelude.{◌&&◌, ◌||◌, codes, option_and_then, if◌then◌else◌}
+use Rattle.std.proofs.Common.{◌≡◌, ℕ, Bool, true, false, List, [], ◌∷◌, Ordering, Less, Equal, Greater, Some, Result, Ok, refl, sym, ◌∙◌, subst, Vec, bytes_eq}
+use Rattle.std.specs.Prelude.{◌||◌, codes, if◌then◌else◌}
 use Rattle.std.specs.List.{list_all, list_any}
 use Rattle.std.specs.Ordering.{nat_cmp, match_ordering}
 use Rattle.std.specs.Cmp.Lexicographic.{slice_cmp}
@@ -14,7 +14,6 @@ use Rattle.json.specs.Value as borrowed
 use Rattle.json.specs.declared.value.Value.{Value as Borrowed, Object as borrowed-object}
 use Rattle.json.proofs.Trees.{view-Object as borrowed-Object}
 use Rattle.serde_json.specs.Data.{Data, object, Members, no_members, member, put}
-use Rattle.serde_json.specs.Find.{get, get_member}
 use Rattle.serde_json.specs.Read.{of_json, of_members, read}
 use Rattle.serde_json.proofs.Views.{get_member-put, get_member-put_other}
 use Rattle.bb_basis.specs.Results.{◌>>=◌, ok_or, try_map_at}

@@ -4,3 +4,4 @@ pub mod ShapeLemmas
 pub mod DefaultLemmas
 pub mod QuickLemmas
 pub mod DocumentLemmas
+pub mod EntryLemmas

@@ -1,5 +1,5 @@
 -- The quick way to the document of first units gives what `serde_json` and the form of the document give.
-use Rattle.std.proofs.Common.{◌≡◌, ℕ, suc, ◌+◌, ◌<◌, ◌≤◌, Bool, true, false, List, [], ◌∷◌, ◌++◌, length, get_or, drop, map, Option, Some, None, option_map, option_and_then, Result, Ok, Err, String, string_bytes, string_cmp, Vec, refl, sym, ap, ◌∙◌, subst}
+use Rattle.std.proofs.Common.{◌≡◌, ℕ, suc, ◌+◌, ◌<◌, ◌≤◌, true, false, List, [], ◌∷◌, length, get_or, drop, map, Option, Some, Result, Ok, String, string_bytes, string_cmp, Vec, refl, sym, ap, ◌∙◌}
 use Rattle.std.specs.declared.alloc.Global.{Global}
 use denote.Ref.{Bor}
 use Rattle.std.specs.BTreeMap.{insert_entry}
@@ -9,13 +9,13 @@ use Rattle.json.specs.Json as json
 use Rattle.json.specs.Value as borrowed
 use Rattle.json.specs.declared.value.Value.{Value as Borrowed, Array as borrowed-array}
 use Rattle.json.proofs.Trees.{view-Array as borrowed-Array}
-use Rattle.serde_json.specs.Data.{Data, array, object, Items, no_items, item, Members, no_members, member, put}
+use Rattle.serde_json.specs.Data.{Data, Items, item, Members, put}
 use Rattle.serde_json.specs.Read.{of_json, of_items, of_members}
 use Rattle.serde_json.specs.View.{view, items_view, items_of, members_view}
-use Rattle.serde_json.specs.declared.value.Value.{Value, Array, Object}
+use Rattle.serde_json.specs.declared.value.Value.{Value, Array}
 use Rattle.serde_json.proofs.Views.{view-Array, members_view-insert_entry}
 use Rattle.bb_basis.proofs.IntoMapLemmas.{next_one, none_left}
-use Rattle.bb_basis.specs.Results.{◌>>=◌, ok_or, try_map_at}
+use Rattle.bb_basis.specs.Results.{ok_or, try_map_at}
 use Rattle.bb_basis.proofs.ResultLemmas.{bind_ok, ok_or_ok}
 use Rattle.bb_document.specs.declared.fault.DocumentFault.{DocumentFault}
 use Rattle.bb_document.specs.declared.fault.DocumentFault.TheVariants as faults

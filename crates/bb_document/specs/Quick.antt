@@ -24,9 +24,12 @@ read_of v = of_json (value_view v)
 abbrev pub seen : Value → Option Data
 seen v = Some (view v)
 
--- what such a value declares, by a form of data
+-- what JSON declares, by a form of data
+abbrev pub declared_by : {X : Type 0} → (Data → Result X DocumentFault) → Json → Result X DocumentFault
+declared_by form j = ok_or (of_json j) faults.Json >>= form
+
 abbrev pub entry_of : {X : Type 0} → (Data → Result X DocumentFault) → Borrowed Global → Result X DocumentFault
-entry_of form v = ok_or (read_of v) faults.Json >>= form
+entry_of form v = declared_by form (value_view v)
 
 -- the entries of an array
 abbrev pub entries_of : {X : Type 0} → ListKey → (Data → Result X DocumentFault) → Json → Result (List X) DocumentFault
@@ -48,4 +51,4 @@ list_keys = codes "units" ∷ codes "links" ∷ codes "spaces" ∷ []
 
 -- what JSON declares as a document
 abbrev pub document_of : Json → Result UnitsDeclaration DocumentFault
-document_of j = ok_or (of_json j) faults.Json >>= units_declaration_of
+document_of j = declared_by units_declaration_of j

@@ -6,10 +6,11 @@ mod document;
 mod entry;
 mod fault;
 mod form;
-mod parsed;
 mod owned;
+mod parsed;
 mod place;
 mod quick;
+mod quick_entry;
 mod shape;
 mod units_form;
 

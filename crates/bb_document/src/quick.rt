@@ -10,9 +10,8 @@ ghost use Rattle.bb_document.specs.Quick.{entry_of, entries_of, list_keys, liste
 ghost use Rattle.bb_document.specs.UnitsDocument.{units_declaration, units_document_of};
 
 use crate::document::UnitsDocument;
-use crate::entry::Entry;
-use crate::owned::owned;
 use crate::place::ListKey;
+use crate::quick_entry::QuickEntry;
 use json::{Reader, Scratch, Value};
 use std::alloc::Global;
 use std::mem;
@@ -66,7 +65,7 @@ fn have_list_keys(members: &[(&str, Value<'_>)]) -> bool
 }
 
 /// The entries of a list of the document; an absent one is empty. Of a key that comes twice the last list counts.
-fn entries_at<E: Entry>(
+fn entries_at<E: QuickEntry>(
     alloc: Global,
     list: ListKey,
     members: &[(&str, Value<'_>)],
@@ -88,7 +87,7 @@ where
 }
 
 /// The entries of a value that is an array of such.
-fn entries<E: Entry>(alloc: Global, list: ListKey, value: &Value<'_>) -> Option<Vec<E>>
+fn entries<E: QuickEntry>(alloc: Global, list: ListKey, value: &Value<'_>) -> Option<Vec<E>>
 where
     E: Drop,
     ensures { IfSome result (λ es. entries_of list E.form (value_view value.now) ≡ Ok (map E.declared es.items)) }
@@ -99,25 +98,15 @@ where
     each_entry(alloc, values.as_slice())
 }
 
-fn each_entry<E: Entry>(alloc: Global, values: &[Value<'_>]) -> Option<Vec<E>>
+fn each_entry<E: QuickEntry>(alloc: Global, values: &[Value<'_>]) -> Option<Vec<E>>
 where
     E: Drop,
     ensures { IfSome result (λ es. map (entry_of E.form) values.now ≡ map (λ e. Ok (E.declared e)) es.items) }
 {
     let mut entries = Vec::new(alloc);
     for value in values {
-        let entry = entry(alloc, value)?;
+        let entry = E::quick_of(alloc, value)?;
         entries.push(entry).ok()?;
     }
     Some(entries)
-}
-
-/// One entry, by a value of `serde_json` that is gone when it is read.
-fn entry<E: Entry>(alloc: Global, value: &Value<'_>) -> Option<E>
-where
-    E: Drop,
-    ensures { IfSome result (λ e. entry_of E.form value.now ≡ Ok (E.declared e)) }
-{
-    let value = owned(alloc, value)?;
-    E::of(alloc, &value).ok()
 }

@@ -83,7 +83,10 @@ impl Entry for UnitEntry {
 
 /// The values that a unit gives for slots: none where the key is absent.
 #[tactic(auto, unfolding(crate::specs::UnitsDocument::given_slots_of))]
-fn given_slots(alloc: Global, given: Option<&Value>) -> Result<Vec<GivenEntry>, DocumentFault>
+pub(crate) fn given_slots(
+    alloc: Global,
+    given: Option<&Value>,
+) -> Result<Vec<GivenEntry>, DocumentFault>
     ensures { Gives OutOfMemory (λ es. map given_declaration es.items) result
         (given_slots_of (option_map (λ v. view v.now) given.entry)) }
 {

@@ -1,6 +1,5 @@
-use Rattle.std.proofs.Common.{◌≡◌, string_bytes, string_cmp, sym, ap, ◌∙◌, rules}
+use Rattle.std.proofs.Common.{◌≡◌, string_bytes, string_cmp, rules}
 use Rattle.std.specs.BTreeMap.{insert_entry}
-use Rattle.serde_json.specs.View.{members_view}
 use Rattle.bb_document.proofs.QuickLemmas.{array_made, member_made}
 use Rattle.bb_document.proofs.owned.+owned.Goals as goal
 

@@ -1,8 +1,7 @@
-use Rattle.std.proofs.Common.{◌≡◌, [], true, false, map, rules}
+use Rattle.std.proofs.Common.{◌≡◌, true, false, map, rules}
 use Rattle.std.specs.Str.{bytes_eq}
-use Rattle.json.specs.Value.{members_view}
 use Rattle.bb_document.specs.Places.{list_key}
-use Rattle.bb_document.specs.Quick.{entries_of, listed}
+use Rattle.bb_document.specs.Quick.{entries_of}
 use Rattle.bb_document.proofs.QuickLemmas.{listed_past, listed_next, listed_end}
 use Rattle.bb_document.proofs.quick.entries_at.Goals as goal
 

@@ -2,7 +2,7 @@ use Rattle.std.proofs.Common.{◌≡◌, [], Some, Ok, IfSome, sym, subst, ap, �
 use Rattle.json.specs.Json.{value}
 use Rattle.json.specs.Lex.{tokens}
 use Rattle.json.specs.Value.{value_view}
-use Rattle.bb_document.specs.UnitsDocument.{units_declaration, units_document_of}
+use Rattle.bb_document.specs.UnitsDocument.{units_declaration}
 use Rattle.bb_document.proofs.DocumentLemmas.{text_made}
 use Rattle.bb_document.proofs.quick.quick.Goals as goal
 
