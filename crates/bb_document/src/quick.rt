@@ -103,7 +103,7 @@ where
     E: Drop,
     ensures { IfSome result (λ es. map (entry_of E.form) values.now ≡ map (λ e. Ok (E.declared e)) es.items) }
 {
-    let mut entries = Vec::new(alloc);
+    let mut entries = Vec::with_capacity(alloc, values.len()).ok()?;
     for value in values {
         let entry = E::quick_of(alloc, value)?;
         entries.push(entry).ok()?;

@@ -103,7 +103,7 @@ pub(crate) fn given_slots(
 fn givens(alloc: Global, members: &Map<String, Value>) -> Result<Vec<GivenEntry>, AllocError>
     ensures { IfOk result (λ es. map given_declaration es.items ≡ givens_of (members_view members.now.entries)) }
 {
-    let mut entries = Vec::new(alloc);
+    let mut entries = Vec::with_capacity(alloc, members.len())?;
     for (slot, value) in members {
         let slot = String::from_str(alloc, slot.as_str())?;
         let value = given_value(alloc, value)?;
