@@ -58,14 +58,15 @@ impl Progress {
             (entry_after schema.now (progress_of self.old) (unit_declaration entry.now)) }
         ensures schema { OnOk result (self.new.world.schema ≡ self.old.world.schema) }
     {
-        if self.names.get(entry.name.as_str()).is_some() {
+        let name = entry.name.as_str();
+        let next = self.world.next();
+        if self.names.insert(alloc, name, next)?.is_some() {
             return Err(UnitsFault::here(UnitsFlaw::Twice));
         }
         let class = schema
             .class(entry.class.as_str())
             .ok_or(UnitsFault::here(UnitsFlaw::Unknown))?;
         let unit = create(&mut self.world, class)?;
-        self.names.insert(alloc, entry.name.as_str(), unit)?;
         set_values(alloc, schema, &mut self.world, unit, class, &entry.slots)
     }
 
@@ -204,11 +205,17 @@ pub(crate) fn read_units(fresh: &World, text: &str) -> Result<World, UnitsFault>
 {
     let alloc = fresh.alloc();
     let schema = fresh.schema();
-    let document = document(alloc, text)?;
+    let UnitsDocument {
+        units,
+        links,
+        spaces,
+    } = document(alloc, text)?;
     let mut progress = Progress::new(alloc, fresh.shared_schema()?)?;
-    progress.add_all(alloc, schema, &document.units)?;
+    progress.add_all(alloc, schema, &units)?;
+    // The spaces take the room that the entries of the units leave.
+    drop(units);
     let Progress { names, mut world } = progress;
-    add_links(&mut world, schema, &names, &document.links)?;
-    add_members(&mut world, schema, &names, &document.spaces)?;
+    add_links(&mut world, schema, &names, &links)?;
+    add_members(&mut world, schema, &names, &spaces)?;
     Ok(world)
 }

@@ -1,6 +1,7 @@
-//! The names of a document's units. The loader tests each new name against them, and finds the units of links by them.
+//! The names of a document's units. The loader puts each new name there, which tells whether it was there already, and
+//! finds the units of links by them.
 
-ghost use Rattle.std.specs.Prelude.{◌≡◌, OnOk, OnErr};
+ghost use Rattle.std.specs.Prelude.{◌≡◌, IfOk, OnOk, OnErr};
 ghost use Rattle.std.specs.FinMap as map;
 
 use bb_basis::Memory;
@@ -53,12 +54,18 @@ impl UnitNames {
         self.units.get(name).copied()
     }
 
-    /// Gives a unit a name. An error changes nothing.
-    pub(crate) fn insert(&mut self, alloc: Global, name: &str, unit: UnitId) -> Result<(), Memory>
+    /// Gives a unit a name, and returns the unit that had it. An error changes nothing.
+    pub(crate) fn insert(
+        &mut self,
+        alloc: Global,
+        name: &str,
+        unit: UnitId,
+    ) -> Result<Option<UnitId>, Memory>
+        ensures had { IfOk result (λ had. had ≡ map.get self.old name.now) }
         ensures ok { OnOk result (self.new ≡ map.insert self.old name.now unit) }
         ensures err { OnErr result (self.new ≡ self.old) }
     {
-        self.units.insert(String::from_str(alloc, name)?, unit)?;
-        Ok(())
+        let had = self.units.insert(String::from_str(alloc, name)?, unit)?;
+        Ok(had)
     }
 }
