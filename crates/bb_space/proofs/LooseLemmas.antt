@@ -1,45 +1,25 @@
 -- The members of a space and its index, after each change.
-use Rattle.std.proofs.Common.{◌≡◌, ℕ, Bool, true, false, cond, ◌==◌, ◌⊎◌, inl, inr, List, [], Option, Some, None, refl, sym, ap, subst, ◌∙◌, eqb-true, eq-eqb, unwrap_or, is_some, is_err, OnOk, Result, Ok, Err, slice_get, zero, suc}
+use Rattle.std.proofs.Common.{◌≡◌, ℕ, Bool, true, false, cond, ◌⊎◌, inl, inr, List, [], Option, Some, None, refl, sym, ap, subst, ◌∙◌, unwrap_or, is_some, is_err, OnOk, Result, Ok, Err}
 use Rattle.std.specs.Option.{option_map_or}
 use Rattle.std.specs.Ordering.{is_eq, nat_cmp}
 use Rattle.std.specs.Cmp.{nat_cmp_total}
 use Rattle.std.specs.List.{list_any}
 use Rattle.std.specs.BTreeMap.{is_at as meets}
 use Rattle.std.specs.FinMap as fin
-use Rattle.std.proofs.lemmas.Bool.{and_parts, and_from}
 use Rattle.std.proofs.lemmas.Cmp.{eq_by_cmp_equiv}
 use Rattle.std.proofs.lemmas.Map.Lookups.{exact_unsigned}
 use Rattle.bb_pattern.specs.declared.value.DimValue.{DimValue}
 use Rattle.bb_space.specs.declared.members.Members.{Members}
-use Rattle.bb_space.specs.declared.place.Place.{Place}
+use Rattle.bb_places.specs.declared.place.Place.{Place}
 use Rattle.bb_space.specs.Spaces.{Membership, left, moved}
-use Rattle.bb_space.specs.proving.Places.{place_cmp, next_of, is_value_at, is_at, is_told, is_place_of, has, ArePut, AreTaken}
-use Rattle.bb_space.specs.proving.Indexed.{membership, IsLoose, IsIndexed}
+use Rattle.bb_places.specs.Places.{place_cmp, is_at, is_place_of, has, ArePut, AreTaken}
+use Rattle.bb_space.specs.proving.Indexed.{membership, is_told, IsLoose, IsIndexed}
 use Rattle.bb_space.specs.proving.Entries.{members_of_entries}
 use Rattle.bb_space.proofs.EntryLemmas.{get_is_lookup}
-use Rattle.bb_space.proofs.PlaceLemmas.{equal, by_number}
+use Rattle.bb_places.proofs.Laws.{equal, by_bool, by_number, of_unit, at_of, place_from, none_at}
 
 by_unit : (p : Place) (unit : ℕ) (G : Type 0) → (p.unit ≡ unit → G) → ((p.unit ≡ unit → ⊥) → G) → G
 by_unit p unit G same other = by_number p.unit unit G same other
-
-pub of_unit : (unit : ℕ) (values : List DimValue) (p : Place) → is_place_of unit values p ≡ true → p.unit ≡ unit
-of_unit unit values p h = eqb-true p.unit unit (and_parts (p.unit == unit) (is_at values p) h).0
-
-pub at_of : (unit : ℕ) (values : List DimValue) (p : Place) → is_place_of unit values p ≡ true → is_at values p ≡ true
-at_of unit values p h = (and_parts (p.unit == unit) (is_at values p) h).1
-
-pub place_from : (unit : ℕ) (values : List DimValue) (p : Place) → p.unit ≡ unit → is_at values p ≡ true → is_place_of unit values p ≡ true
-place_from unit values p same at = and_from (p.unit == unit) (is_at values p) (eq-eqb p.unit unit same) at
-
-abbrev no_values : List DimValue
-no_values = []
-
-nothing : (n : ℕ) → slice_get no_values n ≡ None
-nothing zero = refl
-nothing (suc n) = refl
-
-pub none_at : (p : Place) → is_at [] p ≡ false
-none_at p = ap (λ o. option_map_or (is_value_at p (next_of [] p.dim)) o false) (nothing p.dim)
 
 -- ---- what is told of a place
 
@@ -83,10 +63,6 @@ told_but unit m p apart =
     told_at unit (fin.remove m unit) p (fin.get m p.unit) (fin.get-remove nat_cmp_total m unit p.unit ∙ ap (λ b. cond b None (fin.get m p.unit)) (number_other p.unit unit apart))
 
 -- ---- the index beside the members
-
-pub by_bool : (b : Bool) (G : Type 0) → (b ≡ true → G) → (b ≡ false → G) → G
-by_bool true G one other = one refl
-by_bool false G one other = other refl
 
 pub same_values : (m n : Members) → n.values ≡ m.values → membership n ≡ membership m
 same_values m n same = ap (λ v. membership (record { values = v; places = n.places })) same

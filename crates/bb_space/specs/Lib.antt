@@ -1,5 +1,3 @@
--- when a unit's values pass one test
-pub mod Leaf
 -- the spaces, and each change of them
 pub mod Spaces
 -- which members are candidates for a test

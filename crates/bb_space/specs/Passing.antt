@@ -1,18 +1,13 @@
 -- Which units pass several tests.
 use Rattle.std.specs.Prelude.{◌≡◌, ℕ, Bool, true, false, ◌==◌, List}
-use Rattle.std.specs.List.{list_all, list_any}
+use Rattle.std.specs.List.{list_any}
 use Rattle.std.specs.List.Sorted.{IsStrictlySortedBy}
 use Rattle.std.specs.Ordering.{nat_cmp}
 use Rattle.std.specs.Option.{option_map_or}
 use Rattle.std.specs.FinMap as fin
-use Rattle.bb_pattern.specs.declared.value.DimValue.{DimValue}
-use Rattle.bb_space.specs.declared.leaf.Leaf.{Leaf}
-use Rattle.bb_space.specs.Leaf.{fits_leaf}
+use Rattle.bb_places.specs.declared.leaf.Leaf.{Leaf}
+use Rattle.bb_places.specs.Leaf.{fit_each}
 use Rattle.bb_space.specs.Spaces.{Membership}
-
--- the values pass each of some tests
-abbrev pub fit_each : List Leaf → List DimValue → Bool
-fit_each tests values = list_all (λ leaf. fits_leaf leaf values) tests
 
 -- the unit is a member, and its values pass each of some tests
 abbrev pub passes : Membership → List Leaf → ℕ → Bool

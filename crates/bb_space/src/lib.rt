@@ -2,18 +2,12 @@
 //! them of each change, and queries ask them for candidates.
 #![tactic(auto)]
 
-mod index;
-mod leaf;
 mod members;
 mod moving;
-mod near;
-mod pair;
 mod passing;
-mod place;
 mod spaces;
 mod standing;
-mod thin;
 
+pub use bb_places::Leaf;
 pub use bb_schema::{SpaceId, UnitId};
-pub use leaf::Leaf;
 pub use spaces::Spaces;

@@ -6,20 +6,15 @@ ghost use Rattle.std.specs.FinMap as map;
 ghost use Rattle.bb_space.specs.Spaces.{entered, left, moved};
 ghost use Rattle.bb_space.specs.Candidates.{candidates_of};
 ghost use Rattle.bb_space.specs.Passing.{passes, HaveAllPassing};
-ghost use Rattle.bb_space.specs.declared.place.Place.{Place as At};
+ghost use Rattle.bb_places.specs.declared.place.Place.{Place as At};
 ghost use Rattle.bb_space.specs.proving.Entries.{members_of_entries};
-ghost use Rattle.bb_space.specs.proving.Places.{has, is_place_of, ArePut, AreTaken};
+ghost use Rattle.bb_places.specs.Places.{has, is_place_of, ArePut, AreTaken};
 ghost use Rattle.bb_space.specs.proving.Indexed.{membership, IsIndexed};
 
-use crate::index::{put_all, take_all};
-use crate::leaf::Leaf;
-use crate::near::{collect_near, is_few, rise};
-use crate::pair::few_by_two;
 use crate::passing::{passing, room};
-use crate::place::Place;
-use crate::thin::thin;
 use bb_basis::{Items, Memory};
 use bb_pattern::DimValue;
+use bb_places::{Leaf, Place, collect_near, few_by_two, is_few, put_all, rise, take_all, thin_all};
 use bb_schema::UnitId;
 use std::alloc::{AllocError, Global};
 use std::collections::{BTreeMap, BTreeSet};
@@ -248,7 +243,7 @@ impl Members {
         if room == 0 {
             return passing(alloc, &self.values, tests, among);
         }
-        let list = thin(alloc, &self.places, tests, room, among)?;
+        let list = thin_all(alloc, &self.places, tests, room, among)?;
         passing(alloc, &self.values, tests, &list)
     }
 }

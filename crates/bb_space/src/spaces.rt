@@ -10,12 +10,12 @@ ghost use Rattle.bb_space.specs.Spaces.{after_enter, after_leave, after_moved, a
 ghost use Rattle.bb_space.specs.proving.Indexed.{seen, AreIndexed};
 ghost use Rattle.bb_space.specs.proving.Standing.{AreStanding};
 
-use crate::leaf::Leaf;
 use crate::members::Members;
 use crate::moving::{move_all, move_one};
 use crate::standing::Standing;
 use bb_basis::{Items, Memory};
 use bb_pattern::DimValue;
+use bb_places::Leaf;
 use bb_schema::{Schema, SpaceId, UnitId};
 use std::alloc::Global;
 use std::marker::Model;

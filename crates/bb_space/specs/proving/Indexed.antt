@@ -1,11 +1,13 @@
 -- The members of a space with their index, and what holds of both.
 use Rattle.std.specs.Prelude.{◌≡◌, ℕ, Bool, true, false, ◌&&◌, ◌||◌, ◌==◌, List, [], ◌∷◌, map, Some, slice_get}
+use Rattle.std.specs.Option.{option_map_or}
+use Rattle.std.specs.FinMap as fin
 use Rattle.bb_pattern.specs.declared.value.DimValue.{DimValue}
 use Rattle.bb_space.specs.declared.members.Members.{Members}
-use Rattle.bb_space.specs.declared.place.Place.{Place}
+use Rattle.bb_places.specs.declared.place.Place.{Place}
 use Rattle.bb_space.specs.Spaces.{Membership, Spaces}
 use Rattle.bb_space.specs.proving.Entries.{members_of_entries}
-use Rattle.bb_space.specs.proving.Places.{has, is_told, is_place_of}
+use Rattle.bb_places.specs.Places.{has, is_at, is_place_of}
 
 abbrev pub membership : Members → Membership
 membership m = members_of_entries m.values.entries
@@ -13,6 +15,10 @@ membership m = members_of_entries m.values.entries
 -- spaces with these members
 abbrev pub seen : List Members → Spaces
 seen spaces = record { spaces = map membership spaces }
+
+-- a member's value stands at the place
+abbrev pub is_told : Membership → Place → Bool
+is_told m p = option_map_or (λ values. is_at values p) (fin.get m p.unit) false
 
 -- the index has the places of all values, and no others but for some
 pub record IsLoose (spare : Place → Bool) (m : Members) : Type 0 where

@@ -1,6 +1,6 @@
 use Rattle.std.proofs.lemmas.Option.{IfSome_then}
 use Rattle.std.proofs.lemmas.Result.{IfOk-weaker}
-use Rattle.bb_space.proofs.PairLemmas.{all_passing}
+use Rattle.bb_space.proofs.IndexLemmas.{all_passing}
 use Rattle.bb_space.proofs.members.Members.few_passing.Goals as goal
 
 pub returns : goal.returns

@@ -3,7 +3,7 @@ use Rattle.std.specs.Prelude.{filter}
 use Rattle.std.proofs.lemmas.Result.{IfOk-weaker}
 use Rattle.bb_space.specs.Passing.{passes}
 use Rattle.bb_space.specs.proving.Indexed.{membership}
-use Rattle.bb_space.proofs.MarkLemmas.{passing_left}
+use Rattle.bb_space.proofs.IndexLemmas.{passing_left}
 use Rattle.bb_space.proofs.members.Members.passing.Goals as goal
 
 pub returns : goal.returns

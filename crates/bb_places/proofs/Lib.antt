@@ -1,0 +1,8 @@
+pub mod PlaceLemmas
+pub mod NearLemmas
+pub mod SpotLemmas
+pub mod AmongLemmas
+pub mod CandidateLemmas
+pub mod MarkLemmas
+pub mod PairLemmas
+pub mod Laws
