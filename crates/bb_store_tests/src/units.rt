@@ -86,13 +86,13 @@ fn say_the_same(units: &Units, plain: &BTreeMap<UnitId, ClassId>, unit: UnitId) 
         && units.live(unit) == plain.contains_key(&unit)
 }
 
-/// Whether both say the same of some units: the one below the next number, a later one, and one by a number.
+/// Whether both say the same of some units: the last one that was created, the next one, and two by a number.
 fn are_alike(units: &Units, plain: &BTreeMap<UnitId, ClassId>, number: u64) -> bool {
     let next = units.next();
     units.count() == plain.len()
-        && say_the_same(units, plain, next - 1)
+        && say_the_same(units, plain, next.saturating_sub(1))
         && say_the_same(units, plain, next)
-        && say_the_same(units, plain, number % next)
+        && say_the_same(units, plain, number % 1024)
         && say_the_same(units, plain, next.saturating_sub(number % 64))
 }
 
