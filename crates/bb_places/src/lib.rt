@@ -1,5 +1,5 @@
-//! The places of values in the index of a space: which place a value has, the set of places kept in step with the values,
-//! and where tests ask. `bb_space` keeps one such set for each space, and the members beside it.
+//! The places of values in the index of a space: which place a value has, the set of places kept in step with them, and
+//! where tests ask. `bb_space` keeps one such set for each space, and the members beside it.
 #![tactic(auto)]
 
 mod index;

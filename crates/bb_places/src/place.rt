@@ -12,13 +12,13 @@ use bb_schema::UnitId;
 #[derive(Clone, Copy, PartialEq, Eq, PartialOrd, Ord)]
 pub struct Place {
     pub dim: usize,
-    // 1 for an interval, 2 for two numbers of which the second is less, 4 and the number of its set for a label.
+    /// 1 for an interval, 2 for two numbers of which the second is less, 4 and the number of its set for a label.
     pub sort: u32,
-    // The low end, or the label.
+    /// The low end, or the label.
     pub key: i64,
-    // 1 for each value. So 0 stands before all of a sort and key, and 2 behind them.
+    /// 1 for each value. So 0 stands before all of a sort and key, and 2 behind them.
     pub edge: u8,
-    // The same of the value on the next dimension. All are 0 where there is none.
+    /// The same of the value on the next dimension. All are 0 where there is none.
     pub next_sort: u32,
     pub next_key: i64,
     pub next_edge: u8,
