@@ -61,10 +61,7 @@ impl State {
     pub(crate) fn class_at(&self, unit: UnitId) -> ClassId
         ensures { result ≡ class_at self.now unit }
     {
-        if !self.units.live(unit) {
-            return 0;
-        }
-        self.units.class_of(unit)
+        self.units.class_if_live(unit).unwrap_or(0)
     }
 
     /// The note of a change of a unit.

@@ -212,14 +212,10 @@ impl World {
     pub fn may_enter(&self, unit: UnitId, space: SpaceId) -> Result<(), Reason>
         ensures { result ≡ may_enter self.now.schema self.now.world unit space }
     {
-        if !self.state.units.live(unit) {
+        let Some(class) = self.state.units.class_if_live(unit) else {
             return Err(Reason::Deleted);
-        }
-        if !self
-            .schema
-            .get()
-            .allowed(space, self.state.units.class_of(unit))
-        {
+        };
+        if !self.schema.get().allowed(space, class) {
             return Err(Reason::Space);
         }
         Ok(())
