@@ -1,5 +1,5 @@
-//! The quick way to a document of first units: a tree over the borrowed text, of which one entry at a time is made a
-//! value of `serde_json`. It answers `None` wherever anything is unusual, and then says nothing of the text.
+//! The quick way to a document of first units: entries are read from a tree over the borrowed text (quick_entry.rt). It
+//! answers `None` wherever anything is unusual, and then says nothing of the text. `UnitsDocument::read` tries it.
 
 ghost use Rattle.std.specs.Prelude.{◌≡◌, [], Ok, IfSome, map};
 ghost use Rattle.std.specs.List.{list_any, list_all};
