@@ -16,8 +16,9 @@ import sys
 import tempfile
 import time
 
-import source_texts
-from names import colliding, other
+sys.dont_write_bytecode = True
+import source_texts  # noqa: E402
+from names import colliding, other  # noqa: E402
 
 # ---- inputs, piece by piece: what a process held before it runs another counts as the other's memory
 

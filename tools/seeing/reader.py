@@ -35,7 +35,7 @@ FORMS = {
     "closed": rf"closed {NAME} {Z}",
 }
 FORMS = {word: re.compile(form) for word, form in FORMS.items()}
-REFUSAL = re.compile(r"refused (?:input|schema|units|bundle|verify|rule)(?: .*)?")
+REFUSAL = re.compile(r"refused (?:input|schema|units|lang|compile|bundle|verify|rule)(?: .*)?")
 
 # What a page can bear: so many characters of the first steps, as many of the last ones, of one step, and of one line.
 LINE_COSTS = 40
