@@ -5,3 +5,4 @@ pub mod DefaultLemmas
 pub mod QuickLemmas
 pub mod DocumentLemmas
 pub mod EntryLemmas
+pub mod Limits

@@ -2,3 +2,5 @@
 pub mod LoopLemmas
 -- parts are smaller than their wholes
 pub mod SizeLemmas
+-- the number of the limit
+pub mod Limits
