@@ -1,4 +1,4 @@
-"""The crates of this workspace as text: `.ci/select` compares them, `tools/times` counts them."""
+"""The crates of this workspace as text: `.ci/wrong_bodies.py` makes digests of them, `tools/times` counts them."""
 
 import re
 
