@@ -7,6 +7,7 @@
 # A script sets `root`, the folder that it is in, `crate`, `build`, the command that builds the crate, and `write_failed`,
 # the program's status where its output failed. It calls `run_built` with its arguments, then `take_input`, `interpret`
 # and `answer`.
+# shellcheck shell=bash disable=SC2154
 
 program=$root/crates/$crate/out/$crate
 mark=$root/crates/$crate/out/built
@@ -45,21 +46,30 @@ run_built() {
 
 # `rt try` ends a standard input that is silent for two seconds, so it is given a file, which is in `room`.
 take_input() {
+    command -v rt >/dev/null || fail "there is no rt, the kit's command, on the PATH: README.md tells under 'What is needed'"
     say "not built since the last change: the interpreter answers, in about a minute, and nothing is proved"
     say "$build proves and builds the program, which then answers at once"
-    command -v rt >/dev/null || fail "there is no rt, the kit's command, on the PATH"
     room=$(mktemp -d)
     trap 'rm -rf -- "$room"' EXIT
     head -c "$input_limit" >"$room/input" || fail "standard input can't be read"
 }
 
+# Ends by a signal, as who called the script expects, once the interpreter is gone.
+end_by() {
+    trap - "$1"
+    kill "$child" 2>/dev/null || true
+    wait "$child" || true
+    kill -s "$1" $$
+}
+
 # Runs `rt try` with these words. What it writes goes into files: only its last line tells whether the program ended,
 # since its own statuses are also statuses of the program.
 interpret() {
-    local child
     (cd -- "$root/crates/$crate" && exec rt try "$@" <"$room/input" >"$room/answer" 2>"$room/report") &
     child=$!
-    trap 'kill "$child"; wait "$child" || exit 1' HUP INT TERM
+    trap 'end_by HUP' HUP
+    trap 'end_by INT' INT
+    trap 'end_by TERM' TERM
     wait "$child" || true
 }
 

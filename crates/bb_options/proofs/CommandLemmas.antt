@@ -19,14 +19,16 @@ value_rule fresh named parsed told name help r q is names others given helps =
     ap rule_of helps ∙ ap rule_of others ∙ ap (λ (p : Option ValueParser). record (rule_of named) { parser = p }) given
     ∙ ap (λ (a : Arg). record (rule_of a) { parser = Some q }) names ∙ ap (λ (x : Rule). record x { value_names = 1; parser = Some q }) is
 
--- a version, a text on the program, and no name of the program among the words
-pub told_command : (fresh versioned told named : Command) (v a : Bor Text) (app : App) → app_of fresh ≡ app
+-- a version, a text before the words and one after them, and no name of the program among the words
+pub told_command : (fresh versioned told ended named : Command) (v a e : Bor Text) (app : App) → app_of fresh ≡ app
     → out-Command versioned ≡ record (out-Command fresh) { version = Some v }
     → out-Command told ≡ record (out-Command versioned) { about = Some a }
-    → out-Command named ≡ record (out-Command told) { no_binary_name = true }
+    → out-Command ended ≡ record (out-Command told) { after_help = Some e }
+    → out-Command named ≡ record (out-Command ended) { no_binary_name = true }
     → app_of named ≡ on_top (λ s. record s { has_version = true; no_binary_name = true }) app
-told_command fresh versioned told named v a app is has_version has_about has_no_name =
-    ap app_of_fields has_no_name ∙ ap (λ c. on_top (λ s. record s { no_binary_name = true }) (app_of_fields c)) has_about
+told_command fresh versioned told ended named v a e app is has_version has_about has_end has_no_name =
+    ap app_of_fields has_no_name ∙ ap (λ c. on_top (λ s. record s { no_binary_name = true }) (app_of_fields c)) has_end
+    ∙ ap (λ c. on_top (λ s. record s { no_binary_name = true }) (app_of_fields c)) has_about
     ∙ ap (λ c. on_top (λ s. record s { no_binary_name = true }) (app_of_fields c)) has_version
     ∙ ap (on_top (λ s. record s { has_version = true; no_binary_name = true })) is
 

@@ -14,6 +14,15 @@ use std::alloc::{AllocError, Global};
 /// The version that the program tells.
 pub const VERSION: &str = "0.9.0";
 
+/// The end of help: what the program's statuses mean.
+const STATUSES: &str = "Exit status:
+  0  The run came to quiescence, or the check or the bundle was written
+  2  The input is refused, or these words are
+  3  The run made as many cycles as its limit
+  4  The run found no room for one more unit or activation
+  5  Memory ran out
+  6  The output took no more";
+
 /// The modes, with what help says of each.
 pub(crate) fn mode_values() -> [PossibleValue<'static>; 3]
     ensures { names_in result ≡ mode_names }
@@ -49,6 +58,7 @@ pub(crate) fn command<'a>(
     Command::new(alloc, "bb")
         .version(VERSION)
         .about("A blackboard shell: reads an input from standard input")
+        .after_help(STATUSES)
         .no_binary_name(true)
         .arg(mode)?
         .arg(limit)?

@@ -62,6 +62,18 @@ fn chosen(alloc: Global, words: &str) -> Result<String, Fail> {
     })
 }
 
+/// The end of help, which says what each status of the program means.
+const STATUSES: &str = "
+
+Exit status:
+  0  The run came to quiescence, or the check or the bundle was written
+  2  The input is refused, or these words are
+  3  The run made as many cycles as its limit
+  4  The run found no room for one more unit or activation
+  5  Memory ran out
+  6  The output took no more
+";
+
 #[test]
 fn texts(rt: HostRuntime) -> Result<(), Fail> {
     let alloc = rt.alloc();
@@ -73,6 +85,7 @@ fn texts(rt: HostRuntime) -> Result<(), Fail> {
         "{help}"
     );
     assert!(rt; help.as_str().contains("check"), "{help}");
+    assert!(rt; help.as_str().ends_with(STATUSES), "{help}");
     let Err(OptionsFault::Help(version)) = options(alloc, &["-V"]) else {
         return Err(Fail::from("no version"));
     };

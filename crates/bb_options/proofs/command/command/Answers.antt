@@ -24,8 +24,8 @@ returns c =
     let floor : rule_of c.help-floor.result ≡ number_rule (codes "floor") least_floor most_floor =
     value_rule c.long-2.result c.value_name-3.result c.value_parser-5.result c.help-floor.result _ _ _ (Signed least_floor most_floor) floor_long
     c.value_name-3.ensures c.value_parser-5.ensures.others (floor_parser.1 ∙ ap Some (floor_parser.2 ∙ c.value_parser-4.ensures)) c.help-floor.ensures in
-    let named = told_command c.new-4.result c.version.result c.about.result c.no_binary_name.result _ _ (new_app (codes "bb")) c.new-4.ensures.app
-    c.version.ensures c.about.ensures c.no_binary_name.ensures in
+    let named = told_command c.new-4.result c.version.result c.about.result c.after_help.result c.no_binary_name.result _ _ _ (new_app (codes "bb"))
+    c.new-4.ensures.app c.version.ensures c.about.ensures c.after_help.ensures c.no_binary_name.ensures in
     let mode_local = value_local c.new.result c.value_name.result c.value_parser.result c.help-mode.result _ _ c.new.ensures.optional.1
     c.value_name.ensures c.value_parser.ensures.others c.help-mode.ensures in
     let limit_local = value_local c.long.result c.value_name-2.result c.value_parser-3.result c.help-limit.result _ _
