@@ -8,6 +8,7 @@ Proofs of crates below don't count, as no lemma makes a false goal true.
 """
 
 import hashlib
+import re
 import subprocess
 import sys
 from functools import cache
@@ -107,6 +108,39 @@ def digests(files, kit_line):
 
 def digests_here():
     return digests(files_here(), kit())
+
+
+def flaw_of_edit(text, files):
+    """Why an edit of a crate with these files can't be made, if so: each old text has to stand once in its file."""
+    changed, path, old = {}, "", ""
+    for line in text.splitlines():
+        if line.startswith("file: "):
+            path = line.removeprefix("file: ").strip()
+            changed.setdefault(path, files.get(path, b"").decode(errors="replace"))
+        elif line.startswith("old: "):
+            old = line.removeprefix("old: ")
+        elif line.startswith("new:"):
+            count = changed.get(path, "").count(old)
+            if count != 1:
+                return f"{old.strip()} stands {count} times in {path or 'no file'}"
+            changed[path] = changed[path].replace(old, line.removeprefix("new:").removeprefix(" "))
+    return None if changed else "it names no file"
+
+
+def flaws_of_edits(files):
+    """The wrong bodies that can't be made, each with the reason. They try nothing, and fail nothing in `rt ci`."""
+    made = {
+        f"crates/{name}/{path}": flaw_of_edit(it.decode(errors="replace"), of_crate)
+        for name, of_crate in files_by_crate(files).items()
+        for path, it in part(of_crate, "must-fail").items()
+        if path.endswith(".edit")
+    }
+    return {path: why for path, why in made.items() if why}
+
+
+def crates_not_tried(said):
+    """The crates of which `rt ci` says that a wrong body was not tried, as its text can't be read. It passes for all that."""
+    return {*re.findall(r"(?:must-fail |crates/)(\w+)/[^:\n]*: BAD EDIT", said)}
 
 
 def pairs(text):
