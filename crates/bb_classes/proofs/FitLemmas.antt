@@ -3,6 +3,8 @@ use Rattle.std.proofs.Common.{◌≡◌, ℕ, zero, suc, ◌+◌, ◌<◌, ◌�
 use Rattle.std.specs.Prelude.{◌==◌, All, IfSome, nat_le, nat_eq, slice_get, position, option_and_then, if◌then◌else◌}
 use Rattle.std.specs.Str.{bytes_eq}
 use Rattle.std.specs.List.{list_any, IsDistinct}
+use Rattle.std.specs.List.Sorted.{IsStrictlySortedBy}
+use Rattle.std.specs.Ordering.{nat_cmp}
 use Rattle.std.specs.Option.{option_map_or}
 use Rattle.std.proofs.lemmas.Bool.{leb-false, ltb-false, lt-ltb, le-leb, eqb-false, or_parts}
 use Rattle.std.proofs.lemmas.Option.{get_or_from_slice_get}
@@ -38,6 +40,7 @@ use Rattle.bb_basis.proofs.PositionLemmas.{position_within}
 use Rattle.bb_basis.proofs.ListLemmas.{map-last}
 use Rattle.bb_classes.specs.Naming.{AreNames}
 use Rattle.bb_classes.proofs.NamingLemmas.{not_false, distinct_nil, no_names, one_more_name, one_more_number}
+use Rattle.bb_classes.proofs.RisingLemmas.{rising_push, rising_nil}
 use Rattle.bb_classes.proofs.ClassesFit.{ClassesFit}
 use Rattle.bb_basis.proofs.ResultLemmas.{bind_ok, guard_ok, ok_or_ok, same_ok, try_fold_keeps}
 
@@ -111,6 +114,7 @@ pub record GrowsWell (sets : List LabelSet) (owner old : ℕ) (base : List ℕ) 
   pub few_slots : length g.slots ≤ SLOT_LIMIT
   pub few : length g.class_slots ≤ CLASS_SLOT_LIMIT
   pub distinct : IsDistinct nat_eq g.class_slots
+  pub rising : IsStrictlySortedBy nat_cmp g.class_slots
   pub class_slots : All (λ n. n < length g.slots) g.class_slots
   pub front : StartsWith g.class_slots base
   pub drafts : All (IsDraft sets (suc owner)) g.slots
@@ -126,6 +130,7 @@ grown sets owner old base g d well room made =
       few_slots = omega (arith, long, leb-false SLOT_LIMIT (length g.slots) parts.1);
       few = omega (arith, length-append g.class_slots (length g.slots ∷ []), leb-false CLASS_SLOT_LIMIT (length g.class_slots) parts.0);
       distinct = one_more_number (length g.slots) g.class_slots well.distinct well.class_slots;
+      rising = rising_push g.class_slots (length g.slots) well.rising well.class_slots;
       class_slots = All-push (λ n. n < length (g.slots ++ d ∷ [])) g.class_slots (length g.slots) (All-weaker (λ n. n < length g.slots) (λ n. n < length (g.slots ++ d ∷ [])) (λ n lt. omega (arith, long)) g.class_slots well.class_slots) (omega (arith, long));
       front = (well.front.0 ++ length g.slots ∷ [], ap (λ ms. ms ++ length g.slots ∷ []) well.front.1 ∙ append_assoc base well.front.0 (length g.slots ∷ []));
       drafts = All-push (IsDraft sets (suc owner)) g.slots d well.drafts made;
@@ -195,6 +200,7 @@ begins sets s None fit within = record {
   few_slots = fit.few_slots;
   few = omega arith;
   distinct = distinct_nil nat_eq;
+  rising = rising_nil;
   class_slots = All-nil (λ n. n < length s.slots);
   front = ([], refl);
   drafts = All-weaker (IsDraft sets (length s.classes)) (IsDraft sets (suc (length s.classes))) (λ d h. record { name = h.name; owner = omega (arith, h.owner); default = h.default }) s.slots fit.slots;
@@ -208,6 +214,7 @@ begins sets s (Some p) fit within =
       few_slots = fit.few_slots;
       few = rw is class.few;
       distinct = rw is class.distinct;
+      rising = rw is class.rising;
       class_slots = rw is class.slots;
       front = ([], sym (append-nil (slots_in s.classes p)));
       drafts = All-weaker (IsDraft sets (length s.classes)) (IsDraft sets (suc (length s.classes))) (λ d h. record { name = h.name; owner = omega (arith, h.owner); default = h.default }) s.slots fit.slots;
@@ -238,8 +245,8 @@ joins sets s k g fit named room within is well =
             rw (new.0, slots_new s.classes k, slots_old s.classes k p (parent_lt s.classes k at.0 p within new.1 at.2), is)
             (subst (λ (o : Option ℕ). StartsWith g.class_slots (inherited_slots s.classes o)) mine well.front)
       ];
-      classes = All-push (IsClass (length g.slots)) s.classes k (All-weaker (IsClass (length s.slots)) (IsClass (length g.slots)) (λ j h. record { few = h.few; distinct = h.distinct; slots = All-weaker (λ n. n < length s.slots) (λ n. n < length g.slots) (λ n lt. omega (arith, lt, well.longer)) j.slots h.slots }) s.classes fit.classes)
-          (record { few = rw is well.few; distinct = rw is well.distinct; slots = rw is well.class_slots });
+      classes = All-push (IsClass (length g.slots)) s.classes k (All-weaker (IsClass (length s.slots)) (IsClass (length g.slots)) (λ j h. record { few = h.few; distinct = h.distinct; rising = h.rising; slots = All-weaker (λ n. n < length s.slots) (λ n. n < length g.slots) (λ n lt. omega (arith, lt, well.longer)) j.slots h.slots }) s.classes fit.classes)
+          (record { few = rw is well.few; distinct = rw is well.distinct; rising = rw is well.rising; slots = rw is well.class_slots });
       slots = rw long (All-weaker (IsDraft sets (suc (length s.classes))) (IsDraft sets (length s.classes + 1)) (λ d h. record { name = h.name; owner = omega (arith, h.owner); default = h.default }) g.slots well.drafts);
     }
 

@@ -1,4 +1,5 @@
 pub mod NamingLemmas
+pub mod RisingLemmas
 pub mod ClimbLemmas
 pub mod SameLemmas
 pub mod SetLemmas

@@ -1,6 +1,8 @@
 -- What holds of what a walk leaves.
 use Rattle.std.specs.Prelude.{◌≡◌, ◌≢◌, ◌<◌, ◌≤◌, ◌++◌, [], ◌∷◌, ℕ, Bool, true, List, map, length, slice_get, Option, Some, None, Ok, All, IfSome, IsTrue, nat_eq}
 use Rattle.std.specs.List.{IsDistinct}
+use Rattle.std.specs.List.Sorted.{IsStrictlySortedBy}
+use Rattle.std.specs.Ordering.{nat_cmp}
 use Rattle.bb_basis.specs.Names.{is_name}
 use Rattle.bb_classes.specs.declared.read.labels.TheConstants.{LABEL_SET_LIMIT}
 use Rattle.bb_classes.specs.declared.read.classes.TheConstants.{CLASS_LIMIT}
@@ -31,10 +33,12 @@ pub record AreLabelSets (sets : List LabelSet) : Type 0 where
 abbrev pub IsHeld : List LabelSet → Value → Type 0
 IsHeld sets v = IsTrue (value_fits (label_counts sets) (kind_of_value v) v)
 
--- a class has no more slots than the limit, each of so many, and none twice
+-- a class has no more slots than the limit, each of so many, and none twice: their numbers rise, so that class order is
+-- the order of the numbers
 pub record IsClass (slot_count : ℕ) (k : Class) : Type 0 where
   pub few : length k.slots ≤ CLASS_SLOT_LIMIT
   pub distinct : IsDistinct nat_eq k.slots
+  pub rising : IsStrictlySortedBy nat_cmp k.slots
   pub slots : All (λ n. n < slot_count) k.slots
 
 -- the first ones are those of front
