@@ -47,7 +47,8 @@ uint32_t bb_version(void);
    The call takes memory by `malloc` and gives all of it back: as much as `output_len` at once, however short the answer
    is; a copy of the input; the blackboard, the codes and what waits; and all notes of one execution, and their text.
    `limit` bounds none of that, and no time: it counts cycles, and one `do` may nest four loops over 65,536 units. Who
-   runs sources of strangers bounds the process from outside (RLIMIT_CPU, RLIMIT_AS). */
+   runs sources of strangers bounds the process from outside (RLIMIT_CPU, RLIMIT_AS). The call recurses over nested JSON,
+   blocks and expressions, to bounded depths: the stack of a main thread is ample, a smaller one is the host's to try. */
 uint8_t bb_serve(const uint8_t *input, size_t input_len, uint8_t mode, uint32_t limit, int64_t floor, uint8_t *output,
                  size_t output_len, size_t *written);
 
