@@ -46,7 +46,8 @@ run_built() {
 
 # `rt try` ends a standard input that is silent for two seconds, so it is given a file, which is in `room`.
 take_input() {
-    command -v rt >/dev/null || fail "there is no rt, the kit's command, on the PATH: README.md tells under 'What is needed'"
+    command -v rt >/dev/null \
+        || fail "there is no rt, the kit's command, on the PATH: README.md tells under 'What is needed'"
     say "not built since the last change: the interpreter answers, in about a minute, and nothing is proved"
     say "$build proves and builds the program, which then answers at once"
     room=$(mktemp -d)

@@ -10,7 +10,7 @@
 extern "C" {
 #endif
 
-/* The version of the calls that are declared here. A host compares it with `bb_version()`, which the library answers. */
+/* The version of the calls that are declared here. A host compares it with `bb_version()`, the library's own. */
 #define BB_VERSION 1
 
 /* What is done with an input. */
@@ -41,14 +41,14 @@ uint32_t bb_version(void);
      PTRDIFF_MAX. None of the pointers is null, also where it is to no bytes; `bb_serve_nullable` takes null.
    - Calls may go on in several threads at once: they share nothing. But none is made from a signal handler, or from the
      forked child of a process that has threads.
-   - `malloc`, `realloc` and `free` are of one allocator. `malloc` and `realloc` align a block to each power of two up to
-     16 that divides its size.
+   - `malloc`, `realloc` and `free` are of one allocator. `malloc` and `realloc` align a block to each power of two up
+     to 16 that divides its size.
 
    The call takes memory by `malloc` and gives all of it back: as much as `output_len` at once, however short the answer
    is; a copy of the input; the blackboard, the codes and what waits; and all notes of one execution, and their text.
    `limit` bounds none of that, and no time: it counts cycles, and one `do` may nest four loops over 65,536 units. Who
-   runs sources of strangers bounds the process from outside (RLIMIT_CPU, RLIMIT_AS). The call recurses over nested JSON,
-   blocks and expressions, to bounded depths: the stack of a main thread is ample, a smaller one is the host's to try. */
+   runs sources of strangers bounds the process from outside (RLIMIT_CPU, RLIMIT_AS). The call recurses over nested
+   JSON, blocks and expressions, to bounded depths: a main thread's stack is ample, a smaller one the host's to try. */
 uint8_t bb_serve(const uint8_t *input, size_t input_len, uint8_t mode, uint32_t limit, int64_t floor, uint8_t *output,
                  size_t output_len, size_t *written);
 
