@@ -19,7 +19,7 @@ use Rattle.bb_places.specs.declared.leaf.Leaf.TheVariants.{Ordered, Is}
 use Rattle.bb_places.specs.declared.place.Place.{Place}
 use Rattle.bb_places.specs.Candidates.{reaches, may_pass, dim_of}
 use Rattle.bb_places.specs.Places.{place_cmp, sort_of, key_of, place_of}
-use Rattle.bb_places.specs.Spots.{spot, first_spot, end_spot, is_near}
+use Rattle.bb_places.specs.Spots.{spot, first_spot, end_spot, places_between, is_near}
 use Rattle.bb_places.proofs.PlaceLemmas.{place_total, by_bool, by_number}
 use Rattle.bb_places.proofs.NearLemmas.{AreOf, found_by}
 
@@ -346,6 +346,17 @@ by_one : (p : Option Ordering) (o : Ordering) → is_some_and is_lt p ≡ is_lt 
 by_one p o rest orderings.Less = refl
 by_one p o rest orderings.Equal = rest
 by_one p o rest orderings.Greater = refl
+
+-- nothing stands between two places that are turned round
+pub nothing_between : (from to : Place) → is_lt (place_cmp to from) ≡ true → (places : BTreeSet Place)
+    → places_between from to places ≡ []
+nothing_between from to less places = none places.keys
+  where
+    test : Place → Bool
+    test = range_contains place_cmp (Included from) (Excluded to)
+    none : (ks : List Place) → filter test ks ≡ []
+    none [] = refl
+    none (k ∷ ks) = ap (λ c. cond c (k ∷ filter test ks) (filter test ks)) (turned_round from to k less) ∙ none ks
 
 pub is_less : (p q : Place) → is_some_and is_lt (partial_ordering_then (Some (nat_cmp p.dim q.dim)) (partial_ordering_then (Some (nat_cmp p.sort q.sort)) (partial_ordering_then (Some (int_cmp p.key q.key)) (partial_ordering_then (Some (nat_cmp p.edge q.edge))
     (partial_ordering_then (Some (nat_cmp p.next_sort q.next_sort)) (partial_ordering_then (Some (int_cmp p.next_key q.next_key)) (partial_ordering_then (Some (nat_cmp p.next_edge q.next_edge)) (Some (nat_cmp p.unit q.unit)))))))))

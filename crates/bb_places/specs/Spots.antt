@@ -42,10 +42,13 @@ end_spot More dim low high = spot dim 2 (pos 0) 0
 abbrev pub is_among : ℕ → List ℕ → Bool
 is_among n list = list_any (λ m. m == n) list
 
+-- the places between two
+abbrev pub places_between : Place → Place → BTreeSet Place → List Place
+places_between from to places = keys_between place_cmp (Included from) (Excluded to) places
+
 -- a place of the unit stands between two places
 abbrev pub stands_in : Place → Place → BTreeSet Place → ℕ → Bool
-stands_in from to places n =
-    list_any (λ p. p.unit == n) (keys_between place_cmp (Included from) (Excluded to) places)
+stands_in from to places n = list_any (λ p. p.unit == n) (places_between from to places)
 
 -- a place of the unit stands where a test asks
 abbrev pub is_near : Leaf → BTreeSet Place → ℕ → Bool
@@ -54,3 +57,10 @@ is_near (Ordered relation dim low high) places n =
     || stands_in (spot dim 2 (pos 0) 0) (spot dim 3 (pos 0) 0) places n
 is_near (Is dim set label) places n =
     stands_in (spot dim (4 + set) (pos label) 0) (spot dim (4 + set) (pos label) 2) places n
+
+-- the places of the intervals, or labels, that a test asks for
+abbrev pub asked : Leaf → BTreeSet Place → List Place
+asked (Ordered relation dim low high) places =
+    places_between (first_spot relation dim low high) (end_spot relation dim low high) places
+asked (Is dim set label) places =
+    places_between (spot dim (4 + set) (pos label) 0) (spot dim (4 + set) (pos label) 2) places

@@ -1,9 +1,9 @@
 //! Where in the index the candidates for a test stand, and which units do. `bb_space` asks for them.
 
-ghost use Rattle.std.specs.Prelude.{◌≡◌, ℕ, ◌||◌, OnOk};
+ghost use Rattle.std.specs.Prelude.{◌≡◌, ℕ, ◌||◌, OnOk, nat_le, length};
 ghost use Rattle.std.specs.List.Sorted.{IsStrictlySortedBy};
 ghost use Rattle.std.specs.Ordering.{nat_cmp};
-ghost use Rattle.bb_places.specs.Spots.{spot, first_spot, end_spot, stands_in, is_near, is_among};
+ghost use Rattle.bb_places.specs.Spots.{spot, first_spot, end_spot, places_between, stands_in, is_near, asked, is_among};
 
 use crate::leaf::Leaf;
 use crate::place::Place;
@@ -107,7 +107,9 @@ pub fn collect_near(
 }
 
 /// Whether no more than so many places stand between two.
-pub(crate) fn are_few(places: &BTreeSet<Place>, from: Place, to: Place, most: usize) -> bool {
+pub(crate) fn are_few(places: &BTreeSet<Place>, from: Place, to: Place, most: usize) -> bool
+    ensures few { result ≡ nat_le (length (places_between from to places.now)) most }
+{
     if to < from {
         return true;
     }
@@ -115,7 +117,9 @@ pub(crate) fn are_few(places: &BTreeSet<Place>, from: Place, to: Place, most: us
 }
 
 /// Whether no more than so many intervals, or labels, can pass a test.
-pub fn is_few(places: &BTreeSet<Place>, leaf: &Leaf, most: usize) -> bool {
+pub fn is_few(places: &BTreeSet<Place>, leaf: &Leaf, most: usize) -> bool
+    ensures few { result ≡ nat_le (length (asked leaf.now places.now)) most }
+{
     match *leaf {
         Leaf::Ordered {
             relation,
