@@ -1,5 +1,5 @@
 -- A roster's natives: the one at a place is called, and one after another is closed.
-use Rattle.std.proofs.Common.{◌≡◌, ℕ, zero, suc, ◌+◌, ◌<◌, ◌&&◌, ℤ, true, List, [], ◌∷◌, ◌++◌, map, length, get_or, set, take, drop, Option, Some, None, IfSome, Result, Ok, Err, OnOk, OnErr, refl, sym, ap, ◌∙◌, append_assoc, arith}
+use Rattle.std.proofs.Common.{◌≡◌, ℕ, zero, suc, ◌+◌, ◌<◌, ◌&&◌, ℤ, pos, true, List, [], ◌∷◌, ◌++◌, map, length, get_or, set, take, drop, Option, Some, None, IfSome, Result, Ok, Err, OnOk, OnErr, refl, sym, ap, ◌∙◌, append_assoc, arith}
 use Rattle.std.specs.Prelude.{slice_get, position}
 use Rattle.std.specs.Option.{option_map_or}
 use Rattle.std.specs.Str.{bytes_eq}
@@ -12,7 +12,7 @@ use Rattle.bb_basis.proofs.IntoMapLemmas.{next_one}
 use Rattle.bb_native.specs.declared.closing.Closing.{Closing}
 use Rattle.bb_native.specs.Sight.{Sight}
 use Rattle.bb_native.specs.Native.{Native, asks_of, after_act, closing_of}
-use Rattle.bb_native.specs.Roster.{all_open, place_of, unclosed, closing, asks_at, after_act_at}
+use Rattle.bb_native.specs.Roster.{all_open, place_of, unclosed, closing, asks_at, after_act_at, sum_said}
 
 -- ---- the native at a place
 
@@ -101,3 +101,10 @@ close_next m closings count items rest a total old number is at says h =
           ∙ (append_assoc (take count closings) (put ∷ []) (map closing (map m rest)) ∙ (ap (λ c. take count closings ++ c ∷ map closing (map m rest)) right ∙ made));
       named = drop-set-lt (count + 1) closings count put (omega arith) ∙ others;
     }
+
+-- ---- the sum of what natives said
+
+-- those that are left are open, and the sum with what they will say is that of all
+pub record Sums {A : Type 0} (m : A → Native) (sum : ℤ) (left all : List A) : Type 0 where
+  pub opened : all_open (map m left) ≡ true
+  pub so_far : sum_said sum (map m left) ≡ sum_said (pos 0) (map m all)

@@ -1,5 +1,6 @@
 -- What a roster means: a list of natives, in the order in which they were handed in.
-use Rattle.std.specs.Prelude.{ℕ, pos, Bool, List, [], Option, map, position, slice_get, slice_set}
+use Rattle.std.specs.Prelude.{ℕ, ℤ, pos, Bool, List, [], Option, map, fold, position, slice_get, slice_set}
+use Rattle.std.specs.Int.{int_wrapping_add, w64}
 use Rattle.std.specs.Option.{option_map_or}
 use Rattle.std.specs.List.{list_all}
 use Rattle.std.specs.Str.{bytes_eq}
@@ -32,6 +33,10 @@ unclosed n = record { name = n.name; number = pos 0 }
 -- the name of a native, and the number that it says when it is closed now
 abbrev pub closing : Native → Closing
 closing n = record { name = n.name; number = closing_of n }
+
+-- a sum, and the numbers that natives say when they are closed now, added around 64 bits
+abbrev pub sum_said : ℤ → List Native → ℤ
+sum_said sum natives = fold (λ sum n. int_wrapping_add w64 sum (closing_of n)) sum natives
 
 -- each native's name and number, in order
 abbrev pub closings_of : List Native → List Closing

@@ -1,9 +1,9 @@
 //! The natives that a host hands in. Whoever runs sources places each native source in it, has it act, and closes it.
 
-ghost use Rattle.std.specs.Prelude.{◌≡◌, ◌<◌, true, length, map, position, IfSome, IfOk, OnOk, OnErr};
+ghost use Rattle.std.specs.Prelude.{◌≡◌, ◌<◌, pos, true, length, map, position, IfSome, IfOk, OnOk, OnErr};
 ghost use Rattle.std.specs.Str.{bytes_eq};
 ghost use Rattle.bb_native.specs.Native.{asks_of, after_act, closing_of};
-ghost use Rattle.bb_native.specs.Roster.{all_open, unclosed, place_of as place_among, asks_at, after_act_at, closings_of};
+ghost use Rattle.bb_native.specs.Roster.{all_open, unclosed, place_of as place_among, asks_at, after_act_at, closings_of, sum_said};
 
 use crate::ask::Ask;
 use crate::closing::Closing;
@@ -123,13 +123,17 @@ fn close<N: NativeSource>(native: N) -> i64
     native.close()
 }
 
-/// Closes each of some open natives once, in order, and drops it. It takes no memory.
-pub fn close_each<N: NativeSource>(natives: Vec<N>)
+/// Closes each of some open natives once, in order, drops it, and answers the sum of what they said, around 64 bits: no
+/// number is known but by a close. It takes no memory.
+pub fn close_each<N: NativeSource>(natives: Vec<N>) -> i64
     requires { all_open (map N.meaning natives.items) ≡ true }
+    ensures { result ≡ sum_said (pos 0) (map N.meaning natives.items) }
 {
+    let mut sum: i64 = 0;
     for native in natives {
-        close(native);
+        sum = sum.wrapping_add(close(native));
     }
+    sum
 }
 
 /// Closes natives and drops them, in order, and puts the number of each beside its name.
