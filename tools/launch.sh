@@ -1,5 +1,5 @@
 # How a program of the workspace is run from a script at the top, as `bb` and `bbasm`, which source this file: where
-# `./build` has built it and no source is newer, that is run. Else `rt try` answers, in about a minute, with nothing
+# `./build` has built it and no source is newer, that is run. Else `rt try` answers, in one to three minutes, with nothing
 # proved: the kit's interpreter and, alone for a program that reads arguments, a build with checks. Standard error tells
 # so. Standard output and the status are the program's all the same; where this is too slow for an input or finds no
 # answer, nothing is written and the status is 1.
@@ -48,7 +48,7 @@ run_built() {
 take_input() {
     command -v rt >/dev/null \
         || fail "there is no rt, the kit's command, on the PATH: README.md tells under 'What is needed'"
-    say "not built since the last change: the interpreter answers, in about a minute, and nothing is proved"
+    say "not built since the last change: the kit answers, in one to three minutes, and nothing is proved"
     say "$build proves and builds the program, which then answers at once"
     room=$(mktemp -d)
     trap 'rm -rf -- "$room"' EXIT

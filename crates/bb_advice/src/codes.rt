@@ -40,11 +40,12 @@ fn acting(act: &Act) -> Option<&Checked>
 pub(crate) fn codes_of(source: &Source) -> [Option<&Checked>; 5]
     ensures { map (option_map (λ c. c.now)) result ≡ codes_of source.now }
 {
+    let parts = source.parts();
     [
-        asked(&source.require),
-        reacting(&source.obviate),
-        reacting(&source.retrigger),
-        asked(&source.revalidate),
-        acting(&source.act),
+        asked(&parts.require),
+        reacting(&parts.obviate),
+        reacting(&parts.retrigger),
+        asked(&parts.revalidate),
+        acting(&parts.act),
     ]
 }

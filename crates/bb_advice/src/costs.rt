@@ -26,7 +26,7 @@ fn costs_of(checked: &Checked) -> [u128; NUMBERS] {
 
 // Makes room for the lines of a source.
 fn fit(widths: &mut Widths, source: &Source) {
-    widths.fit_source(source.name.as_str());
+    widths.fit_source(source.parts().name.as_str());
     for code in codes_of(source) {
         if let Some(checked) = code {
             widths.fit_numbers(&costs_of(checked));
@@ -66,13 +66,14 @@ fn write_line(
 
 // Appends the lines of a source.
 fn write_lines(text: &mut String, widths: &Widths, source: &Source) -> Result<(), Memory> {
+    let parts = source.parts();
     for code in codes_of(source) {
         if let Some(checked) = code {
-            write_line(text, widths, source.name.as_str(), checked)?;
+            write_line(text, widths, parts.name.as_str(), checked)?;
         }
     }
-    if let Act::Native = source.act {
-        write_left(text, source.name.as_str(), widths.source)?;
+    if let Act::Native = parts.act {
+        write_left(text, parts.name.as_str(), widths.source)?;
         text.push_str("  native\n")?;
     }
     Ok(())

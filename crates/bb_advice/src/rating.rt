@@ -43,14 +43,15 @@ pub(crate) fn any_makes_focus(schema: &Schema, sources: &[Source]) -> bool
 {
     sources
         .iter()
-        .any(|source| may_make_focus(schema, &source.act))
+        .any(|source| may_make_focus(schema, &source.parts().act))
 }
 
 // Whether each activation of a source has its rate for a base, which is below the floor.
 fn starts_below(floor: i64, source: &Source) -> bool
     ensures { result ≡ starts_below floor source.now }
 {
-    source.require.is_none() && source.retrigger.is_none() && source.rate < floor
+    let parts = source.parts();
+    parts.require.is_none() && parts.retrigger.is_none() && parts.rate < floor
 }
 
 /// The same, and that they stay there: `raised` says whether a source may create a focus.

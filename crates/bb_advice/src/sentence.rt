@@ -7,9 +7,9 @@ use crate::codes::codes_of;
 use crate::finds::Admitted;
 use crate::vain::held_class;
 use crate::warning::{Warning, code_warnings};
-use bb_asm::write_op;
 use bb_basis::Memory;
 use bb_code::{ClassId, Code, Op, Place, Schema};
+use bb_op_text::write_op;
 use bb_rules::Source;
 use bb_verify::Checked;
 use std::alloc::Global;
@@ -115,7 +115,7 @@ pub(crate) fn write_codes(
 {
     for code in codes_of(source) {
         if let Some(checked) = code {
-            let name = source.name.as_str();
+            let name = source.parts().name.as_str();
             write_code(alloc, text, schema, admitted, Part { name, checked })?;
         }
     }
@@ -124,8 +124,9 @@ pub(crate) fn write_codes(
 
 /// Appends that no activation of a source is chosen.
 pub(crate) fn write_rating(text: &mut String, source: &Source, floor: i64) -> Result<(), Memory> {
-    let name = source.name.as_str();
-    let rate = source.rate;
+    let parts = source.parts();
+    let name = parts.name.as_str();
+    let rate = parts.rate;
     write!(
         text,
         "warning: source {name}: its rate {rate} is below the floor {floor}, and no source makes a focus; "

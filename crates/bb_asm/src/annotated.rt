@@ -1,7 +1,8 @@
 //! A code's text with a comment at each op: its place, its byte, and what the numbers name. The program bbasm prints it.
 
-use crate::text::{json_of, write_op, write_tables};
+use crate::text::{json_of, write_tables};
 use bb_code::{Code, Op, Query, Schema};
+use bb_op_text::write_op;
 use std::alloc::{AllocError, Global};
 use std::fmt::Write;
 

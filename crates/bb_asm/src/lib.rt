@@ -11,12 +11,12 @@ mod op;
 mod operands;
 mod pattern;
 mod statement;
-mod table;
 mod text;
 mod words;
 
 pub use annotated::listing;
 pub use bb_code::{Code, CodeFault, Kind};
+pub use bb_op_text::write_kind;
 pub use draft::assemble;
 pub use fault::{AsmFault, Slip};
-pub use text::{disassemble, write_kind, write_op};
+pub use text::disassemble;

@@ -2,12 +2,12 @@
 
 use crate::fault::Slip;
 use crate::operands::Operands;
-use crate::table::{PLAIN, entry_of};
 use bb_code::{Division, LinkChange, Op, SAID_LIMIT};
+use bb_op_text::plain_op;
 
 /// The op of a name and its operands.
 pub(crate) fn op_of(name: &str, operands: &mut Operands<'_>) -> Result<Op, Slip> {
-    let op = match entry_of(&PLAIN, name) {
+    let op = match plain_op(name) {
         Some(op) => op,
         None => match value_op(name, operands)? {
             Some(op) => op,

@@ -3,8 +3,8 @@
 
 use crate::fault::{Halt, Slip};
 use crate::operands::Operands;
-use crate::table::{RELATIONS, entry_of};
 use bb_code::{Node, Pattern};
+use bb_op_text::relation_of;
 use std::alloc::Global;
 
 /// Reads a pattern of at most so many levels, and takes its nodes from the room.
@@ -79,7 +79,7 @@ fn read_parts(
 
 /// Reads the dimension and the operand of a test.
 fn read_test(name: &str, operands: &mut Operands<'_>) -> Result<Node, Slip> {
-    match entry_of(&RELATIONS, name) {
+    match relation_of(name) {
         Some(relation) => Ok(Node::Ordered {
             relation,
             dim: operands.number()?,

@@ -4,12 +4,12 @@
 use crate::due::write_due;
 use crate::kinds::write_kind;
 use crate::reporting::Input;
-use bb_asm::write_op;
 use bb_basis::Memory;
 use bb_bundle::{ActDraft, SourceCode, SourceDraft, unbundle};
 use bb_code::Code;
 use bb_effect::{Frame, Kind, Locals, Op, Place, Stack, effect};
 use bb_excerpt::begin_line;
+use bb_op_text::write_op;
 use bb_schema::Schema;
 use bb_verify::{Flaw, Part, VerifyFault};
 use std::alloc::Global;

@@ -16,7 +16,7 @@ use Rattle.bb_rules.specs.declared.place.ClauseList.{ClauseList}
 use Rattle.bb_rules.specs.declared.place.ClauseList.TheVariants as lists
 use Rattle.bb_rules.specs.declared.resolve.Classes.{Classes}
 use Rattle.bb_rules.specs.declared.source.Reaction.{Reaction}
-use Rattle.bb_rules.specs.declared.source.Source.{Source}
+use Rattle.bb_rules.specs.Parts.{Source}
 use Rattle.bb_rules.specs.Source.{act_of, classes_of, clauses_of, parts_fit, reaction_of, source_of}
 use Rattle.bb_rules.specs.proving.Steps.{answered, found, reaction_clauses, reaction_with, source_with}
 

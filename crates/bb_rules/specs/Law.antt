@@ -11,7 +11,7 @@ use Rattle.bb_rules.specs.declared.clause.Clause.{Clause}
 use Rattle.bb_rules.specs.declared.clause.Clause.TheVariants as clauses
 use Rattle.bb_rules.specs.declared.source.Act.TheVariants as acts
 use Rattle.bb_rules.specs.declared.source.Reaction.{Reaction}
-use Rattle.bb_rules.specs.declared.source.Source.{Source}
+use Rattle.bb_rules.specs.Parts.{Source}
 use Rattle.bb_rules.specs.Questions.{IsQuestion}
 
 -- the class of a clause descends from this one

@@ -2,6 +2,8 @@
 pub mod Faults
 -- which events a clause names
 pub mod Match
+-- what contracts see of a source
+pub mod Parts
 -- the source that a draft makes under a schema
 pub mod Source
 -- which codes a source may ask

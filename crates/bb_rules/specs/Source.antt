@@ -30,7 +30,7 @@ use Rattle.bb_rules.specs.declared.resolve.Classes.{Classes}
 use Rattle.bb_rules.specs.declared.source.Act.{Act}
 use Rattle.bb_rules.specs.declared.source.Act.TheVariants as acts
 use Rattle.bb_rules.specs.declared.source.Reaction.{Reaction}
-use Rattle.bb_rules.specs.declared.source.Source.{Source}
+use Rattle.bb_rules.specs.Parts.{Source}
 use Rattle.bb_rules.specs.Faults.{at_clause}
 
 -- ---- classes

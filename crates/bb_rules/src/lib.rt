@@ -21,4 +21,4 @@ pub use kind_index::KindIndex;
 pub use place::{ClassPlace, ClauseList, ClausePlace};
 pub use question::Question;
 pub use resolve::Classes;
-pub use source::{Act, Reaction, Source};
+pub use source::{Act, Reaction, Source, SourceParts};

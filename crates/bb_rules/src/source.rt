@@ -20,6 +20,7 @@ use bb_bundle::{ActDraft, ReactionDraft, SourceDraft};
 use bb_schema::{ClassId, Schema};
 use bb_verify::Checked;
 use std::alloc::Global;
+use std::marker::Model;
 
 /// What an activation of a source does.
 #[derive(Drop)]
@@ -41,9 +42,9 @@ pub struct Reaction {
     pub code: Question,
 }
 
-/// A source whose names are looked up and whose codes are accepted (GBBopen Reference Manual, knowledge sources).
+/// What a source is made of.
 #[derive(Drop)]
-pub struct Source {
+pub struct SourceParts {
     pub name: Text,
     /// The class of the units that it works on.
     pub class: ClassId,
@@ -63,6 +64,24 @@ pub struct Source {
     pub act: Act,
 }
 
+/// A source whose names are looked up and whose codes are accepted (GBBopen Reference Manual, knowledge sources).
+/// Contracts see it as its parts. They are those of one draft: nobody else puts parts together.
+#[derive(Drop)]
+pub struct Source {
+    parts: SourceParts,
+}
+
+impl Model for Source {
+    ghost use Rattle.bb_rules.specs.Parts.{Source as Made};
+    ghost use Rattle.bb_rules.specs.proving.Codes.{source_code};
+
+    ghost Value = { Made };
+
+    ghost coded = { source_code };
+
+    ghost view = { λ s. s.parts };
+}
+
 impl Source {
     /// A source from its draft. The fault is the first of these: `Class` where its class, or that of a reaction, is
     /// unknown; `Part` where a code was accepted for another part or other classes; and, clause by clause, `Class`
@@ -78,18 +97,34 @@ impl Source {
         ensures accepted { AreAccepted schema.now draft → IfOk result (λ s. IsMade schema.now s) }
     {
         let found = Found::of(alloc, schema, &draft)?;
-        Ok(source_with(found, draft))
+        Ok(Source {
+            parts: source_with(found, draft),
+        })
+    }
+
+    /// What it is made of.
+    pub fn parts(&self) -> &SourceParts
+        ensures { result.now ≡ self.now }
+    {
+        &self.parts
+    }
+
+    /// The same, taken out.
+    pub fn into_parts(self) -> SourceParts
+        ensures { result ≡ self }
+    {
+        self.parts
     }
 
     /// What holds of every source: each code was accepted under some schema, and those that it asks may not write.
     pub fn fits(&self)
         ensures { HasSoundCodes self.now }
     {
-        question_fits(&self.require);
-        reaction_fits(&self.obviate);
-        reaction_fits(&self.retrigger);
-        question_fits(&self.revalidate);
-        act_fits(&self.act);
+        question_fits(&self.parts.require);
+        reaction_fits(&self.parts.obviate);
+        reaction_fits(&self.parts.retrigger);
+        question_fits(&self.parts.revalidate);
+        act_fits(&self.parts.act);
     }
 }
 
@@ -117,13 +152,13 @@ fn act_fits(act: &Act)
     }
 }
 
-// The source of a draft, once its names are looked up.
-fn source_with(found: Found, draft: SourceDraft<Checked>) -> Source
+// What the source of a draft is made of, once its names are looked up.
+fn source_with(found: Found, draft: SourceDraft<Checked>) -> SourceParts
     requires { parts_fit found.classes draft ≡ Ok tt }
     ensures { result ≡ source_with found draft }
 {
     let Found { classes, answered } = found;
-    Source {
+    SourceParts {
         name: draft.name,
         class: classes.own,
         rate: draft.rate,

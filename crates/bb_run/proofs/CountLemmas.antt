@@ -16,9 +16,8 @@ use Rattle.bb_trace.specs.Act.TheVariants as acts
 use Rattle.bb_trace.specs.Source.{Source}
 use Rattle.bb_trace.specs.declared.end.End.{End}
 use Rattle.bb_trace.specs.declared.note.Note.{Note}
-use Rattle.bb_trace.specs.declared.note.Note.TheVariants.{Board, Chosen, Invalid, Ended, NativeEnded}
+use Rattle.bb_trace.specs.declared.note.Note.TheVariants.{Board, Chosen, Ended, NativeEnded}
 use Rattle.bb_trace.specs.Ask.{Ask}
-use Rattle.bb_trace.specs.Native.{Native}
 use Rattle.bb_trace.specs.Roster.{after_act_at, asks_at, place_of}
 use Rattle.bb_trace.specs.Sight.{sight_of}
 use Rattle.bb_trace.specs.Plan.{Plan}

@@ -1,16 +1,15 @@
 -- What an execution begins with fits its part: an activation's unit is one of its source's class, and an event's is one of
 -- the class of the clause that names it.
 use Rattle.std.proofs.Common.{◌≡◌, ◌≤◌, ◌<◌, inl, inr, ℕ, Bool, true, false, List, [], ◌∷◌, ◌++◌, length, map, Option, Some, None, option_map, refl, sym, ap, subst, ◌∙◌, arith}
-use Rattle.std.specs.Prelude.{All, Contains, ◌&&◌, ◌||◌, ◌==◌, nat_lt, slice_get}
-use Rattle.std.specs.List.{AllZip, list_all, list_any}
+use Rattle.std.specs.Prelude.{All, ◌&&◌, ◌||◌, ◌==◌, nat_lt}
+use Rattle.std.specs.List.{list_all}
 use Rattle.std.specs.Option.{option_map_or}
 use Rattle.std.proofs.lemmas.Bool.{and_parts, eqb-true}
 use Rattle.std.proofs.lemmas.Bool.Decides.{nat_tests}
-use Rattle.std.proofs.lemmas.List.Elements.{All-cons, All-contains, All-head, All-nil, All-tail}
+use Rattle.std.proofs.lemmas.List.Elements.{All-cons, All-head, All-nil, All-tail}
 use Rattle.bb_schema.specs.Schema.{Schema, descends}
 use Rattle.bb_schema.specs.Fits as schemas
 use Rattle.bb_code.specs.Code.{IsCode}
-use Rattle.bb_code.specs.Kind.TheVariants.{Old}
 use Rattle.bb_verify.specs.Accepted.{Checked}
 use Rattle.bb_verify.specs.Facts.{Facts}
 use Rattle.bb_verify.specs.PartType.{Part}
@@ -21,9 +20,8 @@ use Rattle.bb_machine.specs.Entry.{Entry}
 use Rattle.bb_machine.specs.Fits.{is_event_of, is_noted, is_of_if_live, names_slot_of}
 use Rattle.bb_machine.specs.Kinds.{WasOf}
 use Rattle.bb_machine.specs.NeverWrong.{Begins, EntryFits}
-use Rattle.bb_machine.specs.Units.{Units, class_of}
+use Rattle.bb_machine.specs.Units.{class_of}
 use Rattle.bb_trace.specs.Outlives.{Outlives}
-use Rattle.bb_trace.specs.Act.TheVariants as acts
 use Rattle.bb_trace.specs.Board.{Board as Blackboard}
 use Rattle.bb_trace.specs.BoardNote.{Note as BoardNote}
 use Rattle.bb_trace.specs.BoardNote.TheVariants.{Event as happened, Said as said}
@@ -40,7 +38,6 @@ use Rattle.bb_trace.specs.Reaction.{Reaction}
 use Rattle.bb_trace.specs.Source.{Source}
 use Rattle.bb_trace.specs.declared.note.Note.{Note}
 use Rattle.bb_trace.specs.declared.note.Note.TheVariants.{Board}
-use Rattle.bb_trace.specs.Plan.{Plan}
 use Rattle.bb_run.specs.Asking.{entry_of}
 use Rattle.bb_run.specs.Causes.{IsPart, code_of}
 use Rattle.bb_run.specs.Processing.{events_in}

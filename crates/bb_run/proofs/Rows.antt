@@ -9,7 +9,7 @@ use Rattle.bb_code.specs.Op.{Op}
 use Rattle.bb_code.specs.Op.TheVariants.{PushText, PushBool, PushInt, Say, Done, Decline, Rate, Answer}
 use Rattle.bb_trace.specs.Change.TheVariants.{Create}
 use Rattle.bb_trace.specs.ChangeKind.TheVariants as kinds
-use Rattle.bb_trace.specs.Event.TheVariants.{Change as happens, Quiescence}
+use Rattle.bb_trace.specs.Event.TheVariants.{Change as happens}
 use Rattle.bb_trace.specs.BoardNote.TheVariants as noted
 use Rattle.bb_trace.specs.Said.TheVariants as saids
 use Rattle.bb_trace.specs.Board.{Board as Blackboard, new_board, with_world}

@@ -1,5 +1,5 @@
 -- Segments are told one after another: the first were written, and the page has the text of the others.
-use Rattle.std.proofs.Common.{◌≡◌, ℕ, List, [], ◌∷◌, ◌++◌, take, drop, Option, Result, Ok, Err, subst, sym, ap, ◌∙◌, append_assoc}
+use Rattle.std.proofs.Common.{◌≡◌, ℕ, List, [], ◌∷◌, ◌++◌, take, drop, Option, Result, Ok, Err, refl, subst, sym, ap, ◌∙◌, append_assoc}
 use Rattle.std.specs.Io.KnownBytes.{Appends}
 use Rattle.std.proofs.lemmas.List.{append-nil, take-append-drop}
 use Rattle.std.proofs.lemmas.List.Concat.{flat_map-append, flat_map-cons}
@@ -8,7 +8,7 @@ use Rattle.bb_trace.specs.declared.halt.Halt.TheVariants as halts
 use Rattle.bb_trace.specs.declared.note.Note.{Note}
 use Rattle.bb_trace.specs.Plan.{Plan}
 use Rattle.bb_trace.specs.TraceText.{segment_text, trace_text}
-use Rattle.bb_run.specs.proving.Telling.{CutIn, HasWritten, Place, Tells, IsTold, WroteFirst, WroteFront, WroteUntil, at_page}
+use Rattle.bb_run.specs.proving.Telling.{CutIn, HasWritten, Place, Tells, IsTold, ToldFirst, ToldUntil, WroteFront, at_page}
 use Rattle.bb_trace.specs.Page.{Spills, flushed, kept}
 use Rattle.bb_trace.proofs.Laws.{appends_then}
 
@@ -59,33 +59,31 @@ page_cut plan start given place told count h more = record {
   appended = appends_then start place.taken given (trace_text plan h.written) (take count place.page) h.appended more;
 }
 
--- where memory runs out, what was written stays
-pub stays : (plan : Plan) (start : Option (List ℕ)) (place : Place) (told more : List (List Note)) → HasWritten plan start place told → WroteFirst plan start place.taken (told ++ more)
-stays plan start place told more h = record {
-  first = h.written;
-  rest = h.waiting ++ more;
-  all = ap (λ t. t ++ more) h.all ∙ append_assoc h.written h.waiting more;
-  appended = h.appended;
-}
+-- where memory runs out, what was told stays
+pub stays : (plan : Plan) (start : Option (List ℕ)) (place : Place) (told more : List (List Note)) → HasWritten plan start place told → ToldFirst plan start place (told ++ more)
+stays plan start place told more h = record { first = told; rest = more; all = refl; told = h }
 
-pub cut_by_memory : (plan : Plan) (old : Place) (page : List ℕ) (segments : List (List Note)) → CutIn plan old (at_page old.taken page) segments halts.Memory
-cut_by_memory plan old page segments start told h = stays plan start old told segments h
+pub cut_by_memory : (plan : Plan) (place : Place) (segments : List (List Note)) → CutIn plan place place segments halts.Memory
+cut_by_memory plan place segments start told h = stays plan start place told segments h
 
 -- ---- what is told goes on
 
-pub until_later : (plan : Plan) (start taken : Option (List ℕ)) (segments more : List (List Note)) (halt : Halt) → WroteUntil plan start taken segments halt → WroteUntil plan start taken (segments ++ more) halt
-until_later plan start taken segments more halts.Memory w = record {
-  first = w.first;
-  rest = w.rest ++ more;
-  all = ap (λ t. t ++ more) w.all ∙ append_assoc w.first w.rest more;
-  appended = w.appended;
-}
-until_later plan start taken segments more halts.Write w = record {
+pub front_later : (plan : Plan) (start taken : Option (List ℕ)) (segments more : List (List Note)) → WroteFront plan start taken segments → WroteFront plan start taken (segments ++ more)
+front_later plan start taken segments more w = record {
   front = w.front;
   rest = w.rest ++ trace_text plan more;
   all = text_of_two plan segments more ∙ ap (λ t. t ++ trace_text plan more) w.all ∙ append_assoc w.front w.rest (trace_text plan more);
   appended = w.appended;
 }
+
+pub until_later : (plan : Plan) (start : Option (List ℕ)) (place : Place) (segments more : List (List Note)) (halt : Halt) → ToldUntil plan start place segments halt → ToldUntil plan start place (segments ++ more) halt
+until_later plan start place segments more halts.Memory w = record {
+  first = w.first;
+  rest = w.rest ++ more;
+  all = ap (λ t. t ++ more) w.all ∙ append_assoc w.first w.rest more;
+  told = w.told;
+}
+until_later plan start place segments more halts.Write w = front_later plan start place.taken segments more w
 
 pub told_nothing : (plan : Plan) (place : Place) → IsTold plan place place []
 told_nothing plan place start told h = subst (HasWritten plan start place) (sym (append-nil told)) h
@@ -94,10 +92,10 @@ pub told_then : (plan : Plan) (a b c : Place) (xs ys : List (List Note)) → IsT
 told_then plan a b c xs ys p q start told h = subst (HasWritten plan start c) (append_assoc told xs ys) (q start (told ++ xs) (p start told h))
 
 pub cut_then : (plan : Plan) (a b c : Place) (xs ys : List (List Note)) (halt : Halt) → IsTold plan a b xs → CutIn plan b c ys halt → CutIn plan a c (xs ++ ys) halt
-cut_then plan a b c xs ys halt p q start told h = subst (λ t. WroteUntil plan start c.taken t halt) (append_assoc told xs ys) (q start (told ++ xs) (p start told h))
+cut_then plan a b c xs ys halt p q start told h = subst (λ t. ToldUntil plan start c t halt) (append_assoc told xs ys) (q start (told ++ xs) (p start told h))
 
 pub cut_before : (plan : Plan) (a b : Place) (xs ys : List (List Note)) (halt : Halt) → CutIn plan a b xs halt → CutIn plan a b (xs ++ ys) halt
-cut_before plan a b xs ys halt p start told h = subst (λ t. WroteUntil plan start b.taken t halt) (append_assoc told xs ys) (until_later plan start b.taken (told ++ xs) ys halt (p start told h))
+cut_before plan a b xs ys halt p start told h = subst (λ t. ToldUntil plan start b t halt) (append_assoc told xs ys) (until_later plan start b (told ++ xs) ys halt (p start told h))
 
 -- ---- a segment, told in whole
 
@@ -111,3 +109,7 @@ segment_told plan taken given page mid new notes (Err halts.Write) grown (flushe
 segment_told plan taken given page mid new notes (Ok x) grown (kept same left ok) =
     λ start told h. subst (λ t. HasWritten plan start (at_page t new) (told ++ notes ∷ [])) (sym same) (segment_added plan start taken page new told notes (left ∙ grown) h)
 segment_told plan taken given page mid new notes (Err halt) grown (kept same left ok) = absurd cc
+
+-- one that is not told leaves all as it was
+pub segment_lost : (plan : Plan) (taken : Option (List ℕ)) (page new : List ℕ) (notes : List Note) → new ≡ page → CutIn plan (at_page taken page) (at_page taken new) (notes ∷ []) halts.Memory
+segment_lost plan taken page new notes same = subst (λ p. CutIn plan (at_page taken page) (at_page taken p) (notes ∷ []) halts.Memory) (sym same) (cut_by_memory plan (at_page taken page) (notes ∷ []))

@@ -1,6 +1,6 @@
 -- What answers to an event is not stuck, and leaves units that suit their sources.
-use Rattle.std.proofs.Common.{◌≡◌, ◌≤◌, inl, inr, ℕ, zero, suc, ◌+◌, ℤ, Bool, true, false, cond, List, [], ◌∷◌, ◌++◌, Option, Some, None, option_map, Result, Ok, Err, refl, sym, ap, subst, ◌∙◌, arith}
-use Rattle.std.specs.Prelude.{All, Contains, ◌==◌, filter, map, slice_get}
+use Rattle.std.proofs.Common.{◌≡◌, ◌≤◌, inl, inr, ℕ, zero, suc, ◌+◌, ℤ, Bool, true, false, cond, List, [], ◌∷◌, Option, Some, None, option_map, Result, Ok, Err, refl, sym, ap, subst, ◌∙◌, arith}
+use Rattle.std.specs.Prelude.{All, Contains, ◌==◌, filter, slice_get}
 use Rattle.std.proofs.lemmas.Bool.{eqb-true}
 use Rattle.std.proofs.lemmas.List.Elements.{All-append, All-cons, All-contains, All-contains_itself, All-filter, All-head, All-nil, All-tail}
 use Rattle.bb_schema.specs.Schema.{Schema}
@@ -21,7 +21,7 @@ use Rattle.bb_machine.specs.Stop.TheVariants as stops
 use Rattle.bb_schema.specs.Fits as schemas
 use Rattle.bb_agenda.specs.Activation.{Activation}
 use Rattle.bb_agenda.specs.Agenda.{Agenda, is_full, is_of, pending_for, pending_of}
-use Rattle.bb_agenda.specs.Changes.{new_activation, other_than, rebased, with_activation, with_base, with_obviated}
+use Rattle.bb_agenda.specs.Changes.{new_activation, other_than, with_activation, with_base, with_obviated}
 use Rattle.bb_agenda.proofs.Laws.{pending_added, pending_obviated, pending_rebased}
 use Rattle.bb_trace.specs.Board.{Board as Blackboard}
 use Rattle.bb_trace.specs.Event.{Event}
@@ -33,12 +33,11 @@ use Rattle.bb_trace.specs.Reaction.{Reaction}
 use Rattle.bb_trace.specs.Source.{Source}
 use Rattle.bb_trace.specs.declared.end.End.{End}
 use Rattle.bb_trace.specs.declared.end.End.TheVariants as finishes
-use Rattle.bb_trace.specs.declared.note.Note.{Note}
 use Rattle.bb_trace.specs.declared.note.Note.TheVariants.{Triggered, Declined, Obviated, Retriggered}
 use Rattle.bb_trace.specs.Plan.{Plan}
 use Rattle.bb_run.specs.State.{State, with_board, with_agenda}
-use Rattle.bb_run.specs.Told.{Response, Stretch, Told, telling, idle, over, and_then, and_then_unless, segment}
-use Rattle.bb_run.specs.Asking.{attempt, asking, end_by, entry_of, reply_by, upon}
+use Rattle.bb_run.specs.Told.{Response, Told, telling, idle, over, and_then, and_then_unless, segment}
+use Rattle.bb_run.specs.Asking.{attempt, asking, entry_of, reply_by, upon}
 use Rattle.bb_run.specs.Processing.{activating, if_triggered, obviated_by, processing, processing_all, reacting, reacting_to, reacting_to_each, required_by, rerated_by, response, response_by, source_response, triggering}
 use Rattle.bb_run.specs.Causes.{IsAsked, IsPart, code_of}
 use Rattle.bb_run.specs.Unstuck.{FitsPlan, IsEventOf, IsWellMade, KeepsBudget, NotStuck, SuitsSource}

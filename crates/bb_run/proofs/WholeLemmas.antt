@@ -18,10 +18,10 @@ use Rattle.bb_run.specs.Finish.{WritesFront, end_of, is_write}
 use Rattle.bb_run.specs.Told.{Stretch}
 use Rattle.bb_run.specs.Run.{finish, finish_segments, with_finish}
 use Rattle.bb_trace.specs.TraceText.{segment_text, trace_text}
-use Rattle.bb_run.specs.proving.Telling.{CutIn, HasWritten, Place, IsTold, Writes, WroteFirst, WroteFront, WroteUntil, at_page}
+use Rattle.bb_run.specs.proving.Telling.{Concludes, CutIn, CutsShort, GivesUp, HasWritten, Place, IsTold, ToldFirst, Writes, WroteFirst, WroteFront, WroteUntil, at_page}
 use Rattle.bb_trace.specs.Page.{Flushes}
 use Rattle.bb_trace.proofs.Laws.{appends_none}
-use Rattle.bb_run.proofs.SegmentLemmas.{segment_added, all_written, page_cut, stays, until_later}
+use Rattle.bb_run.proofs.SegmentLemmas.{segment_added, all_written, front_later, page_cut, until_later}
 
 -- ---- the last notes
 
@@ -43,29 +43,36 @@ nothing_written plan taken page empty = record { written = []; waiting = []; all
 pub none_written : (plan : Plan) (taken : Option (List ℕ)) (segments : List (List Note)) → WroteFirst plan taken taken segments
 none_written plan taken segments = record { first = []; rest = segments; all = refl; appended = appends_none taken }
 
-module _ (plan : Plan) (taken : Option (List ℕ)) (first : List ℕ) (here : Place) (p : Stretch) (end : End) where
+-- what waited is written where memory ran out
+pub given_up : (plan : Plan) (start given : Option (List ℕ)) (place : Place) (segments : List (List Note)) (halt : Halt) → ToldFirst plan start place segments → GivesUp place.taken given place.page halt → WroteUntil plan start given segments halt
+given_up plan start given place segments halts.Memory t more = record { first = t.first; rest = t.rest; all = t.all; appended = all_written plan start given place t.first t.told more }
+given_up plan start given place segments halts.Write t more =
+    subst (WroteFront plan start given) (sym t.all) (front_later plan start given t.first t.rest (page_cut plan start given place t.first more.0 t.told more.1))
+
+-- the last segment is told, and all is written
+pub concluded : (plan : Plan) (place : Place) (given : Option (List ℕ)) (page new : List ℕ) (notes : List Note) (r : Result (Unit {0}) Halt) → page ≡ place.page ++ segment_text plan notes → Flushes place.taken given page new r
+    → Concludes plan place given (notes ∷ []) r
+concluded plan place given page new notes (Ok x) grown f = λ start told h.
+    all_written plan start given (at_page place.taken page) (told ++ notes ∷ []) (segment_added plan start place.taken place.page page told notes grown h) f.0
+concluded plan place given page new notes (Err halts.Memory) grown f = absurd f
+concluded plan place given page new notes (Err halts.Write) grown f = λ start told h.
+    page_cut plan start given (at_page place.taken page) (told ++ notes ∷ []) f.0 (segment_added plan start place.taken place.page page told notes grown h) f.1
+
+module _ (plan : Plan) (taken : Option (List ℕ)) (first : List ℕ) (here : Place) (p : Stretch) where
   -- the last segment is the finish, and the closings
-  abbrev pub last : List Note
-  last = finish end p.state.natives
+  finished : (end : End) → p.end ≡ Some end → (with_finish p).told ≡ p.told ++ finish end p.state.natives ∷ []
+  finished end is = ap (λ e. p.told ++ finish_segments e p.state.natives) is
 
-  finished : p.end ≡ Some end → (with_finish p).told ≡ p.told ++ last ∷ []
-  finished is = ap (λ e. p.told ++ finish_segments e p.state.natives) is
+  pub run_written : {X : Type 0} (given : Option (List ℕ)) (end : End) (r : Result X Halt) → first ≡ [] → p.end ≡ Some end → IsTold plan (at_page taken first) here p.told
+      → Concludes plan here given (finish end p.state.natives ∷ []) r → Writes plan taken given (with_finish p).told r
+  run_written given end r empty is told concludes =
+      subst (λ w. Writes plan taken given w r) (sym (finished end is)) (concludes taken p.told (told taken [] (nothing_written plan taken first empty)))
 
-  pub run_written : (given : Option (List ℕ)) (page new : List ℕ) (r : Result (Unit {0}) Halt) → first ≡ [] → p.end ≡ Some end → IsTold plan (at_page taken first) here p.told → page ≡ here.page ++ segment_text plan last
-      → Flushes here.taken given page new r → Writes plan taken given (with_finish p).told r
-  run_written given page new (Ok x) empty is told grown f =
-      let so_far = segment_added plan taken here.taken here.page page p.told last grown (told taken [] (nothing_written plan taken first empty)) in
-      subst (λ w. Appends taken given (trace_text plan w)) (sym (finished is)) (all_written plan taken given (at_page here.taken page) (p.told ++ last ∷ []) so_far f.0)
-  run_written given page new (Err halts.Memory) empty is told grown f = absurd f
-  run_written given page new (Err halts.Write) empty is told grown f =
-      let so_far = segment_added plan taken here.taken here.page page p.told last grown (told taken [] (nothing_written plan taken first empty)) in
-      subst (λ w. WroteFront plan taken given w) (sym (finished is)) (page_cut plan taken given (at_page here.taken page) (p.told ++ last ∷ []) f.0 so_far f.1)
-
-  pub run_cut_last : first ≡ [] → IsTold plan (at_page taken first) here p.told → WroteFirst plan taken here.taken (with_finish p).told
-  run_cut_last empty told = stays plan taken here p.told (finish_segments p.end p.state.natives) (told taken [] (nothing_written plan taken first empty))
-
-pub run_cut : (plan : Plan) (taken : Option (List ℕ)) (first : List ℕ) (here : Place) (p : Stretch) (halt : Halt) → first ≡ [] → CutIn plan (at_page taken first) here p.told halt → WroteUntil plan taken here.taken (with_finish p).told halt
-run_cut plan taken first here p halt empty cut = until_later plan taken here.taken p.told (finish_segments p.end p.state.natives) halt (cut taken [] (nothing_written plan taken first empty))
+  pub run_cut : (given : Option (List ℕ)) (halt result : Halt) → first ≡ [] → CutIn plan (at_page taken first) here p.told halt
+      → CutsShort here given halt result → WroteUntil plan taken given (with_finish p).told result
+  run_cut given halt result empty cut cuts =
+      let last = finish_segments p.end p.state.natives in
+      cuts plan taken (p.told ++ last) (until_later plan taken here p.told last halt (cut taken [] (nothing_written plan taken first empty)))
 
 -- ---- what is said of a run that was cut short
 

@@ -1,5 +1,5 @@
 -- What comes after a choice.
-use Rattle.std.specs.Prelude.{◌≡◌, ℕ, List, [], ◌∷◌, ◌++◌, slice_get, Option, Some, None}
+use Rattle.std.specs.Prelude.{◌≡◌, List, [], ◌∷◌, ◌++◌, slice_get, Option, Some, None}
 use Rattle.bb_agenda.specs.Activation.{Activation}
 use Rattle.bb_agenda.specs.Changes.{with_executed}
 use Rattle.bb_trace.specs.Source.{Source}

@@ -1,5 +1,5 @@
 -- Why no run is stuck: each execution begins with units that fit its part.
-use Rattle.std.specs.Prelude.{◌≡◌, ◌⊎◌, ◌≤◌, ⊤, ℕ, true, All, Contains, List, slice_get, Option, Some, None}
+use Rattle.std.specs.Prelude.{◌≡◌, ◌⊎◌, ◌≤◌, ⊤, true, All, Contains, slice_get, Option, Some, None}
 use Rattle.bb_schema.specs.Schema.{Schema}
 use Rattle.bb_schema.specs.Fits as schemas
 use Rattle.bb_verify.specs.Accepted.{Checked}

@@ -4,7 +4,7 @@ ghost use Rattle.std.specs.Prelude.{◌≡◌, [], ◌∷◌, All, Some, IfOk, I
 ghost use Rattle.std.specs.Io.KnownBytes.{Appends};
 ghost use Rattle.bb_run.specs.Foci.{first_agenda};
 ghost use Rattle.bb_trace.specs.Law.{IsMade};
-ghost use Rattle.bb_trace.specs.Page.{stopped_by_write};
+ghost use Rattle.bb_trace.specs.Page.{halted_by_write, stopped_by_write};
 ghost use Rattle.bb_trace.specs.TraceText.{trace_text};
 ghost use Rattle.bb_trace.specs.declared.note.Note.TheVariants.{Closed as ClosedNote, Finished};
 ghost use Rattle.bb_run.specs.Causes.{LacksNative};
@@ -13,7 +13,7 @@ ghost use Rattle.bb_run.specs.Run.{acting, choice, cycle, cycles, if_valid, run,
 ghost use Rattle.bb_run.specs.Unstuck.{NotStuck};
 ghost use Rattle.bb_run.specs.proving.Knowing.{Knows, MayKnow};
 ghost use Rattle.bb_run.specs.proving.Seen.{seen};
-ghost use Rattle.bb_run.specs.proving.Telling.{Finishes, Makes, Same, Waits, Writes, at};
+ghost use Rattle.bb_run.specs.proving.Telling.{Concludes, CutsShort, Finishes, GivesUp, Makes, Same, Waits, Writes, at};
 
 use crate::execution::{Verdict, execute, take_choice, validate};
 use crate::finish::Finish;
@@ -47,7 +47,7 @@ fn revalidation(source: Option<&Source>) -> Option<&Question>
     ensures { option_map (λ c. c.now) result
         ≡ option_and_then (λ t. t.revalidate) (option_map (λ s. s.now) source.entry) }
 {
-    source?.revalidate.as_ref()
+    source?.parts().revalidate.as_ref()
 }
 
 // The source that acts, where the verdict on its activation lets it.
@@ -232,11 +232,56 @@ impl<O: Out> Teller<'_, O> {
         let mut state = state;
         let made = self.run_unfinished(plan, limit, &mut state);
         let closed = state.close();
-        let end = made?;
-        let notes = last_notes(self.alloc(), end, closed)?;
-        self.page.add_segment(plan, &notes)?;
+        match made {
+            Ok(end) => self.conclude(plan, end, closed),
+            Err(halt) => Err(self.cut_short(halt)),
+        }
+    }
+
+    // Tells the end, and what each native said at its close, and writes all.
+    fn conclude(&mut self, plan: &Plan, end: End, closed: Closed) -> Result<End, Halt>
+        requires open { O.has_failed self.old.out.now ≡ false }
+        ensures same { Same self.old self.new }
+        ensures end { IfOk result (λ told. told ≡ end) }
+        ensures concludes { Concludes plan.now (at O.taken self.old) (O.taken self.new.out.now)
+            ((Finished end ∷ map ClosedNote closed) ∷ []) result }
+        ensures failed { O.has_failed self.new.out.now ≡ stopped_by_write result }
+    {
+        let Ok(notes) = last_notes(self.alloc(), end, closed) else {
+            return Err(self.give_up());
+        };
+        match self.page.add_segment(plan, &notes) {
+            Ok(()) => {}
+            Err(_) => return Err(self.give_up()),
+        }
         self.page.flush(self.out)?;
         Ok(end)
+    }
+
+    // Ends a run that is cut short: where memory ran out, what was told before is written. Returns why it is cut short.
+    fn cut_short(&mut self, halt: Halt) -> Halt
+        requires open { O.has_failed self.old.out.now ≡ halted_by_write halt }
+        ensures same { Same self.old self.new }
+        ensures cut { CutsShort (at O.taken self.old) (O.taken self.new.out.now) halt result }
+        ensures failed { O.has_failed self.new.out.now ≡ halted_by_write result }
+    {
+        match halt {
+            Halt::Memory => self.give_up(),
+            Halt::Write => Halt::Write,
+        }
+    }
+
+    // Writes what was told before memory ran out, and returns why the run is cut short.
+    fn give_up(&mut self) -> Halt
+        requires open { O.has_failed self.old.out.now ≡ false }
+        ensures same { Same self.old self.new }
+        ensures written { GivesUp (O.taken self.old.out.now) (O.taken self.new.out.now) self.old.page.now result }
+        ensures failed { O.has_failed self.new.out.now ≡ halted_by_write result }
+    {
+        match self.page.flush(self.out) {
+            Ok(()) => Halt::Memory,
+            Err(halt) => halt,
+        }
     }
 }
 

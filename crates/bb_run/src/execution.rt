@@ -105,6 +105,7 @@ pub(crate) fn execute<N: NativeSource>(
         (execution source.now.name source.now.act activation (seen N.meaning state.old))
         notes.old.items notes.new.items (seen N.meaning state.new)) }
 {
+    let source = source.parts();
     match &source.act {
         Act::Code(code) => execute_code(code, activation, state, notes),
         Act::Native => execute_native(source.name.as_str(), activation, state, notes),

@@ -162,9 +162,10 @@ pub(crate) fn rated_sources(
 {
     let mut rated = Vec::new(alloc);
     for source in sources {
+        let parts = source.parts();
         rated.push(RatedSource {
-            name: source.name.clone()?,
-            class: source.class,
+            name: parts.name.clone()?,
+            class: parts.class,
         })?;
     }
     Ok(rated)

@@ -33,7 +33,7 @@ fn obviate<N: NativeSource>(
         (seen N.meaning state.old))
         notes.old.items notes.new.items (seen N.meaning state.new)) }
 {
-    match &placed.source.obviate {
+    match &placed.source.parts().obviate {
         Some(reaction) if reaction.clauses.match_any(schema, event) => {
             obviate_all(reaction, event, placed.place, state, notes)
         }
@@ -54,7 +54,7 @@ fn retrigger<N: NativeSource>(
         (seen N.meaning state.old))
         notes.old.items notes.new.items (seen N.meaning state.new)) }
 {
-    match &placed.source.retrigger {
+    match &placed.source.parts().retrigger {
         Some(reaction) if reaction.clauses.match_any(schema, event) => {
             retrigger_all(reaction, event, placed.place, state, notes)
         }
@@ -74,7 +74,7 @@ fn trigger<N: NativeSource>(
         (if_triggered schema.now event placed.entry.place placed.entry.source.now (seen N.meaning state.old))
         notes.old.items notes.new.items (seen N.meaning state.new)) }
 {
-    let source = placed.source;
+    let source = placed.source.parts();
     if !source.triggers.match_any(schema, event) {
         return Ok(None);
     }

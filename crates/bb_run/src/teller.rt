@@ -47,6 +47,17 @@ impl<O: Out> Teller<'_, O> {
         self.page.spill(self.out)
     }
 
+    /// Tells a segment, and writes the page.
+    fn tell_now(&mut self, plan: &Plan, notes: &[Note]) -> Result<(), Halt>
+        requires open { O.has_failed self.old.out.now ≡ false }
+        ensures same { Same self.old self.new }
+        ensures told { Tells plan.now (at O.taken self.old) (at O.taken self.new) (notes.now ∷ []) result }
+        ensures failed { O.has_failed self.new.out.now ≡ stopped_by_write result }
+    {
+        self.page.add_segment(plan, notes)?;
+        self.page.flush(self.out)
+    }
+
     /// Processes an event.
     fn process<N: NativeSource>(
         &mut self,
@@ -90,7 +101,7 @@ impl<O: Out> Teller<'_, O> {
         Ok(None)
     }
 
-    /// Tells of quiescence, and processes it.
+    /// Tells of quiescence, and processes it. It is written at once, since who follows the run waits for it.
     pub(crate) fn quiesce<N: NativeSource>(
         &mut self,
         plan: &Plan,
@@ -105,7 +116,7 @@ impl<O: Out> Teller<'_, O> {
         let mut notes = Vec::new(self.alloc());
         notes.push(Note::Board(Noted::Event(Event::Quiescence)))?;
         let end = respond(plan, Event::Quiescence, state, &mut notes)?;
-        self.tell(plan, &notes)?;
+        self.tell_now(plan, &notes)?;
         Ok(end)
     }
 

@@ -27,12 +27,13 @@ pub(crate) fn check_text(alloc: Global, sources: &[Source]) -> Result<String, Al
 fn add_source(text: &mut String, source: &Source) -> Result<(), AllocError>
     ensures { OnOk result (string_bytes text.new ≡ string_bytes text.old ++ source_text source.now) }
 {
-    let name = source.name.as_str();
-    add_part(text, name, "require", source.require.as_ref())?;
-    add_part(text, name, "obviate", code_of(&source.obviate))?;
-    add_part(text, name, "retrigger", code_of(&source.retrigger))?;
-    add_part(text, name, "revalidate", source.revalidate.as_ref())?;
-    add_act(text, name, &source.act)
+    let parts = source.parts();
+    let name = parts.name.as_str();
+    add_part(text, name, "require", parts.require.as_ref())?;
+    add_part(text, name, "obviate", code_of(&parts.obviate))?;
+    add_part(text, name, "retrigger", code_of(&parts.retrigger))?;
+    add_part(text, name, "revalidate", parts.revalidate.as_ref())?;
+    add_act(text, name, &parts.act)
 }
 
 fn code_of(reaction: &Option<Reaction>) -> Option<&Question>

@@ -74,10 +74,11 @@ fn has_native(natives: &[Closing], name: &str) -> bool
 fn lacks_native(natives: &[Closing], source: &Source) -> bool
     ensures { result ≡ lacks_native (names_in natives.now) source.now }
 {
-    if !is_native(&source.act) {
+    let parts = source.parts();
+    if !is_native(&parts.act) {
         return false;
     }
-    let is_there = has_native(natives, source.name.as_str());
+    let is_there = has_native(natives, parts.name.as_str());
     !is_there
 }
 
@@ -85,7 +86,7 @@ fn lacks_native(natives: &[Closing], source: &Source) -> bool
 fn refuse(source: Source, fault: RuleFault) -> Unfit
     ensures { result ≡ Unfit.Source source.name fault }
 {
-    let Source { name, .. } = source;
+    let name = source.into_parts().name;
     Unfit::Source { name, fault }
 }
 
@@ -131,7 +132,7 @@ fn fit(
     ensures same_sources { OnErr result (sources.new.items ≡ sources.old.items) }
 {
     let place = sources.len() as u64;
-    if names.contains(source.name.as_str()) {
+    if names.contains(source.parts().name.as_str()) {
         return Err(refuse(source, RuleFault::Twice { place }));
     }
     if sources.len() >= SOURCE_LIMIT {
@@ -140,7 +141,7 @@ fn fit(
     if lacks_native(natives, &source) {
         return Err(refuse(source, RuleFault::Native { place }));
     }
-    match make_room(alloc, names, sources, source.name.as_str()) {
+    match make_room(alloc, names, sources, source.parts().name.as_str()) {
         Ok(()) => {
             sources.push_reserved(source);
             Ok(())

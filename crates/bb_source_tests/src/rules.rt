@@ -71,17 +71,17 @@ fn triggered_by_classes_below(rt: HostRuntime) -> Result<(), Fail> {
     let schema = Schema::read(rt.alloc(), SCHEMA)?;
     let part = Part::Do { class: 1 };
     let source = source_of(rt.alloc(), &schema, "note", &["memo"], part)??;
-    assert_eq!(rt; source.name.as_str(), "hail");
-    assert_eq!(rt; source.class, 1);
-    assert_eq!(rt; source.rate, 7);
-    assert!(rt; source.triggers.match_any(&schema, created(2)));
-    assert!(rt; !source.triggers.match_any(&schema, created(1)));
-    assert!(rt; !source.triggers.match_any(&schema, Event::Quiescence));
+    assert_eq!(rt; source.parts().name.as_str(), "hail");
+    assert_eq!(rt; source.parts().class, 1);
+    assert_eq!(rt; source.parts().rate, 7);
+    assert!(rt; source.parts().triggers.match_any(&schema, created(2)));
+    assert!(rt; !source.parts().triggers.match_any(&schema, created(1)));
+    assert!(rt; !source.parts().triggers.match_any(&schema, Event::Quiescence));
     let source = source_of(rt.alloc(), &schema, "note", &["memo", "note"], part)??;
-    assert_eq!(rt; source.triggers.as_slice().len(), 2);
-    assert!(rt; source.triggers.match_any(&schema, created(2)));
-    assert!(rt; source.triggers.match_any(&schema, created(1)));
-    assert!(rt; !source.triggers.match_any(&schema, created(3)));
+    assert_eq!(rt; source.parts().triggers.as_slice().len(), 2);
+    assert!(rt; source.parts().triggers.match_any(&schema, created(2)));
+    assert!(rt; source.parts().triggers.match_any(&schema, created(1)));
+    assert!(rt; !source.parts().triggers.match_any(&schema, created(3)));
     assert!(rt; Clause::Quiescence.matches(&schema, Event::Quiescence));
     assert!(rt; !Clause::Quiescence.matches(&schema, created(1)));
     Ok(())

@@ -7,7 +7,7 @@ use Rattle.std.proofs.lemmas.List.Folds.{list_any-append}
 use Rattle.bb_basis.proofs.NumberLemmas.{differs}
 use Rattle.bb_board.specs.Event.{Event}
 use Rattle.bb_rules.specs.declared.clause.Clause.{Clause}
-use Rattle.bb_rules.specs.declared.source.Source.{Source}
+use Rattle.bb_rules.specs.Parts.{Source}
 use Rattle.bb_rules.specs.KindIndex.{has, put, put_if}
 use Rattle.bb_trace.specs.Concerned.{any_of_kind, concerned_from, is_concerned, is_of_kind}
 

@@ -41,4 +41,4 @@ pub use Rattle.bb_rules.specs.declared.fault.RuleFault
 pub use Rattle.bb_rules.specs.declared.resolve.Classes
 pub use Rattle.bb_rules.specs.declared.source.Act
 pub use Rattle.bb_rules.specs.declared.source.Reaction
-pub use Rattle.bb_rules.specs.declared.source.Source
+pub use Rattle.bb_rules.specs.Parts as Source

@@ -5,10 +5,13 @@ use Rattle.bb_trace.specs.declared.halt.Halt.{Halt}
 use Rattle.bb_trace.specs.declared.halt.Halt.TheVariants as halts
 
 -- the output failed
+abbrev pub halted_by_write : Halt → Bool
+halted_by_write halts.Memory = false
+halted_by_write halts.Write = true
+
 abbrev pub stopped_by_write : {X : Type 0} → Result X Halt → Bool
 stopped_by_write (Ok x) = false
-stopped_by_write (Err halts.Memory) = false
-stopped_by_write (Err halts.Write) = true
+stopped_by_write (Err halt) = halted_by_write halt
 
 -- the page was written, or the front of it until the output failed
 abbrev pub Flushes : (taken given : Option (List ℕ)) (old new : List ℕ) → Result (Unit {0}) Halt → Type 0

@@ -19,7 +19,7 @@ use Rattle.bb_agenda.specs.Activation.{Activation}
 use Rattle.bb_state.specs.Reasons.{reason_number}
 use Rattle.bb_native.specs.declared.closing.Closing.{Closing}
 use Rattle.bb_native.specs.Refusals.{refusal_number}
-use Rattle.bb_rules.specs.declared.source.Source.{Source}
+use Rattle.bb_rules.specs.Parts.{Source}
 use Rattle.bb_trace.specs.declared.end.End.{End}
 use Rattle.bb_trace.specs.declared.end.End.TheVariants as ends
 use Rattle.bb_trace.specs.declared.note.Note.{Note}

@@ -102,9 +102,10 @@ impl Concerned {
         ensures { OnOk result ((event : Happened) → places_for self.new event
             ≡ put_if (is_concerned event source.now) (places_for self.old event) place) }
     {
-        self.add_clauses(place, source.triggers.as_slice())?;
-        self.add_reaction(place, &source.obviate)?;
-        self.add_reaction(place, &source.retrigger)
+        let parts = source.parts();
+        self.add_clauses(place, parts.triggers.as_slice())?;
+        self.add_reaction(place, &parts.obviate)?;
+        self.add_reaction(place, &parts.retrigger)
     }
 }
 

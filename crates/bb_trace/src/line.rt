@@ -191,7 +191,7 @@ fn source_name(sources: &[Source], place: u16) -> &str
     ensures { result.now ≡ source_name sources.now place }
 {
     match sources.get(place as usize) {
-        Some(source) => source.name.as_str(),
+        Some(source) => source.parts().name.as_str(),
         None => "",
     }
 }

@@ -1,6 +1,6 @@
 //! The page: the text that was told and is not written yet. The run (bb_run) adds segments to it and has it written.
 
-ghost use Rattle.std.specs.Prelude.{◌≡◌, ◌<◌, ◌++◌, [], false, OnOk, string_bytes, length};
+ghost use Rattle.std.specs.Prelude.{◌≡◌, ◌<◌, ◌++◌, [], false, take, OnErr, OnOk, length};
 ghost use Rattle.bb_trace.specs.TraceText.{segment_text};
 ghost use Rattle.bb_trace.specs.Page.{Flushes, Spills, stopped_by_write};
 
@@ -15,19 +15,29 @@ use std::marker::Model;
 /// The length from which a page is written.
 pub const PAGE_LIMIT: usize = 65_536;
 
+/// The work from which a page is written whatever its length, in steps of codes: so a trace can be followed as it grows.
+const WORK_LIMIT: u64 = 1 << 20;
+
+/// What a segment counts for beside the steps that it tells of, so that some hundred segments are enough.
+const SEGMENT_WORK: u64 = 1 << 12;
+
 /// Text that waits to be written.
 #[derive(Drop)]
 pub struct Page {
     alloc: Global,
-    text: String,
+    text: Vec<u8>,
+    /// A line that is not whole yet: no part of one comes to the text.
+    line: String,
+    /// What was done since the page was written.
+    work: u64,
 }
 
 impl Model for Page {
-    ghost use Rattle.std.specs.Prelude.{List, ℕ, string_bytes};
+    ghost use Rattle.std.specs.Prelude.{List, ℕ};
 
     ghost Value = { List ℕ };
 
-    ghost view = { λ p. string_bytes p.text };
+    ghost view = { λ p. p.text.items };
 }
 
 impl Page {
@@ -37,7 +47,9 @@ impl Page {
     {
         Page {
             alloc,
-            text: String::new(alloc),
+            text: Vec::new(alloc),
+            line: String::new(alloc),
+            work: 0,
         }
     }
 
@@ -46,21 +58,29 @@ impl Page {
         self.alloc
     }
 
-    /// Appends the text of a segment.
+    /// Appends the text of a segment. An error appends nothing.
     pub fn add_segment(&mut self, plan: &Plan, notes: &[Note]) -> Result<(), AllocError>
-        ensures { OnOk result (self.new ≡ self.old ++ segment_text plan.now notes.now) }
+        ensures added { OnOk result (self.new ≡ self.old ++ segment_text plan.now notes.now) }
+        ensures err { OnErr result (self.new ≡ self.old) }
     {
-        add_notes(self.alloc, &mut self.text, plan, notes)
+        let whole = self.text.len();
+        if add_notes(self.alloc, &mut self.line, &mut self.text, plan, notes).is_err() {
+            self.text.truncate(whole);
+            return Err(AllocError);
+        }
+        self.work = self.work.saturating_add(work_of(notes));
+        Ok(())
     }
 
-    /// Writes the page if it has the length of a page, so that it is short afterwards.
+    /// Writes the page if it has the length of a page, so that it is short afterwards, or if much was done since it was
+    /// written.
     pub fn spill<O: Out>(&mut self, out: &mut O) -> Result<(), Halt>
         requires { O.has_failed out.old ≡ false }
         ensures written { Spills (O.taken out.old) (O.taken out.new) self.old self.new result }
         ensures short { OnOk result (length self.new < PAGE_LIMIT) }
         ensures failed { O.has_failed out.new ≡ stopped_by_write result }
     {
-        if self.text.len() < PAGE_LIMIT {
+        if self.text.len() < PAGE_LIMIT && self.work < WORK_LIMIT {
             return Ok(());
         }
         self.flush(out)
@@ -72,7 +92,8 @@ impl Page {
         ensures written { Flushes (O.taken out.old) (O.taken out.new) self.old self.new result }
         ensures failed { O.has_failed out.new ≡ stopped_by_write result }
     {
-        if !put_all(out, self.text.as_bytes()) {
+        self.work = 0;
+        if !put_all(out, self.text.as_slice()) {
             return Err(Halt::Write);
         }
         self.text.clear();
@@ -80,16 +101,31 @@ impl Page {
     }
 }
 
+// What was done, by what is told of it: an execution's end is told last.
+fn work_of(notes: &[Note]) -> u64 {
+    match notes.last() {
+        Some(Note::Ended { steps, .. }) => SEGMENT_WORK.saturating_add(
+            (*steps).min(u128::from(WORK_LIMIT)) as u64,
+        ),
+        _ => SEGMENT_WORK,
+    }
+}
+
+// Appends a line for each note. An error leaves what was there in front.
 fn add_notes(
     alloc: Global,
-    text: &mut String,
+    line: &mut String,
+    text: &mut Vec<u8>,
     plan: &Plan,
     notes: &[Note],
 ) -> Result<(), AllocError>
-    ensures { OnOk result (string_bytes text.new ≡ string_bytes text.old ++ segment_text plan.now notes.now) }
+    ensures added { OnOk result (text.new.items ≡ text.old.items ++ segment_text plan.now notes.now) }
+    ensures err { OnErr result (take (length text.old.items) text.new.items ≡ text.old.items) }
 {
     for note in notes {
-        add_note(alloc, text, plan, note)?;
+        line.clear();
+        add_note(alloc, line, plan, note)?;
+        text.extend_from_slice(line.as_bytes())?;
     }
     Ok(())
 }

@@ -1,5 +1,5 @@
 -- What a part of the run's code did, against what the definitions say. No public contract cites it.
-use Rattle.std.specs.Prelude.{⊤, ◌≡◌, ℕ, List, [], ◌∷◌, ◌++◌, Option, Some, None, Result, Ok, Err}
+use Rattle.std.specs.Prelude.{⊤, ◌≡◌, ℕ, List, [], ◌∷◌, ◌++◌, take, Option, Some, None, Result, Ok, Err}
 use Rattle.std.specs.Io.KnownBytes.{Appends}
 use Rattle.bb_agenda.specs.Activation.{Activation}
 use Rattle.bb_machine.specs.Outcome.{Outcome}
@@ -79,6 +79,13 @@ pub record HasWritten (plan : Plan) (start : Option (List ℕ)) (place : Place) 
   pub appended : Appends start place.taken (trace_text plan written)
   pub page_is : place.page ≡ trace_text plan waiting
 
+-- the first of these segments were told
+pub record ToldFirst (plan : Plan) (start : Option (List ℕ)) (place : Place) (segments : List (List Note)) : Type 0 where
+  pub first : List (List Note)
+  pub rest : List (List Note)
+  pub all : segments ≡ first ++ rest
+  pub told : HasWritten plan start place first
+
 -- the first of these segments were written
 pub record WroteFirst (plan : Plan) (start taken : Option (List ℕ)) (segments : List (List Note)) : Type 0 where
   pub first : List (List Note)
@@ -92,6 +99,11 @@ pub record WroteFront (plan : Plan) (start taken : Option (List ℕ)) (segments 
   pub rest : List ℕ
   pub all : trace_text plan segments ≡ front ++ rest
   pub appended : Appends start taken front
+
+-- how far these segments were told where the run was cut short in them: where memory ran out, whole ones
+abbrev pub ToldUntil : Plan → (start : Option (List ℕ)) → Place → List (List Note) → Halt → Type 0
+ToldUntil plan start place segments halts.Memory = ToldFirst plan start place segments
+ToldUntil plan start place segments halts.Write = WroteFront plan start place.taken segments
 
 -- what was written of these segments where the run was cut short in them
 abbrev pub WroteUntil : Plan → (start taken : Option (List ℕ)) → List (List Note) → Halt → Type 0
@@ -108,7 +120,7 @@ IsTold plan old new segments =
 abbrev pub CutIn : Plan → Place → Place → List (List Note) → Halt → Type 0
 CutIn plan old new segments halt =
     (start : Option (List ℕ)) (told : List (List Note)) → HasWritten plan start old told
-    → WroteUntil plan start new.taken (told ++ segments) halt
+    → ToldUntil plan start new (told ++ segments) halt
 
 -- these segments were told, or the run was cut short in them
 abbrev pub Tells : {X : Type 0} → Plan → Place → Place → List (List Note) → Result X Halt → Type 0
@@ -137,6 +149,23 @@ Finishes = MakesBy (λ e. Some e)
 abbrev pub Writes : {X : Type 0} → Plan → (taken given : Option (List ℕ)) → List (List Note) → Result X Halt → Type 0
 Writes plan taken given segments (Ok x) = Appends taken given (trace_text plan segments)
 Writes plan taken given segments (Err halt) = WroteUntil plan taken given segments halt
+
+-- what waited on the page was written, and the run is cut short by this: where the output failed, the front was written
+abbrev pub GivesUp : (taken given : Option (List ℕ)) → (page : List ℕ) → Halt → Type 0
+GivesUp taken given page halts.Memory = Appends taken given page
+GivesUp taken given page halts.Write = (count : ℕ) × Appends taken given (take count page)
+
+-- how far any segments were told is how far they are written, where the run is cut short by the first and ends by the second
+abbrev pub CutsShort : Place → (given : Option (List ℕ)) → Halt → Halt → Type 0
+CutsShort place given halt result =
+    (plan : Plan) (start : Option (List ℕ)) (segments : List (List Note)) → ToldUntil plan start place segments halt
+    → WroteUntil plan start given segments result
+
+-- after all that was told before, the last segments of a run were written, or it was cut short in them
+abbrev pub Concludes : {X : Type 0} → Plan → Place → (given : Option (List ℕ)) → List (List Note) → Result X Halt → Type 0
+Concludes plan place given segments result =
+    (start : Option (List ℕ)) (told : List (List Note)) → HasWritten plan start place told
+    → Writes plan start given (told ++ segments) result
 
 -- ---- decisions
 

@@ -3,12 +3,12 @@ use Rattle.std.specs.Prelude.{ℤ, List, refl}
 use Rattle.std.specs.Coded.{Coded, code_by, coded×, coded_ℤ, coded_list}
 use Rattle.bb_schema.specs.Schema.{Schema}
 use Rattle.bb_schema.specs.contracts.schema.Schema as schemas
-use Rattle.bb_rules.specs.contracts.source.Source as rules
+use Rattle.bb_rules.specs.proving.Codes.{source_code}
 use Rattle.bb_trace.specs.Source.{Source}
 use Rattle.bb_trace.specs.Plan.{Plan}
 
 abbrev pub sources_code : Coded (List Source)
-sources_code = coded_list rules.the_row.coded
+sources_code = coded_list source_code
 
 abbrev pub plan_code : Coded Plan
 plan_code =

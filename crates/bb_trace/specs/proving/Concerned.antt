@@ -4,7 +4,7 @@ use Rattle.bb_board.specs.Event.{Event}
 use Rattle.bb_board.specs.Event.TheVariants as events
 use Rattle.bb_board.specs.Events.{kind_of}
 use Rattle.bb_rules.specs.KindIndex.{ids_for}
-use Rattle.bb_rules.specs.declared.source.Source.{Source}
+use Rattle.bb_rules.specs.Parts.{Source}
 use Rattle.bb_trace.specs.Concerned.{concerned}
 use Rattle.bb_trace.specs.declared.concerned.Concerned.{Concerned}
 

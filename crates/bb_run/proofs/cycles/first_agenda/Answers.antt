@@ -1,4 +1,3 @@
-use Rattle.bb_run.specs.proving.Knowing.{MayKnow}
 use Rattle.bb_run.proofs.ReadLemmas.{plan_reads}
 use Rattle.bb_run.proofs.cycles.first_agenda.Goals as goal
 

@@ -22,4 +22,4 @@ returns-clause-made g c =
 pub returns-in_err-take_noted-clause-made : goal.returns-in_err-take_noted-clause-made
 returns-in_err-take_noted-clause-made g c =
     let p = err_from_is_err_and c.from_residual.result c.from_residual.ensures.1 in
-    rw (p.1, p.2) (cut_by_memory c.args.plan.now (at g.O.Out.taken c.args.self.now) c.args.self.now.page.now (start c.args.plan.now c.args.state.now.board (map g.N.NativeSource.meaning c.args.state.now.roster.natives.items)).told)
+    rw (p.1, p.2) (cut_by_memory c.args.plan.now (at g.O.Out.taken c.args.self.now) (start c.args.plan.now c.args.state.now.board (map g.N.NativeSource.meaning c.args.state.now.roster.natives.items)).told)

@@ -15,12 +15,12 @@ use Rattle.bb_run.proofs.teller.Teller.make_cycle.Goals as goal
 pub returns-in_err-verdict-clause-made : goal.returns-in_err-verdict-clause-made
 returns-in_err-verdict-clause-made g c =
     let p = err_from_is_err_and c.from_residual.result c.from_residual.ensures.1 in
-    rw (p.1, p.2) (cut_by_memory c.args.plan.now (at g.O.Out.taken c.args.self.now) c.args.self.now.page.now (cycle c.args.plan.now c.args.number c.args.activation (seen g.N.NativeSource.meaning c.args.state.now)).told)
+    rw (p.1, p.2) (cut_by_memory c.args.plan.now (at g.O.Out.taken c.args.self.now) (cycle c.args.plan.now c.args.number c.args.activation (seen g.N.NativeSource.meaning c.args.state.now)).told)
 
 pub returns-in_err-end-clause-made : goal.returns-in_err-end-clause-made
 returns-in_err-end-clause-made g c =
     let p = err_from_is_err_and c.from_residual-in_err-end.result c.from_residual-in_err-end.ensures.1 in
-    rw (p.1, p.2) (cut_by_memory c.args.plan.now (at g.O.Out.taken c.args.self.now) c.args.self.now.page.now (cycle c.args.plan.now c.args.number c.args.activation (seen g.N.NativeSource.meaning c.args.state.now)).told)
+    rw (p.1, p.2) (cut_by_memory c.args.plan.now (at g.O.Out.taken c.args.self.now) (cycle c.args.plan.now c.args.number c.args.activation (seen g.N.NativeSource.meaning c.args.state.now)).told)
 
 pub returns-in_err-tell-clause-made : goal.returns-in_err-tell-clause-made
 returns-in_err-tell-clause-made g c =

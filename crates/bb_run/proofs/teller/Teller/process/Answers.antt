@@ -10,7 +10,7 @@ use Rattle.bb_run.proofs.teller.Teller.process.Goals as goal
 pub returns-in_err-end-clause-made : goal.returns-in_err-end-clause-made
 returns-in_err-end-clause-made g c =
     let p = err_from_is_err_and c.from_residual.result c.from_residual.ensures.1 in
-    rw (p.1, p.2) (cut_by_memory c.args.plan.now (at g.O.Out.taken c.args.self.now) c.args.self.now.page.now (processing c.args.plan.now c.args.event (seen g.N.NativeSource.meaning c.args.state.now)).told)
+    rw (p.1, p.2) (cut_by_memory c.args.plan.now (at g.O.Out.taken c.args.self.now) (processing c.args.plan.now c.args.event (seen g.N.NativeSource.meaning c.args.state.now)).told)
 
 pub returns-in_err-tell-clause-made : goal.returns-in_err-tell-clause-made
 returns-in_err-tell-clause-made g c =

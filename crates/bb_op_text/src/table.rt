@@ -1,9 +1,10 @@
-//! The ops without operands and the relations of patterns, each with its name. Reading and writing go by these tables.
+//! The ops without operands and the relations of patterns, each with its name. Reading (bb_asm) and writing go by these
+//! tables.
 
 use bb_code::{Bound, Calculation, Comparison, Logic, Op, Relation};
 
 /// The ops without operands.
-pub(crate) const PLAIN: [(&str, Op); 24] = [
+const PLAIN: [(&str, Op); 24] = [
     ("Pop", Op::Pop),
     ("Add", Op::Calculate(Calculation::Add)),
     ("Sub", Op::Calculate(Calculation::Sub)),
@@ -31,7 +32,7 @@ pub(crate) const PLAIN: [(&str, Op); 24] = [
 ];
 
 /// The relations of patterns to their operands.
-pub(crate) const RELATIONS: [(&str, Relation); 5] = [
+const RELATIONS: [(&str, Relation); 5] = [
     ("within", Relation::Within),
     ("covers", Relation::Covers),
     ("overlaps", Relation::Overlaps),
@@ -39,14 +40,24 @@ pub(crate) const RELATIONS: [(&str, Relation); 5] = [
     ("more", Relation::More),
 ];
 
-/// What has a name in one of these tables.
-pub(crate) fn entry_of<T: Copy>(table: &[(&str, T)], name: &str) -> Option<T> {
+// What has a name in one of these tables.
+fn entry_of<T: Copy>(table: &[(&str, T)], name: &str) -> Option<T> {
     for (known, entry) in table {
         if *known == name {
             return Some(*entry);
         }
     }
     None
+}
+
+/// The op without operands of a name.
+pub fn plain_op(name: &str) -> Option<Op> {
+    entry_of(&PLAIN, name)
+}
+
+/// The relation of a name.
+pub fn relation_of(name: &str) -> Option<Relation> {
+    entry_of(&RELATIONS, name)
 }
 
 /// The name of an op without operands.
@@ -60,7 +71,7 @@ pub(crate) fn plain_name(op: Op) -> Option<&'static str> {
 }
 
 /// The name of a relation.
-pub(crate) fn relation_name(relation: Relation) -> &'static str {
+pub fn relation_name(relation: Relation) -> &'static str {
     match relation {
         Relation::Within => "within",
         Relation::Covers => "covers",

@@ -1,0 +1,7 @@
+-- How sources are stored as data that can be told apart.
+use Rattle.std.specs.Coded.{Coded}
+use Rattle.bb_rules.specs.contracts.source.SourceParts as parts
+use Rattle.bb_rules.specs.Parts.{Source}
+
+abbrev pub source_code : Coded Source
+source_code = parts.the_row.coded
