@@ -189,6 +189,29 @@ fn program_run(rt: HostRuntime) {
     assert!(rt; told && writer.into_inner().as_slice() == expected.as_bytes());
 }
 
+/// What there is to say of a checked input: its one part has three ops, in no loop.
+const FIRST_COSTS: &str = "\
+source  part        ops  loops  budget of 0 found  1  100  65,536
+hail    do            3      0                  3  3    3       3
+";
+
+#[test]
+fn program_check(rt: HostRuntime) {
+    let mut reader = Intake::new(FIRST_RUN.as_bytes());
+    let mut writer = Pipe::new(Vec::new(rt.alloc()));
+    let options = Options {
+        mode: Mode::Check,
+        limit: 100,
+        floor: 0,
+    };
+    let mut errors = Vec::new(rt.alloc());
+    let status = program(rt.alloc(), options, &mut reader, &mut writer, &mut errors);
+    assert_eq!(rt; status, 0);
+    assert!(rt; errors.as_slice() == FIRST_COSTS.as_bytes());
+    let checked = b"hail do ops 3 budget 3 3\nchecked 1\n";
+    assert!(rt; writer.into_inner().as_slice() == checked.as_slice());
+}
+
 #[test]
 fn told_words(rt: HostRuntime) -> Result<(), Fail> {
     let help = OptionsFault::Help(String::from_str(rt.alloc(), "help\n")?);
