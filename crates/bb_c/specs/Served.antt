@@ -1,8 +1,8 @@
 -- What a call of the library is answered: what the program answers to these bytes without natives.
-use Rattle.std.specs.Prelude.{◌≡◌, ◌==◌, ◌⊎◌, ℕ, ℤ, List, [], Option, Some, None, if◌then◌else◌}
+use Rattle.std.specs.Prelude.{◌≡◌, ◌==◌, ◌<◌, ◌⊎◌, ℕ, ℤ, List, [], length, Option, Some, None, if◌then◌else◌}
 use Rattle.bb_main.specs.Mode.{Mode}
 use Rattle.bb_main.specs.Mode.TheVariants as modes
-use Rattle.bb_main.specs.Serve.{CutShort, Delivers, answer}
+use Rattle.bb_main.specs.Serve.{CutShort, Delivers, answer, text_of}
 
 abbrev pub mode_of : ℕ → Option Mode
 mode_of number =
@@ -17,3 +17,8 @@ IsServed None limit floor input given status = (status ≡ 2) × (given ≡ [])
 IsServed (Some mode) limit floor input given status =
     Delivers (answer [] input mode limit floor) (Some []) (Some given) status
     ⊎ CutShort (answer [] input mode limit floor) (Some []) (Some given) status
+
+-- the whole answer to some bytes is longer than that
+abbrev pub IsLonger : Option Mode → (limit : ℕ) → (floor : ℤ) → (input : List ℕ) → (room : ℕ) → Type 0
+IsLonger None limit floor input room = ⊥
+IsLonger (Some mode) limit floor input room = room < length (text_of (answer [] input mode limit floor).pieces)

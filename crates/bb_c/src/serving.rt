@@ -1,7 +1,8 @@
 //! The calls of the library.
 
-ghost use Rattle.std.specs.Prelude.{◌≡◌, ◌≤◌, [], map, length, take};
-ghost use Rattle.bb_c.specs.Served.{IsServed, mode_of};
+ghost use Rattle.std.specs.Prelude.{◌≡◌, ◌≢◌, ◌≤◌, [], map, min, length, take};
+ghost use Rattle.bb_c.specs.Served.{IsLonger, IsServed, mode_of};
+ghost use Rattle.bb_c.specs.declared.serving.TheConstants.{ROOM};
 
 use crate::input::Input;
 use crate::room::Room;
@@ -31,7 +32,7 @@ pub extern "C" fn bb_version() -> u32
 /// Serves an input as the program does, with no natives: mode 0 runs it, 1 checks it, 2 compiles it. What the program
 /// would write goes into `output`, as far as there is room, and the number of its bytes into `written`. Answers the
 /// status: 0 quiescence, a check or a bundle written, 2 a refused input or no such mode, 3 the limit, 4 full, 5 no
-/// memory, 6 too little room, where the output has a front of the answer.
+/// memory, 6 the answer is longer than the output, which a front of it fills.
 #[unsafe(no_mangle)]
 pub extern "C" fn bb_serve(
     alloc: Global,
@@ -45,12 +46,18 @@ pub extern "C" fn bb_serve(
     ensures served { IsServed (mode_of mode) limit floor input.now (take written.new output.new) result }
     ensures room { written.new ≤ length output.new }
     ensures len { length output.new ≡ length output.old }
+    // The room is too small only for an answer that is longer, and then it is used up.
+    ensures longer { result ≡ ROOM → IsLonger (mode_of mode) limit floor input.now (length output.new) }
+    ensures filled { result ≡ ROOM → written.new ≡ length output.new }
+    // No input has the status of a run that is stuck.
+    ensures unstuck { result ≢ 7 }
 {
     *written = 0;
     let Some(mode) = mode_of(mode) else {
         return REFUSED;
     };
-    let Ok(mut room) = Room::new(alloc, output.len()) else {
+    // A byte more than the output has: whether the answer is longer shows by it.
+    let Ok(mut room) = Room::new(alloc, output.len() + 1) else {
         return MEMORY;
     };
     let mut reader = Input::new(input);
@@ -63,19 +70,23 @@ pub extern "C" fn bb_serve(
         &mut reader,
         &mut room,
     );
-    let count = hand_out(room.bytes(), output);
-    *written = count;
-    if count == room.bytes().len() {
-        status
-    } else {
+    let answer = room.bytes();
+    // An output that fails before it is full finds no memory. This one has its memory from the start.
+    if status == ROOM && answer.len() <= output.len() {
+        return MEMORY;
+    }
+    *written = hand_out(answer, output);
+    if *written < answer.len() {
         ROOM
+    } else {
+        status
     }
 }
 
 // Copies bytes to the front of the output, as many as there is room for. Answers their number.
 fn hand_out(bytes: &[u8], output: &mut [u8]) -> usize
     ensures front { take result output.new ≡ take result bytes.now }
-    ensures room { result ≤ length output.new }
+    ensures count { result ≡ min (length bytes.now) (length output.new) }
     ensures len { length output.new ≡ length output.old }
 {
     let count = bytes.len().min(output.len());
