@@ -354,6 +354,7 @@ nothing_between from to less places = none places.keys
   where
     test : Place → Bool
     test = range_contains place_cmp (Included from) (Excluded to)
+
     none : (ks : List Place) → filter test ks ≡ []
     none [] = refl
     none (k ∷ ks) = ap (λ c. cond c (k ∷ filter test ks) (filter test ks)) (turned_round from to k less) ∙ none ks

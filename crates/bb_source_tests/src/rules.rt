@@ -76,7 +76,12 @@ fn triggered_by_classes_below(rt: HostRuntime) -> Result<(), Fail> {
     assert_eq!(rt; source.parts().rate, 7);
     assert!(rt; source.parts().triggers.match_any(&schema, created(2)));
     assert!(rt; !source.parts().triggers.match_any(&schema, created(1)));
-    assert!(rt; !source.parts().triggers.match_any(&schema, Event::Quiescence));
+    assert!(rt;
+        !source
+            .parts()
+            .triggers
+            .match_any(&schema, Event::Quiescence)
+    );
     let source = source_of(rt.alloc(), &schema, "note", &["memo", "note"], part)??;
     assert_eq!(rt; source.parts().triggers.as_slice().len(), 2);
     assert!(rt; source.parts().triggers.match_any(&schema, created(2)));
