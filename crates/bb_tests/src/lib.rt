@@ -7,6 +7,8 @@ mod asking;
 #[cfg(test)]
 mod input;
 #[cfg(test)]
+mod looking;
+#[cfg(test)]
 mod natives;
 #[cfg(test)]
 mod refusals;
@@ -17,5 +19,7 @@ mod role;
 mod schemas;
 #[cfg(test)]
 mod shells;
+#[cfg(test)]
+mod unread;
 
 pub use role::Role;

@@ -1,13 +1,12 @@
-//! Natives that a host writes: one whose asks are refused in turn, and such as tell their close, at each refusal of an
-//! input too.
+//! Natives that a host writes, which tell their close, at each refusal of an input too; and natives of two types.
 
 ghost use Rattle.std.specs.Prelude.{◌≡◌, true, map, IfOk};
 ghost use Rattle.bb_shell.specs.Roster.{all_open};
 
 use crate::input::{FIRST, HAIL, Input, NOTE_SCHEMA, ONE_NOTE};
 use bb_shell::{
-    Ask, Done, Finish, InputFault, Memory, NativeSource, Pipe, Text, UnitId, Value, View,
-    check_texts, compile_texts, run_texts,
+    Ask, Done, Finish, InputFault, Memory, NativeSource, Pipe, UnitId, View, check_texts,
+    compile_texts, run_texts,
 };
 use std::alloc::Global;
 use std::cell::Cell;
@@ -51,6 +50,41 @@ impl NativeSource for Teller {
     }
 }
 
+/// Asks for nothing, and says the number of its executions at its close.
+#[derive(Drop)]
+struct Counter {
+    count: i64,
+    is_open: bool,
+}
+
+impl NativeSource for Counter {
+    ghost use Rattle.std.specs.Prelude.{[], ◌∷◌, ◌+ℤ◌, pos, codes, slice_index_or, map};
+    ghost use Rattle.std.specs.Int.{saturate_signed, w64};
+
+    ghost meaning = { λ counter. record {
+      name = codes "counter";
+      held = counter.count ∷ [];
+      is_open = counter.is_open;
+      asks = λ held unit seen. [];
+      next = λ held unit seen. map (λ count. saturate_signed w64 (count +ℤ pos 1)) held;
+      closing = λ held. slice_index_or held 0 (pos 0);
+    } };
+
+    fn name(&self) -> &str {
+        "counter"
+    }
+
+    fn act(&mut self, alloc: Global, _unit: UnitId, _view: &View<'_>) -> Result<Vec<Ask>, Memory> {
+        self.count = self.count.saturating_add(1);
+        Ok(Vec::new(alloc))
+    }
+
+    fn close(&mut self) -> i64 {
+        self.is_open = false;
+        self.count
+    }
+}
+
 fn open_teller(number: u64, told: &Rc<Cell<u64>>) -> Result<Teller, Memory>
     ensures { IfOk result (λ teller. teller.is_open ≡ true) }
 {
@@ -69,7 +103,7 @@ pub(crate) fn no_natives(alloc: Global) -> Vec<Teller>
 }
 
 /// Two natives of one name.
-fn tellers(alloc: Global, told: &Rc<Cell<u64>>) -> Result<Vec<Teller>, Memory>
+pub(crate) fn tellers(alloc: Global, told: &Rc<Cell<u64>>) -> Result<Vec<Teller>, Memory>
     ensures { IfOk result (λ natives. all_open (map ⟦<Teller as NativeSource>⟧.meaning natives.items) ≡ true) }
 {
     let mut natives = Vec::new(alloc);
@@ -107,6 +141,8 @@ fn run_with(alloc: Global, input: Input<'_>) -> Result<(u8, u64, usize), Fail> {
 fn each_refusal_closes_all(rt: HostRuntime) -> Result<(), Fail> {
     let alloc = rt.alloc();
     let damaged = "source hail note 1\nwhen create note\ndo 42\n";
+    // Done, and an op behind it that nothing goes to.
+    let unreached = "source hail note 1\nwhen create note\ndo 4242430101000000000000000000022e2e\n";
     let alike = "source hail note 1\nwhen create note\nnative\n";
     let inputs = [
         (
@@ -141,6 +177,13 @@ fn each_refusal_closes_all(rt: HostRuntime) -> Result<(), Fail> {
             5,
             Input {
                 bundle: damaged,
+                ..FIRST
+            },
+        ),
+        (
+            6,
+            Input {
+                bundle: unreached,
                 ..FIRST
             },
         ),
@@ -191,6 +234,54 @@ fn natives_without_a_source(rt: HostRuntime) -> Result<(), Fail> {
         closed teller 0\n";
     assert!(rt; out.into_inner().as_slice() == expected.as_bytes());
     assert_eq!(rt; told.get(), 12);
+    Ok(())
+}
+
+/// The trace of a run of one note, with natives of which one is called for it.
+fn count_one_note<N: NativeSource>(alloc: Global, natives: Vec<N>) -> Result<Vec<u8>, Fail>
+    requires { all_open (map N.meaning natives.items) ≡ true }
+{
+    let source = "source counter on note { when create note; rate 1; native; }";
+    let mut out = Pipe::new(Vec::new(alloc));
+    run_texts(
+        alloc,
+        NOTE_SCHEMA,
+        ONE_NOTE,
+        source,
+        "",
+        natives,
+        100,
+        0,
+        &mut out,
+    )?;
+    Ok(out.into_inner())
+}
+
+// A box of a native is a native: a host with natives of several types hands its boxes to a generic function.
+#[test]
+fn natives_in_boxes(rt: HostRuntime) -> Result<(), Fail> {
+    let alloc = rt.alloc();
+    let told = Rc::new(alloc, Cell::new(0u64))?;
+    let mut natives: Vec<Box<dyn NativeSource>> = Vec::new(alloc);
+    natives.push(Box::new(alloc, open_teller(5, &told)?)?)?;
+    natives.push(Box::new(
+        alloc,
+        Counter {
+            count: 6,
+            is_open: true,
+        },
+    )?)?;
+    let trace = count_one_note(alloc, natives)?;
+    let expected = "create 1 note\n\
+        trigger 1 counter unit 1 rating 1\n\
+        cycle 1 act 1 counter unit 1 rating 1\n\
+        end native 0\n\
+        quiescence\n\
+        finish quiescence\n\
+        closed teller 0\n\
+        closed counter 7\n";
+    assert!(rt; trace.as_slice() == expected.as_bytes());
+    assert_eq!(rt; told.get(), 5);
     Ok(())
 }
 
