@@ -4,11 +4,12 @@ use Rattle.std.specs.Io.KnownBytes.{Appends}
 use Rattle.bb_trace.specs.declared.halt.Halt.{Halt}
 use Rattle.bb_trace.specs.declared.halt.Halt.TheVariants as halts
 
--- the output failed
+-- what the run is cut short by is that the output failed
 abbrev pub halted_by_write : Halt → Bool
 halted_by_write halts.Memory = false
 halted_by_write halts.Write = true
 
+-- the output failed
 abbrev pub stopped_by_write : {X : Type 0} → Result X Halt → Bool
 stopped_by_write (Ok x) = false
 stopped_by_write (Err halt) = halted_by_write halt
