@@ -12,7 +12,7 @@ use Rattle.std.proofs.lemmas.Bool.{and_parts}
 use Rattle.std.proofs.lemmas.Cmp.{int_cmp_total, nat_cmp_total, on_total, back_total, then_total, eq_by_cmp_equiv}
 use Rattle.std.proofs.lemmas.List.Folds.{find-append}
 use Rattle.std.proofs.lemmas.Map.Lookups.{exact_signed, exact_unsigned}
-use Rattle.bb_foci.specs.declared.activation.Activation.{Activation}
+use Rattle.bb_agenda_foci.specs.declared.activation.Activation.{Activation}
 use Rattle.bb_agenda.specs.declared.rank.Rank.{Rank}
 use Rattle.bb_agenda.specs.Agenda.{has_number, is_of}
 use Rattle.bb_agenda.specs.Changes.{other_than, based_at, rebased}

@@ -3,11 +3,11 @@
 use Rattle.std.specs.Prelude.{ℕ, zero, suc, ◌+◌, Bool, false, ◌||◌, ◌==◌, nat_le, List, [], map, filter, find, length, slice_get, Option, Some, None, option_map}
 use Rattle.std.specs.List.{filter_map}
 use Rattle.std.specs.FinMap as fin
-use Rattle.bb_foci.specs.declared.activation.Activation.{Activation}
+use Rattle.bb_agenda_foci.specs.declared.activation.Activation.{Activation}
 use Rattle.bb_agenda.specs.declared.status.Status.{Status}
 use Rattle.bb_agenda.specs.declared.status.Status.TheVariants as statuses
 use Rattle.bb_agenda.specs.declared.agenda.TheConstants.{PENDING_LIMIT, NUMBER_LIMIT}
-use Rattle.bb_foci.specs.Foci.{Foci, Setting}
+use Rattle.bb_agenda_foci.specs.Foci.{Foci, Setting}
 
 -- what became of an activation: it is pending, or it was executed, or obviated
 pub data Entry : Type 0 where

@@ -1,10 +1,10 @@
 -- Each change of an agenda (GBBopen Reference Manual, Agenda Shell; those of foci are of this project).
 use Rattle.std.specs.Prelude.{ℕ, ℤ, Bool, true, not, [], ◌∷◌, ◌++◌, map, Result, Ok, Err, if◌then◌else◌}
 use Rattle.std.specs.FinMap as fin
-use Rattle.bb_foci.specs.declared.activation.Activation.{Activation}
+use Rattle.bb_agenda_foci.specs.declared.activation.Activation.{Activation}
 use Rattle.bb_agenda.specs.declared.fault.AddFault.{AddFault}
 use Rattle.bb_agenda.specs.declared.fault.AddFault.TheVariants as faults
-use Rattle.bb_foci.specs.declared.focus.Focus.{Focus}
+use Rattle.bb_agenda_foci.specs.declared.focus.Focus.{Focus}
 use Rattle.bb_agenda.specs.Agenda.{Agenda, Entry, pending, executed, obviated, has_number, next_number, is_full}
 
 -- the activation that is added next

@@ -2,7 +2,7 @@
 use Rattle.std.specs.Prelude.{◌≡◌, ◌≤◌, ◌≤ℤ◌, ℤ, Bool, ◌&&◌, ◌||◌, not, nat_lt, int_lt, List, find, Option, Contains}
 use Rattle.std.specs.List.{list_all}
 use Rattle.std.specs.Ordering.{int_eq}
-use Rattle.bb_foci.specs.declared.activation.Activation.{Activation}
+use Rattle.bb_agenda_foci.specs.declared.activation.Activation.{Activation}
 
 -- b comes before a: it is rated higher, or the same under a lower number
 abbrev pub is_before : (Activation → ℤ) → Activation → Activation → Bool

@@ -1,7 +1,7 @@
 -- Changes of an agenda one after another.
 use Rattle.std.specs.Prelude.{ℕ, ℤ, List}
 use Rattle.std.specs.List.{fold}
-use Rattle.bb_foci.specs.declared.focus.Focus.{Focus}
+use Rattle.bb_agenda_foci.specs.declared.focus.Focus.{Focus}
 use Rattle.bb_agenda.specs.Agenda.{Agenda}
 use Rattle.bb_agenda.specs.Changes.{with_activation, with_obviated, with_executed, with_base, with_focus, without_focus}
 use Rattle.bb_agenda.specs.Changes.{when_refused}

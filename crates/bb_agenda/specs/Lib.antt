@@ -13,8 +13,8 @@ pub mod Chosen
 -- for proofs alone
 pub mod proving
 -- activations, foci, and what foci give
-pub use Rattle.bb_foci.specs.Foci
-pub use Rattle.bb_foci.specs.Matching
-pub use Rattle.bb_foci.specs.declared.activation.Activation
-pub use Rattle.bb_foci.specs.declared.focus.Focus
-pub use Rattle.bb_foci.specs.declared.setting.RatedSource
+pub use Rattle.bb_agenda_foci.specs.Foci
+pub use Rattle.bb_agenda_foci.specs.Matching
+pub use Rattle.bb_agenda_foci.specs.declared.activation.Activation
+pub use Rattle.bb_agenda_foci.specs.declared.focus.Focus
+pub use Rattle.bb_agenda_foci.specs.declared.setting.RatedSource

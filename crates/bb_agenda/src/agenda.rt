@@ -4,7 +4,7 @@
 ghost use Rattle.std.specs.Prelude.{◌≡◌, Contains, IfSome, IsSome, Some, option_map};
 ghost use Rattle.bb_agenda.specs.Agenda.{no_activations, pending_of, is_full, number_of, numbers_pending, numbers_for};
 ghost use Rattle.bb_agenda.specs.Agenda.{pending_at, pending_for, status};
-ghost use Rattle.bb_foci.specs.declared.activation.Activation.{Activation};
+ghost use Rattle.bb_agenda_foci.specs.declared.activation.Activation.{Activation};
 ghost use Rattle.bb_agenda.specs.Fits.{Fits};
 ghost use Rattle.bb_agenda.specs.Rating.{rating_in};
 ghost use Rattle.bb_agenda.specs.Chosen.{chosen};
@@ -14,7 +14,7 @@ mod steps;
 
 use crate::status::Status;
 use crate::waiting::Waiting;
-use bb_foci::{Activation, RatedSource, Setting, Steering};
+use bb_agenda_foci::{Activation, RatedSource, Setting, Steering};
 use bb_schema::{SharedSchema, UnitId};
 use std::alloc::Global;
 use std::collections::BTreeSet;

@@ -1,7 +1,7 @@
 //! What a choice is, by any rating. Proofs about runs (bb_run) call it.
 
 ghost use Rattle.std.specs.Prelude.{◌≡◌, ◌<ℤ◌, ℤ, List, Contains, Some, None};
-ghost use Rattle.bb_foci.specs.declared.activation.Activation.{Activation};
+ghost use Rattle.bb_agenda_foci.specs.declared.activation.Activation.{Activation};
 ghost use Rattle.bb_agenda.specs.Chosen.{chosen, IsChosen};
 
 /// What is chosen is pending, rated at least the floor, and highest, of equals the earliest; and where nothing is

@@ -7,7 +7,7 @@ ghost use Rattle.bb_agenda.specs.proving.Ranks.{is_ranked};
 ghost use Rattle.bb_agenda.specs.proving.Best.{rate_by, precedes, StandsFor, IsFirst, better};
 
 use crate::rank::Rank;
-use bb_foci::Steering;
+use bb_agenda_foci::Steering;
 use std::collections::BTreeSet;
 
 /// A pending activation with its rating.

@@ -15,7 +15,7 @@ mod status;
 mod waiting;
 
 pub use agenda::{Agenda, NUMBER_LIMIT, PENDING_LIMIT};
-pub use bb_foci::{Activation, Focus, RatedSource};
+pub use bb_agenda_foci::{Activation, Focus, RatedSource};
 pub use choice::chosen_is_best;
 pub use fault::AddFault;
 pub use history::what_is_over_stays_over;

@@ -3,7 +3,7 @@
 ghost use Rattle.std.specs.Prelude.{◌≡◌};
 ghost use Rattle.bb_agenda.specs.proving.Ranks.{rank_of};
 
-use bb_foci::Activation;
+use bb_agenda_foci::Activation;
 use std::cmp::Reverse;
 
 /// The rank of an activation: the higher its base, the earlier, and of equals the lower its number. All foci that match

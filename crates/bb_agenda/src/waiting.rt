@@ -11,7 +11,7 @@ ghost use Rattle.bb_agenda.specs.Agenda.{number_of, has_number, is_of};
 ghost use Rattle.bb_agenda.specs.Changes.{other_than, rebased};
 ghost use Rattle.bb_agenda.specs.Chosen.{chosen};
 ghost use Rattle.bb_agenda.specs.Fits.{RisesBy};
-ghost use Rattle.bb_foci.specs.Rating.{rating};
+ghost use Rattle.bb_agenda_foci.specs.Rating.{rating};
 
 mod filing;
 
@@ -20,8 +20,8 @@ use crate::lists::{list_of, remove_from};
 use crate::order::rank_out;
 use crate::rank::Rank;
 use crate::row::Row;
+use bb_agenda_foci::{Activation, Steering};
 use bb_basis::Memory;
-use bb_foci::{Activation, Steering};
 use filing::{rebase, rerank, store};
 use std::alloc::Global;
 use std::collections::{BTreeMap, BTreeSet};
@@ -43,7 +43,7 @@ pub(crate) struct Waiting {
 impl Model for Waiting {
     ghost use Rattle.std.specs.Prelude.{List};
     ghost use Rattle.std.specs.Map.{values_of};
-    ghost use Rattle.bb_foci.specs.declared.activation.Activation.{Activation as Given};
+    ghost use Rattle.bb_agenda_foci.specs.declared.activation.Activation.{Activation as Given};
 
     ghost Value = { List Given };
 

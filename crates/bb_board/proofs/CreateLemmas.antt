@@ -5,7 +5,7 @@ use Rattle.std.proofs.lemmas.List.{length-map}
 use Rattle.std.specs.Prelude.{OnOk}
 use Rattle.bb_basis.specs.Results.{map_err}
 use Rattle.bb_basis.proofs.PositionLemmas.{position_within}
-use Rattle.bb_classes.specs.declared.class.Class.{Class}
+use Rattle.bb_schema_classes.specs.declared.class.Class.{Class}
 use Rattle.bb_schema.specs.Schema.{Schema, class_named}
 use Rattle.bb_units.specs.declared.fault.CreateFault.{CreateFault}
 use Rattle.bb_units.specs.declared.fault.CreateFault.TheVariants.{Full as NoMoreUnits, Memory as NoMemory}
@@ -13,9 +13,9 @@ use Rattle.bb_units.specs.Units.{next_number, is_full}
 use Rattle.bb_board.specs.declared.units_fault.UnitsFault.{UnitsFault}
 use Rattle.bb_board.specs.declared.units_fault.UnitsFault.TheVariants.{Memory}
 use Rattle.bb_board.specs.declared.units_fault.UnitsFlaw.TheVariants.{Full}
-use Rattle.bb_world.specs.State.{World}
+use Rattle.bb_board_state.specs.State.{World}
 use Rattle.bb_board.specs.UnitsFaults.{here, of_create_fault}
-use Rattle.bb_world.specs.World.{after_create}
+use Rattle.bb_board_state.specs.World.{after_create}
 use Rattle.bb_board.specs.Load.{with_unit}
 
 -- the same test decides whether there is a number and whether a unit is made

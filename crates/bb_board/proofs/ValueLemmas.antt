@@ -1,8 +1,8 @@
 -- What is given for slots, seen one by one.
 use Rattle.std.proofs.Common.{◌≡◌, ℕ, Bor, Bool, true, false, cond, List, [], ◌∷◌, map, find, Option, Some, None, option_map, refl, ap, ◌∙◌}
 use Rattle.std.specs.Str.{bytes_eq}
-use Rattle.bb_document.specs.declared.document.GivenEntry.{GivenEntry}
-use Rattle.bb_document.specs.UnitsDocument.{GivenDeclaration, given_declaration, value_declaration}
+use Rattle.bb_schema_form.specs.declared.document.GivenEntry.{GivenEntry}
+use Rattle.bb_schema_form.specs.UnitsDocument.{GivenDeclaration, given_declaration, value_declaration}
 use Rattle.bb_board.specs.Load.{given_for}
 
 module _ {X Y : Type 0} (view : X → Y) (test : Y → Bool) where

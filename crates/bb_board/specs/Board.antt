@@ -5,9 +5,9 @@ use Rattle.bb_schema.specs.Schema.{Schema}
 use Rattle.bb_units.specs.declared.fault.CreateFault.{CreateFault}
 use Rattle.bb_units.specs.declared.fault.CreateFault.TheVariants as creates
 use Rattle.bb_board.specs.declared.units_fault.UnitsFault.{UnitsFault}
-use Rattle.bb_world.specs.State.{World}
+use Rattle.bb_board_state.specs.State.{World}
 use Rattle.bb_board.specs.UnitsFaults.{is_memory}
-use Rattle.bb_world.specs.World.{empty_world, is_fresh as is_fresh_world}
+use Rattle.bb_board_state.specs.World.{empty_world, is_fresh as is_fresh_world}
 
 pub record Board : Type 0 where
   pub schema : Schema

@@ -7,26 +7,26 @@ use Rattle.std.specs.List.{list_all}
 use Rattle.std.specs.Option.{option_map_or}
 use Rattle.std.specs.Str.{bytes_eq}
 use Rattle.bb_basis.specs.Results.{◌>>=◌, ok_or, map_err, try_fold, try_fold_at}
-use Rattle.bb_document.specs.UnitsDocument.{GivenDeclaration, UnitDeclaration, FirstLinkDeclaration, MemberDeclaration, units_document_of}
-use Rattle.bb_document.specs.UnitsDocument.{ValueDeclaration, int_value, text_value, bool_value, interval_value}
-use Rattle.bb_document.specs.declared.fault.DocumentFault.{DocumentFault}
-use Rattle.bb_document.specs.declared.fault.DocumentFault.TheVariants as documents
-use Rattle.bb_classes.specs.declared.kind.Kind.{Kind as SlotKind}
-use Rattle.bb_classes.specs.declared.kind.Kind.TheVariants as kinds
-use Rattle.bb_classes.specs.declared.value.Value.{Value}
-use Rattle.bb_classes.specs.declared.value.Value.TheVariants as values
+use Rattle.bb_schema_form.specs.UnitsDocument.{GivenDeclaration, UnitDeclaration, FirstLinkDeclaration, MemberDeclaration, units_document_of}
+use Rattle.bb_schema_form.specs.UnitsDocument.{ValueDeclaration, int_value, text_value, bool_value, interval_value}
+use Rattle.bb_schema_form.specs.declared.fault.DocumentFault.{DocumentFault}
+use Rattle.bb_schema_form.specs.declared.fault.DocumentFault.TheVariants as documents
+use Rattle.bb_schema_classes.specs.declared.kind.Kind.{Kind as SlotKind}
+use Rattle.bb_schema_classes.specs.declared.kind.Kind.TheVariants as kinds
+use Rattle.bb_schema_classes.specs.declared.value.Value.{Value}
+use Rattle.bb_schema_classes.specs.declared.value.Value.TheVariants as values
 use Rattle.bb_schema.specs.Schema.{Schema, class_named, slot_named, space_named, label_named, name_of_slot, kind_of_slot, default_of, slots_of}
 use Rattle.bb_units.specs.Units.{is_full}
 use Rattle.bb_board.specs.declared.units_fault.UnitsFault.{UnitsFault}
 use Rattle.bb_board.specs.declared.units_fault.UnitsFault.TheVariants.{At, Memory}
 use Rattle.bb_board.specs.declared.units_fault.UnitsFlaw.TheVariants.{Json, Shape, Twice, Unknown, Kind, Full}
-use Rattle.bb_document.specs.declared.place.ListKey.TheVariants as lists
-use Rattle.bb_world.specs.State.{World}
-use Rattle.bb_world.specs.World.{empty_world, class_at, after_create, after_set}
+use Rattle.bb_schema_form.specs.declared.place.ListKey.TheVariants as lists
+use Rattle.bb_board_state.specs.State.{World}
+use Rattle.bb_board_state.specs.World.{empty_world, class_at, after_create, after_set}
 use Rattle.bb_board.specs.UnitsFaults.{here, inside, of_reason}
-use Rattle.bb_world.specs.Links.{after_link}
-use Rattle.bb_world.specs.May.{may_set, may_link}
-use Rattle.bb_world.specs.Spaces.{may_enter, after_enter}
+use Rattle.bb_board_state.specs.Links.{after_link}
+use Rattle.bb_board_state.specs.May.{may_set, may_link}
+use Rattle.bb_board_state.specs.Spaces.{may_enter, after_enter}
 use Rattle.bb_board.specs.Board.{Board, with_world}
 
 -- a fault of the document as one of its units

@@ -2,16 +2,16 @@
 use Rattle.std.specs.Prelude.{ℕ, Bool, true, false}
 use Rattle.bb_units.specs.declared.fault.CreateFault.{CreateFault}
 use Rattle.bb_units.specs.declared.fault.CreateFault.TheVariants.{Full as NoMoreUnits, Memory as NoMemory}
-use Rattle.bb_world.specs.declared.reason.Reason.{Reason}
-use Rattle.bb_world.specs.declared.reason.Reason.TheVariants as reasons
+use Rattle.bb_board_state.specs.declared.reason.Reason.{Reason}
+use Rattle.bb_board_state.specs.declared.reason.Reason.TheVariants as reasons
 use Rattle.bb_board.specs.declared.units_fault.UnitsFault.{UnitsFault}
 use Rattle.bb_board.specs.declared.units_fault.UnitsFault.TheVariants.{At, Memory}
 use Rattle.bb_board.specs.declared.units_fault.UnitsFlaw.{UnitsFlaw}
 use Rattle.bb_board.specs.declared.units_fault.UnitsFlaw.TheVariants.{Json, Shape, Unknown, Twice, Kind, LinkClass}
 use Rattle.bb_board.specs.declared.units_fault.UnitsFlaw.TheVariants.{Space, Full}
-use Rattle.bb_document.specs.Places.{inside_place}
-use Rattle.bb_document.specs.declared.place.ListKey.{ListKey}
-use Rattle.bb_document.specs.declared.place.DocumentPlace.TheVariants.{Whole}
+use Rattle.bb_schema_form.specs.Places.{inside_place}
+use Rattle.bb_schema_form.specs.declared.place.ListKey.{ListKey}
+use Rattle.bb_schema_form.specs.declared.place.DocumentPlace.TheVariants.{Whole}
 
 abbrev pub flaw_number : UnitsFlaw → ℕ
 flaw_number Json = 1

@@ -1,5 +1,5 @@
-//! The blackboard. Here stands what can be asked of it, in `changes` what changes it. The machine changes it (bb_step),
-//! and a run takes its notes (bb_run).
+//! The blackboard. Here stands what can be asked of it, in `changes` what changes it. The machine changes it
+//! (bb_machine_step), and a run takes its notes (bb_run).
 
 ghost use Rattle.std.specs.Prelude.{◌≡◌, ◌≤◌, ◌↔◌, Ok, Some, length, map, slice_get, IfOk, IsTrue, IsSome};
 ghost use Rattle.bb_pattern.specs.Fits.{query_fits};
@@ -8,18 +8,18 @@ ghost use Rattle.bb_units.specs.Layout.{layout_of, can_hold};
 ghost use Rattle.bb_units.specs.Units.{is_live, class_of, value_of, has_slot};
 ghost use Rattle.bb_units.specs.declared.units.TheConstants.{UNIT_LIMIT};
 ghost use Rattle.bb_links.specs.Links.{ends};
-ghost use Rattle.bb_world.specs.Answer.{answer};
-ghost use Rattle.bb_world.specs.World.{class_at};
-ghost use Rattle.bb_world.specs.May.{has_link, may_set, may_link, was};
-ghost use Rattle.bb_world.specs.Spaces.{may_enter};
-ghost use Rattle.bb_world.specs.Fits.{Fits, is_said_of};
+ghost use Rattle.bb_board_state.specs.Answer.{answer};
+ghost use Rattle.bb_board_state.specs.World.{class_at};
+ghost use Rattle.bb_board_state.specs.May.{has_link, may_set, may_link, was};
+ghost use Rattle.bb_board_state.specs.Spaces.{may_enter};
+ghost use Rattle.bb_board_state.specs.Fits.{Fits, is_said_of};
 ghost use Rattle.bb_board.specs.Board.{new_board, is_fresh};
 
 mod changes;
 
 use bb_basis::Memory;
+use bb_board_state::{DimValue, Query, Reason, Said, World};
 use bb_schema::{ClassId, Schema, SharedSchema, SlotId, SpaceId, UnitId, Value};
-use bb_world::{DimValue, Query, Reason, Said, World};
 use std::alloc::Global;
 use std::marker::Model;
 

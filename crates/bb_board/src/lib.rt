@@ -7,8 +7,8 @@ mod unit_names;
 mod units_fault;
 mod values;
 
-pub use bb_document::{DocumentPlace, ListItem, ListKey};
+pub use bb_board_state::{Change, ChangeKind, Event, Note, Reason, Said};
 pub use bb_schema::SharedSchema;
-pub use bb_world::{Change, ChangeKind, Event, Note, Reason, Said};
+pub use bb_schema_form::{DocumentPlace, ListItem, ListKey};
 pub use board::Board;
 pub use units_fault::{UnitsFault, UnitsFlaw};

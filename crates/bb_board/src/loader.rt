@@ -2,10 +2,10 @@
 
 ghost use Rattle.std.specs.Prelude.{◌≡◌, ◌<◌, length, map, IfOk, OnOk};
 ghost use Rattle.bb_basis.specs.Results.{Gives, map_err, try_fold_at};
-ghost use Rattle.bb_document.specs.UnitsDocument.{units_declaration, first_link_declaration, member_declaration, units_document_of};
+ghost use Rattle.bb_schema_form.specs.UnitsDocument.{units_declaration, first_link_declaration, member_declaration, units_document_of};
 ghost use Rattle.bb_board.specs.declared.units_fault.UnitsFault.TheVariants.{Memory as OutOfMemory};
-ghost use Rattle.bb_world.specs.Contents.{new_world};
-ghost use Rattle.bb_document.specs.declared.place.ListKey.TheVariants as lists;
+ghost use Rattle.bb_board_state.specs.Contents.{new_world};
+ghost use Rattle.bb_schema_form.specs.declared.place.ListKey.TheVariants as lists;
 ghost use Rattle.bb_board.specs.UnitsFaults.{inside};
 ghost use Rattle.bb_board.specs.Load.{fault_of, link_after, load, member_after, with_unit};
 
@@ -13,9 +13,11 @@ use crate::unit_names::UnitNames;
 use crate::units_fault::{UnitsFault, UnitsFlaw, placed};
 use crate::values::set_values;
 use bb_basis::Memory;
-use bb_document::{DocumentFault, FirstLinkEntry, ListKey, MemberEntry, UnitEntry, UnitsDocument};
+use bb_board_state::World;
 use bb_schema::{ClassId, Schema, SharedSchema, UnitId};
-use bb_world::World;
+use bb_schema_form::{
+    DocumentFault, FirstLinkEntry, ListKey, MemberEntry, UnitEntry, UnitsDocument,
+};
 use std::alloc::Global;
 
 /// Creates a unit of a class that is there, where there is room, and returns its number.
@@ -36,7 +38,7 @@ pub(crate) struct Progress {
 }
 
 impl Progress {
-    ghost use Rattle.bb_document.specs.UnitsDocument.{unit_declaration};
+    ghost use Rattle.bb_schema_form.specs.UnitsDocument.{unit_declaration};
     ghost use Rattle.bb_board.specs.Load.{no_progress, entry_after};
     ghost use Rattle.bb_board.specs.proving.Reading.{progress_of};
 

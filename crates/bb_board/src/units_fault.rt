@@ -6,9 +6,9 @@ ghost use Rattle.bb_board.specs.declared.units_fault.UnitsFault.TheVariants.{Mem
 ghost use Rattle.bb_board.specs.UnitsFaults.{flaw_number, fault_number, is_memory};
 ghost use Rattle.bb_board.specs.UnitsFaults.{here, inside, of_create_fault, of_reason};
 
-use bb_document::{DocumentPlace, ListKey};
+use bb_board_state::Reason;
+use bb_schema_form::{DocumentPlace, ListKey};
 use bb_units::CreateFault;
-use bb_world::Reason;
 use std::alloc::{AllocError, AllocFailed};
 use thiserror::Error;
 

@@ -3,7 +3,7 @@
 ghost use Rattle.std.specs.Prelude.{◌≡◌, ◌<◌, IfOk, OnOk, length, map, option_map, is_some};
 ghost use Rattle.std.specs.List.{list_all};
 ghost use Rattle.bb_basis.specs.Results.{Gives, try_fold};
-ghost use Rattle.bb_document.specs.UnitsDocument.{given_declaration, value_declaration};
+ghost use Rattle.bb_schema_form.specs.UnitsDocument.{given_declaration, value_declaration};
 ghost use Rattle.bb_schema.specs.Schema.{slots_of};
 ghost use Rattle.bb_board.specs.declared.units_fault.UnitsFault.TheVariants.{Memory as OutOfMemory};
 ghost use Rattle.bb_board.specs.Load.{are_slots, given_at, given_for, if_given, is_ordinary_in, slot_after, value_at, value_in};
@@ -11,9 +11,9 @@ ghost use Rattle.bb_board.specs.Load.{with_value, with_values};
 
 use crate::units_fault::{UnitsFault, UnitsFlaw};
 use bb_basis::Text;
-use bb_document::{GivenEntry, GivenValue};
+use bb_board_state::World;
 use bb_schema::{ClassId, Kind, Schema, SlotId, UnitId, Value};
-use bb_world::World;
+use bb_schema_form::{GivenEntry, GivenValue};
 use std::alloc::{AllocError, Global};
 
 /// Whether the name is that of an ordinary slot of a class.

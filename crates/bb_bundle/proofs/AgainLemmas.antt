@@ -16,7 +16,7 @@ use Rattle.bb_bundle.specs.declared.keyword.Keyword.TheVariants as keywords
 use Rattle.bb_bundle.specs.declared.partial.PartialSource.{PartialSource}
 use Rattle.bb_bundle.specs.declared.source_code.ActDraft.{ActDraft}
 use Rattle.bb_bundle.specs.declared.source_code.ActDraft.TheVariants.{Do, Native}
-use Rattle.bb_tree.specs.declared.source_text.ClauseText.{ClauseText}
+use Rattle.bb_lang_tree.specs.declared.source_text.ClauseText.{ClauseText}
 use Rattle.bb_bundle.specs.declared.source_code.ReactionDraft.{ReactionDraft}
 use Rattle.bb_bundle.specs.declared.source_code.SourceDraft.{SourceDraft}
 use Rattle.bb_bundle.specs.Spelled.{is_clause, are_clauses, is_reaction, is_spelled, IsSpelled}

@@ -3,10 +3,10 @@ use Rattle.std.proofs.Common.{◌≡◌, ℕ, true, false, cond, List, [], ◌�
 use Rattle.std.specs.Prelude.{◌==◌, codes, All}
 use Rattle.std.proofs.lemmas.Bool.{and_parts, and_from}
 use Rattle.bb_basis.specs.Names.{is_name}
-use Rattle.bb_tree.specs.declared.source_text.ChangeText.{ChangeText}
-use Rattle.bb_tree.specs.declared.source_text.ChangeText.TheVariants.{Create, Delete, Update, Link, Unlink, Enter, Leave}
-use Rattle.bb_tree.specs.declared.source_text.ClauseText.{ClauseText}
-use Rattle.bb_tree.specs.declared.source_text.ClauseText.TheVariants.{Change, Quiescence}
+use Rattle.bb_lang_tree.specs.declared.source_text.ChangeText.{ChangeText}
+use Rattle.bb_lang_tree.specs.declared.source_text.ChangeText.TheVariants.{Create, Delete, Update, Link, Unlink, Enter, Leave}
+use Rattle.bb_lang_tree.specs.declared.source_text.ClauseText.{ClauseText}
+use Rattle.bb_lang_tree.specs.declared.source_text.ClauseText.TheVariants.{Change, Quiescence}
 use Rattle.bb_bundle.specs.Spelled.{is_change, is_clause}
 use Rattle.bb_bundle.specs.Clauses.{unit_change, slot_change, space_change, split_dot, unit_clause, change_clause, slot_clause, space_clause, dotted_clause, unit_or_slot_clause, subject_clause, quiescence_clause, clause_of}
 use Rattle.bb_bundle.specs.Written.{Words, dotted, change_words, clause_words}

@@ -2,7 +2,7 @@
 use Rattle.std.proofs.Common.{◌≡◌, [], ◌∷◌, ◌++◌, Some, None, ap, ◌∙◌}
 use Rattle.bb_code.specs.Code.{Code}
 use Rattle.bb_bundle.specs.declared.partial.PartialSource.{PartialSource}
-use Rattle.bb_tree.specs.declared.source_text.ClauseText.{ClauseText}
+use Rattle.bb_lang_tree.specs.declared.source_text.ClauseText.{ClauseText}
 use Rattle.bb_bundle.specs.declared.source_code.ReactionDraft.{ReactionDraft}
 use Rattle.bb_bundle.specs.Partial.{one_more, with_clause_of, with_clause}
 

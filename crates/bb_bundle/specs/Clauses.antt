@@ -2,11 +2,11 @@
 use Rattle.std.specs.Prelude.{ℕ, ◌==◌, List, [], ◌∷◌, Option, Some, None, option_map, codes, if◌then◌else◌}
 use Rattle.std.specs.Str.{bytes_eq}
 use Rattle.bb_basis.specs.Names.{is_name}
-use Rattle.bb_tree.specs.declared.source_text.ChangeText.{ChangeText}
-use Rattle.bb_tree.specs.declared.source_text.ChangeText.TheVariants.{Create, Delete, Update, Link, Unlink}
-use Rattle.bb_tree.specs.declared.source_text.ChangeText.TheVariants.{Enter, Leave}
-use Rattle.bb_tree.specs.declared.source_text.ClauseText.{ClauseText}
-use Rattle.bb_tree.specs.declared.source_text.ClauseText.TheVariants.{Change, Quiescence}
+use Rattle.bb_lang_tree.specs.declared.source_text.ChangeText.{ChangeText}
+use Rattle.bb_lang_tree.specs.declared.source_text.ChangeText.TheVariants.{Create, Delete, Update, Link, Unlink}
+use Rattle.bb_lang_tree.specs.declared.source_text.ChangeText.TheVariants.{Enter, Leave}
+use Rattle.bb_lang_tree.specs.declared.source_text.ClauseText.{ClauseText}
+use Rattle.bb_lang_tree.specs.declared.source_text.ClauseText.TheVariants.{Change, Quiescence}
 
 -- `create` or `delete`: what happens to a unit as a whole
 unfoldable pub unit_change : List ℕ → Option ChangeText

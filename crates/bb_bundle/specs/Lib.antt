@@ -19,5 +19,5 @@ pub mod Written
 -- for models and private contracts alone
 pub mod proving
 -- the clauses of a source
-pub use Rattle.bb_tree.specs.declared.source_text.ChangeText
-pub use Rattle.bb_tree.specs.declared.source_text.ClauseText
+pub use Rattle.bb_lang_tree.specs.declared.source_text.ChangeText
+pub use Rattle.bb_lang_tree.specs.declared.source_text.ClauseText

@@ -7,7 +7,7 @@ use Rattle.bb_bundle.specs.declared.keyword.Keyword.TheVariants.{When, Require, 
 use Rattle.bb_bundle.specs.declared.keyword.Keyword.TheVariants.{Native}
 use Rattle.bb_bundle.specs.declared.partial.PartialSource.{PartialSource}
 use Rattle.bb_bundle.specs.declared.source_code.ActDraft.{ActDraft}
-use Rattle.bb_tree.specs.declared.source_text.ClauseText.{ClauseText}
+use Rattle.bb_lang_tree.specs.declared.source_text.ClauseText.{ClauseText}
 use Rattle.bb_bundle.specs.declared.source_code.ReactionDraft.{ReactionDraft}
 use Rattle.bb_bundle.specs.declared.source_code.SourceDraft.{SourceDraft}
 

@@ -2,11 +2,11 @@
 use Rattle.std.specs.Prelude.{◌≡◌, Bool, true, ◌&&◌, nat_le, List, length, Option, Some, None, if◌then◌else◌}
 use Rattle.std.specs.List.{list_all}
 use Rattle.bb_basis.specs.Names.{is_name}
-use Rattle.bb_tree.specs.declared.source_text.ChangeText.{ChangeText}
-use Rattle.bb_tree.specs.declared.source_text.ChangeText.TheVariants.{Create, Delete, Update, Link, Unlink}
-use Rattle.bb_tree.specs.declared.source_text.ChangeText.TheVariants.{Enter, Leave}
-use Rattle.bb_tree.specs.declared.source_text.ClauseText.{ClauseText}
-use Rattle.bb_tree.specs.declared.source_text.ClauseText.TheVariants.{Change, Quiescence}
+use Rattle.bb_lang_tree.specs.declared.source_text.ChangeText.{ChangeText}
+use Rattle.bb_lang_tree.specs.declared.source_text.ChangeText.TheVariants.{Create, Delete, Update, Link, Unlink}
+use Rattle.bb_lang_tree.specs.declared.source_text.ChangeText.TheVariants.{Enter, Leave}
+use Rattle.bb_lang_tree.specs.declared.source_text.ClauseText.{ClauseText}
+use Rattle.bb_lang_tree.specs.declared.source_text.ClauseText.TheVariants.{Change, Quiescence}
 use Rattle.bb_bundle.specs.declared.source_code.ReactionDraft.{ReactionDraft}
 use Rattle.bb_bundle.specs.declared.source_code.SourceDraft.{SourceDraft}
 

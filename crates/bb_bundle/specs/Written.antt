@@ -7,11 +7,11 @@ use Rattle.bb_code.specs.Code.{Code}
 use Rattle.bb_code.specs.Spelling.{spelling}
 use Rattle.bb_bundle.specs.declared.source_code.ActDraft.{ActDraft}
 use Rattle.bb_bundle.specs.declared.source_code.ActDraft.TheVariants.{Do, Native}
-use Rattle.bb_tree.specs.declared.source_text.ChangeText.{ChangeText}
-use Rattle.bb_tree.specs.declared.source_text.ChangeText.TheVariants.{Create, Delete, Update, Link, Unlink}
-use Rattle.bb_tree.specs.declared.source_text.ChangeText.TheVariants.{Enter, Leave}
-use Rattle.bb_tree.specs.declared.source_text.ClauseText.{ClauseText}
-use Rattle.bb_tree.specs.declared.source_text.ClauseText.TheVariants.{Change, Quiescence}
+use Rattle.bb_lang_tree.specs.declared.source_text.ChangeText.{ChangeText}
+use Rattle.bb_lang_tree.specs.declared.source_text.ChangeText.TheVariants.{Create, Delete, Update, Link, Unlink}
+use Rattle.bb_lang_tree.specs.declared.source_text.ChangeText.TheVariants.{Enter, Leave}
+use Rattle.bb_lang_tree.specs.declared.source_text.ClauseText.{ClauseText}
+use Rattle.bb_lang_tree.specs.declared.source_text.ClauseText.TheVariants.{Change, Quiescence}
 use Rattle.bb_bundle.specs.declared.source_code.ReactionDraft.{ReactionDraft}
 use Rattle.bb_bundle.specs.declared.source_code.SourceDraft.{SourceDraft}
 

@@ -6,7 +6,7 @@ ghost use Rattle.bb_bundle.specs.Clauses.{subject_clause, space_clause, quiescen
 ghost use Rattle.bb_bundle.specs.Clauses.{clause_of};
 
 use bb_basis::{Text, is_name};
-use bb_tree::{ChangeText, ClauseText};
+use bb_lang_tree::{ChangeText, ClauseText};
 use std::alloc::{AllocError, Global};
 
 #[tactic(auto, unfolding(crate::specs::Clauses::unit_change))]

@@ -13,7 +13,7 @@ mod source_code;
 mod spelled;
 mod writer;
 
-pub use bb_tree::{ChangeText, ClauseText};
+pub use bb_lang_tree::{ChangeText, ClauseText};
 pub use fault::BundleFault;
 pub use parser::unbundle;
 pub use source_code::{ActDraft, ReactionDraft, SourceCode, SourceDraft};

@@ -9,7 +9,7 @@ use crate::keyword::Keyword;
 use crate::source_code::{ActDraft, ReactionDraft, SourceDraft};
 use bb_basis::{Items, Text};
 use bb_code::Code;
-use bb_tree::ClauseText;
+use bb_lang_tree::ClauseText;
 use std::alloc::AllocError;
 
 /// What was read so far of a source. A part that is there was begun, and the last of them may get more clauses.

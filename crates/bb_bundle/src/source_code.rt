@@ -7,7 +7,7 @@ ghost use Rattle.bb_bundle.specs.Spelled.{IsSpelled, if_spelled};
 use crate::spelled::is_spelled;
 use bb_basis::{Items, Text};
 use bb_code::Code;
-use bb_tree::ClauseText;
+use bb_lang_tree::ClauseText;
 use std::marker::Model;
 
 /// What a source does about its pending activations when certain events happen: `C` is the code.

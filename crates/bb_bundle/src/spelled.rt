@@ -7,7 +7,7 @@ ghost use Rattle.bb_bundle.specs.Spelled.{is_change, is_clause, are_clauses, is_
 use crate::source_code::{ReactionDraft, SourceDraft};
 use bb_basis::is_name;
 use bb_code::Code;
-use bb_tree::{ChangeText, ClauseText};
+use bb_lang_tree::{ChangeText, ClauseText};
 
 fn is_change(change: &ChangeText) -> bool
     ensures { result ≡ is_change change.now }

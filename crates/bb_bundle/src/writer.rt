@@ -2,7 +2,7 @@
 
 ghost use Rattle.std.specs.Prelude.{◌≡◌, ◌++◌, ◌∷◌, [], map, All, IfOk, OnOk, string_bytes};
 ghost use Rattle.hex.specs.Hex.{IsBytes, encode_lower};
-ghost use Rattle.bb_tree.specs.declared.source_text.ClauseText.TheVariants.{Change};
+ghost use Rattle.bb_lang_tree.specs.declared.source_text.ClauseText.TheVariants.{Change};
 ghost use Rattle.bb_bundle.specs.Bundle.{sources_of};
 ghost use Rattle.bb_bundle.specs.Written.{line_text, change_words, clause_words, code_digits, code_lines};
 ghost use Rattle.bb_bundle.specs.Written.{reaction_lines, act_words, header_words, source_lines, text_of, bundle_text};
@@ -11,7 +11,7 @@ ghost use Rattle.bb_bundle.specs.proving.Again.{IsSourceAgain, IsSpelledAgain};
 
 use crate::source_code::{ActDraft, ReactionDraft, SourceCode, SourceDraft};
 use bb_code::Code;
-use bb_tree::{ChangeText, ClauseText};
+use bb_lang_tree::{ChangeText, ClauseText};
 use std::alloc::{AllocError, Global};
 use std::fmt::Write;
 

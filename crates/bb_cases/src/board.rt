@@ -1,7 +1,7 @@
 //! The blackboards of cases, each made anew for a case. Executions use them.
 
 use bb_board::Board;
-use bb_case::{Fault, Scene};
+use bb_cases_format::{Fault, Scene};
 use bb_schema::{Schema, UnitId};
 use std::alloc::Global;
 

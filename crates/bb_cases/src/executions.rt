@@ -2,8 +2,8 @@
 //! it.
 
 use bb_board::Board;
-use bb_case::{Code, Fault, number};
-use bb_step::{Answer, Entry, Outcome, Stop, execute};
+use bb_cases_format::{Code, Fault, number};
+use bb_machine_step::{Answer, Entry, Outcome, Stop, execute};
 use bb_trace::add_board_note;
 use std::alloc::{AllocError, Global};
 use std::fmt::Write;

@@ -4,7 +4,7 @@
 ghost use Rattle.std.specs.Prelude.{◌≡◌, Some, true, false, map, IfOk};
 ghost use Rattle.bb_main.specs.Roster.{all_open};
 
-use bb_case::{Difference, Entry, Fault, Header, Scope, expanded, number};
+use bb_cases_format::{Difference, Entry, Fault, Header, Scope, expanded, number};
 use bb_main::{
     Intake, Mode, NativeSource, Options, Out, ProgramNative, Served, program_natives, serve_with,
 };

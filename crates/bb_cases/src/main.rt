@@ -12,7 +12,7 @@ mod tables;
 mod verified;
 
 use crate::suite::Suite;
-use bb_case::named_files;
+use bb_cases_format::named_files;
 use std::process::ExitCode;
 use std::{fs, io};
 

@@ -1,6 +1,6 @@
 //! The calls of schemas, as lines ask for them. Cases of schemas (schemas.rt) write their answers.
 
-use bb_case::{Fault, number};
+use bb_cases_format::{Fault, number};
 use bb_schema::{CoupleId, Dim, Kind, Link, Schema, Side, SlotId, Value};
 use bb_trace::add_value;
 use std::alloc::{AllocError, Global};

@@ -1,7 +1,7 @@
 //! Documents of schemas, and what the calls of a schema answer. The suite calls it for a case.
 
 use crate::schema_calls::{add_answer, answer_of};
-use bb_case::{Difference, Entry, Fault, Scope, expanded_text};
+use bb_cases_format::{Difference, Entry, Fault, Scope, expanded_text};
 use bb_schema::{Schema, SchemaFault};
 use std::alloc::Global;
 

@@ -4,7 +4,7 @@ use crate::inputs::compare_input;
 use crate::schemas::compare_schema;
 use crate::tables::Table;
 use crate::verified::compare_code;
-use bb_case::{
+use bb_cases_format::{
     Difference, Entries, Entry, Fault, Meaning, Names, Report, Scene, Scope, Spot, expanded,
     expanded_text, is_shared, rows_of,
 };

@@ -4,7 +4,7 @@ use crate::board::{board_of, schema_of};
 use crate::executions::{add_execution, entry_of};
 use crate::inputs::Serving;
 use crate::verified::{add_verdict, part_of};
-use bb_case::{
+use bb_cases_format::{
     AsmFault, Code, CodeFault, Difference, Entry, Fault, Names, Row, Scene, Scope, assemble,
     bytes_of, code_of, expanded, expanded_text, number, respelled,
 };

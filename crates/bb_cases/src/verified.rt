@@ -2,7 +2,7 @@
 
 use crate::board::{board_of, schema_of};
 use crate::executions::{add_execution, entry_of};
-use bb_case::{
+use bb_cases_format::{
     Difference, Entry, Fault, Header, Kind, Names, Scene, Scope, code_of, expanded_text, number,
     write_kind,
 };

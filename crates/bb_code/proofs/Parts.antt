@@ -2,9 +2,9 @@
 use Rattle.std.proofs.Common.{◌≡◌, ℕ, suc, ◌-◌, ◌<◌, ◌≤◌, leb, inl, inr, List, [], ◌∷◌, length, Some, None, refl, sym, ap, ◌∙◌, arith}
 use Rattle.std.proofs.lemmas.Bool.{leb-true, leb-false, cases_Bool}
 use Rattle.std.proofs.lemmas.Option.{cond_some, none-some}
-use Rattle.bb_op.specs.Fits.{left_of}
-use Rattle.bb_op.specs.Trees.{Tree, all, and_of, or_of, not_of, ordered, is_label, node_count, nodes_count}
-use Rattle.bb_op.specs.View.{trees_of}
+use Rattle.bb_code_ops.specs.Fits.{left_of}
+use Rattle.bb_code_ops.specs.Trees.{Tree, all, and_of, or_of, not_of, ordered, is_label, node_count, nodes_count}
+use Rattle.bb_code_ops.specs.View.{trees_of}
 use Rattle.bb_code.specs.Spelling.{part_count}
 
 pub few_of_and : (p : Tree) (parts slice : List Tree) → and_of (trees_of parts) ≡ p → slice ≡ parts → nodes_count (trees_of slice) < node_count p

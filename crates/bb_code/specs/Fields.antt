@@ -5,13 +5,13 @@ use Rattle.std.specs.Prelude.{if◌then◌else◌, slice_get}
 use Rattle.std.specs.Int.{w16, w64, from_be_bytes, cast_signed}
 use Rattle.std.specs.Str.{is_utf8}
 use Rattle.bb_basis.specs.Results.{◌>>=◌, ok_or}
-use Rattle.bb_op.specs.declared.parts.TheConstants.{STACK_LIMIT}
+use Rattle.bb_code_ops.specs.declared.parts.TheConstants.{STACK_LIMIT}
 use Rattle.bb_code.specs.declared.fault.CodeFault.{CodeFault}
 use Rattle.bb_code.specs.declared.fault.CodeFault.TheVariants.{Short, Operand, Limit}
-use Rattle.bb_op.specs.declared.frame.FrameEntry.{FrameEntry}
-use Rattle.bb_op.specs.declared.frame.Kind.{Kind}
-use Rattle.bb_op.specs.declared.frame.Kind.TheVariants as kinds
-use Rattle.bb_op.specs.declared.frame.Loop.{Loop}
+use Rattle.bb_code_ops.specs.declared.frame.FrameEntry.{FrameEntry}
+use Rattle.bb_code_ops.specs.declared.frame.Kind.{Kind}
+use Rattle.bb_code_ops.specs.declared.frame.Kind.TheVariants as kinds
+use Rattle.bb_code_ops.specs.declared.frame.Loop.{Loop}
 use Rattle.bb_code.specs.declared.table.KindForm.{KindForm}
 use Rattle.bb_code.specs.declared.table.KindForm.TheVariants as forms
 use Rattle.bb_code.specs.declared.table.TheConstants.{KINDS}

@@ -1,12 +1,12 @@
 -- Reading a query and its pattern at the front of bytes.
 use Rattle.std.specs.Prelude.{ℕ, zero, suc, List, Result, Ok, Err, ◌==◌, if◌then◌else◌, slice_get}
 use Rattle.bb_basis.specs.Results.{◌>>=◌, ok_or}
-use Rattle.bb_op.specs.PatternLimits.{NODE_LIMIT, OPERAND_LIMIT}
-use Rattle.bb_op.specs.Query.{Query}
-use Rattle.bb_op.specs.OperandKind.{OperandKind}
-use Rattle.bb_op.specs.OperandKind.TheVariants.{Interval, Label}
-use Rattle.bb_op.specs.Trees.{Tree, all, and_of, or_of, not_of, ordered, is_label}
-use Rattle.bb_op.specs.View.{trees_of}
+use Rattle.bb_code_ops.specs.PatternLimits.{NODE_LIMIT, OPERAND_LIMIT}
+use Rattle.bb_code_ops.specs.Query.{Query}
+use Rattle.bb_code_ops.specs.OperandKind.{OperandKind}
+use Rattle.bb_code_ops.specs.OperandKind.TheVariants.{Interval, Label}
+use Rattle.bb_code_ops.specs.Trees.{Tree, all, and_of, or_of, not_of, ordered, is_label}
+use Rattle.bb_code_ops.specs.View.{trees_of}
 use Rattle.bb_code.specs.declared.fault.CodeFault.{CodeFault}
 use Rattle.bb_code.specs.declared.fault.CodeFault.TheVariants.{Operand, Limit}
 use Rattle.bb_code.specs.declared.table.NodeForm.{NodeForm}

@@ -1,11 +1,11 @@
 -- Reading a code from the front, with the first fault that is met.
 use Rattle.std.specs.Prelude.{ℕ, List, [], ◌∷◌, length, Result, Ok, Err, ◌==◌, if◌then◌else◌}
 use Rattle.bb_basis.specs.Results.{◌>>=◌}
-use Rattle.bb_op.specs.declared.parts.TheConstants.{LOCAL_LIMIT, TEXT_COUNT_LIMIT, QUERY_LIMIT, FRAME_LIMIT}
-use Rattle.bb_op.specs.declared.parts.TheConstants.{LOOP_LIMIT, OP_LIMIT}
+use Rattle.bb_code_ops.specs.declared.parts.TheConstants.{LOCAL_LIMIT, TEXT_COUNT_LIMIT, QUERY_LIMIT, FRAME_LIMIT}
+use Rattle.bb_code_ops.specs.declared.parts.TheConstants.{LOOP_LIMIT, OP_LIMIT}
 use Rattle.bb_code.specs.declared.fault.CodeFault.{CodeFault}
 use Rattle.bb_code.specs.declared.fault.CodeFault.TheVariants.{Magic, Version, Short, Trailing}
-use Rattle.bb_op.specs.Code.{Code}
+use Rattle.bb_code_ops.specs.Code.{Code}
 use Rattle.bb_code.specs.Fields.{Field, list_at, short_count_at, text_at, frame_at, loop_at}
 use Rattle.bb_code.specs.Patterns.{query_at}
 use Rattle.bb_code.specs.Ops.{op_at}

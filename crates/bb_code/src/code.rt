@@ -1,10 +1,10 @@
 //! A code in memory. Whoever makes or executes codes (bb_bundle, bb_verify) calls it.
 
 ghost use Rattle.std.specs.Prelude.{◌≡◌, ◌↔◌, IsSome, IfSome, slice_get};
-ghost use Rattle.bb_op.specs.Code.{IsCode};
+ghost use Rattle.bb_code_ops.specs.Code.{IsCode};
 
 use bb_basis::Text;
-use bb_op::{CodeParts, FrameEntry, Loop, Op, Query, are_parts};
+use bb_code_ops::{CodeParts, FrameEntry, Loop, Op, Query, are_parts};
 use std::marker::Model;
 
 /// A code that bytes can spell. Contracts see its parts.
@@ -14,8 +14,8 @@ pub struct Code {
 }
 
 impl Model for Code {
-    ghost use Rattle.bb_op.specs.Code as code;
-    ghost use Rattle.bb_op.specs.proving.Codes.{parts_code};
+    ghost use Rattle.bb_code_ops.specs.Code as code;
+    ghost use Rattle.bb_code_ops.specs.proving.Codes.{parts_code};
 
     ghost Value = { code.Code };
 

@@ -4,8 +4,8 @@
 
 ghost use Rattle.std.specs.Prelude.{◌≡◌, Ok, IfOk};
 ghost use Rattle.bb_basis.specs.Results.{Gives};
-ghost use Rattle.bb_op.specs.Code as code;
-ghost use Rattle.bb_op.specs.Answers.{map_ok};
+ghost use Rattle.bb_code_ops.specs.Code as code;
+ghost use Rattle.bb_code_ops.specs.Answers.{map_ok};
 ghost use Rattle.bb_code.specs.Spelling.{spelling};
 ghost use Rattle.bb_code.specs.Reading.{expected_at, head_at, code_of};
 
@@ -16,7 +16,7 @@ mod patterns;
 
 use crate::code::Code;
 use crate::fault::CodeFault;
-use bb_op::{CodeParts, LOCAL_LIMIT, LOOP_LIMIT, OP_LIMIT, QUERY_LIMIT, TEXT_COUNT_LIMIT};
+use bb_code_ops::{CodeParts, LOCAL_LIMIT, LOOP_LIMIT, OP_LIMIT, QUERY_LIMIT, TEXT_COUNT_LIMIT};
 use fields::{read_list, read_short_count};
 use frames::read_frames;
 use std::alloc::Global;

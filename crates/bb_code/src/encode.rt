@@ -2,15 +2,15 @@
 
 ghost use Rattle.std.specs.Prelude.{◌≡◌, ◌∷◌, ◌++◌, ◌<◌, ◌^◌, length, All, OnOk, IfOk};
 ghost use Rattle.std.specs.List.{flat_map};
-ghost use Rattle.bb_op.specs.Trees.{node_count, nodes_count};
-ghost use Rattle.bb_op.specs.View.{trees_of};
+ghost use Rattle.bb_code_ops.specs.Trees.{node_count, nodes_count};
+ghost use Rattle.bb_code_ops.specs.View.{trees_of};
 ghost use Rattle.bb_code.specs.Spelling.{two_bytes, eight_bytes, listed, short_listed, part_count, tree_bytes};
 ghost use Rattle.bb_code.specs.Spelling.{trees_bytes, relation_byte, operand_bytes, spelling};
 
 use crate::code::Code;
 use crate::table::opcode;
 use bb_basis::Text;
-use bb_op::{FrameEntry, Kind, Loop, Node, Op, OperandKind, Pattern, Query, Relation};
+use bb_code_ops::{FrameEntry, Kind, Loop, Node, Op, OperandKind, Pattern, Query, Relation};
 use std::alloc::{AllocError, Global};
 
 /// What can stand in a list.
@@ -155,7 +155,7 @@ fn put_parts(out: &mut Vec<u8>, tag: u8, parts: &[Pattern]) -> Result<(), AllocE
 }
 
 impl Spelled for Query {
-    ghost use Rattle.bb_op.specs.Code.{IsQuery};
+    ghost use Rattle.bb_code_ops.specs.Code.{IsQuery};
     ghost use Rattle.bb_code.specs.Spelling.{query_bytes};
 
     ghost bytes = { query_bytes };

@@ -9,7 +9,7 @@ mod fault;
 mod once;
 mod table;
 
-pub use bb_op::{
+pub use bb_code_ops::{
     Bound, Calculation, ClassId, CodeParts, Comparison, DimValue, Division, FRAME_LIMIT, Flaw,
     Frame, FrameEntry, Kind, LOCAL_LIMIT, LOOP_LIMIT, LabelId, LabelSetId, LinkChange, LocalId,
     Logic, Loop, NODE_LIMIT, Node, OP_LIMIT, OPERAND_LIMIT, Op, OperandKind, Pattern, PatternFault,

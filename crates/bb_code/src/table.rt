@@ -6,7 +6,7 @@ ghost use Rattle.std.specs.Option.{option_and_then};
 ghost use Rattle.bb_code.specs.Spelling.{opcode};
 ghost use Rattle.bb_code.specs.Ops.{op_form, with_number, with_local, with_pair};
 
-use bb_op::{
+use bb_code_ops::{
     Bound, Calculation, Comparison, Division, Kind, LinkChange, LocalId, Logic, Op, Place, Relation,
 };
 

@@ -2,22 +2,22 @@
 -- the text.
 use Rattle.std.specs.Prelude.{ℕ, List, Option, Some, None, Result, Ok, Err, if◌then◌else◌}
 use Rattle.bb_basis.specs.Results.{◌>>=◌, ok_or}
-use Rattle.bb_op.specs.Code.{Code}
-use Rattle.bb_frame.specs.declared.part.Part.{Part}
-use Rattle.bb_frame.specs.declared.part.Part.TheVariants.{Require, Obviate, Retrigger, Revalidate, Do}
-use Rattle.bb_frame.specs.Schema.{Schema, class_named}
+use Rattle.bb_code_ops.specs.Code.{Code}
+use Rattle.bb_verify_frame.specs.declared.part.Part.{Part}
+use Rattle.bb_verify_frame.specs.declared.part.Part.TheVariants.{Require, Obviate, Retrigger, Revalidate, Do}
+use Rattle.bb_verify_frame.specs.Schema.{Schema, class_named}
 use Rattle.bb_lang.specs.ActText.{ActText}
 use Rattle.bb_lang.specs.ActText.TheVariants as acts
 use Rattle.bb_lang.specs.PartText.{PartText}
 use Rattle.bb_lang.specs.PartTexts.{PartTexts}
 use Rattle.bb_lang.specs.ReactionText.{ReactionText}
 use Rattle.bb_lang.specs.SourceText.{SourceText}
-use Rattle.bb_judge.specs.Place.{Place}
-use Rattle.bb_judge.specs.declared.fault.Flaw.TheVariants.{Unknown, NoEnd}
-use Rattle.bb_judge.specs.declared.fault.CompileFault.{CompileFault}
-use Rattle.bb_judge.specs.declared.fault.CompileFault.TheVariants.{At}
-use Rattle.bb_judge.specs.Ending.{block_ends}
-use Rattle.bb_emit.specs.Parts.{part_code}
+use Rattle.bb_compile_scope.specs.Place.{Place}
+use Rattle.bb_compile_scope.specs.declared.fault.Flaw.TheVariants.{Unknown, NoEnd}
+use Rattle.bb_compile_scope.specs.declared.fault.CompileFault.{CompileFault}
+use Rattle.bb_compile_scope.specs.declared.fault.CompileFault.TheVariants.{At}
+use Rattle.bb_compile_scope.specs.Ending.{block_ends}
+use Rattle.bb_compile_emit.specs.Parts.{part_code}
 use Rattle.bb_bundle.specs.declared.source_code.ActDraft.{ActDraft}
 use Rattle.bb_bundle.specs.declared.source_code.ActDraft.TheVariants as drafts
 use Rattle.bb_bundle.specs.declared.source_code.ReactionDraft.{ReactionDraft}

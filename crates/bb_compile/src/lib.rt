@@ -8,6 +8,6 @@ mod source;
 pub use bb_bundle::{
     ActDraft, BundleFault, ReactionDraft, SourceCode, SourceDraft, bundle, unbundle,
 };
-pub use bb_judge::{CompileFault, Flaw, Place};
+pub use bb_compile_scope::{CompileFault, Flaw, Place};
 pub use bb_lang::{LangFault, SourceText, parse};
 pub use source::compile;

@@ -2,18 +2,18 @@
 
 ghost use Rattle.std.specs.Prelude.{◌≡◌};
 ghost use Rattle.bb_basis.specs.Results.{Gives};
-ghost use Rattle.bb_frame.specs.declared.part.Part.TheVariants.{Obviate, Retrigger};
-ghost use Rattle.bb_judge.specs.declared.fault.CompileFault.TheVariants.{Memory as OutOfMemory};
+ghost use Rattle.bb_verify_frame.specs.declared.part.Part.TheVariants.{Obviate, Retrigger};
+ghost use Rattle.bb_compile_scope.specs.declared.fault.CompileFault.TheVariants.{Memory as OutOfMemory};
 ghost use Rattle.bb_compile.specs.Compiled.{class_of_events, class_on, part_of, reaction_of, reaction_if, no_codes, with_require};
 ghost use Rattle.bb_compile.specs.Compiled.{with_obviate, with_retrigger, with_revalidate, codes_of};
 
 use bb_basis::Text;
 use bb_bundle::ReactionDraft;
 use bb_code::Code;
-use bb_emit::emit_part;
-use bb_frame::{ClassId, Part, Schema};
-use bb_judge::{CompileFault, Flaw, Place, block_ends};
+use bb_compile_emit::emit_part;
+use bb_compile_scope::{CompileFault, Flaw, Place, block_ends};
 use bb_lang::{PartText, PartTexts, ReactionText};
+use bb_verify_frame::{ClassId, Part, Schema};
 use std::alloc::Global;
 use std::mem;
 

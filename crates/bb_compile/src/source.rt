@@ -2,17 +2,17 @@
 
 ghost use Rattle.std.specs.Prelude.{◌≡◌, IfOk};
 ghost use Rattle.bb_basis.specs.Results.{Gives};
-ghost use Rattle.bb_judge.specs.declared.fault.CompileFault.TheVariants.{Memory as OutOfMemory};
+ghost use Rattle.bb_compile_scope.specs.declared.fault.CompileFault.TheVariants.{Memory as OutOfMemory};
 ghost use Rattle.bb_compile.specs.Compiled.{head_of, act_of, assembled, draft_of, compiled};
 
 use crate::part_codes::{PartCodes, class_on};
 use bb_basis::{Items, Text};
 use bb_bundle::{ActDraft, SourceCode, SourceDraft};
 use bb_code::Code;
-use bb_emit::emit_part;
-use bb_frame::{ClassId, Part, Schema};
-use bb_judge::{CompileFault, Flaw};
+use bb_compile_emit::emit_part;
+use bb_compile_scope::{CompileFault, Flaw};
 use bb_lang::{ActText, ClauseText, SourceText};
+use bb_verify_frame::{ClassId, Part, Schema};
 use std::alloc::{AllocError, Global};
 
 /// Who a source is: its name, class, rate and clauses.

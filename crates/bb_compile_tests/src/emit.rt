@@ -1,8 +1,8 @@
 //! Tests of the code of a part, with memory, and of the flaw of one that does not end.
 
 use bb_code::Calculation;
-use bb_emit::{CompileFault, Flaw, Place, emit_part};
-use bb_judge::{Op, Part};
+use bb_compile_emit::{CompileFault, Flaw, Place, emit_part};
+use bb_compile_scope::{Op, Part};
 use bb_lang::{ActText, parse};
 use bb_schema::Schema;
 use std::test::Fail;

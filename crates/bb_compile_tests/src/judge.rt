@@ -1,7 +1,7 @@
 //! Tests of what is known where a statement stands, with memory: the names of a part, and what a loop's body leaves.
 
 use bb_basis::Text;
-use bb_judge::{Kind, LocalId, Part, Scope, wear_under};
+use bb_compile_scope::{Kind, LocalId, Part, Scope, wear_under};
 use bb_lang::{ActText, Block, parse};
 use bb_schema::Schema;
 use std::alloc::Global;

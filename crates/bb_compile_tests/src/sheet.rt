@@ -4,13 +4,13 @@ use bb_basis::{Items, Text};
 use bb_code::{
     Calculation, Code, Comparison, Division as OpDivision, Loop, Node, OperandKind, Pattern, Query,
 };
-use bb_judge::{Kind, Op, Part, Place};
-use bb_lang::{Atom, Binary, Division, Operator, Unary, Variable};
-use bb_schema::Schema;
-use bb_sheet::{
+use bb_compile_buffer::{
     Loops, Ops, Sheet, Texts, emit_atom, emit_binary, emit_division, emit_operator, emit_unary,
     emit_unit, emit_variable, finish,
 };
+use bb_compile_scope::{Kind, Op, Part, Place};
+use bb_lang::{Atom, Binary, Division, Operator, Unary, Variable};
+use bb_schema::Schema;
 use std::alloc::{AllocError, Global};
 use std::test::Fail;
 

@@ -3,12 +3,12 @@ use Rattle.std.proofs.Common.{◌≡◌, ◌⊎◌, inl, inr, ℕ, zero, suc, �
 use Rattle.std.specs.Prelude.{codes}
 use Rattle.bb_basis.specs.Results.{◌>>=◌, ok_or}
 use Rattle.bb_basis.proofs.ResultLemmas.{bind_ok, same_ok}
-use Rattle.bb_tree.specs.declared.block.Placed.{Placed}
-use Rattle.bb_token.specs.declared.fault.LangFault.{LangFault}
-use Rattle.bb_token.specs.declared.fault.LangFault.TheVariants.{Token, Nesting}
-use Rattle.bb_token.specs.State.{State, next, at, skip}
-use Rattle.bb_tree.specs.Blocks.{BlockTree}
-use Rattle.bb_tree.specs.BlockView.{block_of}
+use Rattle.bb_lang_tree.specs.declared.block.Placed.{Placed}
+use Rattle.bb_lang_token.specs.declared.fault.LangFault.{LangFault}
+use Rattle.bb_lang_token.specs.declared.fault.LangFault.TheVariants.{Token, Nesting}
+use Rattle.bb_lang_token.specs.State.{State, next, at, skip}
+use Rattle.bb_lang_tree.specs.Blocks.{BlockTree}
+use Rattle.bb_lang_tree.specs.BlockView.{block_of}
 use Rattle.bb_lang.specs.Repeats.{as_many}
 use Rattle.bb_lang.specs.Expressions.{Inner, opened, inside}
 use Rattle.bb_lang.specs.Statements.{leave_scope, next_statement, block}

@@ -1,34 +1,34 @@
 -- Expressions, sequences and patterns: one definition for each production.
 use Rattle.std.specs.Prelude.{ℕ, zero, suc, true, false, ◌||◌, List, [], ◌∷◌, Option, Some, None, Result, Ok, Err, codes, if◌then◌else◌}
 use Rattle.bb_basis.specs.Results.{◌>>=◌, ok_or}
-use Rattle.bb_tree.specs.declared.atom.Atom.{Atom}
-use Rattle.bb_tree.specs.declared.atom.Atom.TheVariants as atoms
-use Rattle.bb_tree.specs.declared.atom.Variable.{Variable}
-use Rattle.bb_tree.specs.declared.atom.Variable.TheVariants.{It, Ev, Named}
-use Rattle.bb_tree.specs.declared.atom.Unary.{Unary}
-use Rattle.bb_tree.specs.declared.atom.Unary.TheVariants as unaries
-use Rattle.bb_tree.specs.declared.atom.Binary.{Binary}
-use Rattle.bb_tree.specs.declared.atom.Binary.TheVariants as binaries
-use Rattle.bb_tree.specs.declared.atom.Operator.{Operator}
-use Rattle.bb_tree.specs.declared.atom.Operator.TheVariants as operators
-use Rattle.bb_tree.specs.declared.atom.Division.{Division}
-use Rattle.bb_tree.specs.declared.atom.Division.TheVariants.{Quotient, Remainder}
-use Rattle.bb_tree.specs.declared.atom.Relation.{Relation}
-use Rattle.bb_tree.specs.declared.atom.Relation.TheVariants as relations
+use Rattle.bb_lang_tree.specs.declared.atom.Atom.{Atom}
+use Rattle.bb_lang_tree.specs.declared.atom.Atom.TheVariants as atoms
+use Rattle.bb_lang_tree.specs.declared.atom.Variable.{Variable}
+use Rattle.bb_lang_tree.specs.declared.atom.Variable.TheVariants.{It, Ev, Named}
+use Rattle.bb_lang_tree.specs.declared.atom.Unary.{Unary}
+use Rattle.bb_lang_tree.specs.declared.atom.Unary.TheVariants as unaries
+use Rattle.bb_lang_tree.specs.declared.atom.Binary.{Binary}
+use Rattle.bb_lang_tree.specs.declared.atom.Binary.TheVariants as binaries
+use Rattle.bb_lang_tree.specs.declared.atom.Operator.{Operator}
+use Rattle.bb_lang_tree.specs.declared.atom.Operator.TheVariants as operators
+use Rattle.bb_lang_tree.specs.declared.atom.Division.{Division}
+use Rattle.bb_lang_tree.specs.declared.atom.Division.TheVariants.{Quotient, Remainder}
+use Rattle.bb_lang_tree.specs.declared.atom.Relation.{Relation}
+use Rattle.bb_lang_tree.specs.declared.atom.Relation.TheVariants as relations
 use Rattle.bb_lang.specs.declared.level.Level.{Level}
 use Rattle.bb_lang.specs.declared.level.Level.TheVariants as levels
-use Rattle.bb_token.specs.declared.fault.LangFault.{LangFault}
-use Rattle.bb_token.specs.declared.fault.LangFault.TheVariants.{Token, Nesting}
-use Rattle.bb_tree.specs.declared.tree.Step.{Step}
-use Rattle.bb_tree.specs.declared.tree.Step.TheVariants.{Apply, Divide}
-use Rattle.bb_tree.specs.declared.tree.Sequence.{Sequence}
-use Rattle.bb_tree.specs.declared.tree.Sequence.TheVariants.{Find, Links}
-use Rattle.bb_token.specs.State.{State, Reader, next, at, skip}
-use Rattle.bb_token.specs.Tokens.{is_int, is_text}
-use Rattle.bb_token.specs.Words.{name_at, name, member}
-use Rattle.bb_token.specs.Literals.{int, divisor, text}
-use Rattle.bb_tree.specs.Trees.{ExprTree, PatternTree, atom, unary, binary, chain, size_of, all, and_of, or_of, not_of, test}
-use Rattle.bb_tree.specs.View.{steps_of, sequence_of, patterns_of}
+use Rattle.bb_lang_token.specs.declared.fault.LangFault.{LangFault}
+use Rattle.bb_lang_token.specs.declared.fault.LangFault.TheVariants.{Token, Nesting}
+use Rattle.bb_lang_tree.specs.declared.tree.Step.{Step}
+use Rattle.bb_lang_tree.specs.declared.tree.Step.TheVariants.{Apply, Divide}
+use Rattle.bb_lang_tree.specs.declared.tree.Sequence.{Sequence}
+use Rattle.bb_lang_tree.specs.declared.tree.Sequence.TheVariants.{Find, Links}
+use Rattle.bb_lang_token.specs.State.{State, Reader, next, at, skip}
+use Rattle.bb_lang_token.specs.Tokens.{is_int, is_text}
+use Rattle.bb_lang_token.specs.Words.{name_at, name, member}
+use Rattle.bb_lang_token.specs.Literals.{int, divisor, text}
+use Rattle.bb_lang_tree.specs.Trees.{ExprTree, PatternTree, atom, unary, binary, chain, size_of, all, and_of, or_of, not_of, test}
+use Rattle.bb_lang_tree.specs.View.{steps_of, sequence_of, patterns_of}
 use Rattle.bb_lang.specs.Repeats.{as_many, items}
 
 -- how what stands in one more bracket is read

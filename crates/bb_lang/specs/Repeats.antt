@@ -1,8 +1,8 @@
 -- As many as come.
 use Rattle.std.specs.Prelude.{ℕ, zero, suc, List, [], ◌∷◌, Option, Some, None, Result, Ok, codes, if◌then◌else◌}
 use Rattle.bb_basis.specs.Results.{◌>>=◌}
-use Rattle.bb_token.specs.declared.fault.LangFault.{LangFault}
-use Rattle.bb_token.specs.State.{State, Reader, next, at, left}
+use Rattle.bb_lang_token.specs.declared.fault.LangFault.{LangFault}
+use Rattle.bb_lang_token.specs.State.{State, Reader, next, at, left}
 
 -- one more, with those behind it, or none
 unfoldable pub more_after : {X : Type 0} → Reader (List X) → Option X → State → Result (List X × State) LangFault

@@ -3,24 +3,24 @@ use Rattle.std.specs.Prelude.{ℕ, ℤ, nat_le, List, [], ◌∷◌, ◌++◌, l
 use Rattle.std.specs.List.{list_any}
 use Rattle.std.specs.Str.{bytes_eq}
 use Rattle.bb_basis.specs.Results.{◌>>=◌}
-use Rattle.bb_token.specs.declared.fault.LangFault.{LangFault}
-use Rattle.bb_token.specs.declared.fault.LangFault.TheVariants.{Token, Twice, Limit}
-use Rattle.bb_tree.specs.declared.source_text.ActText.{ActText}
-use Rattle.bb_tree.specs.declared.source_text.ActText.TheVariants.{Do, Native}
-use Rattle.bb_tree.specs.declared.source_text.ChangeText.{ChangeText}
-use Rattle.bb_tree.specs.declared.source_text.ChangeText.TheVariants.{Create, Delete, Update, Link, Unlink, Enter, Leave}
-use Rattle.bb_tree.specs.declared.source_text.ClauseText.{ClauseText}
-use Rattle.bb_tree.specs.declared.source_text.ClauseText.TheVariants.{Change, Quiescence}
-use Rattle.bb_tree.specs.declared.source_text.HeaderText.{HeaderText}
-use Rattle.bb_tree.specs.declared.source_text.PartText.{PartText}
-use Rattle.bb_tree.specs.declared.source_text.PartTexts.{PartTexts}
-use Rattle.bb_tree.specs.declared.source_text.ReactionText.{ReactionText}
-use Rattle.bb_tree.specs.declared.source_text.SourceText.{SourceText}
+use Rattle.bb_lang_token.specs.declared.fault.LangFault.{LangFault}
+use Rattle.bb_lang_token.specs.declared.fault.LangFault.TheVariants.{Token, Twice, Limit}
+use Rattle.bb_lang_tree.specs.declared.source_text.ActText.{ActText}
+use Rattle.bb_lang_tree.specs.declared.source_text.ActText.TheVariants.{Do, Native}
+use Rattle.bb_lang_tree.specs.declared.source_text.ChangeText.{ChangeText}
+use Rattle.bb_lang_tree.specs.declared.source_text.ChangeText.TheVariants.{Create, Delete, Update, Link, Unlink, Enter, Leave}
+use Rattle.bb_lang_tree.specs.declared.source_text.ClauseText.{ClauseText}
+use Rattle.bb_lang_tree.specs.declared.source_text.ClauseText.TheVariants.{Change, Quiescence}
+use Rattle.bb_lang_tree.specs.declared.source_text.HeaderText.{HeaderText}
+use Rattle.bb_lang_tree.specs.declared.source_text.PartText.{PartText}
+use Rattle.bb_lang_tree.specs.declared.source_text.PartTexts.{PartTexts}
+use Rattle.bb_lang_tree.specs.declared.source_text.ReactionText.{ReactionText}
+use Rattle.bb_lang_tree.specs.declared.source_text.SourceText.{SourceText}
 use Rattle.bb_lang.specs.declared.sources.TheConstants.{BLOCK_NESTING, SOURCE_LIMIT}
-use Rattle.bb_token.specs.State.{State, Reader, before, next, at, skip}
-use Rattle.bb_token.specs.Tokens.{is_end}
-use Rattle.bb_token.specs.Words.{name_at, name, member}
-use Rattle.bb_token.specs.Literals.{int}
+use Rattle.bb_lang_token.specs.State.{State, Reader, before, next, at, skip}
+use Rattle.bb_lang_token.specs.Tokens.{is_end}
+use Rattle.bb_lang_token.specs.Words.{name_at, name, member}
+use Rattle.bb_lang_token.specs.Literals.{int}
 use Rattle.bb_lang.specs.Repeats.{as_many}
 use Rattle.bb_lang.specs.Statements.{block}
 

@@ -1,19 +1,19 @@
 -- Statements and blocks: one definition for each production.
 use Rattle.std.specs.Prelude.{ℕ, zero, suc, List, length, take, Option, Some, None, Ok, Err, codes, if◌then◌else◌}
 use Rattle.bb_basis.specs.Results.{◌>>=◌}
-use Rattle.bb_tree.specs.declared.atom.Variable.{Variable}
-use Rattle.bb_tree.specs.declared.block.Action.{Action}
-use Rattle.bb_tree.specs.declared.block.Action.TheVariants as actions
-use Rattle.bb_tree.specs.declared.block.Binding.{Binding}
-use Rattle.bb_tree.specs.declared.block.Binding.TheVariants.{As, Linked}
-use Rattle.bb_tree.specs.declared.block.Placed.{Placed}
-use Rattle.bb_tree.specs.declared.block.Statement.{Statement}
-use Rattle.bb_tree.specs.declared.block.Statement.TheVariants as statements
-use Rattle.bb_token.specs.declared.fault.LangFault.TheVariants.{Token, Nesting}
-use Rattle.bb_token.specs.State.{State, Reader, next, at, skip}
-use Rattle.bb_token.specs.Words.{name, member, declared}
-use Rattle.bb_tree.specs.Blocks.{BlockTree}
-use Rattle.bb_tree.specs.BlockView.{block_of}
+use Rattle.bb_lang_tree.specs.declared.atom.Variable.{Variable}
+use Rattle.bb_lang_tree.specs.declared.block.Action.{Action}
+use Rattle.bb_lang_tree.specs.declared.block.Action.TheVariants as actions
+use Rattle.bb_lang_tree.specs.declared.block.Binding.{Binding}
+use Rattle.bb_lang_tree.specs.declared.block.Binding.TheVariants.{As, Linked}
+use Rattle.bb_lang_tree.specs.declared.block.Placed.{Placed}
+use Rattle.bb_lang_tree.specs.declared.block.Statement.{Statement}
+use Rattle.bb_lang_tree.specs.declared.block.Statement.TheVariants as statements
+use Rattle.bb_lang_token.specs.declared.fault.LangFault.TheVariants.{Token, Nesting}
+use Rattle.bb_lang_token.specs.State.{State, Reader, next, at, skip}
+use Rattle.bb_lang_token.specs.Words.{name, member, declared}
+use Rattle.bb_lang_tree.specs.Blocks.{BlockTree}
+use Rattle.bb_lang_tree.specs.BlockView.{block_of}
 use Rattle.bb_lang.specs.Repeats.{as_many, items}
 use Rattle.bb_lang.specs.Expressions.{variable, expr, pattern, sequence}
 

@@ -4,6 +4,6 @@ pub mod Fronts
 -- which readers call which
 pub mod Ranks
 -- how trees are stored
-pub use Rattle.bb_tree.specs.proving.Rose
-pub use Rattle.bb_tree.specs.proving.Codes
-pub use Rattle.bb_tree.specs.proving.BlockCodes
+pub use Rattle.bb_lang_tree.specs.proving.Rose
+pub use Rattle.bb_lang_tree.specs.proving.Codes
+pub use Rattle.bb_lang_tree.specs.proving.BlockCodes

@@ -2,7 +2,7 @@
 
 ghost use Rattle.std.specs.Prelude.{◌≡◌, ◌<◌, codes};
 ghost use Rattle.bb_basis.specs.Results.{Gives};
-ghost use Rattle.bb_token.specs.declared.fault.LangFault.TheVariants.{Memory as OutOfMemory};
+ghost use Rattle.bb_lang_token.specs.declared.fault.LangFault.TheVariants.{Memory as OutOfMemory};
 ghost use Rattle.bb_lang.specs.Expressions.{expr};
 ghost use Rattle.bb_lang.specs.Repeats.{next_item, items};
 ghost use Rattle.bb_lang.specs.Statements.{slot_of, space_of, let_of, assign_of, new_of, set_of, link_of, unlink_of};
@@ -11,8 +11,8 @@ ghost use Rattle.bb_lang.specs.Statements.{enter_of, leave_of, delete_of, say_of
 use crate::atoms::read_variable;
 use crate::expressions::read_expr;
 use bb_basis::{Items, Text};
-use bb_token::{LangFault, Parser};
-use bb_tree::{Action, Expr, Variable};
+use bb_lang_token::{LangFault, Parser};
+use bb_lang_tree::{Action, Expr, Variable};
 use std::alloc::Global;
 
 /// A unit and one of its slots.

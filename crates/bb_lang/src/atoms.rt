@@ -1,11 +1,11 @@
 //! Expressions without parts, as they are read. The reader of expressions calls it where no bracket opens.
 
 ghost use Rattle.bb_basis.specs.Results.{Gives};
-ghost use Rattle.bb_token.specs.declared.fault.LangFault.TheVariants.{Memory as OutOfMemory};
+ghost use Rattle.bb_lang_token.specs.declared.fault.LangFault.TheVariants.{Memory as OutOfMemory};
 ghost use Rattle.bb_lang.specs.Expressions.{variable_at, variable, label_or_variable, named, atom_of};
 
-use bb_token::{LangFault, Parser};
-use bb_tree::{Atom, Variable};
+use bb_lang_token::{LangFault, Parser};
+use bb_lang_tree::{Atom, Variable};
 use std::alloc::Global;
 
 /// `it`, `ev`, or the name that the token is.

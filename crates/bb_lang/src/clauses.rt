@@ -2,13 +2,13 @@
 
 ghost use Rattle.std.specs.Prelude.{◌≡◌};
 ghost use Rattle.bb_basis.specs.Results.{Gives};
-ghost use Rattle.bb_token.specs.declared.fault.LangFault.TheVariants.{Memory as OutOfMemory};
+ghost use Rattle.bb_lang_token.specs.declared.fault.LangFault.TheVariants.{Memory as OutOfMemory};
 ghost use Rattle.bb_lang.specs.Sources.{unit_event, slot_event, space_event, change_event, event, clause, next_clause};
 ghost use Rattle.bb_lang.specs.Sources.{clauses};
 
 use bb_basis::Text;
-use bb_token::{LangFault, Parser};
-use bb_tree::{ChangeText, ClauseText};
+use bb_lang_token::{LangFault, Parser};
+use bb_lang_tree::{ChangeText, ClauseText};
 use std::alloc::Global;
 
 /// A change of units, at its word.

@@ -3,8 +3,8 @@
 
 ghost use Rattle.std.specs.Prelude.{◌≡◌, ◌+◌, IfOk, codes};
 ghost use Rattle.bb_basis.specs.Results.{Gives};
-ghost use Rattle.bb_token.specs.declared.fault.LangFault.TheVariants.{Memory as OutOfMemory};
-ghost use Rattle.bb_tree.specs.Trees.{binary as tree_binary};
+ghost use Rattle.bb_lang_token.specs.declared.fault.LangFault.TheVariants.{Memory as OutOfMemory};
+ghost use Rattle.bb_lang_tree.specs.Trees.{binary as tree_binary};
 ghost use Rattle.bb_lang.specs.Repeats.{as_many, items, next_item};
 ghost use Rattle.bb_lang.specs.Expressions.{opened, inside, inner_of, chained, step, operand_of, chain_at, comparison};
 ghost use Rattle.bb_lang.specs.Expressions.{factor, grouped, pair_of, linked_to, sequence, expr, pattern};
@@ -13,8 +13,8 @@ use crate::atoms::{read_atom, read_variable};
 use crate::level::{
     Level, binary_at, comparison_at, division_at, operator_at, relation_at, unary_at,
 };
-use bb_token::{LangFault, Parser};
-use bb_tree::{Binary, Expr, ExprNode, Pattern, PatternNode, Sequence, Step};
+use bb_lang_token::{LangFault, Parser};
+use bb_lang_tree::{Binary, Expr, ExprNode, Pattern, PatternNode, Sequence, Step};
 use std::alloc::{AllocError, Global};
 
 /// An operand with the steps behind it, which stands for itself where there are none.

@@ -3,8 +3,8 @@
 ghost use Rattle.std.specs.Prelude.{◌≡◌};
 ghost use Rattle.bb_lang.specs.Expressions.{operator_at, division_at, unary_at, binary_at, comparison_at, relation_at};
 
-use bb_token::Parser;
-use bb_tree::{Binary, Division, Operator, Relation, Unary};
+use bb_lang_token::Parser;
+use bb_lang_tree::{Binary, Division, Operator, Relation, Unary};
 
 /// Chains of operators, from those that bind least. Comparisons stand between `And` and `Sum`.
 #[derive(Clone, Copy, Debug)]

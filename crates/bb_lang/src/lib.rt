@@ -9,8 +9,8 @@ mod level;
 mod sources;
 mod statements;
 
-pub use bb_token::{LangFault, Place, TEXT_LIMIT};
-pub use bb_tree::{
+pub use bb_lang_token::{LangFault, Place, TEXT_LIMIT};
+pub use bb_lang_tree::{
     ActText, Action, Atom, Binary, Binding, Block, ChangeText, ClauseText, Division, Expr,
     ExprNode, HeaderText, Operator, PartText, PartTexts, Pattern, PatternNode, Placed,
     ReactionText, Relation, Sequence, SourceText, Statement, Step, Unary, Variable,

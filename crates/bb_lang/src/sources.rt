@@ -2,7 +2,7 @@
 
 ghost use Rattle.std.specs.Prelude.{◌≡◌, ◌<◌, codes};
 ghost use Rattle.bb_basis.specs.Results.{Gives};
-ghost use Rattle.bb_token.specs.declared.fault.LangFault.TheVariants.{Memory as OutOfMemory};
+ghost use Rattle.bb_lang_token.specs.declared.fault.LangFault.TheVariants.{Memory as OutOfMemory};
 ghost use Rattle.bb_lang.specs.Repeats.{as_many};
 ghost use Rattle.bb_lang.specs.Sources.{part, part_if, reaction, reaction_if, parts, act, source_word, source_name};
 ghost use Rattle.bb_lang.specs.Sources.{header, rating, source, next_source, sources_of};
@@ -10,8 +10,8 @@ ghost use Rattle.bb_lang.specs.Sources.{header, rating, source, next_source, sou
 use crate::clauses::read_clauses;
 use crate::statements::read_block;
 use bb_basis::{Items, Text};
-use bb_token::{LangFault, Parser};
-use bb_tree::{ActText, HeaderText, PartText, PartTexts, ReactionText, SourceText};
+use bb_lang_token::{LangFault, Parser};
+use bb_lang_tree::{ActText, HeaderText, PartText, PartTexts, ReactionText, SourceText};
 use std::alloc::Global;
 
 /// The greatest number of sources.

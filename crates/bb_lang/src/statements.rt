@@ -2,7 +2,7 @@
 
 ghost use Rattle.std.specs.Prelude.{◌≡◌, ◌<◌, Some, None};
 ghost use Rattle.bb_basis.specs.Results.{Gives};
-ghost use Rattle.bb_token.specs.declared.fault.LangFault.TheVariants.{Memory as OutOfMemory};
+ghost use Rattle.bb_lang_token.specs.declared.fault.LangFault.TheVariants.{Memory as OutOfMemory};
 ghost use Rattle.bb_lang.specs.Repeats.{as_many};
 ghost use Rattle.bb_lang.specs.Statements.{plain, otherwise_in, if_in, bound, binding, with_in, for_in, statement_in};
 ghost use Rattle.bb_lang.specs.Statements.{next_statement, block};
@@ -11,8 +11,8 @@ use crate::actions::read_action;
 use crate::atoms::read_variable;
 use crate::expressions::{open, read_expr, read_sequence};
 use bb_basis::Text;
-use bb_token::{LangFault, Parser};
-use bb_tree::{Binding, Block, Placed, Statement, Variable};
+use bb_lang_token::{LangFault, Parser};
+use bb_lang_tree::{Binding, Block, Placed, Statement, Variable};
 use std::alloc::Global;
 
 /// A statement without blocks.

@@ -20,15 +20,15 @@ use Rattle.bb_verify.specs.Effect as effects
 use Rattle.bb_verify.specs.Effect.{effect}
 use Rattle.bb_verify.specs.Facts.{Facts}
 use Rattle.bb_verify.specs.Frame as frames
-use Rattle.bb_step.specs.Answer.{Answer}
-use Rattle.bb_step.specs.Answer.TheVariants.{Done, Rated, Declined, Yes, No}
-use Rattle.bb_step.specs.Halt.{Halt}
-use Rattle.bb_step.specs.Halt.TheVariants.{Answered, Full, Stuck, Memory}
-use Rattle.bb_step.specs.Machine.{Machine, go_to}
-use Rattle.bb_step.specs.Changing.{State}
-use Rattle.bb_step.specs.Step.{step}
-use Rattle.bb_step.specs.Activation.{Execution, steps_from}
-use Rattle.bb_step.proofs.Laws.{after_op, by_op}
+use Rattle.bb_machine_step.specs.Answer.{Answer}
+use Rattle.bb_machine_step.specs.Answer.TheVariants.{Done, Rated, Declined, Yes, No}
+use Rattle.bb_machine_step.specs.Halt.{Halt}
+use Rattle.bb_machine_step.specs.Halt.TheVariants.{Answered, Full, Stuck, Memory}
+use Rattle.bb_machine_step.specs.Machine.{Machine, go_to}
+use Rattle.bb_machine_step.specs.Changing.{State}
+use Rattle.bb_machine_step.specs.Step.{step}
+use Rattle.bb_machine_step.specs.Activation.{Execution, steps_from}
+use Rattle.bb_machine_step.proofs.Laws.{after_op, by_op}
 use Rattle.bb_machine.specs.NeverWrong.{Stands, is_answer_of, AnswersAs}
 use Rattle.bb_machine.specs.Safe.{edges_of, can_answer}
 use Rattle.bb_machine.proofs.AheadLemmas.{held}

@@ -9,9 +9,9 @@ use Rattle.bb_verify.specs.Flaw.{Flaw}
 use Rattle.bb_verify.specs.FrameType.{Frame}
 use Rattle.bb_verify.specs.Effect as effects
 use Rattle.bb_verify.specs.Jumps.{target_of}
-use Rattle.bb_step.specs.Halt.{Halt}
-use Rattle.bb_step.specs.Machine.{Machine, go_to}
-use Rattle.bb_step.specs.Step.{keeps}
+use Rattle.bb_machine_step.specs.Halt.{Halt}
+use Rattle.bb_machine_step.specs.Machine.{Machine, go_to}
+use Rattle.bb_machine_step.specs.Step.{keeps}
 use Rattle.bb_machine.specs.Kinds.{Suits}
 use Rattle.bb_machine.specs.Safe.{Leads, IsSafe}
 use Rattle.bb_machine.specs.proving.Moves.{Makes}

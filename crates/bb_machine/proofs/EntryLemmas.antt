@@ -17,10 +17,10 @@ use Rattle.bb_verify.specs.Part as parts
 use Rattle.bb_verify.specs.Places.{entry_frame}
 use Rattle.bb_verify.specs.FrameType.{Frame}
 use Rattle.bb_verify.specs.PartType.{Part}
-use Rattle.bb_step.specs.Entry.{Entry}
-use Rattle.bb_step.specs.Values.{Value}
-use Rattle.bb_step.specs.Values.TheVariants as values
-use Rattle.bb_step.specs.Machine.{units_of, entry_state}
+use Rattle.bb_machine_step.specs.Entry.{Entry}
+use Rattle.bb_machine_step.specs.Values.{Value}
+use Rattle.bb_machine_step.specs.Values.TheVariants as values
+use Rattle.bb_machine_step.specs.Machine.{units_of, entry_state}
 use Rattle.bb_verify.specs.Facts.{Facts}
 use Rattle.bb_machine.specs.Kinds.{HasKind, LocalHas, Suits}
 use Rattle.bb_machine.specs.NeverWrong.{EntryFits, Stands}

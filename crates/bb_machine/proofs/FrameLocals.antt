@@ -4,7 +4,7 @@ use Rattle.std.specs.Prelude.{◌==◌, slice_get, if◌then◌else◌}
 use Rattle.std.proofs.lemmas.List.{length-set, length-map}
 use Rattle.bb_basis.specs.Results.{◌>>=◌, ok_or}
 use Rattle.bb_basis.proofs.ResultLemmas.{bind_ok, same_ok}
-use Rattle.bb_classes.specs.declared.kind.Link.{Link}
+use Rattle.bb_schema_classes.specs.declared.kind.Link.{Link}
 use Rattle.bb_pattern.specs.declared.query.Query.{Query}
 use Rattle.bb_schema.specs.Schema.{Schema}
 use Rattle.bb_code.specs.Code.{Code}

@@ -7,12 +7,12 @@ use Rattle.std.specs.FinMap as fin
 use Rattle.std.proofs.lemmas.Bool.{ltb-true}
 use Rattle.std.proofs.lemmas.List.{length-map}
 use Rattle.std.proofs.lemmas.Option.{slice_get-map}
-use Rattle.bb_classes.specs.declared.kind.Kind.{Kind as SlotKind}
-use Rattle.bb_classes.specs.declared.label_set.LabelSet.{LabelSet}
-use Rattle.bb_classes.specs.declared.value.Value.{Value as SlotValue}
-use Rattle.bb_classes.specs.Inheritance.{is_among}
-use Rattle.bb_classes.specs.Kinds.{kind_of_value}
-use Rattle.bb_classes.specs.Values.{label_counts, is_label, value_fits}
+use Rattle.bb_schema_classes.specs.declared.kind.Kind.{Kind as SlotKind}
+use Rattle.bb_schema_classes.specs.declared.label_set.LabelSet.{LabelSet}
+use Rattle.bb_schema_classes.specs.declared.value.Value.{Value as SlotValue}
+use Rattle.bb_schema_classes.specs.Inheritance.{is_among}
+use Rattle.bb_schema_classes.specs.Kinds.{kind_of_value}
+use Rattle.bb_schema_classes.specs.Values.{label_counts, is_label, value_fits}
 use Rattle.bb_schema.specs.declared.slot.Content.TheVariants as contents
 use Rattle.bb_schema.specs.declared.slot.Slot.{Slot}
 use Rattle.bb_schema.specs.Fits as schemas

@@ -16,9 +16,9 @@ use Rattle.bb_verify.specs.Frame as frames
 use Rattle.bb_verify.specs.Effect as effects
 use Rattle.bb_verify.specs.Due.{due}
 use Rattle.bb_verify.specs.Kinds.{is_same_plain}
-use Rattle.bb_step.specs.Halt.{Halt}
-use Rattle.bb_step.specs.Values.{Value}
-use Rattle.bb_step.specs.Machine.{Machine, with_stack, room, push}
+use Rattle.bb_machine_step.specs.Halt.{Halt}
+use Rattle.bb_machine_step.specs.Values.{Value}
+use Rattle.bb_machine_step.specs.Machine.{Machine, with_stack, room, push}
 use Rattle.bb_machine.specs.Kinds.{HasKind, LocalHas, Suits}
 use Rattle.bb_machine.specs.proving.Moves.{Pops, Makes}
 use Rattle.bb_machine.proofs.KindLemmas.{same_plain}

@@ -2,8 +2,8 @@
 use Rattle.std.proofs.Common.{◌≡◌, ℕ, ◌≤◌, true, length, Option, Ok, arith}
 use Rattle.std.specs.Prelude.{nat_le, All}
 use Rattle.std.proofs.lemmas.Bool.Decides.{nat_tests}
-use Rattle.bb_classes.specs.declared.value.TheConstants.{TEXT_LIMIT}
-use Rattle.bb_classes.proofs.Laws.{All-at}
+use Rattle.bb_schema_classes.specs.declared.value.TheConstants.{TEXT_LIMIT}
+use Rattle.bb_schema_classes.proofs.Laws.{All-at}
 use Rattle.bb_schema.specs.Fits as schemas
 use Rattle.bb_board.specs.Board.{Board}
 use Rattle.bb_board.specs.Fits.{Fits}
@@ -14,8 +14,8 @@ use Rattle.bb_code.specs.Op.TheVariants as ops
 use Rattle.bb_verify.specs.FrameType.{Frame}
 use Rattle.bb_verify.specs.PartType.{Part}
 use Rattle.bb_verify.specs.Tables.{in_tables}
-use Rattle.bb_step.specs.Machine.{Machine}
-use Rattle.bb_step.specs.Step.{step}
+use Rattle.bb_machine_step.specs.Machine.{Machine}
+use Rattle.bb_machine_step.specs.Step.{step}
 use Rattle.bb_verify.specs.Facts.{is_known}
 use Rattle.bb_machine.specs.Kinds.{Suits}
 use Rattle.bb_machine.specs.Safe.{edges_of, IsSafe}

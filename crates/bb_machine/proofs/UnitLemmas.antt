@@ -14,11 +14,11 @@ use Rattle.bb_verify.specs.FrameType.{Frame}
 use Rattle.bb_verify.specs.Due as dues
 use Rattle.bb_verify.specs.Frame as frames
 use Rattle.bb_verify.specs.Effect as effects
-use Rattle.bb_step.specs.Values.{Value}
-use Rattle.bb_step.specs.Values.TheVariants as values
-use Rattle.bb_step.specs.Machine.{Machine, with_stack, pop, pop_two, push}
-use Rattle.bb_step.specs.Reading.{live, pop_unit, pop_live}
-use Rattle.bb_step.specs.Arithmetic.{eq_unit}
+use Rattle.bb_machine_step.specs.Values.{Value}
+use Rattle.bb_machine_step.specs.Values.TheVariants as values
+use Rattle.bb_machine_step.specs.Machine.{Machine, with_stack, pop, pop_two, push}
+use Rattle.bb_machine_step.specs.Reading.{live, pop_unit, pop_live}
+use Rattle.bb_machine_step.specs.Arithmetic.{eq_unit}
 use Rattle.bb_machine.specs.Kinds.{IsOf, WasOf, HasKind, Suits}
 use Rattle.bb_machine.specs.proving.Moves.{PopsLive}
 use Rattle.bb_machine.proofs.MoveLemmas.{pops}

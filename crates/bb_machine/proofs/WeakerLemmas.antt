@@ -12,8 +12,8 @@ use Rattle.bb_code.specs.Kind.{Kind}
 use Rattle.bb_code.specs.Kind.TheVariants.{Any, Int, Text, Bool as Truth, Label, Interval, Ref, Old, Seq}
 use Rattle.bb_verify.specs.FrameType.{Frame}
 use Rattle.bb_verify.specs.Kinds.{is_same_plain, weakens, weakens_local, frame_weakens}
-use Rattle.bb_step.specs.Values.{Value}
-use Rattle.bb_step.specs.Machine.{Machine}
+use Rattle.bb_machine_step.specs.Values.{Value}
+use Rattle.bb_machine_step.specs.Machine.{Machine}
 use Rattle.bb_machine.specs.Kinds.{WasOf, HasKind, LocalHas, Suits}
 use Rattle.bb_machine.proofs.KindLemmas.{same_plain, is_of_weaker, was_weaker}
 use Rattle.bb_machine.proofs.LiveLemmas.{was_of}

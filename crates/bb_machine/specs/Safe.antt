@@ -6,11 +6,11 @@ use Rattle.bb_code.specs.Op.{Op}
 use Rattle.bb_code.specs.Op.TheVariants as ops
 use Rattle.bb_verify.specs.FrameType.{Frame}
 use Rattle.bb_verify.specs.Jumps.{target_of}
-use Rattle.bb_step.specs.Answer.{Answer}
-use Rattle.bb_step.specs.Answer.TheVariants.{Done, Rated, Declined, Yes, No}
-use Rattle.bb_step.specs.Halt.{Halt}
-use Rattle.bb_step.specs.Halt.TheVariants.{Answered, Full, Stuck, Memory}
-use Rattle.bb_step.specs.Changing.{State}
+use Rattle.bb_machine_step.specs.Answer.{Answer}
+use Rattle.bb_machine_step.specs.Answer.TheVariants.{Done, Rated, Declined, Yes, No}
+use Rattle.bb_machine_step.specs.Halt.{Halt}
+use Rattle.bb_machine_step.specs.Halt.TheVariants.{Answered, Full, Stuck, Memory}
+use Rattle.bb_machine_step.specs.Changing.{State}
 pub use Rattle.bb_verify.specs.Facts.{edges_of}
 use Rattle.bb_machine.specs.Kinds.{Suits}
 

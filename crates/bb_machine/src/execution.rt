@@ -10,18 +10,18 @@ ghost use Rattle.bb_verify.specs.Budget.{budget};
 ghost use Rattle.bb_verify.specs.declared.checked.TheConstants.{FOUND_LIMIT};
 ghost use Rattle.bb_verify.specs.FrameType.{Frame};
 ghost use Rattle.bb_verify.specs.PartType.{Part};
-ghost use Rattle.bb_step.specs.Stop.TheVariants.{Full, Memory as OutOfMemory};
-ghost use Rattle.bb_step.specs.Activation.{activation, steps_from};
-ghost use Rattle.bb_step.specs.Kept.{IsCut};
-ghost use Rattle.bb_step.specs.Machine.{entry_state};
-ghost use Rattle.bb_step.specs.Changing.{State};
-ghost use Rattle.bb_step.specs.Writes.{has_no_writes};
+ghost use Rattle.bb_machine_step.specs.Stop.TheVariants.{Full, Memory as OutOfMemory};
+ghost use Rattle.bb_machine_step.specs.Activation.{activation, steps_from};
+ghost use Rattle.bb_machine_step.specs.Kept.{IsCut};
+ghost use Rattle.bb_machine_step.specs.Machine.{entry_state};
+ghost use Rattle.bb_machine_step.specs.Changing.{State};
+ghost use Rattle.bb_machine_step.specs.Writes.{has_no_writes};
 ghost use Rattle.bb_machine.specs.NeverWrong.{Begins, after, Stands, StuckByTurns, AnswersAs};
 ghost use Rattle.bb_machine.specs.NeverWrong.{NeverStuck, KeepsBudget, StuckBelow, FoundFew, only_reads};
 
 use bb_board::Board;
 use bb_code::Code;
-use bb_step::{Entry, Outcome, Stop, execute};
+use bb_machine_step::{Entry, Outcome, Stop, execute};
 use std::alloc::Global;
 
 /// Executes a code from its first place for an entry, at most `limit` steps, on a blackboard, and returns how it came

@@ -3,5 +3,5 @@
 
 mod execution;
 
-pub use bb_step::{Answer, Entry, Outcome, Stop, Stuck};
+pub use bb_machine_step::{Answer, Entry, Outcome, Stop, Stuck};
 pub use execution::trial;

@@ -8,7 +8,7 @@ use Rattle.std.proofs.Math.Seq.{take-append-add, take-length}
 use Rattle.std.specs.Io.KnownBytes.{Appends, Consumes}
 use Rattle.std.proofs.KnownBytes.{Appends-nil, Appends-trans}
 use Rattle.std.specs.Option.{option_map_or}
-use Rattle.bb_options.specs.declared.choice.Mode.{Mode}
+use Rattle.bb_main_options.specs.declared.choice.Mode.{Mode}
 use Rattle.bb_shell.specs.Check.{WritesCheck}
 use Rattle.bb_shell.specs.CheckText.{check_text}
 use Rattle.bb_shell.specs.Compile.{WritesBundle}

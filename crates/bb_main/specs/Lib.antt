@@ -15,7 +15,7 @@ pub mod Serve
 -- of bb_native: natives, and what a roster of them means
 pub use Rattle.bb_shell.specs.Native
 pub use Rattle.bb_shell.specs.Roster
--- of bb_options: what is done with an input
-pub use Rattle.bb_options.specs.declared.choice.Mode
+-- of bb_main_options: what is done with an input
+pub use Rattle.bb_main_options.specs.declared.choice.Mode
 -- relations that serve proofs
 pub mod proving

@@ -4,10 +4,10 @@ use Rattle.std.specs.Prelude.{if◌then◌else◌}
 use Rattle.std.specs.List.{flat_map}
 use Rattle.std.specs.Option.{option_map_or}
 use Rattle.std.specs.Io.KnownBytes.{Appends}
-use Rattle.bb_options.specs.declared.choice.Mode.{Mode}
-use Rattle.bb_options.specs.declared.choice.Mode.TheVariants.{Run, Check, Compile}
-use Rattle.bb_options.specs.declared.fault.OptionsFault.{OptionsFault}
-use Rattle.bb_options.specs.declared.fault.OptionsFault.TheVariants.{Help, Words, Memory}
+use Rattle.bb_main_options.specs.declared.choice.Mode.{Mode}
+use Rattle.bb_main_options.specs.declared.choice.Mode.TheVariants.{Run, Check, Compile}
+use Rattle.bb_main_options.specs.declared.fault.OptionsFault.{OptionsFault}
+use Rattle.bb_main_options.specs.declared.fault.OptionsFault.TheVariants.{Help, Words, Memory}
 use Rattle.bb_shell.specs.Check.{sources_in}
 use Rattle.bb_shell.specs.CheckText.{check_text}
 use Rattle.bb_shell.specs.Compile.{bundle_in}

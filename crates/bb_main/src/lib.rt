@@ -17,7 +17,7 @@ mod telling;
 #[cfg(test)]
 mod tests;
 
-pub use bb_options::{Mode, Options, OptionsFault, options};
+pub use bb_main_options::{Mode, Options, OptionsFault, options};
 pub use bb_shell::{Memory, NativeSource, Out, Pipe};
 pub use input::{In, Intake};
 pub use program_native::{ProgramNative, Trade, program_natives};

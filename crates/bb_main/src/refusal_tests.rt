@@ -3,7 +3,7 @@
 use crate::input::Intake;
 use crate::section_fault::SectionFault;
 use crate::serving::program;
-use bb_options::{Mode, Options};
+use bb_main_options::{Mode, Options};
 use bb_shell::Pipe;
 use std::io;
 use std::io::{Error, ErrorKind, Read, Write};

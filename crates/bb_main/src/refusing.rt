@@ -10,7 +10,7 @@ ghost use Rattle.bb_main.specs.declared.serving.TheConstants.{REFUSED, WRITE};
 use crate::sections::Sections;
 use crate::served::Served;
 use crate::serving::{MEMORY, REFUSED, WRITE};
-use bb_report::{Input, report};
+use bb_refusal_report::{Input, report};
 use bb_shell::{InputFault, NativeSource, Out, close_each, put_all};
 use std::alloc::Global;
 use std::fmt::Display;

@@ -25,8 +25,8 @@ use crate::refusing::{refuse, refuse_input};
 use crate::section_fault::SectionFault;
 use crate::sections::Sections;
 use crate::served::Served;
-use bb_advice::advice;
-use bb_options::{Mode, Options};
+use bb_lint::advice;
+use bb_main_options::{Mode, Options};
 use bb_shell::{
     Check, Done, Finish, InputFault, NativeSource, Out, check_sources, close_each, compile_texts,
     run_texts,

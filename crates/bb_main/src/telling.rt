@@ -5,7 +5,7 @@ ghost use Rattle.bb_main.specs.Serve.{Delivers, fault_answer};
 ghost use Rattle.bb_main.specs.declared.serving.TheConstants.{WRITE};
 
 use crate::serving::{MEMORY, REFUSED, WRITE};
-use bb_options::OptionsFault;
+use bb_main_options::OptionsFault;
 use bb_shell::{Out, put_all};
 
 /// Writes the text of words that choose nothing. Answers the status of the program: 0 where help or the version was

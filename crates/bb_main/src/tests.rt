@@ -10,7 +10,7 @@ use crate::program_native::ProgramNative;
 use crate::read::read_input;
 use crate::serving::{program, serve};
 use crate::telling::tell;
-use bb_options::{Mode, Options, OptionsFault};
+use bb_main_options::{Mode, Options, OptionsFault};
 use bb_shell::{NativeSource, Pipe};
 use std::alloc::Global;
 use std::io;

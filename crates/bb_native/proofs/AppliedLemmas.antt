@@ -6,10 +6,10 @@ use Rattle.std.proofs.lemmas.List.{length-map}
 use Rattle.std.proofs.lemmas.List.Quantifiers.{position-Some}
 use Rattle.bb_basis.specs.Results.{◌>>=◌, ok_or, map_err}
 use Rattle.bb_basis.proofs.ResultLemmas.{ok_or_ok}
-use Rattle.bb_classes.specs.declared.class.Class.{Class}
-use Rattle.bb_classes.specs.declared.value.Value.{Value}
-use Rattle.bb_classes.specs.declared.value.Value.TheVariants as values
-use Rattle.bb_classes.specs.declared.value.TheConstants.{TEXT_LIMIT}
+use Rattle.bb_schema_classes.specs.declared.class.Class.{Class}
+use Rattle.bb_schema_classes.specs.declared.value.Value.{Value}
+use Rattle.bb_schema_classes.specs.declared.value.Value.TheVariants as values
+use Rattle.bb_schema_classes.specs.declared.value.TheConstants.{TEXT_LIMIT}
 use Rattle.bb_schema.specs.declared.space.Space.{Space}
 use Rattle.bb_schema.specs.Schema.{class_named, slot_named, space_named}
 use Rattle.bb_units.specs.Units.{is_live, is_full, next_number}

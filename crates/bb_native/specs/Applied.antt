@@ -1,9 +1,9 @@
 -- What an ask makes of a blackboard as it then stands, or the first reason why it is refused. Names are looked up here.
 use Rattle.std.specs.Prelude.{◌≡◌, ◌⊎◌, ℕ, List, [], ◌∷◌, length, nat_le, Result, Ok, Err, if◌then◌else◌}
 use Rattle.bb_basis.specs.Results.{◌>>=◌, ok_or, map_err}
-use Rattle.bb_classes.specs.declared.value.Value.{Value}
-use Rattle.bb_classes.specs.declared.value.Value.TheVariants as values
-use Rattle.bb_classes.specs.declared.value.TheConstants.{TEXT_LIMIT}
+use Rattle.bb_schema_classes.specs.declared.value.Value.{Value}
+use Rattle.bb_schema_classes.specs.declared.value.Value.TheVariants as values
+use Rattle.bb_schema_classes.specs.declared.value.TheConstants.{TEXT_LIMIT}
 use Rattle.bb_schema.specs.Schema.{class_named, slot_named, space_named}
 use Rattle.bb_units.specs.Units.{is_live, next_number}
 use Rattle.bb_board.specs.Said.TheVariants as saids

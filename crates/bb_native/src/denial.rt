@@ -5,8 +5,8 @@ ghost use Rattle.bb_native.specs.declared.denial.Denial.TheVariants.{Memory as O
 ghost use Rattle.bb_native.specs.Refusals.{denial_of, denial_of_create};
 
 use crate::refusal::Refusal;
+use bb_board_state::Reason;
 use bb_units::CreateFault;
-use bb_world::Reason;
 use std::alloc::{AllocError, AllocFailed};
 
 /// Why an ask was not applied.

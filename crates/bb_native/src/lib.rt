@@ -15,8 +15,8 @@ mod view;
 
 pub use applying::apply;
 pub use ask::Ask;
+pub use bb_board_state::{DimValue, Query};
 pub use bb_pattern::{Node, OperandKind, Pattern, Relation};
-pub use bb_world::{DimValue, Query};
 pub use closing::Closing;
 pub use denial::Denial;
 pub use native_source::NativeSource;

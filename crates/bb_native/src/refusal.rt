@@ -3,7 +3,7 @@
 ghost use Rattle.std.specs.Prelude.{◌≡◌};
 ghost use Rattle.bb_native.specs.Refusals.{refusal_number, refusal_of};
 
-use bb_world::Reason;
+use bb_board_state::Reason;
 
 /// Why an ask is refused: the first reason, in this order.
 #[derive(Clone, Copy, Debug, PartialEq, Eq)]

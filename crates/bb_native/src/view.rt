@@ -6,14 +6,14 @@ ghost use Rattle.bb_pattern.specs.Values.{kind_of_operand};
 ghost use Rattle.bb_units.specs.Units.{is_live, class_of, value_of, has_slot};
 ghost use Rattle.bb_units.specs.declared.units.TheConstants.{UNIT_LIMIT};
 ghost use Rattle.bb_links.specs.Links.{ends};
-ghost use Rattle.bb_world.specs.Answer.{answer};
-ghost use Rattle.bb_world.specs.May.{was};
+ghost use Rattle.bb_board_state.specs.Answer.{answer};
+ghost use Rattle.bb_board_state.specs.May.{was};
 ghost use Rattle.bb_native.specs.Sight.{sight_of};
 
 use bb_basis::Memory;
 use bb_board::Board;
+use bb_board_state::{DimValue, Query};
 use bb_schema::{ClassId, Schema, SlotId, UnitId, Value};
-use bb_world::{DimValue, Query};
 use std::marker::Model;
 
 /// A blackboard that can be read and not changed. Its notes are not seen, so that what a native does can't depend on

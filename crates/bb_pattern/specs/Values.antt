@@ -1,7 +1,7 @@
 -- What units have on dimensions, and what operands are.
 use Rattle.std.specs.Prelude.{Option, Some, None}
-use Rattle.bb_classes.specs.declared.value.Value.{Value}
-use Rattle.bb_classes.specs.declared.value.Value.TheVariants as slot_values
+use Rattle.bb_schema_classes.specs.declared.value.Value.{Value}
+use Rattle.bb_schema_classes.specs.declared.value.Value.TheVariants as slot_values
 use Rattle.bb_pattern.specs.declared.value.DimValue.{DimValue}
 use Rattle.bb_pattern.specs.declared.value.DimValue.TheVariants.{Interval, Label}
 use Rattle.bb_pattern.specs.declared.value.OperandKind.{OperandKind}

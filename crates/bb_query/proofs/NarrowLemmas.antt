@@ -13,15 +13,15 @@ use Rattle.bb_pattern.specs.declared.value.DimValue.TheVariants.{Interval, Label
 use Rattle.bb_pattern.specs.Trees.{Tree, Trees, and_of, ordered, is_label}
 use Rattle.bb_pattern.specs.Holds.{holds, holds_each, ordered_holds, is_holds}
 use Rattle.bb_pattern.specs.View.{trees_of}
-use Rattle.bb_places.specs.declared.leaf.Leaf.{Leaf}
-use Rattle.bb_places.specs.declared.leaf.Leaf.TheVariants.{Ordered, Is}
-use Rattle.bb_places.specs.Leaf.{fits_leaf, fit_each}
+use Rattle.bb_space_index.specs.declared.leaf.Leaf.{Leaf}
+use Rattle.bb_space_index.specs.declared.leaf.Leaf.TheVariants.{Ordered, Is}
+use Rattle.bb_space_index.specs.Leaf.{fits_leaf, fit_each}
 use Rattle.bb_space.specs.Passing.{passes, HaveAllPassing}
 use Rattle.bb_space.specs.Spaces.{Spaces, membership}
 use Rattle.bb_query.specs.proving.Enough.{AreEnough, among}
 use Rattle.bb_query.specs.proving.Tests.{Asks, AskNoMore}
 use Rattle.bb_query.proofs.NearLemmas.{each_one}
-use Rattle.bb_places.proofs.Laws.{meets_among}
+use Rattle.bb_space_index.proofs.Laws.{meets_among}
 use Rattle.bb_space.proofs.Laws.{any_filter}
 
 pub interval_asks : (r : Relation) (dim : ℕ) (low high : ℤ) → Asks (λ values. ordered_holds r (slice_get values dim) (Some (Interval low high))) (Ordered r dim low high)

@@ -14,9 +14,9 @@ use Rattle.bb_pattern.specs.declared.value.DimValue.TheVariants.{Interval, Label
 use Rattle.bb_pattern.specs.Trees.{Tree, Trees, and_of, or_of, ordered, is_label}
 use Rattle.bb_pattern.specs.Holds.{holds, holds_each, holds_some, ordered_holds, is_holds}
 use Rattle.bb_pattern.specs.View.{trees_of}
-use Rattle.bb_places.specs.declared.leaf.Leaf.{Leaf}
-use Rattle.bb_places.specs.declared.leaf.Leaf.TheVariants.{Ordered, Is}
-use Rattle.bb_places.specs.Leaf.{fits_leaf}
+use Rattle.bb_space_index.specs.declared.leaf.Leaf.{Leaf}
+use Rattle.bb_space_index.specs.declared.leaf.Leaf.TheVariants.{Ordered, Is}
+use Rattle.bb_space_index.specs.Leaf.{fits_leaf}
 use Rattle.bb_space.specs.Spaces.{Spaces, membership, values_in, members, AreCandidates}
 use Rattle.bb_query.specs.proving.Enough.{AreEnough, HasAlso, among}
 use Rattle.bb_space.proofs.Laws.{keys_rise, any_filter}

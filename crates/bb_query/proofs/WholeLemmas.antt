@@ -8,14 +8,14 @@ use Rattle.std.proofs.lemmas.Bool.{and_parts, eqb-true}
 use Rattle.std.proofs.lemmas.List.Folds.{find-append}
 use Rattle.std.proofs.lemmas.Option.{slice_get-map}
 use Rattle.std.proofs.lemmas.Bool.Decides.{Decides-eqb}
-use Rattle.bb_classes.proofs.Laws.{All-at, climbs_sound}
-use Rattle.bb_classes.specs.declared.kind.Kind.{Kind}
-use Rattle.bb_classes.specs.declared.kind.Kind.TheVariants as kinds
-use Rattle.bb_classes.specs.declared.value.Value.{Value}
-use Rattle.bb_classes.specs.declared.value.Value.TheVariants as slot_values
-use Rattle.bb_classes.specs.Kinds.{kind_of_value}
-use Rattle.bb_classes.specs.Values.{value_fits, is_label}
-use Rattle.bb_classes.specs.Inheritance.{Descends, itself, through_parent, descends_in}
+use Rattle.bb_schema_classes.proofs.Laws.{All-at, climbs_sound}
+use Rattle.bb_schema_classes.specs.declared.kind.Kind.{Kind}
+use Rattle.bb_schema_classes.specs.declared.kind.Kind.TheVariants as kinds
+use Rattle.bb_schema_classes.specs.declared.value.Value.{Value}
+use Rattle.bb_schema_classes.specs.declared.value.Value.TheVariants as slot_values
+use Rattle.bb_schema_classes.specs.Kinds.{kind_of_value}
+use Rattle.bb_schema_classes.specs.Values.{value_fits, is_label}
+use Rattle.bb_schema_classes.specs.Inheritance.{Descends, itself, through_parent, descends_in}
 use Rattle.bb_schema.specs.declared.slot.Slot.{Slot}
 use Rattle.bb_schema.specs.declared.slot.Content.{Content}
 use Rattle.bb_schema.specs.declared.slot.Content.TheVariants as contents

@@ -2,17 +2,17 @@
 use Rattle.std.specs.Prelude.{ℕ, List, [], ◌++◌, Option, Some, None, codes}
 use Rattle.std.specs.Fmt.{decimal}
 use Rattle.std.specs.Option.{option_map_or}
-use Rattle.bb_classes.specs.Faults.{fault_number as schema_number}
+use Rattle.bb_schema_classes.specs.Faults.{fault_number as schema_number}
 use Rattle.bb_code.specs.CodeFault.{fault_number as code_number}
 use Rattle.bb_bundle.specs.declared.fault.BundleFault.{BundleFault}
 use Rattle.bb_bundle.specs.declared.fault.BundleFault.TheVariants as bundles
-use Rattle.bb_token.specs.Faults.{fault_number as lang_number}
-use Rattle.bb_token.specs.declared.fault.LangFault.{LangFault}
-use Rattle.bb_token.specs.declared.fault.LangFault.TheVariants as langs
-use Rattle.bb_token.specs.declared.place.Place.{Place}
-use Rattle.bb_judge.specs.Faults.{flaw_number as text_flaw_number}
-use Rattle.bb_judge.specs.declared.fault.CompileFault.{CompileFault}
-use Rattle.bb_judge.specs.declared.fault.CompileFault.TheVariants as compiles
+use Rattle.bb_lang_token.specs.Faults.{fault_number as lang_number}
+use Rattle.bb_lang_token.specs.declared.fault.LangFault.{LangFault}
+use Rattle.bb_lang_token.specs.declared.fault.LangFault.TheVariants as langs
+use Rattle.bb_lang_token.specs.declared.place.Place.{Place}
+use Rattle.bb_compile_scope.specs.Faults.{flaw_number as text_flaw_number}
+use Rattle.bb_compile_scope.specs.declared.fault.CompileFault.{CompileFault}
+use Rattle.bb_compile_scope.specs.declared.fault.CompileFault.TheVariants as compiles
 use Rattle.bb_refusal.specs.declared.input_fault.InputFault.{InputFault}
 use Rattle.bb_refusal.specs.declared.input_fault.InputFault.TheVariants as inputs
 use Rattle.bb_board.specs.UnitsFaults.{fault_number as units_number}

@@ -9,10 +9,10 @@ ghost use Rattle.bb_refusal.specs.Refusals.{lang_place, lang_text, refusal_text,
 use bb_basis::Text;
 use bb_board::UnitsFault;
 use bb_bundle::BundleFault;
-use bb_classes::SchemaFault;
-use bb_judge::CompileFault;
+use bb_compile_scope::CompileFault;
+use bb_lang_token::{LangFault, Place};
 use bb_rules::RuleFault;
-use bb_token::{LangFault, Place};
+use bb_schema_classes::SchemaFault;
 use bb_verify::{Part, VerifyFault};
 use std::alloc::{AllocError, AllocFailed, Global};
 

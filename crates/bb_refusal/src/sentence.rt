@@ -1,14 +1,14 @@
-//! Why an input is refused, as a sentence for people: where the fault is, and what is wrong there. Reports (bb_report)
-//! begin with it.
+//! Why an input is refused, as a sentence for people: where the fault is, and what is wrong there. Reports
+//! (bb_refusal_report) begin with it.
 
 use crate::input_fault::InputFault;
 use bb_board::{UnitsFault, UnitsFlaw};
 use bb_bundle::BundleFault;
-use bb_classes::{DocumentPlace, SchemaFault, SchemaFlaw};
 use bb_code::CodeFault;
-use bb_judge::{CompileFault, Flaw as TextFlaw};
+use bb_compile_scope::{CompileFault, Flaw as TextFlaw};
+use bb_lang_token::{LangFault, Place};
 use bb_rules::RuleFault;
-use bb_token::{LangFault, Place};
+use bb_schema_classes::{DocumentPlace, SchemaFault, SchemaFlaw};
 use bb_verify::Flaw;
 use std::error::Error;
 use std::fmt;

@@ -25,7 +25,7 @@ use Rattle.bb_machine.specs.Outcome.{Outcome}
 use Rattle.bb_machine.specs.Stop.{Stop}
 use Rattle.bb_machine.specs.Named.{names, NotesChanges}
 use Rattle.bb_machine.specs.Units.{Units, is_live, class_of, value_of}
-use Rattle.bb_classes.specs.declared.value.Value.{Value}
+use Rattle.bb_schema_classes.specs.declared.value.Value.{Value}
 use Rattle.bb_machine.proofs.Laws.{activation_named, activation_schema, no_class, same_class, same_value}
 use Rattle.bb_trace.specs.Event.{Event}
 use Rattle.bb_trace.specs.Events.{unit_of}

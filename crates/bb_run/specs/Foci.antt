@@ -4,8 +4,8 @@ use Rattle.std.specs.Prelude.{ℕ, ℤ, Bool, false, List, map, Option, Some, No
 use Rattle.std.specs.List.{fold, range_with_len}
 use Rattle.std.specs.Option.{option_map_or}
 use Rattle.std.specs.FinMap as fin
-use Rattle.bb_classes.specs.declared.value.Value.{Value}
-use Rattle.bb_classes.specs.declared.value.Value.TheVariants as values
+use Rattle.bb_schema_classes.specs.declared.value.Value.{Value}
+use Rattle.bb_schema_classes.specs.declared.value.Value.TheVariants as values
 use Rattle.bb_schema.specs.Schema.{Schema, descends}
 use Rattle.bb_agenda.specs.Focus.{Focus}
 use Rattle.bb_agenda.specs.RatedSource.{RatedSource}

@@ -2,9 +2,9 @@
 use Rattle.std.proofs.Common.{ℕ, suc, ◌≤◌, Bool, true, false, List, [], ◌∷◌, length, subst, arith}
 use Rattle.std.specs.Prelude.{if◌then◌else◌}
 use Rattle.std.proofs.lemmas.List.{length-map}
-use Rattle.bb_classes.specs.declared.label_set.LabelSet.{LabelSet}
-use Rattle.bb_classes.specs.declared.read.labels.TheConstants.{LABEL_SET_LIMIT}
-use Rattle.bb_classes.specs.declared.draft.TheConstants.{SLOT_LIMIT}
+use Rattle.bb_schema_classes.specs.declared.label_set.LabelSet.{LabelSet}
+use Rattle.bb_schema_classes.specs.declared.read.labels.TheConstants.{LABEL_SET_LIMIT}
+use Rattle.bb_schema_classes.specs.declared.draft.TheConstants.{SLOT_LIMIT}
 use Rattle.bb_schema.specs.declared.slot.Slot.{Slot}
 use Rattle.bb_schema.specs.declared.space.Space.{Space}
 use Rattle.bb_schema.specs.declared.read.spaces.TheConstants.{SPACE_LIMIT}

@@ -4,15 +4,15 @@ use Rattle.std.specs.Prelude.{slice_get, option_map, option_and_then}
 use Rattle.bb_basis.specs.Results.{try_map}
 use Rattle.bb_basis.proofs.ResultLemmas.{same_ok}
 use Rattle.bb_basis.proofs.MadeLemmas.{try_map-at, try_map-from, try_map-ok}
-use Rattle.bb_classes.specs.declared.class.Class.{Class}
-use Rattle.bb_classes.specs.declared.value.Value.{Value}
-use Rattle.bb_classes.specs.declared.kind.Link.{Link}
-use Rattle.bb_classes.specs.declared.draft.Draft.{Draft}
-use Rattle.bb_classes.specs.declared.draft.DraftContent.{DraftContent}
-use Rattle.bb_classes.specs.declared.draft.DraftContent.TheVariants as drafts
-use Rattle.bb_classes.specs.declared.draft.SchemaDraft.{SchemaDraft}
-use Rattle.bb_classes.specs.Resolution.{resolved_link}
-use Rattle.bb_classes.specs.Fits.{LeadsBy, ArePaired}
+use Rattle.bb_schema_classes.specs.declared.class.Class.{Class}
+use Rattle.bb_schema_classes.specs.declared.value.Value.{Value}
+use Rattle.bb_schema_classes.specs.declared.kind.Link.{Link}
+use Rattle.bb_schema_classes.specs.declared.draft.Draft.{Draft}
+use Rattle.bb_schema_classes.specs.declared.draft.DraftContent.{DraftContent}
+use Rattle.bb_schema_classes.specs.declared.draft.DraftContent.TheVariants as drafts
+use Rattle.bb_schema_classes.specs.declared.draft.SchemaDraft.{SchemaDraft}
+use Rattle.bb_schema_classes.specs.Resolution.{resolved_link}
+use Rattle.bb_schema_classes.specs.Fits.{LeadsBy, ArePaired}
 use Rattle.bb_schema.specs.declared.slot.Slot.{Slot}
 use Rattle.bb_schema.specs.declared.slot.Content.TheVariants as contents
 use Rattle.bb_schema.specs.Schema.{link_in, link_of}

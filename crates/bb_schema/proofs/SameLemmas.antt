@@ -11,9 +11,9 @@ use Rattle.bb_schema.specs.declared.slot.Content.{Content}
 use Rattle.bb_schema.specs.declared.slot.Content.TheVariants as contents
 use Rattle.bb_schema.specs.declared.space.Space.{Space}
 use Rattle.bb_schema.specs.declared.space.Dim.{Dim}
-use Rattle.bb_classes.specs.contracts.value.ValuePartialEq.TheImpl as value_eq
-use Rattle.bb_classes.specs.contracts.kind.LinkPartialEq.TheImpl as link_eq
-use Rattle.bb_classes.proofs.Laws.{option_decides, link_decides, value_decides}
+use Rattle.bb_schema_classes.specs.contracts.value.ValuePartialEq.TheImpl as value_eq
+use Rattle.bb_schema_classes.specs.contracts.kind.LinkPartialEq.TheImpl as link_eq
+use Rattle.bb_schema_classes.proofs.Laws.{option_decides, link_decides, value_decides}
 use Rattle.bb_schema.specs.contracts.slot.ContentPartialEq.TheImpl as content_eq
 use Rattle.bb_schema.specs.contracts.slot.SlotPartialEq.TheImpl as slot_eq
 use Rattle.bb_schema.specs.contracts.space.SpacePartialEq.TheImpl as space_eq

@@ -9,37 +9,37 @@ use Rattle.std.proofs.lemmas.Bool.{eqb-true, eqb-false, or_parts}
 use Rattle.std.proofs.lemmas.Cmp.{nat_eq_equiv}
 use Rattle.std.proofs.lemmas.Map.Keys.{IsDistinct-push}
 use Rattle.bb_basis.proofs.ListLemmas.{map-last, list_all_same}
-use Rattle.bb_classes.specs.declared.draft.TheConstants.{SLOT_LIMIT}
+use Rattle.bb_schema_classes.specs.declared.draft.TheConstants.{SLOT_LIMIT}
 use Rattle.bb_schema.specs.declared.read.spaces.TheConstants.{DIM_LIMIT, SPACE_LIMIT}
-use Rattle.bb_classes.specs.Naming.{AreNames}
-use Rattle.bb_classes.proofs.Laws.{not_false, distinct_nil, no_names, one_more_name}
+use Rattle.bb_schema_classes.specs.Naming.{AreNames}
+use Rattle.bb_schema_classes.proofs.Laws.{not_false, distinct_nil, no_names, one_more_name}
 use Rattle.bb_basis.specs.Results.{ok_or, try_map, try_fold_at}
 use Rattle.bb_basis.proofs.PlacedLemmas.{bind_fold, fold_at_ok}
-use Rattle.bb_document.specs.Document.{SpaceDeclaration, DimDeclaration}
-use Rattle.bb_classes.specs.declared.fault.SchemaFlaw.TheVariants as flaws
-use Rattle.bb_classes.specs.Faults.{here, inside}
-use Rattle.bb_document.specs.declared.place.ListKey.TheVariants as lists
-use Rattle.bb_classes.specs.declared.label_set.LabelSet.{LabelSet}
-use Rattle.bb_classes.specs.declared.class.Class.{Class}
-use Rattle.bb_classes.specs.declared.value.Value.{Value}
+use Rattle.bb_schema_form.specs.Document.{SpaceDeclaration, DimDeclaration}
+use Rattle.bb_schema_classes.specs.declared.fault.SchemaFlaw.TheVariants as flaws
+use Rattle.bb_schema_classes.specs.Faults.{here, inside}
+use Rattle.bb_schema_form.specs.declared.place.ListKey.TheVariants as lists
+use Rattle.bb_schema_classes.specs.declared.label_set.LabelSet.{LabelSet}
+use Rattle.bb_schema_classes.specs.declared.class.Class.{Class}
+use Rattle.bb_schema_classes.specs.declared.value.Value.{Value}
 use Rattle.bb_schema.specs.declared.slot.Slot.{Slot}
 use Rattle.bb_schema.specs.declared.slot.Content.{Content}
 use Rattle.bb_schema.specs.declared.slot.Content.TheVariants as contents
-use Rattle.bb_classes.specs.declared.draft.Draft.{Draft}
-use Rattle.bb_classes.specs.declared.draft.DraftContent.{DraftContent}
-use Rattle.bb_classes.specs.declared.draft.DraftContent.TheVariants as drafts
+use Rattle.bb_schema_classes.specs.declared.draft.Draft.{Draft}
+use Rattle.bb_schema_classes.specs.declared.draft.DraftContent.{DraftContent}
+use Rattle.bb_schema_classes.specs.declared.draft.DraftContent.TheVariants as drafts
 use Rattle.bb_schema.specs.declared.space.Space.{Space}
 use Rattle.bb_schema.specs.declared.space.Dim.{Dim}
 use Rattle.bb_basis.specs.Names.{is_name}
 use Rattle.bb_schema.specs.Schema.{Schema, class_named, label_set_named, default_in}
-use Rattle.bb_classes.specs.declared.draft.SchemaDraft.{SchemaDraft}
-use Rattle.bb_classes.specs.Resolution.{resolved_link}
+use Rattle.bb_schema_classes.specs.declared.draft.SchemaDraft.{SchemaDraft}
+use Rattle.bb_schema_classes.specs.Resolution.{resolved_link}
 use Rattle.bb_schema.specs.Resolution.{resolved_content, resolved_slot}
-use Rattle.bb_classes.specs.Inheritance.{is_among}
+use Rattle.bb_schema_classes.specs.Inheritance.{is_among}
 use Rattle.bb_schema.specs.SpaceReading.{space_class_after, has_slot_for, set_number, dim_after, space_after}
 use Rattle.bb_schema.specs.Fits.{IsSlot, IsSpace, AreSpaces, Fits}
-use Rattle.bb_classes.specs.declared.read.Walked.{Walked}
-use Rattle.bb_classes.specs.Fits.{IsHeld, draft_default, IsDraft, IsWalked}
+use Rattle.bb_schema_classes.specs.declared.read.Walked.{Walked}
+use Rattle.bb_schema_classes.specs.Fits.{IsHeld, draft_default, IsDraft, IsWalked}
 use Rattle.bb_schema.proofs.SlotLemmas.{slots_focus, slots_owned, slots_named_apart}
 use Rattle.bb_schema.proofs.LinkLemmas.{links_couple}
 use Rattle.bb_basis.proofs.ResultLemmas.{bind_ok, guard_ok, ok_or_ok, same_ok, try_fold_keeps, length-try_map, All-try_map}

@@ -4,14 +4,14 @@ use Rattle.std.specs.Prelude.{codes}
 use Rattle.bb_basis.specs.Results.{◌>>=◌, try_map}
 use Rattle.bb_basis.proofs.ResultLemmas.{bind_ok, same_ok}
 use Rattle.bb_basis.proofs.MadeLemmas.{try_map-from}
-use Rattle.bb_classes.specs.declared.class.Class.{Class}
-use Rattle.bb_classes.specs.declared.value.Value.{Value}
-use Rattle.bb_classes.specs.declared.value.Value.TheVariants as values
-use Rattle.bb_classes.specs.declared.draft.Draft.{Draft}
-use Rattle.bb_classes.specs.declared.draft.DraftContent.TheVariants as contents
-use Rattle.bb_classes.specs.Inheritance.{descends_in}
-use Rattle.bb_classes.specs.Focus.{focus_drafts}
-use Rattle.bb_classes.specs.Fits.{StartsWith, OwnsDrafts, AreNamedApart}
+use Rattle.bb_schema_classes.specs.declared.class.Class.{Class}
+use Rattle.bb_schema_classes.specs.declared.value.Value.{Value}
+use Rattle.bb_schema_classes.specs.declared.value.Value.TheVariants as values
+use Rattle.bb_schema_classes.specs.declared.draft.Draft.{Draft}
+use Rattle.bb_schema_classes.specs.declared.draft.DraftContent.TheVariants as contents
+use Rattle.bb_schema_classes.specs.Inheritance.{descends_in}
+use Rattle.bb_schema_classes.specs.Focus.{focus_drafts}
+use Rattle.bb_schema_classes.specs.Fits.{StartsWith, OwnsDrafts, AreNamedApart}
 use Rattle.bb_schema.specs.declared.slot.Slot.{Slot}
 use Rattle.bb_schema.specs.declared.slot.Content.TheVariants as slots
 use Rattle.bb_schema.specs.Resolution.{resolved_content, resolved_slot}

@@ -2,7 +2,7 @@
 use Rattle.std.specs.Prelude.{ℕ, suc, Bool, false, nat_lt, List, [], ◌∷◌, length, take, Option, option_map, if◌then◌else◌}
 use Rattle.std.specs.Option.{option_map_or}
 use Rattle.bb_schema.specs.declared.slot.Slot.{Slot}
-use Rattle.bb_classes.specs.declared.kind.Link.{Link}
+use Rattle.bb_schema_classes.specs.declared.kind.Link.{Link}
 use Rattle.bb_schema.specs.declared.couple.Side.{Side}
 use Rattle.bb_schema.specs.declared.couple.Side.TheVariants.{A, B}
 use Rattle.bb_schema.specs.Schema.{Schema, link_in, link_of}

@@ -2,15 +2,15 @@
 use Rattle.std.specs.Prelude.{◌≡◌, ◌≢◌, ◌<◌, ◌≤◌, [], ◌∷◌, ℕ, List, map, length, slice_get, option_map, Some, All, IfSome, IsTrue, true, nat_eq}
 use Rattle.std.specs.List.{IsDistinct, list_all}
 use Rattle.bb_basis.specs.Names.{is_name}
-use Rattle.bb_classes.specs.declared.label_set.LabelSet.{LabelSet}
-use Rattle.bb_classes.specs.declared.draft.TheConstants.{SLOT_LIMIT}
-use Rattle.bb_classes.specs.declared.read.classes.TheConstants.{CLASS_LIMIT}
-use Rattle.bb_classes.specs.declared.class.Class.{Class}
-use Rattle.bb_classes.specs.declared.kind.Link.{Link}
-use Rattle.bb_classes.specs.Inheritance.{ParentsAreEarlier, parent_of, descends_in, slots_in, is_among}
-use Rattle.bb_classes.specs.Naming.{AreNames}
-use Rattle.bb_classes.specs.Focus.{focus_class}
-use Rattle.bb_classes.specs.Fits.{AreLabelSets, IsHeld, IsClass, StartsWith}
+use Rattle.bb_schema_classes.specs.declared.label_set.LabelSet.{LabelSet}
+use Rattle.bb_schema_classes.specs.declared.draft.TheConstants.{SLOT_LIMIT}
+use Rattle.bb_schema_classes.specs.declared.read.classes.TheConstants.{CLASS_LIMIT}
+use Rattle.bb_schema_classes.specs.declared.class.Class.{Class}
+use Rattle.bb_schema_classes.specs.declared.kind.Link.{Link}
+use Rattle.bb_schema_classes.specs.Inheritance.{ParentsAreEarlier, parent_of, descends_in, slots_in, is_among}
+use Rattle.bb_schema_classes.specs.Naming.{AreNames}
+use Rattle.bb_schema_classes.specs.Focus.{focus_class}
+use Rattle.bb_schema_classes.specs.Fits.{AreLabelSets, IsHeld, IsClass, StartsWith}
 use Rattle.bb_schema.specs.declared.slot.Slot.{Slot}
 use Rattle.bb_schema.specs.declared.read.spaces.TheConstants.{DIM_LIMIT, SPACE_LIMIT}
 use Rattle.bb_schema.specs.declared.space.Space.{Space}

@@ -1,6 +1,6 @@
 -- The slots of the built-in class, which each schema has as its first ones.
 use Rattle.std.specs.Prelude.{pos, true, List, [], ◌∷◌, codes}
-use Rattle.bb_classes.specs.declared.value.Value.TheVariants.{Int, Text, Bool as Truth}
+use Rattle.bb_schema_classes.specs.declared.value.Value.TheVariants.{Int, Text, Bool as Truth}
 use Rattle.bb_schema.specs.declared.slot.Slot.{Slot}
 use Rattle.bb_schema.specs.declared.slot.Content.TheVariants.{Default}
 

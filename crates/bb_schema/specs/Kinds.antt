@@ -1,7 +1,7 @@
 -- What a slot can hold.
-use Rattle.bb_classes.specs.declared.kind.Kind.{Kind}
-use Rattle.bb_classes.specs.declared.kind.Kind.TheVariants as kinds
-use Rattle.bb_classes.specs.Kinds.{kind_of_value}
+use Rattle.bb_schema_classes.specs.declared.kind.Kind.{Kind}
+use Rattle.bb_schema_classes.specs.declared.kind.Kind.TheVariants as kinds
+use Rattle.bb_schema_classes.specs.Kinds.{kind_of_value}
 use Rattle.bb_schema.specs.declared.slot.Content.{Content}
 use Rattle.bb_schema.specs.declared.slot.Content.TheVariants.{Default, Link}
 

@@ -1,18 +1,18 @@
 -- The schema that a text means, or its first fault: the JSON, its form, then one walk over the entries.
 use Rattle.std.specs.Prelude.{ℕ, [], List, Result, Ok}
 use Rattle.bb_basis.specs.Results.{◌>>=◌, map_err, try_map, try_fold_at}
-use Rattle.bb_document.specs.Document.{Declarations, SpaceDeclaration}
-use Rattle.bb_document.specs.Form.{document_of}
-use Rattle.bb_document.specs.declared.fault.DocumentFault.{DocumentFault}
-use Rattle.bb_document.specs.declared.fault.DocumentFault.TheVariants.{Json, Shape, Memory}
-use Rattle.bb_classes.specs.declared.fault.SchemaFault.{SchemaFault}
-use Rattle.bb_classes.specs.declared.fault.SchemaFault.TheVariants.{At, Memory as OutOfMemory}
-use Rattle.bb_classes.specs.declared.fault.SchemaFlaw.TheVariants as flaws
-use Rattle.bb_classes.specs.Faults.{here, inside}
-use Rattle.bb_document.specs.declared.place.ListKey.TheVariants as lists
+use Rattle.bb_schema_form.specs.Document.{Declarations, SpaceDeclaration}
+use Rattle.bb_schema_form.specs.Form.{document_of}
+use Rattle.bb_schema_form.specs.declared.fault.DocumentFault.{DocumentFault}
+use Rattle.bb_schema_form.specs.declared.fault.DocumentFault.TheVariants.{Json, Shape, Memory}
+use Rattle.bb_schema_classes.specs.declared.fault.SchemaFault.{SchemaFault}
+use Rattle.bb_schema_classes.specs.declared.fault.SchemaFault.TheVariants.{At, Memory as OutOfMemory}
+use Rattle.bb_schema_classes.specs.declared.fault.SchemaFlaw.TheVariants as flaws
+use Rattle.bb_schema_classes.specs.Faults.{here, inside}
+use Rattle.bb_schema_form.specs.declared.place.ListKey.TheVariants as lists
 use Rattle.bb_schema.specs.Schema.{Schema}
-use Rattle.bb_classes.specs.declared.read.Walked.{Walked}
-use Rattle.bb_classes.specs.Walk.{walk_of}
+use Rattle.bb_schema_classes.specs.declared.read.Walked.{Walked}
+use Rattle.bb_schema_classes.specs.Walk.{walk_of}
 use Rattle.bb_schema.specs.Resolution.{resolved_slot}
 use Rattle.bb_schema.specs.SpaceReading.{space_after}
 

@@ -2,12 +2,12 @@
 -- inverse is not there or does not lead back, so nothing is refused here.
 use Rattle.std.specs.Prelude.{List, Result, Ok}
 use Rattle.bb_basis.specs.Results.{◌>>=◌}
-use Rattle.bb_classes.specs.declared.fault.SchemaFault.{SchemaFault}
-use Rattle.bb_classes.specs.declared.class.Class.{Class}
-use Rattle.bb_classes.specs.declared.draft.Draft.{Draft}
-use Rattle.bb_classes.specs.declared.draft.DraftContent.{DraftContent}
-use Rattle.bb_classes.specs.declared.draft.DraftContent.TheVariants as drafts
-use Rattle.bb_classes.specs.Resolution.{resolved_link}
+use Rattle.bb_schema_classes.specs.declared.fault.SchemaFault.{SchemaFault}
+use Rattle.bb_schema_classes.specs.declared.class.Class.{Class}
+use Rattle.bb_schema_classes.specs.declared.draft.Draft.{Draft}
+use Rattle.bb_schema_classes.specs.declared.draft.DraftContent.{DraftContent}
+use Rattle.bb_schema_classes.specs.declared.draft.DraftContent.TheVariants as drafts
+use Rattle.bb_schema_classes.specs.Resolution.{resolved_link}
 use Rattle.bb_schema.specs.declared.slot.Slot.{Slot}
 use Rattle.bb_schema.specs.declared.slot.Content.{Content}
 use Rattle.bb_schema.specs.declared.slot.Content.TheVariants as contents

@@ -2,18 +2,18 @@
 use Rattle.std.specs.Prelude.{ℕ, Bool, false, List, [], map, slice_get, Option, Some, None, option_and_then, option_map, position, find}
 use Rattle.std.specs.Option.{option_map_or}
 use Rattle.std.specs.Str.{bytes_eq}
-use Rattle.bb_classes.specs.declared.label_set.LabelSet.{LabelSet}
-use Rattle.bb_classes.specs.declared.class.Class.{Class}
-use Rattle.bb_classes.specs.declared.value.Value.{Value}
+use Rattle.bb_schema_classes.specs.declared.label_set.LabelSet.{LabelSet}
+use Rattle.bb_schema_classes.specs.declared.class.Class.{Class}
+use Rattle.bb_schema_classes.specs.declared.value.Value.{Value}
 use Rattle.bb_schema.specs.declared.slot.Slot.{Slot}
-use Rattle.bb_classes.specs.declared.kind.Link.{Link}
-use Rattle.bb_classes.specs.declared.kind.Kind.{Kind}
+use Rattle.bb_schema_classes.specs.declared.kind.Link.{Link}
+use Rattle.bb_schema_classes.specs.declared.kind.Kind.{Kind}
 use Rattle.bb_schema.specs.declared.slot.Content.{Content}
 use Rattle.bb_schema.specs.declared.slot.Content.TheVariants as contents
 use Rattle.bb_schema.specs.declared.space.Space.{Space}
 use Rattle.bb_schema.specs.declared.space.Dim.{Dim}
 use Rattle.bb_schema.specs.Kinds.{kind_of}
-use Rattle.bb_classes.specs.Inheritance.{descends_in, slots_in}
+use Rattle.bb_schema_classes.specs.Inheritance.{descends_in, slots_in}
 
 -- all parts by their numbers: class 0 is `focus`
 pub record Schema : Type 0 where

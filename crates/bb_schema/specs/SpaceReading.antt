@@ -4,18 +4,18 @@ use Rattle.std.specs.List.{list_any, list_all}
 use Rattle.std.specs.Option.{option_map_or}
 use Rattle.std.specs.Str.{bytes_eq}
 use Rattle.bb_basis.specs.Results.{◌>>=◌, ok_or, try_fold_at}
-use Rattle.bb_document.specs.Document.{SpaceDeclaration, DimDeclaration}
+use Rattle.bb_schema_form.specs.Document.{SpaceDeclaration, DimDeclaration}
 use Rattle.bb_schema.specs.declared.read.spaces.TheConstants.{DIM_LIMIT, SPACE_LIMIT}
-use Rattle.bb_classes.specs.declared.fault.SchemaFault.{SchemaFault}
-use Rattle.bb_classes.specs.declared.fault.SchemaFlaw.TheVariants as flaws
-use Rattle.bb_classes.specs.Faults.{here, inside}
-use Rattle.bb_document.specs.declared.place.ListKey.TheVariants as lists
-use Rattle.bb_classes.specs.declared.kind.Kind.{Kind}
-use Rattle.bb_classes.specs.declared.kind.Kind.TheVariants.{Int, Label, Interval}
+use Rattle.bb_schema_classes.specs.declared.fault.SchemaFault.{SchemaFault}
+use Rattle.bb_schema_classes.specs.declared.fault.SchemaFlaw.TheVariants as flaws
+use Rattle.bb_schema_classes.specs.Faults.{here, inside}
+use Rattle.bb_schema_form.specs.declared.place.ListKey.TheVariants as lists
+use Rattle.bb_schema_classes.specs.declared.kind.Kind.{Kind}
+use Rattle.bb_schema_classes.specs.declared.kind.Kind.TheVariants.{Int, Label, Interval}
 use Rattle.bb_schema.specs.declared.space.Space.{Space}
 use Rattle.bb_schema.specs.declared.space.Dim.{Dim}
 use Rattle.bb_basis.specs.Names.{is_name}
-use Rattle.bb_classes.specs.Inheritance.{is_among}
+use Rattle.bb_schema_classes.specs.Inheritance.{is_among}
 use Rattle.bb_schema.specs.Schema.{Schema, class_named, label_set_named, slot_named, kind_of_slot}
 
 -- the classes of a space with one more, or what is wrong with it

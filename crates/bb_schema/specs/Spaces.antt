@@ -2,7 +2,7 @@
 use Rattle.std.specs.Prelude.{ℕ, Bool, List, [], slice_get}
 use Rattle.std.specs.List.{list_any, Any}
 use Rattle.std.specs.Option.{option_map_or}
-use Rattle.bb_classes.specs.Inheritance.{Descends, descends_in}
+use Rattle.bb_schema_classes.specs.Inheritance.{Descends, descends_in}
 use Rattle.bb_schema.specs.Schema.{Schema}
 
 -- the classes that a space lists

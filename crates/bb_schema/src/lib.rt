@@ -1,5 +1,5 @@
 //! The schema of a blackboard: its classes, slots with resolved links, couples of these, and spaces, read from a JSON
-//! document. Crates above take its parts from here, those of `bb_classes` too.
+//! document. Crates above take its parts from here, those of `bb_schema_classes` too.
 #![tactic(auto)]
 
 mod couple;
@@ -10,7 +10,7 @@ mod slot;
 mod space;
 mod unit;
 
-pub use bb_classes::{
+pub use bb_schema_classes::{
     ClassId, DocumentPlace, Kind, LabelId, LabelSetId, Link, ListItem, ListKey, SchemaFault,
     SchemaFlaw, SlotId, TEXT_LIMIT, Value,
 };

@@ -2,11 +2,11 @@
 
 ghost use Rattle.std.specs.Prelude.{◌≡◌, IfErr, IfOk, map};
 ghost use Rattle.bb_basis.specs.Results.{Gives, map_err};
-ghost use Rattle.bb_document.specs.Document.{declarations, space_declaration};
-ghost use Rattle.bb_document.specs.Form.{document_of};
-ghost use Rattle.bb_document.specs.Defaults.{HaveSoundDefaults};
-ghost use Rattle.bb_classes.specs.declared.fault.SchemaFault.TheVariants.{Memory as OutOfMemory};
-ghost use Rattle.bb_classes.specs.Fits.{IsWalked};
+ghost use Rattle.bb_schema_form.specs.Document.{declarations, space_declaration};
+ghost use Rattle.bb_schema_form.specs.Form.{document_of};
+ghost use Rattle.bb_schema_form.specs.Defaults.{HaveSoundDefaults};
+ghost use Rattle.bb_schema_classes.specs.declared.fault.SchemaFault.TheVariants.{Memory as OutOfMemory};
+ghost use Rattle.bb_schema_classes.specs.Fits.{IsWalked};
 ghost use Rattle.bb_schema.specs.Reading.{fault_of, bare_schema, schema_with_spaces, declared_schema, schema_of};
 
 mod resolve;
@@ -15,8 +15,8 @@ mod spaces;
 use crate::couple::count_couples;
 use crate::schema::Schema;
 use bb_basis::Table;
-use bb_classes::{SchemaFault, SchemaFlaw, Walked, spans_of};
-use bb_document::{Document, DocumentFault, SpaceEntry};
+use bb_schema_classes::{SchemaFault, SchemaFlaw, Walked, spans_of};
+use bb_schema_form::{Document, DocumentFault, SpaceEntry};
 use resolve::resolve_slots;
 use spaces::spaces_of;
 use std::alloc::Global;

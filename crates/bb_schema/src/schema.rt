@@ -3,13 +3,13 @@
 ghost use Rattle.std.specs.Prelude.{◌≡◌, ◌<◌, ◌≤◌, ◌↔◌, Some, IsSome, is_some, IsTrue, length, min, slice_get, option_map, ◌⊎◌};
 ghost use Rattle.std.specs.List.{list_any};
 ghost use Rattle.bb_schema.specs.Schema.{class_named, space_named, label_set_named, label_named, slot_named, name_of_class, name_of_slot, name_of_space, name_of_label, slots_of, owner_of, kind_of_slot, default_of, link_of, inverse_of, dims_of, descends};
-ghost use Rattle.bb_classes.specs.Inheritance.{parent_of, Descends};
+ghost use Rattle.bb_schema_classes.specs.Inheritance.{parent_of, Descends};
 ghost use Rattle.bb_schema.specs.Couples.{couples, couple_of};
 ghost use Rattle.bb_schema.specs.Fits.{Fits, AreSpaces};
-ghost use Rattle.bb_classes.specs.Values.{label_counts};
-ghost use Rattle.bb_classes.specs.declared.read.labels.TheConstants.{LABEL_SET_LIMIT};
-ghost use Rattle.bb_classes.specs.declared.read.classes.TheConstants.{CLASS_LIMIT};
-ghost use Rattle.bb_classes.specs.declared.draft.TheConstants.{SLOT_LIMIT};
+ghost use Rattle.bb_schema_classes.specs.Values.{label_counts};
+ghost use Rattle.bb_schema_classes.specs.declared.read.labels.TheConstants.{LABEL_SET_LIMIT};
+ghost use Rattle.bb_schema_classes.specs.declared.read.classes.TheConstants.{CLASS_LIMIT};
+ghost use Rattle.bb_schema_classes.specs.declared.draft.TheConstants.{SLOT_LIMIT};
 ghost use Rattle.bb_schema.specs.declared.read.spaces.TheConstants.{SPACE_LIMIT};
 ghost use Rattle.bb_schema.specs.Spaces.{allowed, IsAllowed};
 
@@ -17,7 +17,7 @@ use crate::couple::{CoupleId, Side, couple_end};
 use crate::slot::{Content, Slot, find_slot, link_at};
 use crate::space::{Dim, Space, SpaceId};
 use bb_basis::Table;
-use bb_classes::{
+use bb_schema_classes::{
     Class, ClassId, Kind, LabelId, LabelSet, LabelSetId, Link, SlotId, Span, Value, parent, span_at,
 };
 use std::marker::Model;

@@ -6,7 +6,7 @@ ghost use Rattle.bb_schema.specs.Kinds.{kind_of};
 ghost use Rattle.bb_schema.specs.Schema.{has_name, link_in, link_of};
 
 use bb_basis::Text;
-use bb_classes::{ClassId, Kind, Link, SlotId, Value};
+use bb_schema_classes::{ClassId, Kind, Link, SlotId, Value};
 
 /// What a slot holds in a new unit: an ordinary one its default, a link slot no unit.
 #[derive(Debug, PartialEq, Drop)]

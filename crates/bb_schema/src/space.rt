@@ -1,7 +1,7 @@
 //! Spaces and their dimensions. The schema keeps them in a table.
 
 use bb_basis::{IdSet, Named, Table, Text};
-use bb_classes::LabelSetId;
+use bb_schema_classes::LabelSetId;
 
 /// The number of a space, in the order of the document.
 pub type SpaceId = u16;

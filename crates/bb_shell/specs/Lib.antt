@@ -43,7 +43,7 @@ pub use Rattle.bb_run.specs.Roster
 pub use Rattle.bb_run.specs.Sight
 pub use Rattle.bb_run.specs.Ask
 pub use Rattle.bb_run.specs.Closing
-pub use Rattle.bb_classes.specs.declared.value.Value
+pub use Rattle.bb_schema_classes.specs.declared.value.Value
 -- of bb_rules: what sources were made of
 pub use Rattle.bb_run.specs.Law
 pub use Rattle.bb_run.specs.Source

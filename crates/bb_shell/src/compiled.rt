@@ -7,7 +7,7 @@ ghost use Rattle.bb_shell.specs.Sources.{compiled_source, compiled_text};
 
 use bb_bundle::SourceCode;
 use bb_compile::compile;
-use bb_judge::CompileFault;
+use bb_compile_scope::CompileFault;
 use bb_lang::{LangFault, SourceText, parse};
 use bb_refusal::InputFault;
 use bb_schema::Schema;

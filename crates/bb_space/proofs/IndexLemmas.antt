@@ -1,13 +1,13 @@
 -- What the index of a space says of its members.
 use Rattle.std.proofs.Common.{◌≡◌, ℕ, true, List, filter}
 use Rattle.std.specs.FinMap as fin
-use Rattle.bb_places.specs.declared.leaf.Leaf.{Leaf}
-use Rattle.bb_places.specs.declared.place.Place.{Place}
-use Rattle.bb_places.specs.Places.{has}
-use Rattle.bb_places.specs.Spots.{is_near}
-use Rattle.bb_places.specs.Pairs.{AreAllNear}
-use Rattle.bb_places.specs.Marks.{LeavesAllNear}
-use Rattle.bb_places.proofs.Laws.{AreOf, by_bool, near_is, passes_near, near_kept, near_all}
+use Rattle.bb_space_index.specs.declared.leaf.Leaf.{Leaf}
+use Rattle.bb_space_index.specs.declared.place.Place.{Place}
+use Rattle.bb_space_index.specs.Places.{has}
+use Rattle.bb_space_index.specs.Spots.{is_near}
+use Rattle.bb_space_index.specs.Pairs.{AreAllNear}
+use Rattle.bb_space_index.specs.Marks.{LeavesAllNear}
+use Rattle.bb_space_index.proofs.Laws.{AreOf, by_bool, near_is, passes_near, near_kept, near_all}
 use Rattle.bb_space.specs.declared.members.Members.{Members}
 use Rattle.bb_space.specs.Candidates.{is_candidate}
 use Rattle.bb_space.specs.Passing.{passes, HaveAllPassing}

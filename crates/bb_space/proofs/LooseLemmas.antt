@@ -10,13 +10,13 @@ use Rattle.std.proofs.lemmas.Cmp.{eq_by_cmp_equiv}
 use Rattle.std.proofs.lemmas.Map.Lookups.{exact_unsigned}
 use Rattle.bb_pattern.specs.declared.value.DimValue.{DimValue}
 use Rattle.bb_space.specs.declared.members.Members.{Members}
-use Rattle.bb_places.specs.declared.place.Place.{Place}
+use Rattle.bb_space_index.specs.declared.place.Place.{Place}
 use Rattle.bb_space.specs.Spaces.{Membership, left, moved}
-use Rattle.bb_places.specs.Places.{place_cmp, is_at, is_place_of, has, ArePut, AreTaken}
+use Rattle.bb_space_index.specs.Places.{place_cmp, is_at, is_place_of, has, ArePut, AreTaken}
 use Rattle.bb_space.specs.proving.Indexed.{membership, is_told, IsLoose, IsIndexed}
 use Rattle.bb_space.specs.proving.Entries.{members_of_entries}
 use Rattle.bb_space.proofs.EntryLemmas.{get_is_lookup}
-use Rattle.bb_places.proofs.Laws.{equal, by_bool, by_number, of_unit, at_of, place_from, none_at}
+use Rattle.bb_space_index.proofs.Laws.{equal, by_bool, by_number, of_unit, at_of, place_from, none_at}
 
 by_unit : (p : Place) (unit : ℕ) (G : Type 0) → (p.unit ≡ unit → G) → ((p.unit ≡ unit → ⊥) → G) → G
 by_unit p unit G same other = by_number p.unit unit G same other

@@ -2,8 +2,8 @@
 use Rattle.std.specs.Prelude.{ℕ, Bool, false, List, filter, slice_get}
 use Rattle.std.specs.Option.{option_map_or}
 use Rattle.std.specs.FinMap as fin
-use Rattle.bb_places.specs.declared.leaf.Leaf.{Leaf}
-use Rattle.bb_places.specs.Candidates.{may_pass, dim_of}
+use Rattle.bb_space_index.specs.declared.leaf.Leaf.{Leaf}
+use Rattle.bb_space_index.specs.Candidates.{may_pass, dim_of}
 use Rattle.bb_space.specs.Spaces.{Membership}
 
 -- whether a member is there whose value on the dimension can pass

@@ -8,6 +8,6 @@ mod passing;
 mod spaces;
 mod standing;
 
-pub use bb_places::Leaf;
 pub use bb_schema::{SpaceId, UnitId};
+pub use bb_space_index::Leaf;
 pub use spaces::Spaces;

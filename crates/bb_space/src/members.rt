@@ -6,16 +6,18 @@ ghost use Rattle.std.specs.FinMap as map;
 ghost use Rattle.bb_space.specs.Spaces.{entered, left, moved};
 ghost use Rattle.bb_space.specs.Candidates.{candidates_of};
 ghost use Rattle.bb_space.specs.Passing.{passes, HaveAllPassing};
-ghost use Rattle.bb_places.specs.declared.place.Place.{Place as At};
+ghost use Rattle.bb_space_index.specs.declared.place.Place.{Place as At};
 ghost use Rattle.bb_space.specs.proving.Entries.{members_of_entries};
-ghost use Rattle.bb_places.specs.Places.{has, is_place_of, ArePut, AreTaken};
+ghost use Rattle.bb_space_index.specs.Places.{has, is_place_of, ArePut, AreTaken};
 ghost use Rattle.bb_space.specs.proving.Indexed.{membership, IsIndexed};
 
 use crate::passing::{passing, room};
 use bb_basis::{Items, Memory};
 use bb_pattern::DimValue;
-use bb_places::{Leaf, Place, collect_near, few_by_two, is_few, put_all, rise, take_all, thin_all};
 use bb_schema::UnitId;
+use bb_space_index::{
+    Leaf, Place, collect_near, few_by_two, is_few, put_all, rise, take_all, thin_all,
+};
 use std::alloc::{AllocError, Global};
 use std::collections::{BTreeMap, BTreeSet};
 use std::mem;

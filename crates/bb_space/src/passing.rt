@@ -2,15 +2,15 @@
 //! looked at in their order, which is quicker than a search for each. members.rt asks for them.
 
 ghost use Rattle.std.specs.Prelude.{◌≡◌, ◌+◌, ◌-◌, ◌⊎◌, ℕ, Bool, List, Some, IfOk, filter, slice_get};
-ghost use Rattle.bb_places.specs.Leaf.{fit_each};
+ghost use Rattle.bb_space_index.specs.Leaf.{fit_each};
 ghost use Rattle.bb_space.specs.Passing.{passes};
 ghost use Rattle.bb_space.specs.proving.Entries.{members_of_entries};
 ghost use Rattle.bb_space.specs.proving.Known.{AreKnown};
 
 use bb_basis::{Items, Memory};
 use bb_pattern::DimValue;
-use bb_places::Leaf;
 use bb_schema::UnitId;
+use bb_space_index::Leaf;
 use std::alloc::Global;
 use std::collections::BTreeMap;
 

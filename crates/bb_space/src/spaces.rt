@@ -15,8 +15,8 @@ use crate::moving::{move_all, move_one};
 use crate::standing::Standing;
 use bb_basis::{Items, Memory};
 use bb_pattern::DimValue;
-use bb_places::Leaf;
 use bb_schema::{Schema, SpaceId, UnitId};
+use bb_space_index::Leaf;
 use std::alloc::Global;
 use std::marker::Model;
 

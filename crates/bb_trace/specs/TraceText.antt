@@ -5,8 +5,8 @@ use Rattle.std.specs.Fmt.{decimal, signed_decimal}
 use Rattle.serde_json.specs.Data.{string}
 use Rattle.serde_json.specs.Written.{compact_text}
 use Rattle.bb_schema.specs.Schema.{Schema, name_of_class, name_of_label, name_of_slot, name_of_space}
-use Rattle.bb_classes.specs.declared.value.Value.{Value}
-use Rattle.bb_classes.specs.declared.value.Value.TheVariants as values
+use Rattle.bb_schema_classes.specs.declared.value.Value.{Value}
+use Rattle.bb_schema_classes.specs.declared.value.Value.TheVariants as values
 use Rattle.bb_board.specs.Change.{Change}
 use Rattle.bb_board.specs.Change.TheVariants.{Create, Delete, Update, Link, Unlink, Enter, Leave}
 use Rattle.bb_board.specs.Event.{Event}
@@ -16,7 +16,7 @@ use Rattle.bb_board.specs.Note.TheVariants.{Event as happened, Said as said}
 use Rattle.bb_board.specs.Said.{Said}
 use Rattle.bb_board.specs.Said.TheVariants as saids
 use Rattle.bb_agenda.specs.Activation.{Activation}
-use Rattle.bb_state.specs.Reasons.{reason_number}
+use Rattle.bb_machine_state.specs.Reasons.{reason_number}
 use Rattle.bb_native.specs.declared.closing.Closing.{Closing}
 use Rattle.bb_native.specs.Refusals.{refusal_number}
 use Rattle.bb_rules.specs.Parts.{Source}

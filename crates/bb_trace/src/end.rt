@@ -1,6 +1,6 @@
 //! How a run ends that nothing cuts short. The run notes it last, and line.rt makes a line of it.
 
-use bb_state::Stuck;
+use bb_machine_state::Stuck;
 
 /// How a run ends that nothing cuts short.
 #[derive(Clone, Copy, Debug, PartialEq, Eq)]

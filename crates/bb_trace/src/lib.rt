@@ -15,6 +15,7 @@ pub use bb_board::{
     Board, DocumentPlace, Event, ListItem, ListKey, Note as BoardNote, SharedSchema, UnitsFault,
     UnitsFlaw,
 };
+pub use bb_machine_state::Stuck;
 pub use bb_native::{
     Ask, Closed, Closing, Denial, DimValue, NativeSource, Node, OperandKind, Pattern, Query,
     Refusal, Relation, Roster, View, apply, close_each,
@@ -23,7 +24,6 @@ pub use bb_rules::{
     Act, ClassPlace, Classes, ClauseList, ClausePlace, Clauses, Question, Reaction, RuleFault,
     Source,
 };
-pub use bb_state::Stuck;
 pub use end::End;
 pub use halt::Halt;
 pub use line::{add_board_note, add_value};

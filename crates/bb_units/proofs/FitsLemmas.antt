@@ -5,7 +5,7 @@ use Rattle.std.specs.Option.{option_map_or}
 use Rattle.std.specs.Ordering.{nat_cmp, eq_by_cmp}
 use Rattle.std.specs.Cmp.{nat_cmp_total, Equal-is}
 use Rattle.std.specs.FinMap.{get, insert, remove, len, contains_key, get-empty, get-insert, get-remove, len-insert, len-remove, len-empty, nat_cmp-IsAntisymmetric}
-use Rattle.bb_classes.specs.declared.value.Value.{Value}
+use Rattle.bb_schema_classes.specs.declared.value.Value.{Value}
 use Rattle.bb_units.specs.declared.unit.Unit.{Unit}
 use Rattle.bb_units.specs.declared.units.TheConstants.{UNIT_LIMIT}
 use Rattle.bb_units.specs.Layout.{Layout, can_hold}

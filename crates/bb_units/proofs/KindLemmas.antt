@@ -5,15 +5,15 @@ use Rattle.std.specs.List.{cons_option}
 use Rattle.std.specs.Option.{option_map_or}
 use Rattle.std.proofs.lemmas.Map.{keys-set_value}
 use Rattle.std.proofs.lemmas.Bool.{eqb-true}
-use Rattle.bb_classes.specs.declared.value.Value.{Value}
+use Rattle.bb_schema_classes.specs.declared.value.Value.{Value}
 use Rattle.bb_units.specs.declared.unit.Unit.{Unit}
 use Rattle.bb_schema.specs.declared.slot.Slot.{Slot}
-use Rattle.bb_classes.specs.Kinds.{kind_of_value}
-use Rattle.bb_classes.specs.Values.{value_fits}
+use Rattle.bb_schema_classes.specs.Kinds.{kind_of_value}
+use Rattle.bb_schema_classes.specs.Values.{value_fits}
 use Rattle.bb_schema.specs.Schema.{Schema, default_in}
-use Rattle.bb_classes.specs.Fits.{IsHeld}
+use Rattle.bb_schema_classes.specs.Fits.{IsHeld}
 use Rattle.bb_schema.specs.Fits.{IsSlot, Fits}
-use Rattle.bb_classes.proofs.Laws.{All-at}
+use Rattle.bb_schema_classes.proofs.Laws.{All-at}
 use Rattle.bb_units.specs.Values.{value_at, with_value}
 use Rattle.bb_units.specs.Layout.{Layout, layout_of, default_at, can_hold, defaults_of}
 use Rattle.bb_units.specs.Units.{new_unit, with_slot}

@@ -2,7 +2,7 @@
 use Rattle.std.specs.Prelude.{◌≡◌, ℕ, length, ◌<◌, ◌≤◌, ◌^◌, true, Some, IsTrue}
 use Rattle.std.specs.FinMap as map
 use Rattle.std.specs.Map.{keys_of}
-use Rattle.bb_classes.specs.declared.value.Value.{Value}
+use Rattle.bb_schema_classes.specs.declared.value.Value.{Value}
 use Rattle.bb_units.specs.declared.unit.Unit.{Unit}
 use Rattle.bb_units.specs.Values.{value_at}
 use Rattle.bb_units.specs.Layout.{Layout, default_at, can_hold, blank}

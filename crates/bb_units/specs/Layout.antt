@@ -2,9 +2,9 @@
 use Rattle.std.specs.Prelude.{ℕ, Bool, false, List, [], map, Option, slice_get, option_map, option_and_then}
 use Rattle.std.specs.List.{filter_map}
 use Rattle.std.specs.Option.{option_map_or}
-use Rattle.bb_classes.specs.declared.value.Value.{Value}
-use Rattle.bb_classes.specs.Kinds.{kind_of_value}
-use Rattle.bb_classes.specs.Values.{label_counts, value_fits}
+use Rattle.bb_schema_classes.specs.declared.value.Value.{Value}
+use Rattle.bb_schema_classes.specs.Kinds.{kind_of_value}
+use Rattle.bb_schema_classes.specs.Values.{label_counts, value_fits}
 use Rattle.bb_schema.specs.Schema.{Schema, default_in}
 
 pub record Layout : Type 0 where

@@ -1,7 +1,7 @@
 -- The values of a unit: each under the number of its slot.
 use Rattle.std.specs.Prelude.{ℕ, List, Option, ◌==◌, position}
 use Rattle.std.specs.Map.{lookup, set_value}
-use Rattle.bb_classes.specs.declared.value.Value.{Value}
+use Rattle.bb_schema_classes.specs.declared.value.Value.{Value}
 
 -- the value of a slot
 abbrev pub value_at : List (ℕ × Value) → ℕ → Option Value

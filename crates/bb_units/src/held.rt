@@ -29,7 +29,7 @@ impl Drop for Held {
 }
 
 impl Model for Held {
-    ghost use Rattle.bb_classes.specs.declared.value.Value.{Value as SlotValue};
+    ghost use Rattle.bb_schema_classes.specs.declared.value.Value.{Value as SlotValue};
     ghost use Rattle.bb_units.specs.Held.{value_of_content};
 
     ghost Value = { SlotValue };

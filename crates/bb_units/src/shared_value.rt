@@ -22,7 +22,7 @@ impl Drop for SharedValue {
 }
 
 impl Model for SharedValue {
-    ghost use Rattle.bb_classes.specs.declared.value.Value.{Value as SlotValue};
+    ghost use Rattle.bb_schema_classes.specs.declared.value.Value.{Value as SlotValue};
 
     ghost Value = { SlotValue };
 

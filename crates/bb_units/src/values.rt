@@ -18,7 +18,7 @@ pub(crate) struct Values {
 
 impl Model for Values {
     ghost use Rattle.std.specs.Prelude.{List, ℕ};
-    ghost use Rattle.bb_classes.specs.declared.value.Value.{Value as SlotValue};
+    ghost use Rattle.bb_schema_classes.specs.declared.value.Value.{Value as SlotValue};
 
     ghost Value = { List (ℕ × SlotValue) };
 

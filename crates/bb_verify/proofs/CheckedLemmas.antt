@@ -1,12 +1,12 @@
 -- A code that was accepted is accepted again, and the facts hold of it.
 use Rattle.std.proofs.Common.{◌≡◌, ◌≤◌, List, length, Ok, refl, sym, subst}
 use Rattle.bb_basis.proofs.ResultLemmas.{bind_ok, same_ok}
-use Rattle.bb_effect.specs.Schema.{Schema}
-use Rattle.bb_effect.specs.Code.{Code}
-use Rattle.bb_effect.specs.FrameType.{Frame}
-use Rattle.bb_effect.specs.PartType.{Part}
-use Rattle.bb_loops.specs.Jumps.{jumps}
-use Rattle.bb_loops.specs.Loops.{loops}
+use Rattle.bb_verify_effect.specs.Schema.{Schema}
+use Rattle.bb_verify_effect.specs.Code.{Code}
+use Rattle.bb_verify_effect.specs.FrameType.{Frame}
+use Rattle.bb_verify_effect.specs.PartType.{Part}
+use Rattle.bb_verify_loops.specs.Jumps.{jumps}
+use Rattle.bb_verify_loops.specs.Loops.{loops}
 use Rattle.bb_verify.specs.Tables.{tables}
 use Rattle.bb_verify.specs.Places.{frames_of}
 use Rattle.bb_verify.specs.Accepted.{Checked, accepted, checked}

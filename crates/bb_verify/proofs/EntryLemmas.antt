@@ -1,7 +1,7 @@
 -- The locals before the first op.
 use Rattle.std.proofs.Common.{◌≡◌, ℕ, ◌+◌, ◌-◌, ◌≤◌, ◌∷◌, set, replicate, ap, ◌∙◌, add-one, arith}
-use Rattle.bb_effect.specs.Kind.{Kind}
-use Rattle.bb_effect.specs.Kind.TheVariants as kinds
+use Rattle.bb_verify_effect.specs.Kind.{Kind}
+use Rattle.bb_verify_effect.specs.Kind.TheVariants as kinds
 
 one_less : (n : ℕ) → 1 ≤ n → n ≡ (n - 1) + 1
 one_less n some = omega (arith, some)

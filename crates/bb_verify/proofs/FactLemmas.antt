@@ -2,13 +2,13 @@
 use Rattle.std.proofs.Common.{◌≡◌, ◌≤◌, length, List, Ok, sym}
 use Rattle.bb_basis.specs.Results.{◌>>=◌}
 use Rattle.bb_basis.proofs.ResultLemmas.{bind_ok}
-use Rattle.bb_effect.specs.Schema.{Schema}
-use Rattle.bb_effect.specs.Code.{Code}
-use Rattle.bb_effect.specs.FrameType.{Frame}
-use Rattle.bb_effect.specs.PartType.{Part}
+use Rattle.bb_verify_effect.specs.Schema.{Schema}
+use Rattle.bb_verify_effect.specs.Code.{Code}
+use Rattle.bb_verify_effect.specs.FrameType.{Frame}
+use Rattle.bb_verify_effect.specs.PartType.{Part}
 use Rattle.bb_verify.specs.Tables.{tables}
-use Rattle.bb_loops.specs.Jumps.{jumps}
-use Rattle.bb_loops.specs.Loops.{loops}
+use Rattle.bb_verify_loops.specs.Jumps.{jumps}
+use Rattle.bb_verify_loops.specs.Loops.{loops}
 use Rattle.bb_verify.specs.Places.{frames_of}
 use Rattle.bb_verify.specs.Accepted.{accepted}
 use Rattle.bb_verify.specs.Facts.{Facts}

@@ -6,19 +6,19 @@ use Rattle.std.proofs.lemmas.List.Sorted.{All-permutation, IsPermutation-reverse
 use Rattle.std.proofs.lemmas.Option.{slice_get_within, get_or_from_slice_get}
 use Rattle.bb_basis.specs.Results.{◌>>=◌, map_err}
 use Rattle.bb_basis.proofs.ResultLemmas.{bind_ok}
-use Rattle.bb_effect.specs.Schema.{Schema}
-use Rattle.bb_effect.specs.Code.{Code, places}
-use Rattle.bb_effect.specs.FrameEntry.{FrameEntry}
-use Rattle.bb_effect.specs.Kind.{Kind}
-use Rattle.bb_effect.specs.Kind.TheVariants.{Any, Int, Text, Bool as Truth, Label, Interval, Ref, Old, Seq}
-use Rattle.bb_effect.specs.FrameType.{Frame}
-use Rattle.bb_effect.specs.PartType.{Part}
-use Rattle.bb_effect.specs.Each.{each}
-use Rattle.bb_effect.specs.Flaws.{fault_at}
+use Rattle.bb_verify_effect.specs.Schema.{Schema}
+use Rattle.bb_verify_effect.specs.Code.{Code, places}
+use Rattle.bb_verify_effect.specs.FrameEntry.{FrameEntry}
+use Rattle.bb_verify_effect.specs.Kind.{Kind}
+use Rattle.bb_verify_effect.specs.Kind.TheVariants.{Any, Int, Text, Bool as Truth, Label, Interval, Ref, Old, Seq}
+use Rattle.bb_verify_effect.specs.FrameType.{Frame}
+use Rattle.bb_verify_effect.specs.PartType.{Part}
+use Rattle.bb_verify_effect.specs.Each.{each}
+use Rattle.bb_verify_effect.specs.Flaws.{fault_at}
 use Rattle.bb_verify.specs.Tables.{places_rise, known_kind, known_entry, known_frame, enough_locals, frames_in_order, table_at, tables}
-use Rattle.bb_effect.specs.Frame.{frame_of}
+use Rattle.bb_verify_effect.specs.Frame.{frame_of}
 use Rattle.bb_verify.specs.Places.{with_frames, declared_frames, declared_at, entry_frame, frame_at}
-use Rattle.bb_effect.proofs.Laws.{each_all, no_fault}
+use Rattle.bb_verify_effect.proofs.Laws.{each_all, no_fault}
 use Rattle.bb_verify.proofs.WalkLemmas.{Chain, Walked}
 use Rattle.bb_verify.proofs.StandLemmas.{is_declared}
 use Rattle.bb_verify.proofs.KnownOps.{IsKnown, AreKnown}

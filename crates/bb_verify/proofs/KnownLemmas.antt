@@ -2,22 +2,22 @@
 use Rattle.std.proofs.Common.{◌≡◌, ℕ, Option, Some, None, Result, Ok, Err, refl, ap, subst, ◌∙◌}
 use Rattle.bb_basis.specs.Results.{◌>>=◌}
 use Rattle.bb_basis.proofs.ResultLemmas.{bind_ok, same_ok}
-use Rattle.bb_effect.specs.SlotLink.{Link as SlotLink}
-use Rattle.bb_effect.specs.Schema.{Schema}
-use Rattle.bb_effect.specs.Code.{Code}
-use Rattle.bb_effect.specs.Kind.{Kind}
-use Rattle.bb_effect.specs.Kind.TheVariants.{Int, Text, Bool as Truth, Label, Interval, Ref}
-use Rattle.bb_effect.specs.Op.{Op}
-use Rattle.bb_effect.specs.Op.TheVariants as ops
-use Rattle.bb_effect.specs.Edges.{Edges}
-use Rattle.bb_effect.specs.Flaw.{Flaw}
-use Rattle.bb_effect.specs.FrameType.{Frame}
-use Rattle.bb_effect.specs.PartType.{Part}
-use Rattle.bb_effect.specs.Frame as frames
-use Rattle.bb_effect.specs.Due as dues
-use Rattle.bb_effect.specs.Effect as effects
-use Rattle.bb_effect.specs.Effect.{effect}
-use Rattle.bb_effect.specs.Part.{ends_done, ends_rated, ends_answered}
+use Rattle.bb_verify_effect.specs.SlotLink.{Link as SlotLink}
+use Rattle.bb_verify_effect.specs.Schema.{Schema}
+use Rattle.bb_verify_effect.specs.Code.{Code}
+use Rattle.bb_verify_effect.specs.Kind.{Kind}
+use Rattle.bb_verify_effect.specs.Kind.TheVariants.{Int, Text, Bool as Truth, Label, Interval, Ref}
+use Rattle.bb_verify_effect.specs.Op.{Op}
+use Rattle.bb_verify_effect.specs.Op.TheVariants as ops
+use Rattle.bb_verify_effect.specs.Edges.{Edges}
+use Rattle.bb_verify_effect.specs.Flaw.{Flaw}
+use Rattle.bb_verify_effect.specs.FrameType.{Frame}
+use Rattle.bb_verify_effect.specs.PartType.{Part}
+use Rattle.bb_verify_effect.specs.Frame as frames
+use Rattle.bb_verify_effect.specs.Due as dues
+use Rattle.bb_verify_effect.specs.Effect as effects
+use Rattle.bb_verify_effect.specs.Effect.{effect}
+use Rattle.bb_verify_effect.specs.Part.{ends_done, ends_rated, ends_answered}
 use Rattle.bb_verify.proofs.KnownOps.{IsKnown, AreKnown, popped, pushed, popped_live, load_known, store_known, drop_known, turn_known, combine_known, eq_label_known, eq_unit_known, get_known, links_known, find_known, size_known, new_known, set_known, relink_known, enter_known, leave_known, delete_known, say_known}
 
 -- ---- what ops leave for the next place

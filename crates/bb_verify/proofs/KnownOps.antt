@@ -4,25 +4,25 @@ use Rattle.std.specs.Prelude.{All, ◌==◌, slice_get}
 use Rattle.std.proofs.lemmas.List.Elements.{All-cons, All-head, All-tail, All-drop, All-map, All-weaker}
 use Rattle.bb_basis.specs.Results.{◌>>=◌, ok_or}
 use Rattle.bb_basis.proofs.ResultLemmas.{bind_ok, same_ok, ok_or_ok}
-use Rattle.bb_effect.specs.SlotKind.{Kind as SlotKind}
-use Rattle.bb_effect.specs.SlotKind.TheVariants as slots
-use Rattle.bb_effect.specs.SlotLink.{Link as SlotLink}
-use Rattle.bb_effect.specs.Schema.{Schema}
-use Rattle.bb_effect.specs.Query.{Query}
-use Rattle.bb_effect.specs.Code.{Code}
-use Rattle.bb_effect.specs.Kind.{Kind}
-use Rattle.bb_effect.specs.Kind.TheVariants.{Any, Int, Text, Bool as Truth, Label, Interval, Ref, Old, Seq}
-use Rattle.bb_effect.specs.Flaw.{Flaw}
-use Rattle.bb_effect.specs.Flaw.TheVariants as flaws
-use Rattle.bb_effect.specs.FrameType.{Frame}
-use Rattle.bb_effect.specs.PartType.{Part}
-use Rattle.bb_effect.specs.Each.{each}
-use Rattle.bb_effect.specs.Stack.{newest}
-use Rattle.bb_effect.specs.Frame as frames
-use Rattle.bb_effect.specs.Due as dues
-use Rattle.bb_effect.specs.Kinds as kinds
-use Rattle.bb_effect.specs.Effect as effects
-use Rattle.bb_effect.specs.Part.{writes}
+use Rattle.bb_verify_effect.specs.SlotKind.{Kind as SlotKind}
+use Rattle.bb_verify_effect.specs.SlotKind.TheVariants as slots
+use Rattle.bb_verify_effect.specs.SlotLink.{Link as SlotLink}
+use Rattle.bb_verify_effect.specs.Schema.{Schema}
+use Rattle.bb_verify_effect.specs.Query.{Query}
+use Rattle.bb_verify_effect.specs.Code.{Code}
+use Rattle.bb_verify_effect.specs.Kind.{Kind}
+use Rattle.bb_verify_effect.specs.Kind.TheVariants.{Any, Int, Text, Bool as Truth, Label, Interval, Ref, Old, Seq}
+use Rattle.bb_verify_effect.specs.Flaw.{Flaw}
+use Rattle.bb_verify_effect.specs.Flaw.TheVariants as flaws
+use Rattle.bb_verify_effect.specs.FrameType.{Frame}
+use Rattle.bb_verify_effect.specs.PartType.{Part}
+use Rattle.bb_verify_effect.specs.Each.{each}
+use Rattle.bb_verify_effect.specs.Stack.{newest}
+use Rattle.bb_verify_effect.specs.Frame as frames
+use Rattle.bb_verify_effect.specs.Due as dues
+use Rattle.bb_verify_effect.specs.Kinds as kinds
+use Rattle.bb_verify_effect.specs.Effect as effects
+use Rattle.bb_verify_effect.specs.Part.{writes}
 use Rattle.bb_verify.specs.Facts.{is_known}
 
 -- ---- what is known, and what stays so

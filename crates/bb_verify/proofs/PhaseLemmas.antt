@@ -4,16 +4,16 @@ use Rattle.std.specs.Prelude.{slice_get}
 use Rattle.std.proofs.lemmas.Option.{slice_get_within}
 use Rattle.bb_basis.specs.Results.{map_err}
 use Rattle.bb_basis.proofs.ResultLemmas.{bind_ok}
-use Rattle.bb_effect.specs.Schema.{Schema}
-use Rattle.bb_effect.specs.Code.{Code, places}
-use Rattle.bb_effect.specs.Op.{Op}
-use Rattle.bb_effect.specs.PartType.{Part}
-use Rattle.bb_effect.specs.Each.{each}
-use Rattle.bb_effect.specs.Flaws.{fault_at}
+use Rattle.bb_verify_effect.specs.Schema.{Schema}
+use Rattle.bb_verify_effect.specs.Code.{Code, places}
+use Rattle.bb_verify_effect.specs.Op.{Op}
+use Rattle.bb_verify_effect.specs.PartType.{Part}
+use Rattle.bb_verify_effect.specs.Each.{each}
+use Rattle.bb_verify_effect.specs.Flaws.{fault_at}
 use Rattle.bb_verify.specs.Tables.{in_tables, table_at, frames_in_order, tables}
-use Rattle.bb_loops.specs.Jumps.{check_target, jump_at, jumps}
-use Rattle.bb_loops.specs.Loops.{place_due, loop_at, lowest_outside, none_outside, loops}
-use Rattle.bb_effect.proofs.Laws.{range_at, no_fault}
+use Rattle.bb_verify_loops.specs.Jumps.{check_target, jump_at, jumps}
+use Rattle.bb_verify_loops.specs.Loops.{place_due, loop_at, lowest_outside, none_outside, loops}
+use Rattle.bb_verify_effect.proofs.Laws.{range_at, no_fault}
 
 module _ (s : Schema) (part : Part) (code : Code) (place : ℕ) (op : Op) (is : slice_get code.ops place ≡ Some op) where
   inside : place < length code.ops

@@ -6,18 +6,18 @@ use Rattle.std.proofs.lemmas.List.{length-set, length-replicate}
 use Rattle.std.proofs.lemmas.Option.{slice_get_within}
 use Rattle.bb_basis.specs.Results.{◌>>=◌}
 use Rattle.bb_basis.proofs.ResultLemmas.{guard_ok}
-use Rattle.bb_effect.specs.Schema.{Schema}
-use Rattle.bb_effect.specs.Code.{Code}
-use Rattle.bb_effect.specs.FrameEntry.{FrameEntry}
-use Rattle.bb_effect.specs.Op.{Op}
-use Rattle.bb_effect.specs.Edges.{Edges}
-use Rattle.bb_effect.specs.Flaw.{Flaw}
-use Rattle.bb_effect.specs.Flaw.TheVariants as flaws
-use Rattle.bb_effect.specs.FrameType.{Frame}
-use Rattle.bb_effect.specs.PartType.{Part}
-use Rattle.bb_effect.specs.Kinds.{frame_weakens}
-use Rattle.bb_effect.specs.Effect.{effect}
-use Rattle.bb_effect.specs.Frame.{frame_of}
+use Rattle.bb_verify_effect.specs.Schema.{Schema}
+use Rattle.bb_verify_effect.specs.Code.{Code}
+use Rattle.bb_verify_effect.specs.FrameEntry.{FrameEntry}
+use Rattle.bb_verify_effect.specs.Op.{Op}
+use Rattle.bb_verify_effect.specs.Edges.{Edges}
+use Rattle.bb_verify_effect.specs.Flaw.{Flaw}
+use Rattle.bb_verify_effect.specs.Flaw.TheVariants as flaws
+use Rattle.bb_verify_effect.specs.FrameType.{Frame}
+use Rattle.bb_verify_effect.specs.PartType.{Part}
+use Rattle.bb_verify_effect.specs.Kinds.{frame_weakens}
+use Rattle.bb_verify_effect.specs.Effect.{effect}
+use Rattle.bb_verify_effect.specs.Frame.{frame_of}
 use Rattle.bb_verify.specs.Places.{with_frames, declared_frames, declared_at, declared_for, entry_frame, frame_at, fits_declared, on_due, target_due, has_next}
 use Rattle.bb_verify.specs.Facts.{StandsAt, Leaves}
 use Rattle.bb_verify.proofs.WalkLemmas.{Visited, Chain, Walked}

@@ -5,20 +5,20 @@ use Rattle.std.proofs.lemmas.List.{drop_all}
 use Rattle.std.proofs.lemmas.Bool.Decides.{nat_tests}
 use Rattle.bb_basis.specs.Results.{◌>>=◌, map_err}
 use Rattle.bb_basis.proofs.ResultLemmas.{bind_ok, guard_ok}
-use Rattle.bb_effect.specs.Schema.{Schema}
-use Rattle.bb_effect.specs.Code.{Code, places}
-use Rattle.bb_effect.specs.FrameEntry.{FrameEntry}
-use Rattle.bb_effect.specs.Flaw.{Flaw}
-use Rattle.bb_effect.specs.Flaw.TheVariants.{Table}
-use Rattle.bb_effect.specs.FrameType.{Frame}
-use Rattle.bb_effect.specs.PartType.{Part}
-use Rattle.bb_effect.specs.Each.{each}
-use Rattle.bb_effect.specs.Flaws.{fault_at}
-use Rattle.bb_effect.specs.Part.{units_of}
+use Rattle.bb_verify_effect.specs.Schema.{Schema}
+use Rattle.bb_verify_effect.specs.Code.{Code, places}
+use Rattle.bb_verify_effect.specs.FrameEntry.{FrameEntry}
+use Rattle.bb_verify_effect.specs.Flaw.{Flaw}
+use Rattle.bb_verify_effect.specs.Flaw.TheVariants.{Table}
+use Rattle.bb_verify_effect.specs.FrameType.{Frame}
+use Rattle.bb_verify_effect.specs.PartType.{Part}
+use Rattle.bb_verify_effect.specs.Each.{each}
+use Rattle.bb_verify_effect.specs.Flaws.{fault_at}
+use Rattle.bb_verify_effect.specs.Part.{units_of}
 use Rattle.bb_verify.specs.Tables.{places_rise, known_frame, enough_locals, frames_in_order, tables, table_at}
-use Rattle.bb_effect.specs.Frame.{frame_of}
+use Rattle.bb_verify_effect.specs.Frame.{frame_of}
 use Rattle.bb_verify.specs.Places.{with_frames}
-use Rattle.bb_effect.proofs.Laws.{no_fault}
+use Rattle.bb_verify_effect.proofs.Laws.{no_fault}
 
 pub drop_next : (fs : List FrameEntry) (i : ℕ) (e : FrameEntry) → i < length fs → e ≡ get_or fs i e → drop i fs ≡ e ∷ drop (i + 1) fs
 drop_next fs i e lt is = drop-cons fs i e lt ∙ (ap (λ k. get_or fs i e ∷ drop k fs) (sym (add-one i)) ∙ ap (λ x. x ∷ drop (i + 1) fs) (sym is))

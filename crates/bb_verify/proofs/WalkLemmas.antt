@@ -6,19 +6,19 @@ use Rattle.std.proofs.lemmas.List.{append-nil, append_assoc}
 use Rattle.std.proofs.lemmas.Option.{slice_get-get_or}
 use Rattle.bb_basis.specs.Results.{◌>>=◌, map_err, try_fold}
 use Rattle.bb_basis.proofs.ResultLemmas.{bind_ok, same_ok}
-use Rattle.bb_effect.specs.Schema.{Schema}
-use Rattle.bb_effect.specs.Code.{Code, places}
-use Rattle.bb_effect.specs.Op.{Op}
-use Rattle.bb_effect.specs.Op.TheVariants as ops
-use Rattle.bb_effect.specs.Edges.{Edges}
-use Rattle.bb_effect.specs.Flaw.{Flaw}
-use Rattle.bb_effect.specs.FrameType.{Frame}
-use Rattle.bb_effect.specs.PartType.{Part}
+use Rattle.bb_verify_effect.specs.Schema.{Schema}
+use Rattle.bb_verify_effect.specs.Code.{Code, places}
+use Rattle.bb_verify_effect.specs.Op.{Op}
+use Rattle.bb_verify_effect.specs.Op.TheVariants as ops
+use Rattle.bb_verify_effect.specs.Edges.{Edges}
+use Rattle.bb_verify_effect.specs.Flaw.{Flaw}
+use Rattle.bb_verify_effect.specs.FrameType.{Frame}
+use Rattle.bb_verify_effect.specs.PartType.{Part}
 use Rattle.bb_verify.specs.declared.walk.Walk.{Walk}
-use Rattle.bb_effect.specs.Flaws.{fault_at}
-use Rattle.bb_effect.specs.Effect.{effect}
+use Rattle.bb_verify_effect.specs.Flaws.{fault_at}
+use Rattle.bb_verify_effect.specs.Effect.{effect}
 use Rattle.bb_verify.specs.Places.{declared_at, declared_for, declared_frames, entry_frame, frame_at, has_next, on_due, target_due, one_more, visit_op, visit, first_walk, frames_of}
-use Rattle.bb_effect.proofs.Laws.{no_fault}
+use Rattle.bb_verify_effect.proofs.Laws.{no_fault}
 
 -- ---- one place
 

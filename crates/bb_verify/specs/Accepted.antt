@@ -1,14 +1,14 @@
 -- Which codes are accepted for a part of a source (of this project).
 use Rattle.std.specs.Prelude.{◌≡◌, List, Result, Ok}
 use Rattle.bb_basis.specs.Results.{◌>>=◌}
-use Rattle.bb_effect.specs.Schema.{Schema}
-use Rattle.bb_effect.specs.Code.{Code, IsCode}
-use Rattle.bb_effect.specs.VerifyFault.{VerifyFault}
-use Rattle.bb_effect.specs.FrameType.{Frame}
-use Rattle.bb_effect.specs.PartType.{Part}
+use Rattle.bb_verify_effect.specs.Schema.{Schema}
+use Rattle.bb_verify_effect.specs.Code.{Code, IsCode}
+use Rattle.bb_verify_effect.specs.VerifyFault.{VerifyFault}
+use Rattle.bb_verify_effect.specs.FrameType.{Frame}
+use Rattle.bb_verify_effect.specs.PartType.{Part}
 use Rattle.bb_verify.specs.Tables.{tables}
-use Rattle.bb_loops.specs.Jumps.{jumps}
-use Rattle.bb_loops.specs.Loops.{loops}
+use Rattle.bb_verify_loops.specs.Jumps.{jumps}
+use Rattle.bb_verify_loops.specs.Loops.{loops}
 use Rattle.bb_verify.specs.Places.{frames_of}
 
 -- the frames of all places of a code that is accepted, or its first fault

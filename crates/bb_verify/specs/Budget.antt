@@ -1,8 +1,8 @@
 -- How many steps an activation of a code can make at most (of this project).
 use Rattle.std.specs.Prelude.{ℕ, ◌+◌, ◌^◌}
 use Rattle.std.specs.List.{sum_by}
-use Rattle.bb_effect.specs.Code.{Code, places}
-use Rattle.bb_loops.specs.Loops.{depth}
+use Rattle.bb_verify_effect.specs.Code.{Code, places}
+use Rattle.bb_verify_loops.specs.Loops.{depth}
 
 -- how often a place can come, where so many loops hold it and no sequence has more than m elements
 abbrev pub turns : (m loops : ℕ) → ℕ

@@ -1,20 +1,20 @@
 -- What holds at each place of a code that is accepted (of this project).
 use Rattle.std.specs.Prelude.{◌≡◌, ◌⊎◌, ◌≤◌, ℕ, ◌+◌, Bool, true, false, List, length, All, slice_get, Option, Some, None, Result, Ok}
 use Rattle.bb_basis.specs.Results.{◌>>=◌}
-use Rattle.bb_effect.specs.Schema.{Schema}
-use Rattle.bb_effect.specs.Code.{Code}
-use Rattle.bb_effect.specs.Kind.{Kind}
-use Rattle.bb_effect.specs.Kind.TheVariants.{Any}
-use Rattle.bb_effect.specs.Op.{Op}
-use Rattle.bb_effect.specs.Flaw.{Flaw}
-use Rattle.bb_effect.specs.FrameType.{Frame}
-use Rattle.bb_effect.specs.PartType.{Part}
-use Rattle.bb_effect.specs.Part.{units_of}
-use Rattle.bb_effect.specs.Kinds.{frame_weakens}
-use Rattle.bb_effect.specs.Effect.{effect}
+use Rattle.bb_verify_effect.specs.Schema.{Schema}
+use Rattle.bb_verify_effect.specs.Code.{Code}
+use Rattle.bb_verify_effect.specs.Kind.{Kind}
+use Rattle.bb_verify_effect.specs.Kind.TheVariants.{Any}
+use Rattle.bb_verify_effect.specs.Op.{Op}
+use Rattle.bb_verify_effect.specs.Flaw.{Flaw}
+use Rattle.bb_verify_effect.specs.FrameType.{Frame}
+use Rattle.bb_verify_effect.specs.PartType.{Part}
+use Rattle.bb_verify_effect.specs.Part.{units_of}
+use Rattle.bb_verify_effect.specs.Kinds.{frame_weakens}
+use Rattle.bb_verify_effect.specs.Effect.{effect}
 use Rattle.bb_verify.specs.Tables.{in_tables}
-use Rattle.bb_loops.specs.Jumps.{target_of, check_target}
-use Rattle.bb_loops.specs.Loops.{place_due, lowest_outside, none_outside}
+use Rattle.bb_verify_loops.specs.Jumps.{target_of, check_target}
+use Rattle.bb_verify_loops.specs.Loops.{place_due, lowest_outside, none_outside}
 use Rattle.bb_verify.specs.Places.{entry_frame}
 
 -- the frames that an op leaves for the next place, and for the place that it goes to

@@ -11,22 +11,22 @@ pub mod Facts
 -- for models alone
 pub mod proving
 -- where ops may go
-pub use Rattle.bb_loops.specs.Jumps
-pub use Rattle.bb_loops.specs.Loops
-pub use Rattle.bb_loops.specs.declared.loops.TheConstants as LoopLimits
+pub use Rattle.bb_verify_loops.specs.Jumps
+pub use Rattle.bb_verify_loops.specs.Loops
+pub use Rattle.bb_verify_loops.specs.declared.loops.TheConstants as LoopLimits
 -- what each op does to a frame
-pub use Rattle.bb_effect.specs.Due
-pub use Rattle.bb_effect.specs.Edges
-pub use Rattle.bb_effect.specs.Effect
+pub use Rattle.bb_verify_effect.specs.Due
+pub use Rattle.bb_verify_effect.specs.Edges
+pub use Rattle.bb_verify_effect.specs.Effect
 -- what is known at a place
-pub use Rattle.bb_effect.specs.Part
-pub use Rattle.bb_effect.specs.Stack
-pub use Rattle.bb_effect.specs.Frame
-pub use Rattle.bb_effect.specs.Kinds
-pub use Rattle.bb_effect.specs.FrameType
-pub use Rattle.bb_effect.specs.PartType
+pub use Rattle.bb_verify_effect.specs.Part
+pub use Rattle.bb_verify_effect.specs.Stack
+pub use Rattle.bb_verify_effect.specs.Frame
+pub use Rattle.bb_verify_effect.specs.Kinds
+pub use Rattle.bb_verify_effect.specs.FrameType
+pub use Rattle.bb_verify_effect.specs.PartType
 -- one test after another, and what is wrong with a code
-pub use Rattle.bb_effect.specs.Each
-pub use Rattle.bb_effect.specs.Flaws
-pub use Rattle.bb_effect.specs.Flaw
-pub use Rattle.bb_effect.specs.VerifyFault
+pub use Rattle.bb_verify_effect.specs.Each
+pub use Rattle.bb_verify_effect.specs.Flaws
+pub use Rattle.bb_verify_effect.specs.Flaw
+pub use Rattle.bb_verify_effect.specs.VerifyFault

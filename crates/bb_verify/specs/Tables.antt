@@ -2,20 +2,20 @@
 use Rattle.std.specs.Prelude.{ℕ, ◌+◌, nat_le, nat_lt, ◌||◌, List, [], ◌∷◌, length, slice_get, Some, None, Result}
 use Rattle.std.specs.Prelude.{Ok, Err, if◌then◌else◌}
 use Rattle.bb_basis.specs.Results.{◌>>=◌, map_err}
-use Rattle.bb_effect.specs.Schema.{Schema, name_of_label}
-use Rattle.bb_effect.specs.Code.{Code, places}
-use Rattle.bb_effect.specs.FrameEntry.{FrameEntry}
-use Rattle.bb_effect.specs.Kind.{Kind}
-use Rattle.bb_effect.specs.Kind.TheVariants.{Any, Label, Ref, Old, Seq}
-use Rattle.bb_effect.specs.Op.{Op}
-use Rattle.bb_effect.specs.Op.TheVariants as ops
-use Rattle.bb_effect.specs.Flaw.{Flaw}
-use Rattle.bb_effect.specs.Flaw.TheVariants.{Table}
-use Rattle.bb_effect.specs.VerifyFault.{VerifyFault}
-use Rattle.bb_effect.specs.PartType.{Part}
-use Rattle.bb_effect.specs.Each.{each}
-use Rattle.bb_effect.specs.Flaws.{fault_at}
-use Rattle.bb_effect.specs.Part.{units_of}
+use Rattle.bb_verify_effect.specs.Schema.{Schema, name_of_label}
+use Rattle.bb_verify_effect.specs.Code.{Code, places}
+use Rattle.bb_verify_effect.specs.FrameEntry.{FrameEntry}
+use Rattle.bb_verify_effect.specs.Kind.{Kind}
+use Rattle.bb_verify_effect.specs.Kind.TheVariants.{Any, Label, Ref, Old, Seq}
+use Rattle.bb_verify_effect.specs.Op.{Op}
+use Rattle.bb_verify_effect.specs.Op.TheVariants as ops
+use Rattle.bb_verify_effect.specs.Flaw.{Flaw}
+use Rattle.bb_verify_effect.specs.Flaw.TheVariants.{Table}
+use Rattle.bb_verify_effect.specs.VerifyFault.{VerifyFault}
+use Rattle.bb_verify_effect.specs.PartType.{Part}
+use Rattle.bb_verify_effect.specs.Each.{each}
+use Rattle.bb_verify_effect.specs.Flaws.{fault_at}
+use Rattle.bb_verify_effect.specs.Part.{units_of}
 
 -- a table of so many has an entry of this number
 abbrev pub entry : (count number : ℕ) → Result (Unit {0}) Flaw

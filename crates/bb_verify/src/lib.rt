@@ -8,7 +8,7 @@ mod tables;
 mod verifier;
 mod walk;
 
-pub use bb_effect::{Flaw, Frame, Locals, Part, Stack, VerifyFault};
-pub use bb_loops::NESTING_LIMIT;
+pub use bb_verify_effect::{Flaw, Frame, Locals, Part, Stack, VerifyFault};
+pub use bb_verify_loops::NESTING_LIMIT;
 pub use checked::{Checked, FOUND_LIMIT};
 pub use verifier::verify;

@@ -2,22 +2,22 @@
 
 ghost use Rattle.std.specs.Prelude.{◌≡◌, ◌≤◌, ◌-◌, ◌∷◌, ◌++◌, IfOk, IfSome, None, Ok, Some, length, option_map, replicate, set};
 ghost use Rattle.bb_basis.specs.Results.{Gives, try_fold};
-ghost use Rattle.bb_effect.specs.Limits.{LOCAL_LIMIT, STACK_LIMIT};
-ghost use Rattle.bb_effect.specs.Kind.TheVariants.{Any, Old};
-ghost use Rattle.bb_effect.specs.Flaws.{out_of_memory};
-ghost use Rattle.bb_effect.specs.Flaw.TheVariants.{Memory};
-ghost use Rattle.bb_effect.specs.Part.{units_of};
-ghost use Rattle.bb_effect.specs.Code.{places};
+ghost use Rattle.bb_verify_effect.specs.Limits.{LOCAL_LIMIT, STACK_LIMIT};
+ghost use Rattle.bb_verify_effect.specs.Kind.TheVariants.{Any, Old};
+ghost use Rattle.bb_verify_effect.specs.Flaws.{out_of_memory};
+ghost use Rattle.bb_verify_effect.specs.Flaw.TheVariants.{Memory};
+ghost use Rattle.bb_verify_effect.specs.Part.{units_of};
+ghost use Rattle.bb_verify_effect.specs.Code.{places};
 ghost use Rattle.bb_verify.specs.proving.Numbered.{numbered_frame, numbered_frames};
 ghost use Rattle.bb_verify.specs.Places.{declared_at, declared_for, declared_frames, entry_frame, frame_at, fits_declared, on_due, target_due, has_next, visit_op, visit, first_walk, frames_of, with_frames};
-ghost use Rattle.bb_effect.specs.Frame.{frame_of};
+ghost use Rattle.bb_verify_effect.specs.Frame.{frame_of};
 
 use crate::walk::Walk;
-use bb_effect::{
+use bb_verify_effect::{
     ClassId, Code, DeclaredFrame as Declared, Flaw, Frame, FrameEntry, Kind, Locals, Op,
     PackedFrames, Part, Place, Schema, Stack, VerifyFault, effect, frame_weakens,
 };
-use bb_loops::target_of;
+use bb_verify_loops::target_of;
 use std::alloc::{AllocError, Global};
 
 // The declared frame of a number, if a code has so many.

@@ -1,11 +1,11 @@
 //! The tables of a code, and the operands that index them. It is the verifier's first phase.
 
 ghost use Rattle.std.specs.Prelude.{◌≡◌};
-ghost use Rattle.bb_effect.specs.Each.{each};
+ghost use Rattle.bb_verify_effect.specs.Each.{each};
 ghost use Rattle.bb_verify.specs.Tables.{entry, known_kind, known_entry, known_frame, places_rise, enough_locals, frames_in_order, known_label, in_tables, table_at, tables};
-ghost use Rattle.bb_effect.specs.Code.{places};
+ghost use Rattle.bb_verify_effect.specs.Code.{places};
 
-use bb_effect::{
+use bb_verify_effect::{
     Code, Flaw, FrameEntry, Kind, LabelId, LabelSetId, Op, Part, Place, Schema, VerifyFault,
 };
 

@@ -4,13 +4,13 @@ ghost use Rattle.std.specs.Prelude.{◌≡◌, IfOk, Ok};
 ghost use Rattle.bb_basis.specs.Results.{Gives};
 ghost use Rattle.bb_verify.specs.Accepted.{checked};
 ghost use Rattle.bb_verify.specs.Facts.{Facts};
-ghost use Rattle.bb_effect.specs.Flaws.{out_of_memory};
+ghost use Rattle.bb_verify_effect.specs.Flaws.{out_of_memory};
 
 use crate::checked::{Checked, counts_of};
 use crate::places::frames_of;
 use crate::tables::check_tables;
-use bb_effect::{Code, Part, Schema, VerifyFault};
-use bb_loops::{check_jumps, check_loops};
+use bb_verify_effect::{Code, Part, Schema, VerifyFault};
+use bb_verify_loops::{check_jumps, check_loops};
 use std::alloc::Global;
 
 /// Accepts a code for a part of a source, or returns its first fault: of the tables, of the jumps, of the loops, and

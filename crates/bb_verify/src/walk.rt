@@ -1,6 +1,6 @@
 //! How far the pass over the places is. It changes from place to place.
 
-use bb_effect::{Frame, PackedFrames};
+use bb_verify_effect::{Frame, PackedFrames};
 
 /// The frames of the places so far, and what the last of their ops leaves for the next place.
 #[derive(Drop)]

@@ -1,7 +1,7 @@
 //! Why the program has no answer.
 
-use bb_asm::AsmFault;
 use bb_code::CodeFault;
+use bb_code_asm::AsmFault;
 use bb_schema::SchemaFault;
 use std::alloc::AllocError;
 use thiserror::Error;

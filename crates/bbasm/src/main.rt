@@ -3,8 +3,8 @@
 
 mod fault;
 
-use bb_asm::{assemble, disassemble, listing};
 use bb_code::Code;
+use bb_code_asm::{assemble, disassemble, listing};
 use bb_schema::Schema;
 use fault::Fault;
 use std::alloc::Global;

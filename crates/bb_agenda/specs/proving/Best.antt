@@ -2,11 +2,11 @@
 use Rattle.std.specs.Prelude.{◌≡◌, ◌<◌, ◌&&◌, ◌||◌, ℕ, ℤ, Bool, true, false, nat_lt, int_lt, List, Option, Some, None, if◌then◌else◌}
 use Rattle.std.specs.Ordering.{int_eq}
 use Rattle.std.specs.BTreeSet.{BTreeSet}
-use Rattle.bb_foci.specs.Foci.{Steered}
+use Rattle.bb_agenda_foci.specs.Foci.{Steered}
 use Rattle.bb_agenda.specs.declared.choosing.Candidate.{Candidate}
 use Rattle.bb_agenda.specs.declared.rank.Rank.{Rank}
 use Rattle.bb_agenda.specs.proving.Ranks.{is_ranked}
-use Rattle.bb_foci.specs.Rating.{rating_at}
+use Rattle.bb_agenda_foci.specs.Rating.{rating_at}
 
 -- the rating of activations of a source with a base
 abbrev pub rate_by : Steered → ℕ → ℤ → ℤ

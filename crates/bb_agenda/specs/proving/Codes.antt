@@ -1,9 +1,9 @@
 -- How an agenda is stored as data that can be told apart.
 use Rattle.std.specs.Prelude.{◌≡◌, ℕ, ℤ, Bool, List, Option, Some, None, refl}
 use Rattle.std.specs.Coded.{Coded, code_by, coded×, coded_ℕ, coded_ℤ, coded_bool, coded_list, coded_option}
-use Rattle.bb_foci.specs.contracts.steering.Steering as steerings
-use Rattle.bb_foci.specs.declared.activation.Activation.{Activation}
-use Rattle.bb_foci.specs.Foci.{Steered}
+use Rattle.bb_agenda_foci.specs.contracts.steering.Steering as steerings
+use Rattle.bb_agenda_foci.specs.declared.activation.Activation.{Activation}
+use Rattle.bb_agenda_foci.specs.Foci.{Steered}
 use Rattle.bb_agenda.specs.Agenda.{Agenda, Entry, pending, executed, obviated}
 
 abbrev activation_code : Coded Activation

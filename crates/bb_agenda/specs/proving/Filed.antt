@@ -4,7 +4,7 @@ use Rattle.std.specs.List.{AllByRecursion}
 use Rattle.std.specs.Map.{values_of}
 use Rattle.std.specs.BTreeMap.{BTreeMap}
 use Rattle.std.specs.BTreeSet.{BTreeSet}
-use Rattle.bb_foci.specs.declared.activation.Activation.{Activation}
+use Rattle.bb_agenda_foci.specs.declared.activation.Activation.{Activation}
 use Rattle.bb_agenda.specs.Agenda.{number_of, is_of}
 use Rattle.bb_agenda.specs.Fits.{RisesBy}
 use Rattle.bb_agenda.specs.declared.rank.Rank.{Rank}

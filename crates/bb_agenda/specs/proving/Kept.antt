@@ -5,7 +5,7 @@ use Rattle.std.specs.List.{AllByRecursion, filter_map, list_any, range_with_len}
 use Rattle.std.specs.Option.{option_map_or}
 use Rattle.std.specs.Ordering.{nat_cmp}
 use Rattle.std.specs.BTreeMap.{is_at}
-use Rattle.bb_foci.specs.declared.activation.Activation.{Activation}
+use Rattle.bb_agenda_foci.specs.declared.activation.Activation.{Activation}
 use Rattle.bb_agenda.specs.Agenda.{Entry, pending, executed, obviated, if_pending, has_number}
 
 -- the number is one of those that were obviated

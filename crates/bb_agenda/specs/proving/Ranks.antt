@@ -4,7 +4,7 @@ use Rattle.std.specs.Option.{option_map_or}
 use Rattle.std.specs.declared.cmp.Ordering.{Ordering}
 use Rattle.std.specs.Ordering.{ordering_then, nat_cmp, int_cmp, is_eq}
 use Rattle.std.specs.BTreeSet.{BTreeSet, contains}
-use Rattle.bb_foci.specs.declared.activation.Activation.{Activation}
+use Rattle.bb_agenda_foci.specs.declared.activation.Activation.{Activation}
 use Rattle.bb_agenda.specs.declared.rank.Rank.{Rank}
 use Rattle.bb_agenda.specs.Agenda.{has_number, is_of}
 use Rattle.bb_agenda.specs.Changes.{based_at}

@@ -7,8 +7,8 @@ ghost use Rattle.bb_agenda.specs.Changes.{with_focus, without_focus, added_numbe
 
 use crate::agenda::Agenda;
 use crate::fault::AddFault;
+use bb_agenda_foci::Focus;
 use bb_basis::Memory;
-use bb_foci::Focus;
 use bb_schema::UnitId;
 use std::alloc::AllocError;
 

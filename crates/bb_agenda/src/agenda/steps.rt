@@ -6,8 +6,8 @@ ghost use Rattle.bb_agenda.specs.Changes.{added_number, with_activation, with_ob
 
 use crate::agenda::Agenda;
 use crate::fault::AddFault;
+use bb_agenda_foci::{Activation, Focus};
 use bb_basis::Memory;
-use bb_foci::{Activation, Focus};
 use bb_schema::UnitId;
 
 impl Agenda {

@@ -1,8 +1,8 @@
 -- How a blackboard is stored as data that can be told apart.
 use Rattle.std.specs.Prelude.{Bool, refl}
 use Rattle.std.specs.Coded.{Coded, code_by, coded×, coded_bool}
-use Rattle.bb_world.specs.Contents.{Contents}
-use Rattle.bb_world.specs.contracts.world.World as worlds
+use Rattle.bb_board_state.specs.Contents.{Contents}
+use Rattle.bb_board_state.specs.contracts.world.World as worlds
 use Rattle.bb_board.specs.Board.{Board}
 
 abbrev pub board_code : Coded Board

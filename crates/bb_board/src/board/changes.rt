@@ -5,12 +5,12 @@ ghost use Rattle.std.specs.Prelude.{◌≡◌, ◌<◌, Ok, Err, true, false, le
 ghost use Rattle.std.specs.List.{list_all};
 ghost use Rattle.bb_basis.specs.Results.{Gives};
 ghost use Rattle.bb_units.specs.Units.{is_live, next_number};
-ghost use Rattle.bb_world.specs.World.{after_create, after_set, after_say, after_take};
-ghost use Rattle.bb_world.specs.Links.{after_link, after_unlink, after_delete};
-ghost use Rattle.bb_world.specs.May.{may_set, may_link};
-ghost use Rattle.bb_world.specs.Spaces.{may_enter, after_enter, after_leave};
-ghost use Rattle.bb_world.specs.Fits.{is_said_of};
-ghost use Rattle.bb_world.specs.Named.{NotesChanges};
+ghost use Rattle.bb_board_state.specs.World.{after_create, after_set, after_say, after_take};
+ghost use Rattle.bb_board_state.specs.Links.{after_link, after_unlink, after_delete};
+ghost use Rattle.bb_board_state.specs.May.{may_set, may_link};
+ghost use Rattle.bb_board_state.specs.Spaces.{may_enter, after_enter, after_leave};
+ghost use Rattle.bb_board_state.specs.Fits.{is_said_of};
+ghost use Rattle.bb_board_state.specs.Named.{NotesChanges};
 ghost use Rattle.bb_board.specs.Board.{with_world, when_refused, after_create_fault, after_units_fault, is_fresh};
 ghost use Rattle.bb_board.specs.Load.{loaded};
 ghost use Rattle.bb_board.specs.declared.units_fault.UnitsFault.TheVariants.{Memory as OutOfMemory};
@@ -19,9 +19,9 @@ use crate::board::Board;
 use crate::loader::read_units;
 use crate::units_fault::UnitsFault;
 use bb_basis::Memory;
+use bb_board_state::{Note, Said};
 use bb_schema::{ClassId, SlotId, SpaceId, UnitId, Value};
 use bb_units::CreateFault;
-use bb_world::{Note, Said};
 use std::alloc::AllocError;
 
 impl Board {

@@ -4,7 +4,7 @@
 ghost use Rattle.std.specs.Prelude.{◌≡◌};
 ghost use Rattle.bb_basis.specs.Results.{Gives};
 ghost use Rattle.bb_code.specs.Fields.{Field as Reads, byte_at, number_at, int_at, bool_at, count_at};
-ghost use Rattle.bb_op.specs.Answers.{map_ok};
+ghost use Rattle.bb_code_ops.specs.Answers.{map_ok};
 ghost use Rattle.bb_code.specs.Fields.{short_count_at, repeated, list_at, short_list_at, text_at};
 
 use crate::fault::CodeFault;

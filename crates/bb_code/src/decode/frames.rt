@@ -2,14 +2,14 @@
 
 ghost use Rattle.std.specs.Prelude.{◌≡◌};
 ghost use Rattle.bb_basis.specs.Results.{Gives};
-ghost use Rattle.bb_op.specs.Answers.{map_ok};
+ghost use Rattle.bb_code_ops.specs.Answers.{map_ok};
 ghost use Rattle.bb_code.specs.Fields.{kind_after, frame_at, list_at};
 
 use super::fields::{Field, read_byte, read_count, read_each, read_number, read_short_list};
 use crate::fault::CodeFault;
 use crate::table::{KindForm, kind_form};
 use bb_basis::Items;
-use bb_op::{FRAME_LIMIT, Frame, FrameEntry, Kind, Loop, STACK_LIMIT};
+use bb_code_ops::{FRAME_LIMIT, Frame, FrameEntry, Kind, Loop, STACK_LIMIT};
 use std::alloc::Global;
 
 #[tactic(auto, unfolding(crate::specs::Fields::kind_after))]

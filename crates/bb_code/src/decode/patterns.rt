@@ -2,14 +2,14 @@
 
 ghost use Rattle.std.specs.Prelude.{map};
 ghost use Rattle.bb_basis.specs.Results.{Gives};
-ghost use Rattle.bb_op.specs.View.{tree_of};
-ghost use Rattle.bb_op.specs.Answers.{map_ok};
+ghost use Rattle.bb_code_ops.specs.View.{tree_of};
+ghost use Rattle.bb_code_ops.specs.Answers.{map_ok};
 ghost use Rattle.bb_code.specs.Patterns.{parts_at, node_after, node_at, pattern_at};
 
 use super::fields::{Field, read_byte, read_number, read_short_list};
 use crate::fault::CodeFault;
 use crate::table::{NodeForm, node_form};
-use bb_op::{NODE_LIMIT, Node, OPERAND_LIMIT, OperandKind, Pattern, Query};
+use bb_code_ops::{NODE_LIMIT, Node, OPERAND_LIMIT, OperandKind, Pattern, Query};
 use std::alloc::Global;
 
 impl Field for OperandKind {

@@ -7,9 +7,9 @@ use Rattle.std.specs.FinMap.{get, get-insert, len, nat_cmp-IsAntisymmetric}
 use Rattle.std.proofs.lemmas.Bool.{or_parts, leb-false}
 use Rattle.std.proofs.lemmas.List.{length-map}
 use Rattle.std.proofs.lemmas.Option.{slice_get_within}
-use Rattle.bb_classes.specs.declared.class.Class.{Class}
-use Rattle.bb_classes.specs.Inheritance.{itself}
-use Rattle.bb_classes.proofs.Laws.{descends_complete}
+use Rattle.bb_schema_classes.specs.declared.class.Class.{Class}
+use Rattle.bb_schema_classes.specs.Inheritance.{itself}
+use Rattle.bb_schema_classes.proofs.Laws.{descends_complete}
 use Rattle.bb_schema.specs.Schema.{Schema}
 use Rattle.bb_schema.specs.Fits as schemas
 use Rattle.bb_units.specs.declared.unit.Unit.{Unit as OneUnit}

@@ -25,11 +25,11 @@ use Rattle.bb_verify.specs.Due as dues
 use Rattle.bb_verify.specs.Part.{writes}
 use Rattle.bb_verify.specs.Effect as effects
 use Rattle.bb_verify.specs.Effect.{effect}
-use Rattle.bb_step.specs.Values.{Value}
-use Rattle.bb_step.specs.Values.TheVariants as values
-use Rattle.bb_step.specs.Machine.{Machine, with_stack}
-use Rattle.bb_step.specs.Changing.{enter}
-use Rattle.bb_step.specs.Step.{step}
+use Rattle.bb_machine_step.specs.Values.{Value}
+use Rattle.bb_machine_step.specs.Values.TheVariants as values
+use Rattle.bb_machine_step.specs.Machine.{Machine, with_stack}
+use Rattle.bb_machine_step.specs.Changing.{enter}
+use Rattle.bb_machine_step.specs.Step.{step}
 use Rattle.bb_machine.specs.Kinds.{Suits}
 use Rattle.bb_machine.specs.Safe.{edges_of, IsSafe}
 use Rattle.bb_machine.proofs.KindLemmas.{descends_on}

@@ -1,9 +1,9 @@
 -- Two classes of one unit are related.
 use Rattle.std.proofs.Common.{◌≡◌, ◌⊎◌, inl, inr, ℕ, Bool, true, false, List, Some, refl, sym, subst, ◌∙◌}
 use Rattle.std.specs.Prelude.{◌||◌}
-use Rattle.bb_classes.specs.declared.class.Class.{Class}
-use Rattle.bb_classes.specs.Inheritance.{Descends, itself, through_parent}
-use Rattle.bb_classes.proofs.Laws.{climbs_sound, descends_complete}
+use Rattle.bb_schema_classes.specs.declared.class.Class.{Class}
+use Rattle.bb_schema_classes.specs.Inheritance.{Descends, itself, through_parent}
+use Rattle.bb_schema_classes.proofs.Laws.{climbs_sound, descends_complete}
 use Rattle.bb_schema.specs.Schema.{Schema, descends}
 use Rattle.bb_schema.specs.Fits as schemas
 use Rattle.bb_verify.specs.Kinds.{related}

@@ -3,8 +3,8 @@ use Rattle.std.proofs.Common.{◌≡◌, ℕ, Bool, false, true, ◌&&◌, not, 
 use Rattle.std.specs.Prelude.{slice_get, if◌then◌else◌}
 use Rattle.std.specs.Option.{option_map_or}
 use Rattle.std.proofs.lemmas.Bool.{and_from}
-use Rattle.bb_classes.specs.declared.kind.Link.{Link}
-use Rattle.bb_classes.proofs.Laws.{All-at}
+use Rattle.bb_schema_classes.specs.declared.kind.Link.{Link}
+use Rattle.bb_schema_classes.proofs.Laws.{All-at}
 use Rattle.bb_schema.specs.declared.couple.Side.{Side}
 use Rattle.bb_schema.specs.Schema.{Schema, descends}
 use Rattle.bb_schema.specs.Couples.{couple_of, pair_of}
@@ -26,7 +26,7 @@ use Rattle.bb_code.specs.LinkChange.TheVariants as relinks
 use Rattle.bb_verify.specs.Flaw.{Flaw}
 use Rattle.bb_verify.specs.Flaw.TheVariants as flaws
 use Rattle.bb_verify.specs.Due as dues
-use Rattle.bb_step.specs.Changing.{after_change}
+use Rattle.bb_machine_step.specs.Changing.{after_change}
 use Rattle.bb_machine.specs.Kinds.{IsOf}
 use Rattle.bb_machine.proofs.KindLemmas.{descends_on}
 use Rattle.bb_machine.proofs.LiveLemmas.{is_live_of, class_at_of}

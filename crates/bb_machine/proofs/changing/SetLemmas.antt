@@ -4,13 +4,13 @@ use Rattle.std.specs.Prelude.{◌==◌, is_some, nat_lt, slice_get, option_and_t
 use Rattle.std.specs.Option.{option_map_or}
 use Rattle.std.proofs.lemmas.Bool.{and_from, eq-eqb, lt-ltb}
 use Rattle.std.proofs.lemmas.Option.{slice_get-map, slice_get_within}
-use Rattle.bb_classes.specs.declared.kind.Kind.{Kind as SlotKind}
-use Rattle.bb_classes.specs.declared.kind.Kind.TheVariants as held
-use Rattle.bb_classes.specs.declared.label_set.LabelSet.{LabelSet}
-use Rattle.bb_classes.specs.declared.value.Value.{Value as SlotValue}
-use Rattle.bb_classes.specs.declared.value.Value.TheVariants as slots
-use Rattle.bb_classes.specs.Kinds.{kind_of_value}
-use Rattle.bb_classes.specs.Values.{label_counts, is_label, value_fits}
+use Rattle.bb_schema_classes.specs.declared.kind.Kind.{Kind as SlotKind}
+use Rattle.bb_schema_classes.specs.declared.kind.Kind.TheVariants as held
+use Rattle.bb_schema_classes.specs.declared.label_set.LabelSet.{LabelSet}
+use Rattle.bb_schema_classes.specs.declared.value.Value.{Value as SlotValue}
+use Rattle.bb_schema_classes.specs.declared.value.Value.TheVariants as slots
+use Rattle.bb_schema_classes.specs.Kinds.{kind_of_value}
+use Rattle.bb_schema_classes.specs.Values.{label_counts, is_label, value_fits}
 use Rattle.bb_schema.specs.declared.slot.Slot.{Slot}
 use Rattle.bb_schema.specs.Schema.{Schema, default_in, default_of, name_of_label}
 use Rattle.bb_schema.specs.Fits as schemas
@@ -25,8 +25,8 @@ use Rattle.bb_board.proofs.Laws.{same_class_of, set_keeps}
 use Rattle.bb_code.specs.Kind.{Kind}
 use Rattle.bb_code.specs.Kind.TheVariants as kinds
 use Rattle.bb_verify.specs.Due as dues
-use Rattle.bb_step.specs.Values.{Value}
-use Rattle.bb_step.specs.Value.{slot_value_of}
+use Rattle.bb_machine_step.specs.Values.{Value}
+use Rattle.bb_machine_step.specs.Value.{slot_value_of}
 use Rattle.bb_machine.specs.Kinds.{IsOf, HasKind}
 use Rattle.bb_machine.proofs.MoveLemmas.{due_is}
 use Rattle.bb_machine.proofs.changing.OutliveLemmas.{Persists}

@@ -19,8 +19,8 @@ use Rattle.bb_code.specs.Kind.TheVariants.{Any, Int, Text, Bool as Truth, Label,
 use Rattle.bb_verify.specs.FrameType.{Frame}
 use Rattle.bb_verify.specs.Kinds.{related, struck}
 use Rattle.bb_verify.specs.Effect as effects
-use Rattle.bb_step.specs.Values.{Value}
-use Rattle.bb_step.specs.Machine.{Machine}
+use Rattle.bb_machine_step.specs.Values.{Value}
+use Rattle.bb_machine_step.specs.Machine.{Machine}
 use Rattle.bb_machine.specs.Kinds.{IsOf, WasOf, HasKind, LocalHas, Suits}
 use Rattle.bb_machine.proofs.LiveLemmas.{was_of}
 use Rattle.bb_machine.proofs.changing.OutliveLemmas.{was_outlives}

@@ -3,8 +3,8 @@ use Rattle.std.proofs.Common.{◌≡◌, inl, ℕ, Bool, false, true, length, Li
 use Rattle.std.specs.Prelude.{nat_le, slice_get, All}
 use Rattle.bb_basis.specs.Results.{◌>>=◌}
 use Rattle.bb_basis.proofs.ResultLemmas.{bind_ok, same_ok}
-use Rattle.bb_classes.specs.declared.class.Class.{Class}
-use Rattle.bb_classes.specs.declared.value.Value.{Value as SlotValue}
+use Rattle.bb_schema_classes.specs.declared.class.Class.{Class}
+use Rattle.bb_schema_classes.specs.declared.value.Value.{Value as SlotValue}
 use Rattle.bb_schema.specs.Fits as schemas
 use Rattle.bb_units.specs.Layout.{layout_of, can_hold}
 use Rattle.bb_units.specs.Units.{is_live, is_full, has_slot}
@@ -32,15 +32,15 @@ use Rattle.bb_verify.specs.Frame as frames
 use Rattle.bb_verify.specs.Part.{writes}
 use Rattle.bb_verify.specs.Effect as effects
 use Rattle.bb_verify.specs.Effect.{effect}
-use Rattle.bb_step.specs.Halt.{Halt}
-use Rattle.bb_step.specs.Halt.TheVariants as halts
-use Rattle.bb_step.specs.Values.{Value}
-use Rattle.bb_step.specs.Values.TheVariants as values
-use Rattle.bb_step.specs.Value.{slot_value_of}
-use Rattle.bb_step.specs.Machine.{Machine, with_stack, pop, pop_two, room, push}
-use Rattle.bb_step.specs.Reading.{live}
-use Rattle.bb_step.specs.Changing.{State, new_unit, value_due, set_slot, after_change, relink, delete, say}
-use Rattle.bb_step.specs.Step.{step}
+use Rattle.bb_machine_step.specs.Halt.{Halt}
+use Rattle.bb_machine_step.specs.Halt.TheVariants as halts
+use Rattle.bb_machine_step.specs.Values.{Value}
+use Rattle.bb_machine_step.specs.Values.TheVariants as values
+use Rattle.bb_machine_step.specs.Value.{slot_value_of}
+use Rattle.bb_machine_step.specs.Machine.{Machine, with_stack, pop, pop_two, room, push}
+use Rattle.bb_machine_step.specs.Reading.{live}
+use Rattle.bb_machine_step.specs.Changing.{State, new_unit, value_due, set_slot, after_change, relink, delete, say}
+use Rattle.bb_machine_step.specs.Step.{step}
 use Rattle.bb_machine.specs.Kinds.{Suits}
 use Rattle.bb_machine.specs.Safe.{edges_of, IsSafe}
 use Rattle.bb_machine.proofs.MoveLemmas.{has_room, pushes}

@@ -17,14 +17,14 @@ use Rattle.bb_verify.specs.Effect as effects
 use Rattle.bb_verify.specs.Effect.{effect}
 use Rattle.bb_verify.specs.Frame as frames
 use Rattle.bb_verify.specs.Part.{ends_rated, ends_answered}
-use Rattle.bb_step.specs.Halt.{Halt}
-use Rattle.bb_step.specs.Answer.TheVariants as answers
-use Rattle.bb_step.specs.Values.{Value}
-use Rattle.bb_step.specs.Values.TheVariants as values
-use Rattle.bb_step.specs.Machine.{Machine, go_to, with_stack, pop, push}
-use Rattle.bb_step.specs.Jumping.{unless, rate, answer, answered, yes_or_no}
-use Rattle.bb_step.specs.Reading.{alive}
-use Rattle.bb_step.specs.Step.{step, keeps}
+use Rattle.bb_machine_step.specs.Halt.{Halt}
+use Rattle.bb_machine_step.specs.Answer.TheVariants as answers
+use Rattle.bb_machine_step.specs.Values.{Value}
+use Rattle.bb_machine_step.specs.Values.TheVariants as values
+use Rattle.bb_machine_step.specs.Machine.{Machine, go_to, with_stack, pop, push}
+use Rattle.bb_machine_step.specs.Jumping.{unless, rate, answer, answered, yes_or_no}
+use Rattle.bb_machine_step.specs.Reading.{alive}
+use Rattle.bb_machine_step.specs.Step.{step, keeps}
 use Rattle.bb_machine.specs.Kinds.{HasKind, WasOf, Suits}
 use Rattle.bb_machine.specs.Safe.{edges_of, can_answer, IsSafe}
 use Rattle.bb_machine.specs.proving.Moves.{Makes}

@@ -21,13 +21,13 @@ use Rattle.bb_verify.specs.Due as dues
 use Rattle.bb_verify.specs.Effect as effects
 use Rattle.bb_verify.specs.Effect.{effect}
 use Rattle.bb_verify.specs.Frame as frames
-use Rattle.bb_step.specs.Halt.{Halt}
-use Rattle.bb_step.specs.Values.{Value}
-use Rattle.bb_step.specs.Values.TheVariants as values
-use Rattle.bb_step.specs.Sequence.{Sequence, from_live, first_of, first_live}
-use Rattle.bb_step.specs.Machine.{Machine, go_to, with_local, emptied, local_at, taken, store, next_in}
-use Rattle.bb_step.specs.Jumping.{after_next, next_unit}
-use Rattle.bb_step.specs.Step.{step, keeps}
+use Rattle.bb_machine_step.specs.Halt.{Halt}
+use Rattle.bb_machine_step.specs.Values.{Value}
+use Rattle.bb_machine_step.specs.Values.TheVariants as values
+use Rattle.bb_machine_step.specs.Sequence.{Sequence, from_live, first_of, first_live}
+use Rattle.bb_machine_step.specs.Machine.{Machine, go_to, with_local, emptied, local_at, taken, store, next_in}
+use Rattle.bb_machine_step.specs.Jumping.{after_next, next_unit}
+use Rattle.bb_machine_step.specs.Step.{step, keeps}
 use Rattle.bb_machine.specs.Kinds.{WasOf, LocalHas, Suits}
 use Rattle.bb_machine.specs.Safe.{edges_of, IsSafe}
 use Rattle.bb_machine.specs.proving.Moves.{Makes}

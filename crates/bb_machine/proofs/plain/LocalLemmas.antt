@@ -12,10 +12,10 @@ use Rattle.bb_verify.specs.FrameType.{Frame}
 use Rattle.bb_verify.specs.Due as dues
 use Rattle.bb_verify.specs.Frame as frames
 use Rattle.bb_verify.specs.Effect as effects
-use Rattle.bb_step.specs.Values.{Value}
-use Rattle.bb_step.specs.Value.{copy_of}
-use Rattle.bb_step.specs.Machine.{Machine, with_stack, with_local, pop, push, local_at, store}
-use Rattle.bb_step.specs.Reading.{load, store_local, drop_one}
+use Rattle.bb_machine_step.specs.Values.{Value}
+use Rattle.bb_machine_step.specs.Value.{copy_of}
+use Rattle.bb_machine_step.specs.Machine.{Machine, with_stack, with_local, pop, push, local_at, store}
+use Rattle.bb_machine_step.specs.Reading.{load, store_local, drop_one}
 use Rattle.bb_machine.specs.Kinds.{HasKind, LocalHas, Suits}
 use Rattle.bb_machine.specs.proving.Moves.{Makes}
 use Rattle.bb_machine.proofs.MoveLemmas.{pops, pushes, makes_as}

@@ -14,10 +14,10 @@ use Rattle.bb_code.specs.Division.{Division}
 use Rattle.bb_code.specs.Logic.{Logic}
 use Rattle.bb_verify.specs.FrameType.{Frame}
 use Rattle.bb_verify.specs.Effect as effects
-use Rattle.bb_step.specs.Values.{Value}
-use Rattle.bb_step.specs.Values.TheVariants.{Int, Text, Bool as Truth, Interval}
-use Rattle.bb_step.specs.Machine.{Machine, with_stack, pop, pop_two, push}
-use Rattle.bb_step.specs.Arithmetic.{calculated, divided, compared, combined, bound_of, calculate, divide, compare, eq_text, negate, combine, make_interval, bound}
+use Rattle.bb_machine_step.specs.Values.{Value}
+use Rattle.bb_machine_step.specs.Values.TheVariants.{Int, Text, Bool as Truth, Interval}
+use Rattle.bb_machine_step.specs.Machine.{Machine, with_stack, pop, pop_two, push}
+use Rattle.bb_machine_step.specs.Arithmetic.{calculated, divided, compared, combined, bound_of, calculate, divide, compare, eq_text, negate, combine, make_interval, bound}
 use Rattle.bb_machine.specs.Kinds.{Suits}
 use Rattle.bb_machine.specs.proving.Moves.{Makes}
 use Rattle.bb_machine.proofs.MoveLemmas.{turns, combines}

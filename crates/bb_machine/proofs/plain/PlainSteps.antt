@@ -1,7 +1,7 @@
 -- Ops on plain values and on locals are safe.
 use Rattle.std.proofs.Common.{◌≡◌, ℕ, ℤ, Bool, false, true, List, length, Option, Some, None, Ok, refl}
 use Rattle.std.specs.Prelude.{nat_le, is_some, slice_get}
-use Rattle.bb_classes.specs.declared.value.TheConstants.{TEXT_LIMIT}
+use Rattle.bb_schema_classes.specs.declared.value.TheConstants.{TEXT_LIMIT}
 use Rattle.bb_schema.specs.Schema.{name_of_label}
 use Rattle.bb_board.specs.Board.{Board}
 use Rattle.bb_board.specs.Fits.{Fits}
@@ -19,11 +19,11 @@ use Rattle.bb_verify.specs.PartType.{Part}
 use Rattle.bb_verify.specs.Effect as effects
 use Rattle.bb_verify.specs.Effect.{effect}
 use Rattle.bb_verify.specs.Frame as frames
-use Rattle.bb_step.specs.Values.TheVariants as values
-use Rattle.bb_step.specs.Machine.{Machine, push}
-use Rattle.bb_step.specs.Arithmetic.{calculate, divide, compare, eq_text, negate, combine, make_interval, bound}
-use Rattle.bb_step.specs.Reading.{push_text, push_label, load, store_local, drop_one}
-use Rattle.bb_step.specs.Step.{step}
+use Rattle.bb_machine_step.specs.Values.TheVariants as values
+use Rattle.bb_machine_step.specs.Machine.{Machine, push}
+use Rattle.bb_machine_step.specs.Arithmetic.{calculate, divide, compare, eq_text, negate, combine, make_interval, bound}
+use Rattle.bb_machine_step.specs.Reading.{push_text, push_label, load, store_local, drop_one}
+use Rattle.bb_machine_step.specs.Step.{step}
 use Rattle.bb_machine.specs.Kinds.{Suits}
 use Rattle.bb_machine.specs.Safe.{edges_of, IsSafe}
 use Rattle.bb_machine.proofs.MoveLemmas.{pushes, makes_as}
@@ -32,7 +32,7 @@ use Rattle.bb_machine.proofs.plain.LocalLemmas.{load_makes, drop_makes, store_ma
 use Rattle.bb_machine.proofs.EdgeLemmas.{leads_by}
 use Rattle.std.specs.Prelude.{FitsSigned}
 use Rattle.std.specs.Int.{w64}
-use Rattle.bb_classes.proofs.Laws.{fits_i64}
+use Rattle.bb_schema_classes.proofs.Laws.{fits_i64}
 use Rattle.bb_code.specs.Code.{IsDivisor}
 
 label_by : (name : Option (List ℕ)) → is_some name ≡ true → (x : List ℕ) × (name ≡ Some x)

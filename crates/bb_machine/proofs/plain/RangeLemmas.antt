@@ -6,8 +6,8 @@ use Rattle.std.proofs.lemmas.Bool.{and_parts, lt-ltb}
 use Rattle.std.proofs.lemmas.Bool.Decides.{nat_tests}
 use Rattle.std.proofs.lemmas.Int.{ints, quot_fits}
 use Rattle.std.proofs.lemmas.Nat.{mod_below}
-use Rattle.bb_classes.specs.Numbers.{is_i64}
-use Rattle.bb_classes.proofs.Laws.{fits_i64, i64_fits}
+use Rattle.bb_schema_classes.specs.Numbers.{is_i64}
+use Rattle.bb_schema_classes.proofs.Laws.{fits_i64, i64_fits}
 use Rattle.bb_code.specs.Bound.{Bound}
 use Rattle.bb_code.specs.Bound.TheVariants.{Low, High}
 use Rattle.bb_code.specs.Calculation.{Calculation}
@@ -16,7 +16,7 @@ use Rattle.bb_code.specs.Code.{IsDivisor}
 use Rattle.bb_code.specs.Division.{Division}
 use Rattle.bb_code.specs.Division.TheVariants.{DivBy, ModBy}
 use Rattle.bb_verify.specs.declared.checked.TheConstants.{FOUND_LIMIT}
-use Rattle.bb_step.specs.Arithmetic.{calculated, divided, bound_of}
+use Rattle.bb_machine_step.specs.Arithmetic.{calculated, divided, bound_of}
 
 -- ---- of two numbers
 

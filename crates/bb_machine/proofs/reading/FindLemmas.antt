@@ -20,8 +20,8 @@ use Rattle.bb_pattern.specs.Holds.{holds}
 use Rattle.bb_units.specs.Fits as units
 use Rattle.bb_units.specs.Units.{class_of}
 use Rattle.bb_space.specs.Spaces.{is_member}
-use Rattle.bb_step.specs.QueryAnswer.{is_of_class, answers, answer}
-use Rattle.bb_step.specs.PresentValues.{present_values}
+use Rattle.bb_machine_step.specs.QueryAnswer.{is_of_class, answers, answer}
+use Rattle.bb_machine_step.specs.PresentValues.{present_values}
 use Rattle.bb_board.specs.Board.{Board}
 use Rattle.bb_board.specs.State.{World}
 use Rattle.bb_code.specs.Kind.{Kind}
@@ -29,12 +29,12 @@ use Rattle.bb_code.specs.Kind.TheVariants.{Interval, Label}
 use Rattle.bb_verify.specs.Flaw.{Flaw}
 use Rattle.bb_verify.specs.Flaw.TheVariants as flaws
 use Rattle.bb_verify.specs.Due as dues
-use Rattle.bb_step.specs.Halt.{Halt}
-use Rattle.bb_step.specs.Values.{Value}
-use Rattle.bb_step.specs.Values.TheVariants as values
-use Rattle.bb_step.specs.Stuck.TheVariants as reasons
-use Rattle.bb_step.specs.Value.{stuck}
-use Rattle.bb_step.specs.Reading.{operand_due, operands_due, right_query}
+use Rattle.bb_machine_step.specs.Halt.{Halt}
+use Rattle.bb_machine_step.specs.Values.{Value}
+use Rattle.bb_machine_step.specs.Values.TheVariants as values
+use Rattle.bb_machine_step.specs.Stuck.TheVariants as reasons
+use Rattle.bb_machine_step.specs.Value.{stuck}
+use Rattle.bb_machine_step.specs.Reading.{operand_due, operands_due, right_query}
 use Rattle.bb_machine.specs.Kinds.{IsOf, WasOf, HasKind}
 use Rattle.bb_machine.proofs.LiveLemmas.{was_of}
 use Rattle.bb_machine.proofs.MoveLemmas.{due_is}

@@ -3,7 +3,7 @@ use Rattle.std.proofs.Common.{◌≡◌, ◌⊎◌, inl, inr, ℕ, Bool, false, 
 use Rattle.std.specs.Prelude.{◌==◌, slice_get, if◌then◌else◌}
 use Rattle.bb_basis.specs.Results.{◌>>=◌}
 use Rattle.bb_basis.proofs.ResultLemmas.{bind_ok, same_ok}
-use Rattle.bb_classes.specs.declared.class.Class.{Class}
+use Rattle.bb_schema_classes.specs.declared.class.Class.{Class}
 use Rattle.bb_schema.specs.Schema.{Schema, descends}
 use Rattle.bb_units.specs.Units.{is_live}
 use Rattle.bb_board.specs.Board.{Board}
@@ -23,14 +23,14 @@ use Rattle.bb_verify.specs.Due as dues
 use Rattle.bb_verify.specs.Effect as effects
 use Rattle.bb_verify.specs.Effect.{effect}
 use Rattle.bb_verify.specs.Frame as frames
-use Rattle.bb_step.specs.Halt.{Halt}
-use Rattle.bb_step.specs.Values.{Value}
-use Rattle.bb_step.specs.Values.TheVariants as values
-use Rattle.bb_step.specs.Sequence.{Sequence}
-use Rattle.bb_step.specs.Machine.{Machine, go_to, with_stack, pop, pop_two, push}
-use Rattle.bb_step.specs.Arithmetic.{eq_unit, eq_label}
-use Rattle.bb_step.specs.Reading.{size, as_class, live}
-use Rattle.bb_step.specs.Step.{step, keeps}
+use Rattle.bb_machine_step.specs.Halt.{Halt}
+use Rattle.bb_machine_step.specs.Values.{Value}
+use Rattle.bb_machine_step.specs.Values.TheVariants as values
+use Rattle.bb_machine_step.specs.Sequence.{Sequence}
+use Rattle.bb_machine_step.specs.Machine.{Machine, go_to, with_stack, pop, pop_two, push}
+use Rattle.bb_machine_step.specs.Arithmetic.{eq_unit, eq_label}
+use Rattle.bb_machine_step.specs.Reading.{size, as_class, live}
+use Rattle.bb_machine_step.specs.Step.{step, keeps}
 use Rattle.bb_machine.specs.Kinds.{IsOf, HasKind, Suits}
 use Rattle.bb_machine.specs.Safe.{edges_of, IsSafe}
 use Rattle.bb_machine.specs.proving.Moves.{PopsTwo, Makes}

@@ -5,13 +5,13 @@ use Rattle.std.specs.Option.{option_map_or}
 use Rattle.std.proofs.lemmas.Bool.{and_parts, and_from, eqb-true}
 use Rattle.bb_basis.specs.Results.{ok_or}
 use Rattle.bb_basis.proofs.ResultLemmas.{bind_ok, guard_ok, ok_or_ok, same_ok}
-use Rattle.bb_classes.specs.declared.kind.Kind.{Kind as SlotKind}
-use Rattle.bb_classes.specs.declared.kind.Kind.TheVariants as slots
-use Rattle.bb_classes.specs.declared.kind.Link.{Link}
-use Rattle.bb_classes.specs.declared.value.Value.{Value as SlotValue}
-use Rattle.bb_classes.specs.declared.value.Value.TheVariants as held
-use Rattle.bb_classes.specs.Kinds.{kind_of_value}
-use Rattle.bb_classes.specs.Values.{label_counts, is_label, value_fits}
+use Rattle.bb_schema_classes.specs.declared.kind.Kind.{Kind as SlotKind}
+use Rattle.bb_schema_classes.specs.declared.kind.Kind.TheVariants as slots
+use Rattle.bb_schema_classes.specs.declared.kind.Link.{Link}
+use Rattle.bb_schema_classes.specs.declared.value.Value.{Value as SlotValue}
+use Rattle.bb_schema_classes.specs.declared.value.Value.TheVariants as held
+use Rattle.bb_schema_classes.specs.Kinds.{kind_of_value}
+use Rattle.bb_schema_classes.specs.Values.{label_counts, is_label, value_fits}
 use Rattle.bb_schema.specs.declared.slot.Content.{Content}
 use Rattle.bb_schema.specs.declared.slot.Content.TheVariants as contents
 use Rattle.bb_schema.specs.declared.slot.Slot.{Slot}
@@ -27,10 +27,10 @@ use Rattle.bb_code.specs.Kind.TheVariants.{Int, Text, Bool as Truth, Label, Inte
 use Rattle.bb_verify.specs.Flaw.{Flaw}
 use Rattle.bb_verify.specs.Flaw.TheVariants as flaws
 use Rattle.bb_verify.specs.Due as dues
-use Rattle.bb_step.specs.Values.{Value}
-use Rattle.bb_step.specs.Values.TheVariants as values
-use Rattle.bb_step.specs.Reading.{is_singular}
-use Rattle.bb_step.specs.Value.{value_from}
+use Rattle.bb_machine_step.specs.Values.{Value}
+use Rattle.bb_machine_step.specs.Values.TheVariants as values
+use Rattle.bb_machine_step.specs.Reading.{is_singular}
+use Rattle.bb_machine_step.specs.Value.{value_from}
 use Rattle.bb_machine.specs.Kinds.{IsOf, HasKind}
 use Rattle.bb_machine.proofs.HeldLemmas.{HasSlot, slot_by, name_there, holds_value}
 use Rattle.bb_machine.proofs.KindLemmas.{descends_on}

@@ -4,16 +4,16 @@ use Rattle.std.specs.Prelude.{All, slice_get, nat_lt}
 use Rattle.std.proofs.lemmas.List.Elements.{All-weaker}
 use Rattle.bb_basis.specs.Results.{◌>>=◌, ok_or}
 use Rattle.bb_basis.proofs.ResultLemmas.{bind_ok, ok_or_ok, same_ok}
-use Rattle.bb_classes.specs.declared.kind.Link.{Link}
-use Rattle.bb_classes.specs.declared.value.Value.{Value as SlotValue}
-use Rattle.bb_classes.proofs.Laws.{All-at}
+use Rattle.bb_schema_classes.specs.declared.kind.Link.{Link}
+use Rattle.bb_schema_classes.specs.declared.value.Value.{Value as SlotValue}
+use Rattle.bb_schema_classes.proofs.Laws.{All-at}
 use Rattle.bb_schema.specs.Fits as schemas
 use Rattle.bb_schema.specs.Schema.{Schema}
 use Rattle.bb_pattern.specs.declared.query.Query.{Query}
 use Rattle.bb_pattern.specs.declared.value.DimValue.{DimValue}
 use Rattle.bb_units.specs.Units.{is_live, value_of}
 use Rattle.bb_links.specs.Links.{ends}
-use Rattle.bb_step.specs.QueryAnswer.{answer, answers}
+use Rattle.bb_machine_step.specs.QueryAnswer.{answer, answers}
 use Rattle.bb_board.specs.Board.{Board}
 use Rattle.bb_board.specs.Fits.{Fits}
 use Rattle.bb_board.specs.May.{has_link}
@@ -30,14 +30,14 @@ use Rattle.bb_verify.specs.Due as dues
 use Rattle.bb_verify.specs.Effect as effects
 use Rattle.bb_verify.specs.Effect.{effect}
 use Rattle.bb_verify.specs.Frame as frames
-use Rattle.bb_step.specs.Halt.{Halt}
-use Rattle.bb_step.specs.Values.{Value}
-use Rattle.bb_step.specs.Values.TheVariants as values
-use Rattle.bb_step.specs.Sequence.{whole}
-use Rattle.bb_step.specs.Value.{value_from}
-use Rattle.bb_step.specs.Machine.{Machine, go_to, after_found, with_stack, push}
-use Rattle.bb_step.specs.Reading.{get, push_found, any_link, is_singular, one_link, push_partner, one, links, right_query, operands_due, find}
-use Rattle.bb_step.specs.Step.{step, keeps}
+use Rattle.bb_machine_step.specs.Halt.{Halt}
+use Rattle.bb_machine_step.specs.Values.{Value}
+use Rattle.bb_machine_step.specs.Values.TheVariants as values
+use Rattle.bb_machine_step.specs.Sequence.{whole}
+use Rattle.bb_machine_step.specs.Value.{value_from}
+use Rattle.bb_machine_step.specs.Machine.{Machine, go_to, after_found, with_stack, push}
+use Rattle.bb_machine_step.specs.Reading.{get, push_found, any_link, is_singular, one_link, push_partner, one, links, right_query, operands_due, find}
+use Rattle.bb_machine_step.specs.Step.{step, keeps}
 use Rattle.bb_machine.specs.Kinds.{IsOf, WasOf, Suits}
 use Rattle.bb_machine.specs.Safe.{edges_of, IsSafe}
 use Rattle.bb_machine.specs.proving.Moves.{Makes}
@@ -50,7 +50,7 @@ use Rattle.bb_machine.proofs.reading.PartnerLemmas.{links_lead}
 use Rattle.bb_machine.proofs.reading.FindLemmas.{query_right, operands_given, answers_are}
 use Rattle.bb_machine.proofs.EdgeLemmas.{leads_by, leads_either}
 use Rattle.bb_units.specs.declared.units.TheConstants.{UNIT_LIMIT}
-use Rattle.bb_world.proofs.Laws.{few_ends, few_pass}
+use Rattle.bb_board_state.proofs.Laws.{few_ends, few_pass}
 use Rattle.std.proofs.lemmas.Bool.{le-leb}
 
 get_on : (b : Board) (slot : ℕ) (m : Machine) (n : ℕ) (rest : List Value) (v : SlotValue) → m.stack ≡ values.Unit n ∷ rest → is_live b.world.units n ≡ true → value_of b.world.units n slot ≡ Some v

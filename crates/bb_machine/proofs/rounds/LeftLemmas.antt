@@ -5,18 +5,18 @@ use Rattle.std.proofs.lemmas.Bool.Decides.{nat_tests}
 use Rattle.std.proofs.lemmas.List.{length-set}
 use Rattle.std.proofs.lemmas.List.Elements.{All-nil, All-cons, All-set, All-weaker}
 use Rattle.std.proofs.lemmas.Option.{slice_get_within}
-use Rattle.bb_classes.proofs.Laws.{All-at}
+use Rattle.bb_schema_classes.proofs.Laws.{All-at}
 use Rattle.bb_units.specs.declared.units.TheConstants.{UNIT_LIMIT}
 use Rattle.bb_code.specs.Code.{Code}
 use Rattle.bb_code.specs.Loop.{Loop}
 use Rattle.bb_code.specs.Op.{Op}
 use Rattle.bb_code.specs.Op.TheVariants as ops
 use Rattle.bb_verify.specs.Loops.{local_of, is_same_local}
-use Rattle.bb_step.specs.Entry.{Entry}
-use Rattle.bb_step.specs.Values.{Value}
-use Rattle.bb_step.specs.Values.TheVariants as values
-use Rattle.bb_step.specs.Machine.{Machine, units_of, entry_state}
-use Rattle.bb_step.specs.Changing.{State}
+use Rattle.bb_machine_step.specs.Entry.{Entry}
+use Rattle.bb_machine_step.specs.Values.{Value}
+use Rattle.bb_machine_step.specs.Values.TheVariants as values
+use Rattle.bb_machine_step.specs.Machine.{Machine, units_of, entry_state}
+use Rattle.bb_machine_step.specs.Changing.{State}
 use Rattle.bb_machine.specs.proving.Sequences.{IsLow, IsLowIn, AreLow, elements, left_in, left_of, Keeps, Stores, Takes, Moved}
 use Rattle.bb_machine.proofs.rounds.KeptSteps.{low_more}
 

@@ -11,16 +11,16 @@ use Rattle.bb_code.specs.Op.{Op}
 use Rattle.bb_verify.specs.Facts.{Facts}
 use Rattle.bb_verify.specs.FrameType.{Frame}
 use Rattle.bb_verify.specs.PartType.{Part}
-use Rattle.bb_step.specs.Halt.{Halt}
-use Rattle.bb_step.specs.Halt.TheVariants.{Answered, Full, Stuck, Memory}
-use Rattle.bb_step.specs.Outcome.{Outcome}
-use Rattle.bb_step.specs.Stop.{Stop}
-use Rattle.bb_step.specs.Stop.TheVariants as stops
-use Rattle.bb_step.specs.Machine.{Machine, go_to}
-use Rattle.bb_step.specs.Changing.{State}
-use Rattle.bb_step.specs.Step.{step}
-use Rattle.bb_step.specs.Activation.{Execution, steps_from}
-use Rattle.bb_step.proofs.Laws.{after_op, by_op}
+use Rattle.bb_machine_step.specs.Halt.{Halt}
+use Rattle.bb_machine_step.specs.Halt.TheVariants.{Answered, Full, Stuck, Memory}
+use Rattle.bb_machine_step.specs.Outcome.{Outcome}
+use Rattle.bb_machine_step.specs.Stop.{Stop}
+use Rattle.bb_machine_step.specs.Stop.TheVariants as stops
+use Rattle.bb_machine_step.specs.Machine.{Machine, go_to}
+use Rattle.bb_machine_step.specs.Changing.{State}
+use Rattle.bb_machine_step.specs.Step.{step}
+use Rattle.bb_machine_step.specs.Activation.{Execution, steps_from}
+use Rattle.bb_machine_step.proofs.Laws.{after_op, by_op}
 use Rattle.bb_machine.specs.NeverWrong.{Stands}
 use Rattle.bb_machine.specs.proving.Sequences.{AreLow, left_of, Moved}
 use Rattle.bb_machine.specs.proving.StepsLeft.{steps_left}

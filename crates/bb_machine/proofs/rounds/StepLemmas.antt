@@ -14,7 +14,7 @@ use Rattle.bb_verify.specs.Flaw.TheVariants as flaws
 use Rattle.bb_verify.specs.Each.{each}
 use Rattle.bb_verify.specs.Jumps.{target_of, before, ahead, check_target}
 use Rattle.bb_verify.specs.Loops.{holds, begins, enters_at_head, op_due, place_due}
-use Rattle.bb_step.specs.Machine.{Machine, go_to}
+use Rattle.bb_machine_step.specs.Machine.{Machine, go_to}
 use Rattle.bb_machine.specs.proving.Sequences.{AreLow, left_of, Keeps, Takes, Moved}
 use Rattle.bb_machine.specs.proving.StepsLeft.{In, steps_left}
 use Rattle.bb_machine.proofs.rounds.FallLemmas.{on_enters, falls_ahead, plain_ahead, taken_ahead, ended_ahead, goes_back}

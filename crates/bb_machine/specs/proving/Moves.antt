@@ -4,10 +4,10 @@ use Rattle.bb_schema.specs.Schema.{Schema}
 use Rattle.bb_board.specs.State.{World}
 use Rattle.bb_code.specs.Kind.{Kind}
 use Rattle.bb_verify.specs.FrameType.{Frame}
-use Rattle.bb_step.specs.Halt.{Halt}
-use Rattle.bb_step.specs.Values.{Value}
-use Rattle.bb_step.specs.Values.TheVariants.{Unit as One}
-use Rattle.bb_step.specs.Machine.{Machine, with_stack}
+use Rattle.bb_machine_step.specs.Halt.{Halt}
+use Rattle.bb_machine_step.specs.Values.{Value}
+use Rattle.bb_machine_step.specs.Values.TheVariants.{Unit as One}
+use Rattle.bb_machine_step.specs.Machine.{Machine, with_stack}
 use Rattle.bb_machine.specs.Kinds.{IsOf, HasKind, Suits}
 
 -- the stack of a state has a newest entry of the kind, and what is left suits the frame that is left

@@ -6,11 +6,11 @@ use Rattle.bb_code.specs.Loop.{Loop}
 use Rattle.bb_code.specs.Op.{Op}
 use Rattle.bb_code.specs.Op.TheVariants as ops
 use Rattle.bb_verify.specs.Loops.{local_of}
-use Rattle.bb_step.specs.Values.{Value}
-use Rattle.bb_step.specs.Values.TheVariants.{Seq}
-use Rattle.bb_step.specs.Sequence.{Sequence}
-use Rattle.bb_step.specs.Machine.{Machine}
-use Rattle.bb_step.specs.Changing.{State}
+use Rattle.bb_machine_step.specs.Values.{Value}
+use Rattle.bb_machine_step.specs.Values.TheVariants.{Seq}
+use Rattle.bb_machine_step.specs.Sequence.{Sequence}
+use Rattle.bb_machine_step.specs.Machine.{Machine}
+use Rattle.bb_machine_step.specs.Changing.{State}
 
 -- a sequence has no more elements left than so many; other values have none
 abbrev pub IsLow : ℕ → Value → Type 0

@@ -1,8 +1,8 @@
 -- Tests that stand for patterns, or for parts of them.
 use Rattle.std.specs.Prelude.{◌≡◌, Bool, true, List}
 use Rattle.bb_pattern.specs.declared.value.DimValue.{DimValue}
-use Rattle.bb_places.specs.declared.leaf.Leaf.{Leaf}
-use Rattle.bb_places.specs.Leaf.{fits_leaf, fit_each}
+use Rattle.bb_space_index.specs.declared.leaf.Leaf.{Leaf}
+use Rattle.bb_space_index.specs.Leaf.{fits_leaf, fit_each}
 
 -- the test asks the same of a unit's values
 abbrev pub Asks : (List DimValue → Bool) → Leaf → Type 0

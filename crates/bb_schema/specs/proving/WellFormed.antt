@@ -1,7 +1,7 @@
 -- What holds of the parts of every schema.
 use Rattle.std.specs.Prelude.{◌≡◌, ℕ, List, length}
-use Rattle.bb_classes.specs.declared.span.Span.{Span}
-use Rattle.bb_classes.specs.Spans.{AreSpans}
+use Rattle.bb_schema_classes.specs.declared.span.Span.{Span}
+use Rattle.bb_schema_classes.specs.Spans.{AreSpans}
 use Rattle.bb_schema.specs.Schema.{Schema}
 use Rattle.bb_schema.specs.Fits.{Fits}
 use Rattle.bb_schema.specs.Couples.{couples, counts}

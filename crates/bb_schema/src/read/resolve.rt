@@ -1,12 +1,12 @@
 //! Links get numbers in place of names, once all classes are read. `read.rt` calls it.
 
 ghost use Rattle.bb_basis.specs.Results.{Gives, try_map};
-ghost use Rattle.bb_classes.specs.declared.fault.SchemaFault.TheVariants.{Memory as OutOfMemory};
+ghost use Rattle.bb_schema_classes.specs.declared.fault.SchemaFault.TheVariants.{Memory as OutOfMemory};
 ghost use Rattle.bb_schema.specs.Resolution.{resolved_content, resolved_slot};
 
 use crate::slot::{Content, Slot};
 use bb_basis::Table;
-use bb_classes::{Class, Draft, DraftContent, SchemaFault, resolve_link};
+use bb_schema_classes::{Class, Draft, DraftContent, SchemaFault, resolve_link};
 use std::alloc::Global;
 
 fn resolve_content(

@@ -3,17 +3,17 @@
 ghost use Rattle.std.specs.Prelude.{◌≡◌, [], map, option_map, string_bytes};
 ghost use Rattle.std.specs.List.{list_all};
 ghost use Rattle.bb_basis.specs.Results.{Gives, try_fold_at};
-ghost use Rattle.bb_document.specs.Document.{dim_declaration, space_declaration};
-ghost use Rattle.bb_classes.specs.declared.fault.SchemaFault.TheVariants.{Memory as OutOfMemory};
-ghost use Rattle.bb_document.specs.declared.place.ListKey.TheVariants as lists;
-ghost use Rattle.bb_classes.specs.Faults.{inside};
+ghost use Rattle.bb_schema_form.specs.Document.{dim_declaration, space_declaration};
+ghost use Rattle.bb_schema_classes.specs.declared.fault.SchemaFault.TheVariants.{Memory as OutOfMemory};
+ghost use Rattle.bb_schema_form.specs.declared.place.ListKey.TheVariants as lists;
+ghost use Rattle.bb_schema_classes.specs.Faults.{inside};
 ghost use Rattle.bb_schema.specs.SpaceReading.{space_class_after, suits, has_slot_for, set_number, dim_after, space_after};
 
 use crate::schema::Schema;
 use crate::space::{Dim, Space};
 use bb_basis::{IdSet, Table, Text, is_name};
-use bb_classes::{ClassId, Kind, LabelSetId, ListKey, SchemaFault, SchemaFlaw, placed};
-use bb_document::{DimEntry, SpaceEntry};
+use bb_schema_classes::{ClassId, Kind, LabelSetId, ListKey, SchemaFault, SchemaFlaw, placed};
+use bb_schema_form::{DimEntry, SpaceEntry};
 use std::alloc::Global;
 
 /// The greatest number of spaces.
@@ -22,7 +22,7 @@ pub(crate) const SPACE_LIMIT: usize = 256;
 /// The greatest number of dimensions of a space.
 pub(crate) const DIM_LIMIT: usize = 16;
 
-#[tactic(auto, unfolding(crate::specs::SpaceReading::space_class_after, bb_classes::specs::Inheritance::is_among))]
+#[tactic(auto, unfolding(crate::specs::SpaceReading::space_class_after, bb_schema_classes::specs::Inheritance::is_among))]
 fn add_space_class(schema: &Schema, listed: &mut IdSet, name: &str) -> Result<(), SchemaFault>
     ensures { Gives OutOfMemory (λ _. listed.new) result (space_class_after schema.now listed.old name.now) }
 {

@@ -4,10 +4,10 @@ use Rattle.std.specs.Option.{option_map_or}
 use Rattle.std.specs.FinMap as fin
 use Rattle.bb_pattern.specs.declared.value.DimValue.{DimValue}
 use Rattle.bb_space.specs.declared.members.Members.{Members}
-use Rattle.bb_places.specs.declared.place.Place.{Place}
+use Rattle.bb_space_index.specs.declared.place.Place.{Place}
 use Rattle.bb_space.specs.Spaces.{Membership, Spaces}
 use Rattle.bb_space.specs.proving.Entries.{members_of_entries}
-use Rattle.bb_places.specs.Places.{has, is_at, is_place_of}
+use Rattle.bb_space_index.specs.Places.{has, is_at, is_place_of}
 
 abbrev pub membership : Members → Membership
 membership m = members_of_entries m.values.entries

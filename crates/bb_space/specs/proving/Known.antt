@@ -1,6 +1,6 @@
 -- What is noted of units, one after another from a first one on: whether they pass some tests, or nothing.
 use Rattle.std.specs.Prelude.{◌≡◌, ℕ, ◌+◌, Bool, List, Option, Some, slice_get}
-use Rattle.bb_places.specs.declared.leaf.Leaf.{Leaf}
+use Rattle.bb_space_index.specs.declared.leaf.Leaf.{Leaf}
 use Rattle.bb_space.specs.Passing.{passes}
 use Rattle.bb_space.specs.Spaces.{Membership}
 

@@ -4,8 +4,8 @@ use Rattle.std.proofs.Common.{inl, inr}
 use Rattle.std.specs.Ordering.{nat_cmp}
 use Rattle.std.specs.FinMap as map
 use Rattle.std.specs.Coded.{Coded, code_by, coded×, coded⊎, coded_ℕ, coded_ℤ, coded_bool, coded_list, coded_option}
-use Rattle.bb_classes.specs.declared.value.Value.{Value}
-use Rattle.bb_classes.specs.declared.value.Value.TheVariants.{Int, Text, Bool as Truth, Label, Interval}
+use Rattle.bb_schema_classes.specs.declared.value.Value.{Value}
+use Rattle.bb_schema_classes.specs.declared.value.Value.TheVariants.{Int, Text, Bool as Truth, Label, Interval}
 use Rattle.bb_units.specs.declared.unit.Unit.{Unit}
 use Rattle.bb_units.specs.Layout.{Layout}
 use Rattle.bb_units.specs.Units.{Units}

@@ -1,9 +1,9 @@
 -- The places of a code by their depths: the numbers of loops that hold them.
 use Rattle.std.specs.Prelude.{ℕ, ◌+◌, ◌*◌, ◌==◌, List, map, get_or}
 use Rattle.std.specs.List.{range_with_len, sum_by, count_by}
-use Rattle.bb_effect.specs.Code.{Code, places}
-use Rattle.bb_loops.specs.declared.loops.TheConstants.{NESTING_LIMIT}
-use Rattle.bb_loops.specs.Loops.{depth}
+use Rattle.bb_verify_effect.specs.Code.{Code, places}
+use Rattle.bb_verify_loops.specs.declared.loops.TheConstants.{NESTING_LIMIT}
+use Rattle.bb_verify_loops.specs.Loops.{depth}
 use Rattle.bb_verify.specs.Budget.{turns}
 
 -- the depth of each place

@@ -1,8 +1,8 @@
 -- For each place the number of the frame that is declared there.
 use Rattle.std.specs.Prelude.{ℕ, List, map, slice_get, Option, None, Some, option_map}
-use Rattle.bb_effect.specs.FrameEntry.{FrameEntry}
-use Rattle.bb_effect.specs.FrameType.{Frame}
-use Rattle.bb_effect.specs.Frame.{frame_of}
+use Rattle.bb_verify_effect.specs.FrameEntry.{FrameEntry}
+use Rattle.bb_verify_effect.specs.FrameType.{Frame}
+use Rattle.bb_verify_effect.specs.Frame.{frame_of}
 
 -- the declared frame of a number
 abbrev pub numbered_frame : List FrameEntry → Option ℕ → Option Frame

@@ -2,8 +2,8 @@ use Rattle.std.proofs.Common.{◌≡◌, ◌∙◌, refl}
 use Rattle.std.proofs.lemmas.Result.{err_from_is_err_and}
 use Rattle.bb_basis.proofs.PlacedLemmas.{placed_err, placed_ok}
 use Rattle.bb_basis.proofs.FoldAtLemmas.{fold_at_next, fold_at_error, fold_at_end}
-use Rattle.bb_document.specs.UnitsDocument.{first_link_declaration}
-use Rattle.bb_document.specs.declared.place.ListKey.TheVariants as lists
+use Rattle.bb_schema_form.specs.UnitsDocument.{first_link_declaration}
+use Rattle.bb_schema_form.specs.declared.place.ListKey.TheVariants as lists
 use Rattle.bb_board.specs.UnitsFaults.{inside}
 use Rattle.bb_board.proofs.CreateLemmas.{placed_leaves}
 use Rattle.bb_board.specs.Load.{link_after}

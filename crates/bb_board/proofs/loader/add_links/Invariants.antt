@@ -1,7 +1,7 @@
 use Rattle.std.proofs.Common.{◌≡◌, drop, map}
 use Rattle.bb_basis.specs.Results.{try_fold_at}
-use Rattle.bb_document.specs.UnitsDocument.{first_link_declaration}
-use Rattle.bb_document.specs.declared.place.ListKey.TheVariants as lists
+use Rattle.bb_schema_form.specs.UnitsDocument.{first_link_declaration}
+use Rattle.bb_schema_form.specs.declared.place.ListKey.TheVariants as lists
 use Rattle.bb_board.specs.UnitsFaults.{inside}
 use Rattle.bb_board.specs.Load.{link_after}
 use Rattle.bb_board.proofs.loader.add_links.Given as goal

@@ -1,8 +1,8 @@
 use Rattle.std.proofs.Common.{rules, sym, ◌∙◌}
 use Rattle.std.proofs.lemmas.Iterator.{YieldsList-from_slice}
 use Rattle.std.proofs.lemmas.Iterator.Search.{all_from_yields_List}
-use Rattle.bb_document.specs.declared.document.GivenEntry.{GivenEntry}
-use Rattle.bb_document.specs.UnitsDocument.{GivenDeclaration, given_declaration}
+use Rattle.bb_schema_form.specs.declared.document.GivenEntry.{GivenEntry}
+use Rattle.bb_schema_form.specs.UnitsDocument.{GivenDeclaration, given_declaration}
 use Rattle.bb_board.specs.Load.{is_ordinary_in}
 use Rattle.std.proofs.lemmas.List.Folds.{list_all-map}
 use Rattle.bb_board.proofs.values.are_slots.Goals as goal

@@ -2,9 +2,9 @@ use Rattle.std.proofs.Common.{rules, ap, sym, ◌∙◌, option_map, Bor}
 use Rattle.std.specs.Str.{bytes_eq}
 use Rattle.std.proofs.lemmas.Iterator.{YieldsList-from_slice}
 use Rattle.std.proofs.lemmas.Iterator.Search.{find_from_yields_List}
-use Rattle.bb_document.specs.declared.document.GivenEntry.{GivenEntry}
-use Rattle.bb_document.specs.declared.document.GivenValue.{GivenValue}
-use Rattle.bb_document.specs.UnitsDocument.{given_declaration, value_declaration}
+use Rattle.bb_schema_form.specs.declared.document.GivenEntry.{GivenEntry}
+use Rattle.bb_schema_form.specs.declared.document.GivenValue.{GivenValue}
+use Rattle.bb_schema_form.specs.UnitsDocument.{given_declaration, value_declaration}
 use Rattle.bb_board.proofs.ValueLemmas.{given_is}
 use Rattle.bb_board.proofs.values.given_for.Goals as goal
 

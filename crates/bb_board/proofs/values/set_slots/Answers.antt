@@ -3,7 +3,7 @@ use Rattle.std.proofs.lemmas.List.{get_or_default}
 use Rattle.std.proofs.lemmas.Result.{err_from_is_err_and}
 use Rattle.bb_basis.proofs.IntoMapLemmas.{next_one, none_left}
 use Rattle.bb_basis.proofs.TryFoldLemmas.{try_fold_next, try_fold_error, try_fold_end}
-use Rattle.bb_document.specs.UnitsDocument.{given_declaration}
+use Rattle.bb_schema_form.specs.UnitsDocument.{given_declaration}
 use Rattle.bb_board.specs.Load.{slot_after}
 use Rattle.bb_board.specs.declared.units_fault.UnitsFault.TheVariants.{Memory}
 use Rattle.bb_board.proofs.values.set_slots.Goals as goal

@@ -1,6 +1,6 @@
 use Rattle.std.proofs.Common.{◌≡◌, drop, map}
 use Rattle.bb_basis.specs.Results.{try_fold}
-use Rattle.bb_document.specs.UnitsDocument.{given_declaration}
+use Rattle.bb_schema_form.specs.UnitsDocument.{given_declaration}
 use Rattle.bb_board.specs.Load.{slot_after}
 use Rattle.bb_board.proofs.values.set_slots.Given as goal
 

@@ -1,9 +1,9 @@
 use Rattle.std.proofs.Common.{◌≡◌, ◌≤◌, ◌∙◌, ◌⊎◌, inl, inr, Result, Ok, Err, List, length, ap, sym, subst}
 use Rattle.std.proofs.lemmas.Result.{err_from_is_err_and}
-use Rattle.bb_classes.specs.declared.class.Class.{Class}
-use Rattle.bb_classes.specs.declared.fault.SchemaFault.TheVariants.{Memory}
-use Rattle.bb_classes.specs.declared.read.classes.TheConstants.{CLASS_LIMIT}
-use Rattle.bb_classes.specs.Inheritance.{ParentsAreEarlier}
+use Rattle.bb_schema_classes.specs.declared.class.Class.{Class}
+use Rattle.bb_schema_classes.specs.declared.fault.SchemaFault.TheVariants.{Memory}
+use Rattle.bb_schema_classes.specs.declared.read.classes.TheConstants.{CLASS_LIMIT}
+use Rattle.bb_schema_classes.specs.Inheritance.{ParentsAreEarlier}
 use Rattle.bb_schema.specs.declared.slot.Slot.{Slot}
 use Rattle.bb_schema.specs.Couples.{firsts, counts}
 use Rattle.bb_schema.proofs.LinkLemmas.{links_are_there}

@@ -1,5 +1,5 @@
 use Rattle.std.proofs.Common.{map}
-use Rattle.bb_document.specs.Document.{space_declaration}
+use Rattle.bb_schema_form.specs.Document.{space_declaration}
 use Rattle.bb_schema.proofs.SchemaFitLemmas.{spaces_fit}
 use Rattle.bb_schema.proofs.read.schema_with_spaces.Goals as goal
 

@@ -1,6 +1,6 @@
 use Rattle.std.proofs.Common.{◌∙◌, sym, length}
 use Rattle.std.proofs.lemmas.Option.{slice_get-map}
-use Rattle.bb_classes.specs.declared.label_set.LabelSet.{LabelSet}
+use Rattle.bb_schema_classes.specs.declared.label_set.LabelSet.{LabelSet}
 use Rattle.bb_units.proofs.LayoutLemmas.{made_one_more}
 use Rattle.bb_units.proofs.layout.label_counts.Goals as goal
 

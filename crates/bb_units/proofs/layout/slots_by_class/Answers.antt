@@ -1,5 +1,5 @@
 use Rattle.std.proofs.Common.{◌∙◌, sym, ap, subst, ◌<◌, Some}
-use Rattle.bb_classes.specs.declared.class.Class.{Class}
+use Rattle.bb_schema_classes.specs.declared.class.Class.{Class}
 use Rattle.std.proofs.lemmas.List.{map-append}
 use Rattle.bb_units.proofs.LayoutLemmas.{made_one_more, list_there}
 use Rattle.bb_units.proofs.layout.slots_by_class.Goals as goal

@@ -1,7 +1,7 @@
 use Rattle.std.proofs.Common.{arith, ap, length}
 use Rattle.std.proofs.lemmas.Result.{err_from_is_err_and}
 use Rattle.bb_verify.specs.Tables.{table_at}
-use Rattle.bb_effect.proofs.Laws.{range_next, range_error, range_end}
+use Rattle.bb_verify_effect.proofs.Laws.{range_next, range_error, range_end}
 use Rattle.bb_verify.proofs.tables.all_in_tables.Goals as goal
 
 pub returns-in_err-table_at : goal.returns-in_err-table_at

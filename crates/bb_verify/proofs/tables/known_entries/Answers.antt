@@ -1,6 +1,6 @@
 use Rattle.std.proofs.lemmas.Result.{err_from_is_err_and}
 use Rattle.bb_verify.specs.Tables.{known_entry}
-use Rattle.bb_effect.proofs.Laws.{each_next, each_error, each_end}
+use Rattle.bb_verify_effect.proofs.Laws.{each_next, each_error, each_end}
 use Rattle.bb_verify.proofs.tables.known_entries.Goals as goal
 
 pub returns-in_err-known_entry : goal.returns-in_err-known_entry

@@ -1,6 +1,6 @@
 use Rattle.std.proofs.lemmas.Result.{err_from_is_err_and}
 use Rattle.bb_verify.specs.Tables.{known_kind}
-use Rattle.bb_effect.proofs.Laws.{each_next, each_error, each_end}
+use Rattle.bb_verify_effect.proofs.Laws.{each_next, each_error, each_end}
 use Rattle.bb_verify.proofs.tables.known_kinds.Goals as goal
 
 pub returns-in_err-known_kind : goal.returns-in_err-known_kind

@@ -1,7 +1,7 @@
 use Rattle.std.proofs.lemmas.Result.{err_from_is_err_and}
 use Rattle.bb_basis.proofs.IntoMapLemmas.{into_map_error, into_map_next, into_map_end, next_one, none_left}
 use Rattle.bb_schema.specs.Resolution.{resolved_slot}
-use Rattle.bb_classes.specs.declared.fault.SchemaFault.TheVariants.{Memory}
+use Rattle.bb_schema_classes.specs.declared.fault.SchemaFault.TheVariants.{Memory}
 use Rattle.bb_schema.proofs.read.resolve.resolve_slots.Goals as goal
 
 pub returns-in_err-resolve_slot : goal.returns-in_err-resolve_slot

@@ -1,10 +1,10 @@
 use Rattle.std.proofs.Common.{refl}
 use Rattle.std.proofs.lemmas.Result.{err_from_is_err_and}
-use Rattle.bb_document.specs.Document.{space_declaration}
-use Rattle.bb_document.specs.declared.place.ListKey.TheVariants as lists
-use Rattle.bb_classes.specs.Faults.{inside}
+use Rattle.bb_schema_form.specs.Document.{space_declaration}
+use Rattle.bb_schema_form.specs.declared.place.ListKey.TheVariants as lists
+use Rattle.bb_schema_classes.specs.Faults.{inside}
 use Rattle.bb_schema.specs.SpaceReading.{space_after}
-use Rattle.bb_classes.specs.declared.fault.SchemaFault.TheVariants.{Memory}
+use Rattle.bb_schema_classes.specs.declared.fault.SchemaFault.TheVariants.{Memory}
 use Rattle.bb_basis.proofs.PlacedLemmas.{placed_err, placed_ok}
 use Rattle.bb_basis.proofs.FoldAtLemmas.{fold_at_next, fold_at_error, fold_at_end}
 use Rattle.bb_schema.proofs.read.spaces.spaces_of.Goals as goal

@@ -1,8 +1,8 @@
 use Rattle.std.proofs.Common.{◌≡◌, [], drop, map}
 use Rattle.bb_basis.specs.Results.{try_fold_at}
-use Rattle.bb_document.specs.Document.{space_declaration}
-use Rattle.bb_document.specs.declared.place.ListKey.TheVariants as lists
-use Rattle.bb_classes.specs.Faults.{inside}
+use Rattle.bb_schema_form.specs.Document.{space_declaration}
+use Rattle.bb_schema_form.specs.declared.place.ListKey.TheVariants as lists
+use Rattle.bb_schema_classes.specs.Faults.{inside}
 use Rattle.bb_schema.specs.SpaceReading.{space_after}
 use Rattle.bb_schema.proofs.read.spaces.spaces_of.Given as goal
 

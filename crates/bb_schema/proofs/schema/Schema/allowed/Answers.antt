@@ -1,8 +1,8 @@
 use Rattle.std.proofs.Common.{rules, ◌≡◌, ◌∙◌, ℕ, List, sym, subst}
 use Rattle.std.specs.Prelude.{◌↔◌, IsTrue}
 use Rattle.std.specs.List.{Any}
-use Rattle.bb_classes.specs.Inheritance.{Descends, ParentsAreEarlier}
-use Rattle.bb_classes.proofs.Laws.{any_decides}
+use Rattle.bb_schema_classes.specs.Inheritance.{Descends, ParentsAreEarlier}
+use Rattle.bb_schema_classes.proofs.Laws.{any_decides}
 use Rattle.bb_schema.specs.Schema.{Schema}
 use Rattle.bb_schema.specs.Spaces.{classes_in}
 use Rattle.bb_schema.proofs.schema.Schema.allowed.Goals as goal

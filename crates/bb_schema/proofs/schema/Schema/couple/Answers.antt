@@ -1,6 +1,6 @@
 use Rattle.std.proofs.Common.{List, Some, ap, min, sym, ℕ, ◌∙◌, ◌≡◌}
 use Rattle.std.specs.Prelude.{slice_get, option_map}
-use Rattle.bb_classes.specs.declared.kind.Link.{Link}
+use Rattle.bb_schema_classes.specs.declared.kind.Link.{Link}
 use Rattle.bb_schema.specs.declared.couple.Side.{Side}
 use Rattle.bb_schema.specs.Couples.{firsts, couple_end}
 use Rattle.bb_schema.proofs.CoupleListLemmas.{couple_listed}

@@ -1,7 +1,7 @@
 use Rattle.std.proofs.Common.{◌≡◌, false, List, Some, None, refl, sym, ap, ◌∙◌}
 use Rattle.std.specs.Prelude.{◌==◌, slice_get}
-use Rattle.bb_classes.specs.declared.span.Span.{Span}
-use Rattle.bb_classes.proofs.Laws.{alone, none_above, told}
+use Rattle.bb_schema_classes.specs.declared.span.Span.{Span}
+use Rattle.bb_schema_classes.proofs.Laws.{alone, none_above, told}
 use Rattle.bb_schema.proofs.schema.Schema.descends.Goals as goal
 
 pub returns-in_default-clause-computed : goal.returns-in_default-clause-computed

@@ -1,5 +1,5 @@
 use Rattle.std.proofs.Common.{◌≤◌, ◌∙◌, sym, subst}
-use Rattle.bb_classes.specs.declared.draft.TheConstants.{SLOT_LIMIT}
+use Rattle.bb_schema_classes.specs.declared.draft.TheConstants.{SLOT_LIMIT}
 use Rattle.bb_schema.proofs.schema.Schema.slot_count.Goals as goal
 
 pub returns-clause-few : goal.returns-clause-few

@@ -1,5 +1,5 @@
 use Rattle.std.proofs.Common.{ℕ, ◌<◌, ◌∙◌, List, length, sym, ap, subst, arith}
-use Rattle.bb_classes.specs.declared.value.Value.{Value}
+use Rattle.bb_schema_classes.specs.declared.value.Value.{Value}
 use Rattle.bb_units.specs.Units.{Units}
 use Rattle.bb_units.specs.proving.Numbered.{one_given}
 use Rattle.bb_units.proofs.FitsLemmas.{FitsWith, with_layout, created_fit}

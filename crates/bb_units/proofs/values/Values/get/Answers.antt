@@ -1,6 +1,6 @@
 use Rattle.std.proofs.Common.{◌∙◌, sym, ap, Some, ℕ}
 use Rattle.std.specs.Prelude.{◌==◌}
-use Rattle.bb_classes.specs.declared.value.Value.{Value}
+use Rattle.bb_schema_classes.specs.declared.value.Value.{Value}
 use Rattle.bb_units.specs.Values.{place_of}
 use Rattle.bb_units.proofs.PlaceLemmas.{is_place, is_nowhere}
 use Rattle.bb_units.proofs.values.Values.get.Goals as goal

@@ -1,8 +1,0 @@
-use Rattle.bb_accepted.proofs.PartLemmas.{part_accepted}
-use Rattle.bb_accepted.proofs.acceptance.compiled_code_is_accepted.Goals as goal
-
-pub returns : goal.returns
-returns c = record {
-  accepted = λ part place block code plain is.
-      part_accepted c.args.schema.now c.fits.ensures part place block plain code is;
-}

@@ -1,0 +1,10 @@
+use Rattle.std.proofs.Common.{◌≡◌, length}
+use Rattle.std.specs.Prelude.{option_map}
+use Rattle.bb_agenda_foci.specs.proving.Weights.{AreShifted}
+use Rattle.bb_agenda_foci.proofs.steering.shift.Given as goal
+
+abbrev pub invariant-loop-place : goal.invariant-loop-place
+invariant-loop-place l = record {
+  shifted : AreShifted l.setting (option_map (λ f. f.now) l.gone) (option_map (λ f. f.now) l.new) l.place l.fn.weights.items l.weights.items;
+  same : length l.weights.items ≡ length l.fn.weights.items;
+}

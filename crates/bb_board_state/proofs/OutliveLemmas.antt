@@ -1,0 +1,78 @@
+-- Units outlive each change of a blackboard.
+use Rattle.std.proofs.Common.{◌≡◌, ℕ, ◌<◌, Bool, true, false, cond, Option, Some, None, option_map, refl, sym, ap, subst, ◌∙◌, arith}
+use Rattle.std.specs.Prelude.{not}
+use Rattle.std.specs.Option.{option_map_or}
+use Rattle.std.specs.Ordering.{nat_cmp, eq_by_cmp}
+use Rattle.std.specs.Cmp.{nat_cmp_total, Equal-is}
+use Rattle.std.specs.FinMap.{get, get-insert, get-remove, nat_cmp-IsAntisymmetric}
+use Rattle.bb_schema_classes.specs.declared.value.Value.{Value}
+use Rattle.bb_schema.specs.declared.couple.Side.{Side}
+use Rattle.bb_schema.specs.Schema.{Schema}
+use Rattle.bb_schema.specs.Couples.{couple_of}
+use Rattle.bb_units.specs.declared.unit.Unit.{Unit}
+use Rattle.bb_units.specs.Units.{Units, new_unit, after_create as with_new_unit, after_set as with_value, after_delete as without_unit}
+use Rattle.bb_space.specs.Spaces.{is_member}
+use Rattle.bb_board_state.specs.State.{World}
+use Rattle.bb_board_state.specs.Links.{linked_at, unlinked_at, after_link, after_unlink}
+use Rattle.bb_board_state.specs.Spaces.{after_enter, after_leave}
+use Rattle.bb_board_state.specs.Outlives.{Outlives}
+use Rattle.bb_board_state.proofs.ClassLemmas.{same_class_of}
+
+-- units that are as they were
+pub outlives_same : (u : Units) → Outlives u u
+outlives_same u = record { next = omega arith; classes = λ n class lt is. is }
+
+created_by : (n next c : ℕ) (x : Unit) (b : Bool) (old : Option Unit) → eq_by_cmp nat_cmp n next ≡ b → n < next → option_map (λ y. y.class) (cond b (Some x) old) ≡ Some c → option_map (λ y. y.class) old ≡ Some c
+created_by n next c x true old same lt is = absurd (let e = nat_cmp-IsAntisymmetric n next ((Equal-is (nat_cmp n next)).0 same) in omega (arith, e, lt))
+created_by n next c x false old other lt is = is
+
+-- units after one more
+pub created_outlives : (u : Units) (class : ℕ) → Outlives u (with_new_unit u class)
+created_outlives u class = record {
+  next = omega arith;
+  classes = λ n c lt is. created_by n u.next c (new_unit u.layout class) (eq_by_cmp nat_cmp n u.next) (get u.units n) refl lt (sym (ap (option_map (λ y. y.class)) (get-insert nat_cmp_total u.units u.next (new_unit u.layout class) n)) ∙ is);
+}
+
+-- units of which a slot was set
+pub set_outlives : (u : Units) (n slot : ℕ) (value : Value) → Outlives u (with_value u n slot value)
+set_outlives u n slot value = record { next = omega arith; classes = λ k c lt is. sym (same_class_of u n slot k value) ∙ is }
+
+left_by : (c : ℕ) (b : Bool) (old : Option Unit) → option_map (λ x. x.class) (cond b None old) ≡ Some c → option_map (λ x. x.class) old ≡ Some c
+left_by c true old is = absurd (let no : (let none : Option ℕ = None in none) ≡ Some c = is in cc)
+left_by c false old is = is
+
+-- units without one
+pub deleted_outlives : (u : Units) (n : ℕ) → Outlives u (without_unit u n)
+deleted_outlives u n = record {
+  next = omega arith;
+  classes = λ k c lt is. left_by c (eq_by_cmp nat_cmp k n) (get u.units k) (sym (ap (option_map (λ x. x.class)) (get-remove nat_cmp_total u.units n k)) ∙ is);
+}
+
+-- a state that may be another, with the same units
+either_outlives : (b : Bool) (w v : World) → v.units ≡ w.units → Outlives w.units (cond b w v).units
+either_outlives true w v is = outlives_same w.units
+either_outlives false w v is = subst (λ (u : Units). Outlives w.units u) (sym is) (outlives_same w.units)
+
+module _ (s : Schema) (w : World) (n slot m : ℕ) where
+  linked_by : (e : Option (ℕ × Side)) → Outlives w.units (option_map_or (linked_at s w n slot m) e w).units
+  linked_by None = outlives_same w.units
+  linked_by (Some e) = outlives_same w.units
+
+  unlinked_by : (e : Option (ℕ × Side)) → Outlives w.units (option_map_or (unlinked_at s w n slot m) e w).units
+  unlinked_by None = outlives_same w.units
+  unlinked_by (Some e) = outlives_same w.units
+
+  -- units of which two are linked, or no longer
+  pub link_outlives : Outlives w.units (after_link s w n slot m).units
+  link_outlives = linked_by (couple_of s slot)
+
+  pub unlink_outlives : Outlives w.units (after_unlink s w n slot m).units
+  unlink_outlives = unlinked_by (couple_of s slot)
+
+module _ (w : World) (n space : ℕ) where
+  -- units of which one is in a space, or no longer
+  pub enter_outlives : (s : Schema) → Outlives w.units (after_enter s w n space).units
+  enter_outlives s = either_outlives (is_member w.spaces space n) w _ refl
+
+  pub leave_outlives : Outlives w.units (after_leave w n space).units
+  leave_outlives = either_outlives (not (is_member w.spaces space n)) w _ refl

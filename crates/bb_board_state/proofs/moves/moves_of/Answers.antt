@@ -1,0 +1,24 @@
+use Rattle.std.proofs.Common.{◌≡◌, ◌<◌, ◌∙◌, ◌++◌, ap, sym, subst, length, get_or}
+use Rattle.std.specs.Prelude.{option_map}
+use Rattle.std.specs.List.{filter_map}
+use Rattle.bb_board_state.specs.proving.Moves.{values_anew}
+use Rattle.bb_board_state.proofs.SettingLemmas.{own_moves, space_within}
+use Rattle.bb_board_state.proofs.moves.moves_of.Goals as goal
+
+pub loop-space-init : goal.loop-space-init
+loop-space-init c =
+    let anew = values_anew c.args.schema.now c.args.spaces.now c.args.unit c.args.slot c.args.value.now in
+    ap (λ made. made ++ filter_map (λ space. option_map (λ values. (space, values)) (anew space)) c.spaces_of-own.result.now) c.new-moves.ensures.items
+    ∙ (ap (filter_map (λ space. option_map (λ values. (space, values)) (anew space))) c.spaces_of-own.ensures
+    ∙ own_moves c.args.schema.now c.args.spaces.now c.args.unit c.args.slot c.args.value.now)
+
+pub values_anew-requires-clause-told : goal.values_anew-requires-clause-told
+values_anew-requires-clause-told c =
+    subst (λ own. c.loop-space.space-index < length own → get_or own c.loop-space.space-index 0 < length c.args.spaces.now.spaces) (sym c.spaces_of-own.ensures)
+    (space_within c.args.spaces.now c.args.unit c.loop-space.space-index 0) c.loop-space-test.true
+
+pub values_anew-requires-clause-space : goal.values_anew-requires-clause-space
+values_anew-requires-clause-space c =
+    subst (λ n. get_or c.spaces_of-own.result.now c.loop-space.space-index 0 < n) c.requires.spaces
+    (subst (λ own. c.loop-space.space-index < length own → get_or own c.loop-space.space-index 0 < length c.args.spaces.now.spaces) (sym c.spaces_of-own.ensures)
+    (space_within c.args.spaces.now c.args.unit c.loop-space.space-index 0) c.loop-space-test.true)

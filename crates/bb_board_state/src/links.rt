@@ -1,0 +1,308 @@
+//! The steps of a blackboard's state that change links, and what they note. A world takes them.
+
+ghost use Rattle.std.specs.Prelude.{◌≡◌, ◌<◌, ◌^◌, ◌++◌, length, filter, IfSome, IsSome, IsTrue, IfOk, OnOk, OnErr};
+ghost use Rattle.std.specs.List.{flat_map};
+ghost use Rattle.bb_schema.specs.Schema.{link_of};
+ghost use Rattle.bb_schema.specs.Couples.{couple_of};
+ghost use Rattle.bb_units.specs.Units.{is_live};
+ghost use Rattle.bb_board_state.specs.World.{class_at, event};
+ghost use Rattle.bb_board_state.specs.Links.{joining, parting, pair_parting, own_pair, partners_pair, link_notes};
+ghost use Rattle.bb_board_state.specs.Links.{is_turn, slot_partings, after_link, after_unlink, after_delete};
+
+use crate::event::{Change, Event};
+use crate::note::Note;
+use crate::state::State;
+use bb_basis::Memory;
+use bb_links::Taken;
+use bb_schema::{ClassId, Schema, Side, SlotId, UnitId};
+use std::alloc::Global;
+
+/// The old pair of the unit at a side.
+fn own_pair(side: Side, taken: Taken) -> Option<(UnitId, UnitId)>
+    ensures { result ≡ own_pair side taken }
+{
+    match side {
+        Side::A => taken.first,
+        Side::B => taken.second,
+    }
+}
+
+/// The old pair of its partner.
+fn partners_pair(side: Side, taken: Taken) -> Option<(UnitId, UnitId)>
+    ensures { result ≡ partners_pair side taken }
+{
+    match side {
+        Side::A => taken.second,
+        Side::B => taken.first,
+    }
+}
+
+/// Whether a deleted unit's link is noted at the turn of a slot at a side.
+fn is_turn(side: Side, unit: UnitId, partner: UnitId) -> bool
+    ensures { result ≡ is_turn side unit partner }
+{
+    match side {
+        Side::A => true,
+        Side::B => partner != unit,
+    }
+}
+
+/// A link that is to be made: of a unit, by a slot that is at a side of its couple, to a partner.
+#[derive(Clone, Copy)]
+struct Linking {
+    side: Side,
+    unit: UnitId,
+    slot: SlotId,
+    partner: UnitId,
+}
+
+impl State {
+    /// The class of a unit, 0 where it is not live.
+    pub(crate) fn class_at(&self, unit: UnitId) -> ClassId
+        ensures { result ≡ class_at self.now unit }
+    {
+        self.units.class_if_live(unit).unwrap_or(0)
+    }
+
+    /// The note of a change of a unit.
+    pub(crate) fn event(&self, unit: UnitId, change: Change) -> Note
+        ensures { result ≡ event unit (class_at self.now unit) change }
+    {
+        Note::Event(Event::Change {
+            unit,
+            class: self.class_at(unit),
+            change,
+        })
+    }
+
+    /// Adds the notes that a unit is linked.
+    fn add_joining(
+        &self,
+        notes: &mut Vec<Note>,
+        schema: &Schema,
+        unit: UnitId,
+        slot: SlotId,
+        partner: UnitId,
+    ) -> Result<(), Memory>
+        ensures { OnOk result (notes.new.items ≡ notes.old.items ++ joining schema.now self.now unit slot partner) }
+    {
+        let inverse = schema.inverse(slot);
+        notes.push(self.event(unit, Change::Link { slot, partner }))?;
+        notes.push(self.event(
+            partner,
+            Change::Link {
+                slot: inverse,
+                partner: unit,
+            },
+        ))?;
+        Ok(())
+    }
+
+    /// Adds the notes that a unit is no longer linked.
+    fn add_parting(
+        &self,
+        notes: &mut Vec<Note>,
+        schema: &Schema,
+        unit: UnitId,
+        slot: SlotId,
+        partner: UnitId,
+    ) -> Result<(), Memory>
+        ensures { OnOk result (notes.new.items ≡ notes.old.items ++ parting schema.now self.now unit slot partner) }
+    {
+        let inverse = schema.inverse(slot);
+        notes.push(self.event(unit, Change::Unlink { slot, partner }))?;
+        notes.push(self.event(
+            partner,
+            Change::Unlink {
+                slot: inverse,
+                partner: unit,
+            },
+        ))?;
+        Ok(())
+    }
+
+    /// Adds the notes that an old pair goes, if there is one, seen from a side.
+    fn add_pair_parting(
+        &self,
+        notes: &mut Vec<Note>,
+        schema: &Schema,
+        side: Side,
+        slot: SlotId,
+        pair: Option<(UnitId, UnitId)>,
+    ) -> Result<(), Memory>
+        ensures { OnOk result (notes.new.items ≡ notes.old.items ++ pair_parting schema.now self.now side slot pair) }
+    {
+        let Some((a, b)) = pair else {
+            return Ok(());
+        };
+        match side {
+            Side::A => self.add_parting(notes, schema, a, slot, b),
+            Side::B => self.add_parting(notes, schema, b, slot, a),
+        }
+    }
+    /// The notes of a link.
+    fn link_notes(
+        &self,
+        alloc: Global,
+        schema: &Schema,
+        link: Linking,
+        taken: Taken,
+    ) -> Result<Vec<Note>, Memory>
+        ensures { IfOk result (λ notes. notes.items ≡
+            link_notes schema.now self.now link.side link.unit link.slot link.partner taken) }
+    {
+        let mut notes = Vec::new(alloc);
+        let own = own_pair(link.side, taken);
+        let partners = partners_pair(link.side, taken);
+        self.add_pair_parting(&mut notes, schema, link.side, link.slot, own)?;
+        self.add_pair_parting(&mut notes, schema, link.side, link.slot, partners)?;
+        if taken.added {
+            self.add_joining(&mut notes, schema, link.unit, link.slot, link.partner)?;
+        }
+        Ok(notes)
+    }
+
+    /// Links two units by a link slot, and notes what changed. An error changes nothing.
+    pub(crate) fn link(
+        &mut self,
+        alloc: Global,
+        schema: &Schema,
+        unit: UnitId,
+        slot: SlotId,
+        partner: UnitId,
+    ) -> Result<(), Memory>
+        requires link { IsSome (link_of schema.now.slots slot) }
+        requires couple { IfSome (couple_of schema.now slot) (λ e. e.0 < length self.old.links.couples) }
+        ensures ok { OnOk result (self.new ≡ after_link schema.now self.old unit slot partner) }
+        ensures err { OnErr result (self.new ≡ self.old) }
+    {
+        let (couple, side) = schema.couple(slot);
+        let (a, b) = side.pair(unit, partner);
+        let taken = self.links.taken(couple, a, b);
+        let link = Linking {
+            side,
+            unit,
+            slot,
+            partner,
+        };
+        let notes = self.link_notes(alloc, schema, link, taken)?;
+        let count = self.notes.len();
+        self.notes.append(notes)?;
+        match self.links.link(couple, a, b) {
+            Ok(_) => Ok(()),
+            Err(refused) => {
+                self.notes.truncate(count);
+                Err(refused)
+            }
+        }
+    }
+
+    /// Takes the link of two units by a link slot away, and notes it, if it was there. An error changes nothing.
+    pub(crate) fn unlink(
+        &mut self,
+        alloc: Global,
+        schema: &Schema,
+        unit: UnitId,
+        slot: SlotId,
+        partner: UnitId,
+    ) -> Result<(), Memory>
+        requires link { IsSome (link_of schema.now.slots slot) }
+        requires couple { IfSome (couple_of schema.now slot) (λ e. e.0 < length self.old.links.couples) }
+        ensures ok { OnOk result (self.new ≡ after_unlink schema.now self.old unit slot partner) }
+        ensures err { OnErr result (self.new ≡ self.old) }
+    {
+        let (couple, side) = schema.couple(slot);
+        let (a, b) = side.pair(unit, partner);
+        let mut notes = Vec::new(alloc);
+        if self.links.linked(couple, a, b) {
+            self.add_parting(&mut notes, schema, unit, slot, partner)?;
+        }
+        self.notes.append(notes)?;
+        self.links.unlink(couple, a, b);
+        Ok(())
+    }
+
+    /// Adds the notes of the links that a deleted unit loses by a slot at a side, of which these are the partners.
+    fn add_partings(
+        &self,
+        notes: &mut Vec<Note>,
+        schema: &Schema,
+        end: (Side, SlotId),
+        unit: UnitId,
+        partners: &[UnitId],
+    ) -> Result<(), Memory>
+        ensures { OnOk result (notes.new.items ≡ notes.old.items ++
+            flat_map (parting schema.now self.now unit end.1) (filter (is_turn end.0 unit) partners.now)) }
+    {
+        for partner in partners {
+            if !is_turn(end.0, unit, *partner) {
+                continue;
+            }
+            self.add_parting(notes, schema, unit, end.1, *partner)?;
+        }
+        Ok(())
+    }
+
+    /// Adds the notes of the links that a deleted unit loses by a slot.
+    fn add_slot_partings(
+        &self,
+        alloc: Global,
+        notes: &mut Vec<Note>,
+        schema: &Schema,
+        unit: UnitId,
+        slot: SlotId,
+    ) -> Result<(), Memory>
+        ensures { OnOk result (notes.new.items ≡ notes.old.items ++ slot_partings schema.now self.now unit slot) }
+    {
+        if !schema.is_link(slot) {
+            return Ok(());
+        }
+        let (_, side) = schema.couple(slot);
+        let partners = self.links.ends(alloc, unit, slot)?;
+        self.add_partings(notes, schema, (side, slot), unit, &partners)
+    }
+
+    /// Adds the notes of the links that a deleted unit loses by some slots, slot by slot.
+    fn add_all_partings(
+        &self,
+        alloc: Global,
+        notes: &mut Vec<Note>,
+        schema: &Schema,
+        unit: UnitId,
+        slots: &[SlotId],
+    ) -> Result<(), Memory>
+        ensures { OnOk result (notes.new.items ≡ notes.old.items ++
+            flat_map (slot_partings schema.now self.now unit) slots.now) }
+    {
+        for slot in slots {
+            self.add_slot_partings(alloc, notes, schema, unit, *slot)?;
+        }
+        Ok(())
+    }
+
+    /// Deletes a live unit with all its links, takes it out of its spaces, and notes all that and its end. An error changes nothing.
+    pub(crate) fn delete(
+        &mut self,
+        alloc: Global,
+        schema: &Schema,
+        unit: UnitId,
+    ) -> Result<(), Memory>
+        requires live { IsTrue (is_live self.old.units unit) }
+        requires class { class_at self.old unit < length schema.now.classes }
+        requires spaces { length self.old.spaces.spaces ≡ length schema.now.spaces }
+        requires few { length schema.now.spaces < 2 ^ 16 }
+        ensures ok { OnOk result (self.new ≡ after_delete schema.now self.old unit) }
+        ensures err { OnErr result (self.new ≡ self.old) }
+    {
+        let class = self.class_at(unit);
+        let mut notes = Vec::new(alloc);
+        self.add_all_partings(alloc, &mut notes, schema, unit, schema.slots(class))?;
+        self.add_notes_of_leaving(&mut notes, unit)?;
+        notes.push(self.event(unit, Change::Delete))?;
+        self.notes.append(notes)?;
+        self.links.forget(unit);
+        self.spaces.forget(unit);
+        self.units.delete(unit);
+        Ok(())
+    }
+}

@@ -1,0 +1,95 @@
+//! What spaces are told of a unit whose slot is set. The board's state sets it.
+
+ghost use Rattle.std.specs.Prelude.{◌≡◌, ◌<◌, ◌^◌, IfOk, length, position, slice_set};
+ghost use Rattle.std.specs.Str.{bytes_eq};
+ghost use Rattle.bb_board_state.specs.proving.Moves.{reading, values_anew, moves_for};
+
+use bb_basis::{Items, Memory};
+use bb_query::DimValue;
+use bb_schema::{Dim, Schema, SlotId, SpaceId, UnitId, Value};
+use bb_space::Spaces;
+use std::alloc::Global;
+
+/// The place of the dimension of a name.
+fn place_of(dims: &[Dim], name: &str) -> Option<usize>
+    ensures { result ≡ position (λ d. bytes_eq d.name name.now) dims.now }
+{
+    dims.iter().position(|dim| dim.name.as_str() == name)
+}
+
+/// The place of the dimension of a space that reads a slot.
+fn reading(schema: &Schema, slot: SlotId, space: SpaceId) -> Option<usize>
+    requires { space < length schema.now.spaces }
+    ensures { result ≡ reading schema.now slot space }
+{
+    let name = schema.slot_name(slot)?;
+    place_of(schema.dims(space), name)
+}
+
+/// Values with another one at a place.
+fn with_value(
+    alloc: Global,
+    told: &[DimValue],
+    place: usize,
+    value: DimValue,
+) -> Result<Items<DimValue>, Memory>
+    ensures { IfOk result (λ values. values ≡ slice_set told.now place value) }
+{
+    let mut values = told.to_vec(alloc)?;
+    if place < values.len() {
+        values[place] = value;
+    }
+    Ok(Items::from(values))
+}
+
+/// The values of a unit in a space, once a slot of it is set to a value. `None` where it is no member, or the space
+/// does not read the slot.
+fn values_anew(
+    alloc: Global,
+    schema: &Schema,
+    spaces: &Spaces,
+    unit: UnitId,
+    slot: SlotId,
+    value: &Value,
+    space: SpaceId,
+) -> Result<Option<Items<DimValue>>, Memory>
+    requires told { space < length spaces.now.spaces }
+    requires space { space < length schema.now.spaces }
+    ensures { IfOk result (λ values. values ≡ values_anew schema.now spaces.now unit slot value.now space) }
+{
+    let Some(told) = spaces.values(space, unit) else {
+        return Ok(None);
+    };
+    let Some(place) = reading(schema, slot, space) else {
+        return Ok(None);
+    };
+    let Some(new) = DimValue::of(value) else {
+        return Ok(None);
+    };
+    Ok(Some(with_value(alloc, told, place, new)?))
+}
+
+/// What the spaces of a unit that read a slot are told where it is set to a value, in the order of the spaces.
+pub(crate) fn moves_of(
+    alloc: Global,
+    schema: &Schema,
+    spaces: &Spaces,
+    unit: UnitId,
+    slot: SlotId,
+    value: &Value,
+) -> Result<Vec<(SpaceId, Items<DimValue>)>, Memory>
+    requires spaces { length spaces.now.spaces ≡ length schema.now.spaces }
+    requires few { length schema.now.spaces < 2 ^ 16 }
+    ensures { IfOk result (λ moves. moves.items ≡ moves_for schema.now spaces.now unit slot value.now) }
+{
+    let mut moves = Vec::new(alloc);
+    let own = spaces.spaces_of(unit);
+    for space in own {
+        let values = values_anew(alloc, schema, spaces, unit, slot, value, *space)?;
+        let Some(values) = values else {
+            continue;
+        };
+        moves.push((*space, values))?;
+    }
+    Ok(moves)
+}

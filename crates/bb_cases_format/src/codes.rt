@@ -1,0 +1,42 @@
+//! Codes of cases: their text, their bytes, and back. Inserts and the tables of bb_cases take codes from here.
+
+use crate::fault::Fault;
+use bb_code_asm::{Code, CodeFault, assemble, disassemble};
+use std::alloc::Global;
+
+/// The code of a text, decoded from its bytes, after it was written out and read again.
+pub fn code_of(alloc: Global, text: &str) -> Result<Code, Fault> {
+    let bytes = assemble(alloc, text)?.encode(alloc)?;
+    match Code::decode(alloc, &bytes) {
+        Ok(code) => respelled(alloc, code, &bytes),
+        Err(CodeFault::Memory) => Err(Fault::Memory),
+        Err(_) => Err(Fault::Spelling),
+    }
+}
+
+/// The bytes of the code of a text, in hex.
+pub(crate) fn hex_of(alloc: Global, text: &str) -> Result<String, Fault> {
+    let code = code_of(alloc, text)?;
+    Ok(hex::encode(alloc, code.encode(alloc)?)?)
+}
+
+/// The code of some bytes, where these are its spelling, and where its text has the same bytes.
+pub fn respelled(alloc: Global, code: Code, bytes: &[u8]) -> Result<Code, Fault> {
+    if code.encode(alloc)?.as_slice() != bytes {
+        return Err(Fault::Spelling);
+    }
+    let text = disassemble(alloc, &code)?;
+    if assemble(alloc, text.as_str())?.encode(alloc)?.as_slice() != bytes {
+        return Err(Fault::Spelling);
+    }
+    Ok(code)
+}
+
+/// The bytes that hex spells, between which there may be spaces.
+pub fn bytes_of(alloc: Global, digits: &str) -> Result<Vec<u8>, Fault> {
+    let mut joined = String::new(alloc);
+    for word in digits.split_whitespace() {
+        joined.push_str(word)?;
+    }
+    hex::decode(alloc, joined.as_str()).ok().ok_or(Fault::Hex)
+}

@@ -1,0 +1,27 @@
+//! Files of cases: their headers and texts, the inserts and rows of these, what names stand for, and the report of what
+//! does not hold. The program bb_cases makes the calls of each kind of case.
+#![tactic(auto)]
+
+mod codes;
+mod difference;
+mod fault;
+mod files;
+mod header;
+mod inserts;
+mod names;
+mod parts;
+mod pieces;
+mod report;
+mod rows;
+
+pub use bb_code_asm::{AsmFault, Code, CodeFault, Kind, assemble, write_kind};
+pub use codes::{bytes_of, code_of, respelled};
+pub use difference::Difference;
+pub use fault::Fault;
+pub use files::{is_shared, named_files};
+pub use header::{Header, number};
+pub use inserts::{Scope, expanded, expanded_text};
+pub use names::{Meaning, Names, Scene};
+pub use parts::{Entries, Entry, Line, Part};
+pub use report::{Report, Spot};
+pub use rows::{Row, rows_of};

@@ -1,0 +1,22 @@
+//! Codes as text, for people, cases and examples: one statement a line, the ops by their names. The program bbasm and
+//! the cases (bb_cases_format) call it.
+#![tactic(auto)]
+
+mod annotated;
+mod draft;
+mod fault;
+mod labels;
+mod names;
+mod op;
+mod operands;
+mod pattern;
+mod statement;
+mod text;
+mod words;
+
+pub use annotated::listing;
+pub use bb_code::{Code, CodeFault, Kind};
+pub use bb_code_text::write_kind;
+pub use draft::assemble;
+pub use fault::{AsmFault, Slip};
+pub use text::disassemble;

@@ -1,0 +1,94 @@
+//! Patterns as they are written: `all`, `and(P, P)`, `or(P, P)`, `not(P)`, `within DIM OPERAND` and the other
+//! relations, `is DIM OPERAND`. The assembler calls it for queries.
+
+use crate::fault::{Halt, Slip};
+use crate::operands::Operands;
+use bb_code::{Node, Pattern};
+use bb_code_text::relation_of;
+use std::alloc::Global;
+
+/// Reads a pattern of at most so many levels, and takes its nodes from the room.
+#[cycle(reading)]
+pub(crate) fn read_pattern(
+    alloc: Global,
+    depth: usize,
+    room: &mut usize,
+    operands: &mut Operands<'_>,
+) -> Result<Pattern, Halt> {
+    if depth == 0 || *room == 0 {
+        return Err(Halt::Slip(Slip::Limit));
+    }
+    *room -= 1;
+    let name = operands.word()?;
+    let node = match name {
+        "all" => Node::All,
+        "and" => Node::And(read_parts(alloc, depth - 1, room, operands)?),
+        "or" => Node::Or(read_parts(alloc, depth - 1, room, operands)?),
+        "not" => Node::Not(Box::new(alloc, read_part(alloc, depth - 1, room, operands)?)?),
+        _ => read_test(name, operands)?,
+    };
+    Ok(Pattern::new(node))
+}
+
+/// A word is due.
+fn expect(operands: &mut Operands<'_>, word: &str) -> Result<(), Halt> {
+    if operands.takes(word) {
+        Ok(())
+    } else {
+        Err(Halt::Slip(Slip::Pattern))
+    }
+}
+
+/// Reads one pattern in parentheses.
+#[cycle(reading)]
+fn read_part(
+    alloc: Global,
+    depth: usize,
+    room: &mut usize,
+    operands: &mut Operands<'_>,
+) -> Result<Pattern, Halt> {
+    expect(operands, "(")?;
+    let part = read_pattern(alloc, depth, room, operands)?;
+    expect(operands, ")")?;
+    Ok(part)
+}
+
+/// Reads patterns in parentheses, parted by commas. There may be none.
+#[cycle(reading)]
+fn read_parts(
+    alloc: Global,
+    depth: usize,
+    room: &mut usize,
+    operands: &mut Operands<'_>,
+) -> Result<Vec<Pattern>, Halt> {
+    let mut parts = Vec::new(alloc);
+    expect(operands, "(")?;
+    if operands.takes(")") {
+        return Ok(parts);
+    }
+    // A node has at most so many parts.
+    for _ in 0..=u8::MAX {
+        parts.push(read_pattern(alloc, depth, room, operands)?)?;
+        if operands.takes(")") {
+            return Ok(parts);
+        }
+        expect(operands, ",")?;
+    }
+    Err(Halt::Slip(Slip::Limit))
+}
+
+/// Reads the dimension and the operand of a test.
+fn read_test(name: &str, operands: &mut Operands<'_>) -> Result<Node, Slip> {
+    match relation_of(name) {
+        Some(relation) => Ok(Node::Ordered {
+            relation,
+            dim: operands.number()?,
+            operand: operands.number()?,
+        }),
+        None if name == "is" => Ok(Node::Is {
+            dim: operands.number()?,
+            operand: operands.number()?,
+        }),
+        None => Err(Slip::Pattern),
+    }
+}

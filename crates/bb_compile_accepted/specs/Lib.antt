@@ -1,0 +1,16 @@
+-- texts without branches and loops
+pub mod Plain
+-- what the compiler lays out, for crates above
+pub use Rattle.bb_compile_buffer.specs.declared.sheet.Sheet
+pub use Rattle.bb_compile_buffer.specs.Sheets
+pub use Rattle.bb_compile_buffer.specs.Operations
+pub use Rattle.bb_compile_buffer.specs.Atoms
+pub use Rattle.bb_compile_buffer.specs.Within
+pub use Rattle.bb_compile_buffer.specs.Finish
+pub use Rattle.bb_compile_emit.specs.declared.asked.Asked
+pub use Rattle.bb_compile_emit.specs.declared.part.TheConstants as PartLimits
+pub use Rattle.bb_compile_emit.specs.Queries
+pub use Rattle.bb_compile_emit.specs.Expressions
+pub use Rattle.bb_compile_emit.specs.Actions
+pub use Rattle.bb_compile_emit.specs.Statements
+pub use Rattle.bb_compile_emit.specs.Parts

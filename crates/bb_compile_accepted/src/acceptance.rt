@@ -1,0 +1,29 @@
+//! What holds of compiled code before it is executed. No code calls it: it says of the code that `emit_part` gives
+//! (bb_compile_emit) that `verify` (bb_verify) accepts it.
+
+ghost use Rattle.std.specs.Prelude.{◌≡◌, true, List, Ok};
+ghost use Rattle.bb_lang.specs.Blocks.{BlockTree};
+ghost use Rattle.bb_compile_scope.specs.Place.{Place};
+ghost use Rattle.bb_compile_emit.specs.Parts.{part_code};
+ghost use Rattle.bb_verify_frame.specs.Code.{Code as AnyCode};
+ghost use Rattle.bb_verify.specs.Accepted.{checked};
+ghost use Rattle.bb_verify.specs.FrameType.{Frame};
+ghost use Rattle.bb_verify.specs.PartType.{Part};
+ghost use Rattle.bb_compile_accepted.specs.Plain.{is_plain};
+
+use bb_verify_frame::Schema;
+
+/// The code of a part that has no `if`, no `with` and no `for` is accepted for that part, whatever its expressions are.
+///
+/// - `accepted`: whatever code the compiler gives for such a part, under a schema and for whatever classes, the verifier
+///   takes it, with a frame for each of its places.
+///
+/// It says nothing of texts with `if`, `with` or `for`.
+pub fn compiled_code_is_accepted(schema: &Schema)
+    ensures accepted { (part : Part) (place : Place) (block : BlockTree) (code : AnyCode) →
+        is_plain block ≡ true → part_code schema.now part place block ≡ Ok code →
+        (frames : List Frame) × (checked schema.now part code ≡ Ok (record { code = code; part = part; frames = frames })) }
+{
+    // What holds of any schema.
+    schema.fits();
+}

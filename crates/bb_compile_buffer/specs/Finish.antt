@@ -1,0 +1,61 @@
+-- An empty sheet, and the code of one that is laid out whole.
+use Rattle.std.specs.Prelude.{ℕ, map, List, [], ◌∷◌, ◌++◌, length, Option, Some, None, Result, Ok, Err, if◌then◌else◌}
+use Rattle.std.specs.List.{range_with_len}
+use Rattle.bb_code_ops.specs.Code.{Code}
+use Rattle.bb_code.specs.FrameEntry.{FrameEntry}
+use Rattle.bb_verify_frame.specs.declared.part.Part.{Part}
+use Rattle.bb_verify_frame.specs.Part.{units_of}
+use Rattle.bb_compile_scope.specs.Place.{Place}
+use Rattle.bb_compile_scope.specs.declared.fault.Flaw.TheVariants.{Limit}
+use Rattle.bb_compile_scope.specs.declared.fault.CompileFault.{CompileFault}
+use Rattle.bb_compile_scope.specs.declared.fault.CompileFault.TheVariants.{At}
+use Rattle.bb_compile_scope.specs.LocalKinds.{kind_at}
+use Rattle.bb_compile_scope.specs.Scope.{begin_with}
+use Rattle.bb_compile_buffer.specs.declared.label.Label.{Label}
+use Rattle.bb_compile_buffer.specs.declared.sheet.Sheet.{Sheet}
+use Rattle.bb_compile_buffer.specs.Within.{is_within}
+
+-- nothing is laid out yet
+abbrev pub empty_sheet : Part → Place → Sheet
+empty_sheet part start = record {
+  start = start;
+  ops = [];
+  texts = [];
+  queries = [];
+  loops = [];
+  labels = [];
+  last = None;
+  scope = begin_with part;
+  locals = length (units_of part);
+  flaw = None;
+}
+
+-- ---- the code of a sheet
+
+-- the frame of a label, for so many locals: the stack is empty
+abbrev pub frame_of : (locals : ℕ) → Label → FrameEntry
+frame_of locals label = record {
+  place = label.place;
+  frame = record { locals = map (kind_at label.kinds) (range_with_len 0 locals); stack = [] };
+}
+
+abbrev pub last_frame : (locals : ℕ) → Option Label → List FrameEntry
+last_frame locals None = []
+last_frame locals (Some label) = frame_of locals label ∷ []
+
+abbrev pub frames_of : (locals : ℕ) → List Label → Option Label → List FrameEntry
+frames_of locals labels last = map (frame_of locals) labels ++ last_frame locals last
+
+abbrev pub code_of : Sheet → Code
+code_of s = record {
+  locals = s.locals;
+  texts = s.texts;
+  queries = s.queries;
+  frames = frames_of s.locals s.labels s.last;
+  loops = s.loops;
+  ops = s.ops;
+}
+
+-- a code that is past another limit is refused at its part
+unfoldable pub if_within : Place → Code → Result Code CompileFault
+if_within start code = if is_within code then Ok code else Err (At Limit start)

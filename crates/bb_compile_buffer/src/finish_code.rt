@@ -1,0 +1,94 @@
+//! The code of a sheet that is laid out whole. The layout of parts calls `finish`.
+
+ghost use Rattle.std.specs.Prelude.{◌≡◌, IfOk, map, ◌++◌};
+ghost use Rattle.std.specs.List.{range_with_len};
+ghost use Rattle.bb_basis.specs.Results.{Gives};
+ghost use Rattle.bb_compile_scope.specs.declared.fault.CompileFault.TheVariants.{Memory as OutOfMemory};
+ghost use Rattle.bb_compile_scope.specs.LocalKinds.{kind_at};
+ghost use Rattle.bb_compile_buffer.specs.Finish.{frame_of, last_frame, frames_of, code_of, if_within};
+
+use crate::label::Label;
+use crate::sheet::Sheet;
+use bb_basis::Items;
+use bb_code::{Code, CodeParts, Frame, FrameEntry};
+use bb_compile_scope::{CompileFault, Flaw, Kind, LocalKinds, Place};
+use std::alloc::{AllocError, Global};
+
+/// The kinds of so many locals.
+fn first_kinds(alloc: Global, kinds: &LocalKinds, locals: u8) -> Result<Vec<Kind>, AllocError>
+    ensures { IfOk result (λ v. v.items ≡ map (kind_at kinds.now) (range_with_len 0 locals)) }
+{
+    let mut first = Vec::new(alloc);
+    for local in 0..locals {
+        first.push(kinds.get(local))?;
+    }
+    Ok(first)
+}
+
+/// The frame of a label.
+fn frame_of(alloc: Global, label: &Label, locals: u8) -> Result<FrameEntry, AllocError>
+    ensures { IfOk result (λ f. f ≡ frame_of locals label.now) }
+{
+    let kinds = first_kinds(alloc, &label.kinds, locals)?;
+    Ok(FrameEntry {
+        place: label.place,
+        frame: Frame {
+            locals: Items::from(kinds),
+            stack: Items::new(alloc),
+        },
+    })
+}
+
+/// The frames of labels.
+fn frames_each(alloc: Global, labels: &[Label], locals: u8) -> Result<Vec<FrameEntry>, AllocError>
+    ensures { IfOk result (λ v. v.items ≡ map (frame_of locals) labels.now) }
+{
+    let mut frames = Vec::new(alloc);
+    for label in labels {
+        frames.push(frame_of(alloc, label, locals)?)?;
+    }
+    Ok(frames)
+}
+
+/// The frames of labels, and of a last one.
+fn frames_of(
+    alloc: Global,
+    labels: &[Label],
+    last: &Option<Label>,
+    locals: u8,
+) -> Result<Items<FrameEntry>, AllocError>
+    ensures { IfOk result (λ f. f ≡ frames_of locals labels.now last.now) }
+{
+    let mut frames = Items::from(frames_each(alloc, labels, locals)?);
+    let Some(label) = last else {
+        return Ok(frames);
+    };
+    frames.push(frame_of(alloc, label, locals)?)?;
+    Ok(frames)
+}
+
+/// The code of its parts, if they are within the limits of a code.
+#[tactic(auto, unfolding(crate::specs::Finish::if_within))]
+fn checked(parts: CodeParts, place: Place) -> Result<Code, CompileFault>
+    ensures { result ≡ if_within place parts }
+{
+    let flaw = Flaw::Limit;
+    Code::new(parts).ok_or(CompileFault::At { flaw, place })
+}
+
+/// The code that a sheet has.
+pub fn finish(alloc: Global, sheet: Sheet) -> Result<Code, CompileFault>
+    ensures { Gives OutOfMemory (λ code. code) result (if_within sheet.start (code_of sheet)) }
+{
+    let frames = frames_of(alloc, sheet.labels.as_slice(), &sheet.last, sheet.locals)?;
+    let place = sheet.start;
+    let parts = CodeParts {
+        locals: sheet.locals,
+        texts: sheet.texts.into_items(),
+        queries: sheet.queries,
+        frames,
+        loops: Items::from(sheet.loops.into_vec()),
+        ops: Items::from(sheet.ops.into_vec()),
+    };
+    checked(parts, place)
+}

@@ -1,0 +1,93 @@
+//! The ops of a code that is being laid out. The sheet keeps them.
+
+ghost use Rattle.std.specs.Prelude.{◌≡◌, ◌<◌, ◌≤◌, ◌↔◌, [], ◌∷◌, ◌++◌, length, IsTrue, OnOk};
+ghost use Rattle.bb_code.specs.Limits.{OP_LIMIT};
+ghost use Rattle.bb_compile_buffer.specs.Sheets.{aimed, aimed_at};
+
+use bb_code::{OP_LIMIT, Op};
+use std::alloc::{AllocError, Global};
+use std::marker::Model;
+
+/// At most `OP_LIMIT` ops in order. Contracts see them as their list.
+#[derive(Drop)]
+pub struct Ops {
+    ops: Vec<Op>,
+}
+
+impl Model for Ops {
+    ghost use Rattle.std.specs.Prelude.{◌≤◌, List, length};
+    ghost use Rattle.bb_verify_frame.specs.Op.{Op as OneOp};
+
+    ghost Value = { List OneOp };
+
+    ghost view = { λ o. o.ops.items };
+
+    ghost invariant = { λ o. length o.ops.items ≤ 4096 };
+}
+
+/// The op that goes to another place than before, where it goes to one.
+fn aimed(op: Op, place: u16) -> Op
+    ensures { result ≡ aimed op place }
+{
+    match op {
+        Op::One(slot, _place) => Op::One(slot, place),
+        Op::Alive(_place) => Op::Alive(place),
+        Op::As(class, _place) => Op::As(class, place),
+        Op::Jump(_place) => Op::Jump(place),
+        Op::Unless(_place) => Op::Unless(place),
+        Op::Next(local, _place) => Op::Next(local, place),
+        _ => op,
+    }
+}
+
+impl Ops {
+    /// No op. It allocates nothing.
+    pub fn new(alloc: Global) -> Ops
+        ensures { result ≡ [] }
+    {
+        Ops {
+            ops: Vec::new(alloc),
+        }
+    }
+
+    /// The place of the next op.
+    pub fn here(&self) -> u16
+        ensures { result ≡ length self.now }
+    {
+        self.ops.len() as u16
+    }
+
+    /// Whether there is no room for one more.
+    pub fn is_full(&self) -> bool
+        ensures { IsTrue result ↔ OP_LIMIT ≤ length self.now }
+    {
+        self.ops.len() >= OP_LIMIT as usize
+    }
+
+    /// Appends an op, where there is room.
+    pub fn push(&mut self, op: Op) -> Result<(), AllocError>
+        requires { length self.old < OP_LIMIT }
+        ensures { OnOk result (self.new ≡ self.old ++ op ∷ []) }
+    {
+        self.ops.push(op)?;
+        Ok(())
+    }
+
+    /// Has the op at a place go to the place of the next op.
+    pub fn aim(&mut self, at: u16)
+        ensures { self.new ≡ aimed_at at self.old }
+    {
+        let here = self.here();
+        let Some(op) = self.ops.get(at as usize).copied() else {
+            return;
+        };
+        self.ops[at as usize] = aimed(op, here);
+    }
+
+    /// The ops.
+    pub fn into_vec(self) -> Vec<Op>
+        ensures { result.items ≡ self }
+    {
+        self.ops
+    }
+}

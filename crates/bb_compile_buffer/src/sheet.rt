@@ -1,0 +1,270 @@
+//! What is laid out so far of a part's code. All that lays out code writes on a sheet.
+
+ghost use Rattle.std.specs.Prelude.{◌≡◌, IfOk, [], length, None};
+ghost use Rattle.bb_basis.specs.Results.{Gives};
+ghost use Rattle.bb_compile_scope.specs.declared.fault.CompileFault.TheVariants.{Memory as OutOfMemory};
+ghost use Rattle.bb_compile_buffer.specs.Sheets.{noted, due, settled, known, put, put_value, aim, text_index, text_at};
+ghost use Rattle.bb_compile_buffer.specs.Sheets.{asked_query};
+ghost use Rattle.bb_compile_buffer.specs.Sheets.{begun_loop, kept, labelled, with_kinds, leave, take_local, declare, met};
+ghost use Rattle.bb_compile_buffer.specs.Finish.{empty_sheet};
+
+use crate::label::Label;
+use crate::loops::Loops;
+use crate::ops::Ops;
+use crate::texts::Texts;
+use bb_basis::{Items, Text};
+use bb_code::{LOOP_LIMIT, QUERY_LIMIT, Query, TEXT_COUNT_LIMIT};
+use bb_compile_scope::{
+    CompileFault, Flaw, Kind, LocalId, LocalKinds, Op, Part, Place, Scope, lowest,
+};
+use bb_verify_frame::is_same_plain;
+use std::alloc::{AllocError, Global};
+use std::mem;
+
+/// What is laid out so far of a part's code, the names that are in scope here, and the least flaw of this statement.
+#[derive(Drop)]
+pub struct Sheet {
+    /// The place of the part's first token.
+    pub start: Place,
+    pub ops: Ops,
+    pub texts: Texts,
+    pub queries: Items<Query>,
+    pub loops: Loops,
+    /// The labels, but for the last one, which another may meet.
+    pub labels: Items<Label>,
+    pub last: Option<Label>,
+    pub scope: Scope,
+    /// The number of locals.
+    pub locals: u8,
+    pub flaw: Option<Flaw>,
+}
+
+/// Keeps a label that no other at the same place has met.
+#[tactic(auto, unfolding(crate::specs::Sheets::kept))]
+fn keep(labels: &mut Items<Label>, last: Option<Label>, place: u16) -> Result<(), AllocError>
+    ensures { IfOk result (λ _. labels.new ≡ kept labels.old last place) }
+{
+    let Some(last) = last else {
+        return Ok(());
+    };
+    if last.place == place {
+        return Ok(());
+    }
+    labels.push(last)
+}
+
+impl Sheet {
+    /// An empty sheet for a part.
+    pub fn new(alloc: Global, part: Part, start: Place) -> Result<Sheet, AllocError>
+        ensures { IfOk result (λ sheet. sheet ≡ empty_sheet part start) }
+    {
+        let scope = Scope::of_part(alloc, part)?;
+        Ok(Sheet {
+            start,
+            ops: Ops::new(alloc),
+            texts: Texts::new(alloc),
+            queries: Items::new(alloc),
+            loops: Loops::new(alloc),
+            labels: Items::new(alloc),
+            last: None,
+            scope,
+            locals: part.unit_count(),
+            flaw: None,
+        })
+    }
+
+    // ---- flaws
+
+    /// Notes a flaw of this statement.
+    pub fn note(&mut self, flaw: Flaw)
+        ensures { self.new ≡ noted flaw self.old }
+    {
+        self.flaw = Some(lowest(self.flaw, flaw));
+    }
+
+    /// Notes a value of another kind than is due.
+    #[tactic(auto, unfolding(crate::specs::Sheets::due))]
+    pub fn due(&mut self, kind: Option<Kind>, wanted: Kind)
+        ensures { self.new ≡ due kind wanted self.old }
+    {
+        let Some(kind) = kind else {
+            return;
+        };
+        if is_same_plain(kind, wanted) {
+            return;
+        }
+        self.note(Flaw::Kind);
+    }
+
+    /// Notes what a name means, if that is not known.
+    pub fn known(&mut self, meant: Option<u16>)
+        ensures { self.new ≡ known meant self.old }
+    {
+        if meant.is_some() {
+            return;
+        }
+        self.note(Flaw::Unknown);
+    }
+
+    /// Refuses the statement at a place if it has a flaw.
+    pub fn settle(&self, place: Place) -> Result<(), CompileFault>
+        ensures { result ≡ settled place self.now }
+    {
+        match self.flaw {
+            None => Ok(()),
+            Some(flaw) => Err(CompileFault::At { flaw, place }),
+        }
+    }
+
+    // ---- ops
+
+    /// Appends an op.
+    #[tactic(auto, unfolding(crate::specs::Sheets::put))]
+    pub fn put(&mut self, op: Op) -> Result<(), CompileFault>
+        ensures { Gives OutOfMemory (λ _. self.new) result (put op self.old) }
+    {
+        if self.ops.is_full() {
+            let place = self.start;
+            return Err(CompileFault::At {
+                flaw: Flaw::Limit,
+                place,
+            });
+        }
+        self.ops.push(op)?;
+        Ok(())
+    }
+
+    /// Appends an op that pushes a value, where the stack has room for so many.
+    #[tactic(auto, unfolding(crate::specs::Sheets::put_value))]
+    pub fn put_value(&mut self, op: Op, room: usize) -> Result<(), CompileFault>
+        ensures { Gives OutOfMemory (λ _. self.new) result (put_value op room self.old) }
+    {
+        if room == 0 {
+            self.note(Flaw::Limit);
+            return self.put(op);
+        }
+        self.put(op)
+    }
+
+    /// Has the op at a place go to the place of the next op.
+    pub fn aim(&mut self, at: u16)
+        ensures { self.new ≡ aim at self.old }
+    {
+        self.ops.aim(at);
+    }
+
+    // ---- texts, queries and loops
+
+    /// The index of a text.
+    #[tactic(auto, unfolding(crate::specs::Sheets::text_index))]
+    pub fn text(&mut self, alloc: Global, text: &str) -> Result<u16, CompileFault>
+        ensures { Gives OutOfMemory (λ index. (index, self.new)) result (text_index text.now self.old) }
+    {
+        if let Some(index) = self.texts.index_of(text) {
+            return Ok(index);
+        }
+        let index = self.texts.len();
+        if index >= TEXT_COUNT_LIMIT {
+            let place = self.start;
+            return Err(CompileFault::At {
+                flaw: Flaw::Limit,
+                place,
+            });
+        }
+        self.texts.push(alloc, text)?;
+        Ok(index)
+    }
+
+    /// Appends a query, and answers its index.
+    #[tactic(auto, unfolding(crate::specs::Sheets::asked_query))]
+    pub fn ask(&mut self, query: Query) -> Result<u16, CompileFault>
+        ensures { Gives OutOfMemory (λ index. (index, self.new)) result (asked_query query self.old) }
+    {
+        let index = self.queries.len();
+        if index >= QUERY_LIMIT as usize {
+            let place = self.start;
+            return Err(CompileFault::At {
+                flaw: Flaw::Limit,
+                place,
+            });
+        }
+        self.queries.push(query)?;
+        Ok(index as u16)
+    }
+
+    /// Begins a loop here, and answers its index.
+    #[tactic(auto, unfolding(crate::specs::Sheets::begun_loop))]
+    pub fn begin_loop(&mut self) -> Result<usize, CompileFault>
+        ensures { Gives OutOfMemory (λ index. (index, self.new)) result (begun_loop self.old) }
+    {
+        let index = self.loops.len();
+        if index >= LOOP_LIMIT as usize {
+            let place = self.start;
+            return Err(CompileFault::At {
+                flaw: Flaw::Limit,
+                place,
+            });
+        }
+        let head = self.ops.here();
+        self.loops.begin(head)?;
+        Ok(index)
+    }
+
+    // ---- labels
+
+    /// Says that ops go to the place of the next op. Of several labels at a place the last one stays.
+    #[tactic(auto, unfolding(crate::specs::Sheets::labelled))]
+    pub fn label(&mut self) -> Result<(), AllocError>
+        ensures { IfOk result (λ _. self.new ≡ labelled self.old) }
+    {
+        let place = self.ops.here();
+        let kinds = self.scope.kinds.copied();
+        let last = mem::replace(&mut self.last, Some(Label { place, kinds }));
+        keep(&mut self.labels, last, place)
+    }
+
+    // ---- names
+
+    /// The lowest free local, which holds a value of this kind from now on.
+    #[tactic(auto, unfolding(crate::specs::Sheets::take_local))]
+    pub fn take_local(&mut self, kind: Kind) -> Result<LocalId, CompileFault>
+        ensures { Gives OutOfMemory (λ local. (local, self.new)) result (take_local kind self.old) }
+    {
+        let Some(local) = self.scope.kinds.free() else {
+            let place = self.start;
+            return Err(CompileFault::At {
+                flaw: Flaw::Limit,
+                place,
+            });
+        };
+        self.scope.kinds.put(local, kind);
+        self.locals = self.locals.max(local + 1);
+        Ok(local)
+    }
+
+    /// Declares a name for the value on the stack, which is of this kind.
+    #[tactic(auto, unfolding(crate::specs::Sheets::declare))]
+    pub fn declare(&mut self, alloc: Global, name: &Text, kind: Kind) -> Result<(), CompileFault>
+        ensures { Gives OutOfMemory (λ _. self.new) result (declare name.now kind self.old) }
+    {
+        let local = self.take_local(kind)?;
+        self.scope.name_local(alloc, name.as_str(), local, kind)?;
+        self.put(Op::Store(local))
+    }
+
+    /// Two ways meet: this one, and another of which it is known what the locals hold. One that has ended does not
+    /// count.
+    #[tactic(auto, unfolding(crate::specs::Sheets::met))]
+    pub fn meet(&mut self, ended: bool, other: LocalKinds, other_ended: bool)
+        ensures { self.new ≡ met ended other other_ended self.old }
+    {
+        if ended {
+            self.scope.kinds = other;
+            return;
+        }
+        if other_ended {
+            return;
+        }
+        self.scope.kinds.meet(&other);
+    }
+}

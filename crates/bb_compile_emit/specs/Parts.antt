@@ -1,0 +1,34 @@
+-- The code of a part.
+use Rattle.std.specs.Prelude.{Bool, ◌&&◌, not, is_ok, Result, Ok, Err, if◌then◌else◌}
+use Rattle.bb_basis.specs.Results.{◌>>=◌}
+use Rattle.bb_code_ops.specs.Code.{Code}
+use Rattle.bb_verify_frame.specs.declared.part.Part.{Part}
+use Rattle.bb_verify_frame.specs.Part.{ends_done}
+use Rattle.bb_verify_frame.specs.Op.TheVariants.{Done}
+use Rattle.bb_verify_frame.specs.Schema.{Schema}
+use Rattle.bb_lang.specs.Blocks.{BlockTree}
+use Rattle.bb_compile_scope.specs.Place.{Place}
+use Rattle.bb_compile_scope.specs.declared.fault.Flaw.TheVariants.{NoEnd}
+use Rattle.bb_compile_scope.specs.declared.fault.CompileFault.{CompileFault}
+use Rattle.bb_compile_scope.specs.declared.fault.CompileFault.TheVariants.{At}
+use Rattle.bb_compile_scope.specs.Ending.{block_ends}
+use Rattle.bb_compile_buffer.specs.Sheets.{Change, put}
+use Rattle.bb_compile_buffer.specs.Finish.{empty_sheet, code_of, if_within}
+use Rattle.bb_compile_emit.specs.declared.part.TheConstants.{LOOP_NESTING}
+use Rattle.bb_compile_emit.specs.Statements.{block_code}
+
+-- whether the part has to end by a statement, and has a way past its end
+abbrev pub has_no_end : Part → BlockTree → Bool
+has_no_end part b = not (is_ok (ends_done part)) && not (block_ends b)
+
+-- a `do` ends behind its last statement
+abbrev pub done : Part → Change
+done part s = if is_ok (ends_done part) then put Done s else Ok s
+
+unfoldable pub part_code : Schema → Part → Place → BlockTree → Result Code CompileFault
+part_code schema part start b =
+    if has_no_end part b then Err (At NoEnd start)
+    else (do
+      (ended, t) ← block_code schema part LOOP_NESTING b (empty_sheet part start)
+      u ← done part t
+      if_within u.start (code_of u))

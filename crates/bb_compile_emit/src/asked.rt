@@ -1,0 +1,96 @@
+//! A query that is being laid out: its operands so far, and the room for nodes of its pattern. The layout of sequences
+//! keeps one.
+
+ghost use Rattle.std.specs.Prelude.{◌≡◌, IfOk};
+ghost use Rattle.bb_code_ops.specs.View.{tree_of};
+ghost use Rattle.bb_pattern.specs.declared.pattern.Node.TheVariants.{Ordered};
+ghost use Rattle.bb_compile_emit.specs.Queries.{no_operand, node_counted, node_noted, operand_kind, with_operand};
+ghost use Rattle.bb_compile_emit.specs.Queries.{operand_number};
+ghost use Rattle.bb_compile_emit.specs.Queries.{operand_noted, test_tree};
+
+use bb_basis::Items;
+use bb_code::{NODE_LIMIT, Node, OPERAND_LIMIT, OperandKind, Relation as PatternRelation};
+use bb_compile_buffer::Sheet;
+use bb_compile_scope::{Flaw, Kind};
+use bb_lang::Relation;
+use std::alloc::{AllocError, Global};
+
+/// What the operands of a query have to be, and how many nodes its pattern may still have.
+#[derive(Drop)]
+pub struct Asked {
+    pub kinds: Items<OperandKind>,
+    pub nodes: usize,
+}
+
+/// What an operand of a kind has to be.
+fn operand_kind(kind: Kind) -> OperandKind
+    ensures { result ≡ operand_kind kind }
+{
+    match kind {
+        Kind::Label(set) => OperandKind::Label(set),
+        _ => OperandKind::Interval,
+    }
+}
+
+/// A test of a dimension by an operand.
+pub(crate) fn test_node(relation: Relation, dim: u8, operand: u8) -> Node
+    ensures { tree_of result ≡ test_tree relation dim operand }
+{
+    match relation {
+        Relation::Within => ordered(PatternRelation::Within, dim, operand),
+        Relation::Covers => ordered(PatternRelation::Covers, dim, operand),
+        Relation::Overlaps => ordered(PatternRelation::Overlaps, dim, operand),
+        Relation::Less => ordered(PatternRelation::Less, dim, operand),
+        Relation::More => ordered(PatternRelation::More, dim, operand),
+        Relation::Is => Node::Is { dim, operand },
+    }
+}
+
+fn ordered(relation: PatternRelation, dim: u8, operand: u8) -> Node
+    ensures { result ≡ Ordered relation dim operand }
+{
+    Node::Ordered {
+        relation,
+        dim,
+        operand,
+    }
+}
+
+impl Asked {
+    /// A query without operands.
+    pub fn new(alloc: Global) -> Asked
+        ensures { result ≡ no_operand }
+    {
+        Asked {
+            kinds: Items::new(alloc),
+            nodes: NODE_LIMIT,
+        }
+    }
+
+    /// One more node. One too many is a flaw.
+    pub fn count_node(&mut self, sheet: &mut Sheet)
+        ensures query { self.new ≡ node_counted self.old }
+        ensures sheet { sheet.new ≡ node_noted self.old sheet.old }
+    {
+        if self.nodes == 0 {
+            sheet.note(Flaw::Limit);
+            return;
+        }
+        self.nodes -= 1;
+    }
+
+    /// One more operand of a kind, and its number. One too many is a flaw.
+    pub fn add_operand(&mut self, sheet: &mut Sheet, kind: Kind) -> Result<u8, AllocError>
+        ensures number { IfOk result (λ number. number ≡ operand_number self.old) }
+        ensures query { IfOk result (λ _. self.new ≡ with_operand kind self.old) }
+        ensures sheet { IfOk result (λ _. sheet.new ≡ operand_noted self.old sheet.old) }
+    {
+        let number = self.kinds.len();
+        if number >= OPERAND_LIMIT {
+            sheet.note(Flaw::Limit);
+            return Ok(0);
+        }
+        self.kinds.push(operand_kind(kind))?;
+        Ok(number as u8)
+    }
+}

@@ -1,0 +1,181 @@
+//! What a `with` tests and declares, laid out and judged. The layout of statements calls `emit_binding`.
+
+ghost use Rattle.std.specs.Prelude.{◌≡◌};
+ghost use Rattle.bb_basis.specs.Results.{Gives};
+ghost use Rattle.bb_compile_scope.specs.declared.fault.CompileFault.TheVariants.{Memory as OutOfMemory};
+ghost use Rattle.bb_compile_emit.specs.Bindings.{tells_more, is_test, is_class, as_code, alive_code, test_code, bound_as};
+ghost use Rattle.bb_compile_emit.specs.Bindings.{with_as};
+ghost use Rattle.bb_compile_emit.specs.Bindings.{with_partner, binding_code};
+
+use crate::exits::Exits;
+use crate::expressions::class_named;
+use bb_basis::Text;
+use bb_code::STACK_LIMIT;
+use bb_compile_buffer::{Sheet, emit_unit, emit_variable};
+use bb_compile_scope::{
+    ClassId, CompileFault, Flaw, Kind, Op, Schema, Variable, class_of, is_live, partner_slot,
+};
+use bb_lang::Binding;
+use std::alloc::Global;
+
+/// Whether a unit of a class, live or not, may be tested to be of another.
+fn tells_more(schema: &Schema, live: bool, own: ClassId, class: ClassId) -> bool
+    ensures { result ≡ tells_more schema.now live own class }
+{
+    if !schema.descends(class, own) {
+        return false;
+    }
+    if !live {
+        return true;
+    }
+    class != own
+}
+
+/// Whether what a name holds may be tested to be a unit of a class.
+fn is_test(schema: &Schema, held: Kind, class: ClassId) -> bool
+    ensures { result ≡ is_test schema.now held class }
+{
+    match class_of(held) {
+        None => false,
+        Some(own) => tells_more(schema, is_live(held), own, class),
+    }
+}
+
+fn is_class(own: Option<ClassId>, class: ClassId) -> bool
+    ensures { result ≡ is_class own class }
+{
+    match own {
+        None => false,
+        Some(own) => own == class,
+    }
+}
+
+/// The test of a live unit, which lies on the stack.
+#[tactic(auto, unfolding(crate::specs::Bindings::as_code))]
+fn emit_live(sheet: &mut Sheet, class: ClassId) -> Result<Exits, CompileFault>
+    ensures { Gives OutOfMemory (λ exits. (exits, sheet.new)) result (as_code class sheet.old) }
+{
+    let first = sheet.ops.here();
+    sheet.put(Op::As(class, 0))?;
+    Ok(Exits::one(first))
+}
+
+/// The test of a unit that may be deleted: of the class that it is known to have, or of another.
+#[tactic(auto, unfolding(crate::specs::Bindings::alive_code))]
+fn emit_old(sheet: &mut Sheet, same: bool, class: ClassId) -> Result<Exits, CompileFault>
+    ensures { Gives OutOfMemory (λ exits. (exits, sheet.new)) result (alive_code same class sheet.old) }
+{
+    let first = sheet.ops.here();
+    sheet.put(Op::Alive(0))?;
+    if same {
+        return Ok(Exits::one(first));
+    }
+    let second = sheet.ops.here();
+    sheet.put(Op::As(class, 0))?;
+    Ok(Exits {
+        first,
+        second: Some(second),
+    })
+}
+
+/// The test that a unit, which lies on the stack, is live and of a class.
+fn emit_test(sheet: &mut Sheet, held: Kind, class: ClassId) -> Result<Exits, CompileFault>
+    ensures { Gives OutOfMemory (λ exits. (exits, sheet.new)) result (test_code held class sheet.old) }
+{
+    if is_live(held) {
+        return emit_live(sheet, class);
+    }
+    emit_old(sheet, is_class(class_of(held), class), class)
+}
+
+/// A name for a unit, which lies on the stack, if it is live and of a class.
+fn emit_bound(
+    alloc: Global,
+    schema: &Schema,
+    sheet: &mut Sheet,
+    name: &Text,
+    held: Kind,
+    class: ClassId,
+) -> Result<Option<Exits>, CompileFault>
+    ensures { Gives OutOfMemory (λ exits. (exits, sheet.new)) result
+        (bound_as schema.now name.now held class sheet.old) }
+{
+    if !is_test(schema, held, class) {
+        sheet.note(Flaw::Kind);
+        return Ok(None);
+    }
+    let exits = emit_test(sheet, held, class)?;
+    sheet.declare(alloc, name, Kind::Ref(class))?;
+    Ok(Some(exits))
+}
+
+/// `name = unit as class`
+#[tactic(auto, unfolding(crate::specs::Bindings::with_as))]
+fn emit_as(
+    alloc: Global,
+    schema: &Schema,
+    sheet: &mut Sheet,
+    name: &Text,
+    unit: &Variable,
+    class: &Text,
+) -> Result<Option<Exits>, CompileFault>
+    ensures { Gives OutOfMemory (λ exits. (exits, sheet.new)) result
+        (with_as schema.now name.now unit.now class.now sheet.old) }
+{
+    let held = emit_variable(sheet, unit, STACK_LIMIT)?;
+    let class = class_named(schema, sheet, class);
+    let Some(held) = held else {
+        return Ok(None);
+    };
+    let Some(class) = class else {
+        return Ok(None);
+    };
+    emit_bound(alloc, schema, sheet, name, held, class)
+}
+
+/// `name = unit.slot`
+#[tactic(auto, unfolding(crate::specs::Bindings::with_partner))]
+fn emit_partner(
+    alloc: Global,
+    schema: &Schema,
+    sheet: &mut Sheet,
+    name: &Text,
+    unit: &Variable,
+    slot: &Text,
+) -> Result<Option<Exits>, CompileFault>
+    ensures { Gives OutOfMemory (λ exits. (exits, sheet.new)) result
+        (with_partner schema.now name.now unit.now slot.now sheet.old) }
+{
+    let Some(class) = emit_unit(sheet, unit, STACK_LIMIT)? else {
+        return Ok(None);
+    };
+    match partner_slot(schema, class, slot.as_str()) {
+        Err(flaw) => {
+            sheet.note(flaw);
+            Ok(None)
+        }
+        Ok((slot, to)) => {
+            let at = sheet.ops.here();
+            sheet.put(Op::One(slot, 0))?;
+            sheet.declare(alloc, name, Kind::Ref(to))?;
+            Ok(Some(Exits::one(at)))
+        }
+    }
+}
+
+/// What a `with` tests and declares, and the ops that go on where the test fails. Where there are none, it has a flaw.
+pub(crate) fn emit_binding(
+    alloc: Global,
+    schema: &Schema,
+    sheet: &mut Sheet,
+    binding: &Binding,
+) -> Result<Option<Exits>, CompileFault>
+    ensures { Gives OutOfMemory (λ exits. (exits, sheet.new)) result (binding_code schema.now binding.now sheet.old) }
+{
+    match binding {
+        Binding::As { name, unit, class } => emit_as(alloc, schema, sheet, name, unit, class),
+        Binding::Linked { name, unit, slot } => {
+            emit_partner(alloc, schema, sheet, name, unit, slot)
+        }
+    }
+}

@@ -1,0 +1,74 @@
+//! What stands between the blocks of an `if` or a `with`, and behind them. The layout of statements calls it.
+
+ghost use Rattle.std.specs.Prelude.{◌≡◌, IfOk};
+ghost use Rattle.bb_basis.specs.Results.{Gives};
+ghost use Rattle.bb_compile_scope.specs.declared.fault.CompileFault.TheVariants.{Memory as OutOfMemory};
+ghost use Rattle.bb_compile_emit.specs.Statements.{jumped, else_begun, else_ended, if_ended};
+
+use crate::exits::Exits;
+use bb_compile_buffer::Sheet;
+use bb_compile_scope::{CompileFault, LocalKinds, Mark, Op};
+use std::alloc::AllocError;
+
+/// An `if` or a `with` behind its first block: the scope before that, the ops that go on where the test fails, and
+/// whether the block always ends.
+#[derive(Drop)]
+pub struct Branch {
+    pub before: Mark,
+    pub exits: Exits,
+    pub ended: bool,
+}
+
+impl Branch {
+    /// A jump over the block of `else`, unless the first block has ended.
+    fn put_jump(&self, sheet: &mut Sheet) -> Result<(), CompileFault>
+        ensures { Gives OutOfMemory (λ _. sheet.new) result (jumped self.now sheet.old) }
+    {
+        if self.ended {
+            return Ok(());
+        }
+        sheet.put(Op::Jump(0))
+    }
+
+    /// Begins the block of `else`. The answer is the place of the jump over it.
+    #[tactic(auto, unfolding(crate::specs::Statements::else_begun))]
+    pub fn begin_else(&self, sheet: &mut Sheet) -> Result<u16, CompileFault>
+        ensures { Gives OutOfMemory (λ jump. (jump, sheet.new)) result (else_begun self.now sheet.old) }
+    {
+        let jump = sheet.ops.here();
+        self.put_jump(sheet)?;
+        self.exits.aim(sheet);
+        sheet.scope.kinds = self.before.kinds.copied();
+        sheet.label()?;
+        Ok(jump)
+    }
+
+    /// Ends the block of `else`, which may have ended itself. The first block leaves these kinds.
+    #[tactic(auto, unfolding(crate::specs::Statements::else_ended))]
+    pub fn end_else(
+        &self,
+        sheet: &mut Sheet,
+        jump: u16,
+        kinds: LocalKinds,
+        ended: bool,
+    ) -> Result<(), AllocError>
+        ensures { IfOk result (λ _. sheet.new ≡ else_ended self.now jump kinds ended sheet.old) }
+    {
+        sheet.meet(ended, kinds, self.ended);
+        if self.ended {
+            return Ok(());
+        }
+        sheet.aim(jump);
+        sheet.label()
+    }
+
+    /// Ends the first block where there is no `else`.
+    #[tactic(auto, unfolding(crate::specs::Statements::if_ended))]
+    pub fn end_if(&self, sheet: &mut Sheet) -> Result<(), AllocError>
+        ensures { IfOk result (λ _. sheet.new ≡ if_ended self.now sheet.old) }
+    {
+        self.exits.aim(sheet);
+        sheet.meet(self.ended, self.before.kinds.copied(), false);
+        sheet.label()
+    }
+}

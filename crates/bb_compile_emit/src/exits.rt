@@ -1,0 +1,37 @@
+//! The ops of a test that go on elsewhere where it fails. The layout of `if` and `with` keeps them until that place is
+//! known.
+
+ghost use Rattle.std.specs.Prelude.{◌≡◌};
+ghost use Rattle.bb_compile_emit.specs.Bindings.{one_exit, exits_aimed};
+
+use bb_compile_buffer::Sheet;
+
+/// The places of the one or two ops of a test that go on elsewhere where it fails.
+#[derive(Drop)]
+pub struct Exits {
+    pub first: u16,
+    pub second: Option<u16>,
+}
+
+impl Exits {
+    /// One op.
+    pub fn one(first: u16) -> Exits
+        ensures { result ≡ one_exit first }
+    {
+        Exits {
+            first,
+            second: None,
+        }
+    }
+
+    /// Has them go to the place of the next op.
+    pub fn aim(&self, sheet: &mut Sheet)
+        ensures { sheet.new ≡ exits_aimed self.now sheet.old }
+    {
+        sheet.aim(self.first);
+        let Some(second) = self.second else {
+            return;
+        };
+        sheet.aim(second);
+    }
+}

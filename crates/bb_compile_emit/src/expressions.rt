@@ -1,0 +1,304 @@
+//! Expressions, sequences and patterns, laid out and judged: a function for each. The layout of statements calls
+//! `emit_expr` and `emit_sequence`.
+
+ghost use Rattle.std.specs.Prelude.{◌≡◌};
+ghost use Rattle.bb_basis.specs.Results.{Gives};
+ghost use Rattle.bb_compile_scope.specs.declared.fault.CompileFault.TheVariants.{Memory as OutOfMemory};
+ghost use Rattle.bb_code_ops.specs.View.{tree_of, trees_of};
+ghost use Rattle.bb_lang.specs.View.{steps_of, sequence_of, patterns_of};
+ghost use Rattle.bb_verify_frame.specs.Schema.{class_named as class_by_name, space_named as space_by_name};
+ghost use Rattle.bb_compile_buffer.specs.Sheets.{known};
+ghost use Rattle.bb_compile_emit.specs.Queries.{links_code, query_code, test_code};
+ghost use Rattle.bb_compile_emit.specs.Expressions.{expr_code, steps_code, step_code, sequence_code, pattern_code};
+ghost use Rattle.bb_compile_emit.specs.Expressions.{patterns_code};
+
+use crate::asked::{Asked, test_node};
+use bb_basis::Text;
+use bb_code::{Node, Pattern as CodePattern, Query};
+use bb_compile_buffer::{
+    Sheet, emit_atom, emit_binary, emit_division, emit_operator, emit_unary, emit_unit,
+};
+use bb_compile_scope::{
+    ClassId, CompileFault, Flaw, Kind, Op, Schema, SpaceId, Variable, dimension, link_slot,
+};
+use bb_lang::{Expr, ExprNode, Pattern, PatternNode, Relation, Sequence, Step};
+use std::alloc::Global;
+
+/// The sequence of the units that a unit is linked to, and their class.
+#[tactic(auto, unfolding(crate::specs::Queries::links_code))]
+fn emit_links(
+    schema: &Schema,
+    sheet: &mut Sheet,
+    unit: &Variable,
+    slot: &Text,
+    room: usize,
+) -> Result<Option<ClassId>, CompileFault>
+    ensures { Gives OutOfMemory (λ class. (class, sheet.new)) result
+        (links_code schema.now unit.now slot.now room sheet.old) }
+{
+    let Some(class) = emit_unit(sheet, unit, room)? else {
+        return Ok(None);
+    };
+    match link_slot(schema, class, slot.as_str()) {
+        Err(flaw) => {
+            sheet.note(flaw);
+            Ok(None)
+        }
+        Ok((slot, link)) => {
+            sheet.put(Op::Links(slot))?;
+            Ok(Some(link.to))
+        }
+    }
+}
+
+/// The class of a name. One that is not there is a flaw.
+pub(crate) fn class_named(schema: &Schema, sheet: &mut Sheet, name: &Text) -> Option<ClassId>
+    ensures value { result ≡ class_by_name schema.now name.now }
+    ensures flaw { sheet.new ≡ known (class_by_name schema.now name.now) sheet.old }
+{
+    let class = schema.class(name.as_str());
+    sheet.known(class);
+    class
+}
+
+/// The space of a name. One that is not there is a flaw.
+pub(crate) fn space_named(schema: &Schema, sheet: &mut Sheet, name: &Text) -> Option<SpaceId>
+    ensures value { result ≡ space_by_name schema.now name.now }
+    ensures flaw { sheet.new ≡ known (space_by_name schema.now name.now) sheet.old }
+{
+    let space = schema.space(name.as_str());
+    sheet.known(space);
+    space
+}
+
+/// The query of a class in a space behind its operands.
+#[tactic(auto, unfolding(crate::specs::Queries::query_code))]
+fn emit_query(
+    sheet: &mut Sheet,
+    class: Option<ClassId>,
+    space: Option<SpaceId>,
+    asked: Asked,
+    pattern: CodePattern,
+    room: usize,
+) -> Result<Option<ClassId>, CompileFault>
+    ensures { Gives OutOfMemory (λ class. (class, sheet.new)) result
+        (query_code class space asked pattern room sheet.old) }
+{
+    let Some(class) = class else {
+        return Ok(None);
+    };
+    let Some(space) = space else {
+        return Ok(Some(class));
+    };
+    let kinds = asked.kinds;
+    let index = sheet.ask(Query {
+        class,
+        space,
+        kinds,
+        pattern,
+    })?;
+    sheet.put_value(Op::Find(index), room)?;
+    Ok(Some(class))
+}
+
+/// A test behind its operand.
+#[tactic(auto, unfolding(crate::specs::Queries::test_code))]
+fn emit_test(
+    schema: &Schema,
+    sheet: &mut Sheet,
+    asked: &mut Asked,
+    space: Option<SpaceId>,
+    dim: &Text,
+    relation: Relation,
+    operand: Option<Kind>,
+) -> Result<CodePattern, CompileFault>
+    ensures { Gives OutOfMemory (λ p. (p, asked.new, sheet.new)) result
+        (Ok (test_code schema.now space dim.now relation operand asked.old sheet.old)) }
+{
+    let Some(space) = space else {
+        return Ok(CodePattern::new(Node::All));
+    };
+    let Some((dim, due)) = dimension(schema, space, dim.as_str(), relation) else {
+        sheet.note(Flaw::Unknown);
+        return Ok(CodePattern::new(Node::All));
+    };
+    sheet.due(operand, due);
+    let number = asked.add_operand(sheet, due)?;
+    Ok(CodePattern::new(test_node(relation, dim, number)))
+}
+
+/// Patterns in order.
+#[cycle(emitting)]
+#[tactic(auto, unfolding(crate::specs::Expressions::patterns_code))]
+fn emit_patterns(
+    alloc: Global,
+    schema: &Schema,
+    sheet: &mut Sheet,
+    asked: &mut Asked,
+    space: Option<SpaceId>,
+    patterns: &[Pattern],
+    room: usize,
+) -> Result<Vec<CodePattern>, CompileFault>
+    ensures { Gives OutOfMemory (λ v. (trees_of v.items, asked.new, sheet.new)) result
+        (patterns_code schema.now room space (patterns_of patterns.now) asked.old sheet.old) }
+{
+    let mut made = Vec::new(alloc);
+    for pattern in patterns {
+        made.push(emit_pattern(alloc, schema, sheet, asked, space, pattern, room)?)?;
+    }
+    Ok(made)
+}
+
+/// A pattern, where the stack has room for so many operands.
+#[cycle(emitting)]
+#[tactic(auto, unfolding(crate::specs::Expressions::pattern_code))]
+fn emit_pattern(
+    alloc: Global,
+    schema: &Schema,
+    sheet: &mut Sheet,
+    asked: &mut Asked,
+    space: Option<SpaceId>,
+    pattern: &Pattern,
+    room: usize,
+) -> Result<CodePattern, CompileFault>
+    ensures { Gives OutOfMemory (λ p. (p, asked.new, sheet.new)) result
+        (pattern_code schema.now room space pattern.now asked.old sheet.old) }
+{
+    asked.count_node(sheet);
+    match pattern.node() {
+        PatternNode::All => Ok(CodePattern::new(Node::All)),
+        PatternNode::And(parts) => {
+            let parts = emit_patterns(alloc, schema, sheet, asked, space, parts.as_slice(), room)?;
+            Ok(CodePattern::new(Node::And(parts)))
+        }
+        PatternNode::Or(parts) => {
+            let parts = emit_patterns(alloc, schema, sheet, asked, space, parts.as_slice(), room)?;
+            Ok(CodePattern::new(Node::Or(parts)))
+        }
+        PatternNode::Not(part) => {
+            let part = emit_pattern(alloc, schema, sheet, asked, space, part, room)?;
+            Ok(CodePattern::new(Node::Not(Box::new(alloc, part)?)))
+        }
+        PatternNode::Test {
+            dimension,
+            relation,
+            operand,
+        } => {
+            let left = room.saturating_sub(asked.kinds.len());
+            let kind = emit_expr(alloc, schema, sheet, operand, left)?;
+            emit_test(schema, sheet, asked, space, dimension, *relation, kind)
+        }
+    }
+}
+
+/// A sequence, where the stack has room for so many values. The answer is the class of its units, as far as it is
+/// known.
+#[cycle(emitting)]
+#[tactic(auto, unfolding(crate::specs::Expressions::sequence_code))]
+pub(crate) fn emit_sequence(
+    alloc: Global,
+    schema: &Schema,
+    sheet: &mut Sheet,
+    sequence: &Sequence,
+    room: usize,
+) -> Result<Option<ClassId>, CompileFault>
+    ensures { Gives OutOfMemory (λ class. (class, sheet.new)) result
+        (sequence_code schema.now room (sequence_of sequence.now) sheet.old) }
+{
+    match sequence {
+        Sequence::Links { unit, slot } => emit_links(schema, sheet, unit, slot, room),
+        Sequence::Find {
+            class,
+            space,
+            pattern,
+        } => {
+            let class = class_named(schema, sheet, class);
+            let space = space_named(schema, sheet, space);
+            let mut asked = Asked::new(alloc);
+            let pattern = emit_pattern(alloc, schema, sheet, &mut asked, space, pattern, room)?;
+            emit_query(sheet, class, space, asked, pattern, room)
+        }
+    }
+}
+
+/// One more step of a chain behind its first operands.
+#[cycle(emitting)]
+#[tactic(auto, unfolding(crate::specs::Expressions::step_code))]
+fn emit_step(
+    alloc: Global,
+    schema: &Schema,
+    sheet: &mut Sheet,
+    step: &Step,
+    left: Option<Kind>,
+    room: usize,
+) -> Result<Option<Kind>, CompileFault>
+    ensures { Gives OutOfMemory (λ kind. (kind, sheet.new)) result (step_code schema.now room left step.now sheet.old) }
+{
+    match step {
+        Step::Apply { operator, operand } => {
+            let right = emit_expr(alloc, schema, sheet, operand, room.saturating_sub(1))?;
+            emit_operator(sheet, *operator, left, right)
+        }
+        Step::Divide { division, divisor } => emit_division(sheet, *division, *divisor, left),
+    }
+}
+
+/// The steps of a chain behind its first operand.
+#[cycle(emitting)]
+#[tactic(auto, unfolding(crate::specs::Expressions::steps_code))]
+fn emit_steps(
+    alloc: Global,
+    schema: &Schema,
+    sheet: &mut Sheet,
+    steps: &[Step],
+    first: Option<Kind>,
+    room: usize,
+) -> Result<Option<Kind>, CompileFault>
+    ensures { Gives OutOfMemory (λ kind. (kind, sheet.new)) result
+        (steps_code schema.now room first (steps_of steps.now) sheet.old) }
+{
+    let mut kind = first;
+    for step in steps {
+        kind = emit_step(alloc, schema, sheet, step, kind, room)?;
+    }
+    Ok(kind)
+}
+
+/// An expression, where the stack has room for so many values. The answer is its kind, as far as it is known.
+#[cycle(emitting)]
+#[tactic(auto, unfolding(crate::specs::Expressions::expr_code))]
+pub(crate) fn emit_expr(
+    alloc: Global,
+    schema: &Schema,
+    sheet: &mut Sheet,
+    expr: &Expr,
+    room: usize,
+) -> Result<Option<Kind>, CompileFault>
+    ensures { Gives OutOfMemory (λ kind. (kind, sheet.new)) result (expr_code schema.now room expr.now sheet.old) }
+{
+    match expr.node() {
+        ExprNode::Atom(atom) => emit_atom(alloc, schema, sheet, atom, room),
+        ExprNode::Unary { operation, operand } => {
+            let kind = emit_expr(alloc, schema, sheet, operand, room)?;
+            emit_unary(sheet, *operation, kind)
+        }
+        ExprNode::Binary {
+            operation,
+            left,
+            right,
+        } => {
+            let first = emit_expr(alloc, schema, sheet, left, room)?;
+            let second = emit_expr(alloc, schema, sheet, right, room.saturating_sub(1))?;
+            emit_binary(sheet, *operation, first, second)
+        }
+        ExprNode::Chain { first, steps } => {
+            let kind = emit_expr(alloc, schema, sheet, first, room)?;
+            emit_steps(alloc, schema, sheet, steps.as_slice(), kind, room)
+        }
+        ExprNode::Size(sequence) => {
+            let _class = emit_sequence(alloc, schema, sheet, sequence, room)?;
+            sheet.put(Op::Size)?;
+            Ok(Some(Kind::Int))
+        }
+    }
+}

@@ -1,0 +1,16 @@
+//! The code of a part of a source: its tree is gone over once, in the order of the text, and each statement is judged
+//! and then laid out. bb_compile calls `emit_part` for each part.
+#![tactic(auto)]
+
+mod actions;
+mod asked;
+mod bindings;
+mod branches;
+mod exits;
+mod expressions;
+mod looping;
+mod part;
+mod statements;
+
+pub use bb_compile_scope::{CompileFault, Flaw, Place};
+pub use part::emit_part;

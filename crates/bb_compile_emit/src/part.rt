@@ -1,0 +1,54 @@
+//! The code of a part. Whoever compiles sources calls `emit_part`.
+
+ghost use Rattle.std.specs.Prelude.{◌≡◌};
+ghost use Rattle.bb_basis.specs.Results.{Gives};
+ghost use Rattle.bb_compile_scope.specs.declared.fault.CompileFault.TheVariants.{Memory as OutOfMemory};
+ghost use Rattle.bb_compile_emit.specs.Parts.{has_no_end, done, part_code};
+
+use crate::statements::emit_block;
+use bb_code::Code;
+use bb_compile_buffer::{Sheet, finish};
+use bb_compile_scope::{Block, CompileFault, Flaw, Op, Part, Place, Schema, block_ends};
+use std::alloc::Global;
+
+/// How many loops may be nested.
+pub const LOOP_NESTING: usize = 4;
+
+/// Whether a part has to end by a statement, and has a way past its end.
+fn has_no_end(part: Part, block: &Block) -> bool
+    ensures { result ≡ has_no_end part block.now }
+{
+    !part.ends_done().is_ok() && !block_ends(block)
+}
+
+/// A `do` ends behind its last statement.
+fn put_done(part: Part, sheet: &mut Sheet) -> Result<(), CompileFault>
+    ensures { Gives OutOfMemory (λ _. sheet.new) result (done part sheet.old) }
+{
+    if part.ends_done().is_ok() {
+        return sheet.put(Op::Done);
+    }
+    Ok(())
+}
+
+/// The code of a part that begins at a place, or its first flaw: a part other than `do` with a way past its end, and a
+/// code that is too large, at the part's place; all else at a statement.
+#[tactic(auto, unfolding(crate::specs::Parts::part_code))]
+pub fn emit_part(
+    alloc: Global,
+    schema: &Schema,
+    part: Part,
+    place: Place,
+    block: &Block,
+) -> Result<Code, CompileFault>
+    ensures { Gives OutOfMemory (λ code. code) result (part_code schema.now part place block.now) }
+{
+    if has_no_end(part, block) {
+        let flaw = Flaw::NoEnd;
+        return Err(CompileFault::At { flaw, place });
+    }
+    let mut sheet = Sheet::new(alloc, part, place)?;
+    let _ended = emit_block(alloc, schema, part, &mut sheet, block, LOOP_NESTING)?;
+    put_done(part, &mut sheet)?;
+    finish(alloc, sheet)
+}

@@ -1,0 +1,18 @@
+-- what a text comes to, and its names
+pub mod Meaning
+-- what values become
+pub mod Values
+-- units, as a text speaks of them
+pub mod Units
+-- what expressions, sequences and patterns stand for
+pub mod Expressions
+-- what statements do
+pub mod Statements
+-- what the text of a part means
+pub mod Parts
+-- texts without branches and loops
+pub use Rattle.bb_compile_accepted.specs.Plain
+-- what an execution comes to, by the text
+pub mod Told
+-- sources without branches and loops, and what it is that their codes are accepted
+pub mod Sources

@@ -1,0 +1,56 @@
+//! What holds of compiled code. No code calls it: it says of the code that `emit_part` gives (bb_compile_emit) what its
+//! execution by `trial` (bb_machine) comes to.
+
+ghost use Rattle.std.specs.Prelude.{◌≡◌, ◌≤◌, ℕ, true, length, Ok};
+ghost use Rattle.bb_code.specs.Code.{Code as AnyCode};
+ghost use Rattle.bb_lang.specs.Blocks.{BlockTree};
+ghost use Rattle.bb_lang.specs.SourceText.{SourceText};
+ghost use Rattle.bb_bundle.specs.declared.source_code.SourceDraft.{SourceDraft};
+ghost use Rattle.bb_compile.specs.Compiled.{compiled};
+ghost use Rattle.bb_compile_scope.specs.Place.{Place};
+ghost use Rattle.bb_compile_accepted.specs.Parts.{part_code};
+ghost use Rattle.bb_verify.specs.PartType.{Part};
+ghost use Rattle.bb_machine_step.specs.Activation.{activation};
+ghost use Rattle.bb_machine_step.specs.Entry.{Entry};
+ghost use Rattle.bb_machine.specs.NeverWrong.{EntryFits};
+ghost use Rattle.bb_compile_meaning.specs.Parts.{meaning};
+ghost use Rattle.bb_compile_meaning.specs.Plain.{is_plain};
+ghost use Rattle.bb_compile_meaning.specs.Sources.{is_plain_source, AreAccepted};
+ghost use Rattle.bb_compile_meaning.specs.Told.{IsTold};
+
+use bb_board::Board;
+use bb_code::Code;
+use bb_schema::Schema;
+
+/// The codes of a source of which no part has an `if`, a `with` or a `for` are accepted.
+///
+/// - `accepted`: whatever `compile` gives for the tree of such a source, its class and those of its reactions are of the
+///   schema, and the verifier takes each of its codes for its part and these classes. So no such text is refused by the
+///   verifier.
+pub fn compiled_source_is_accepted(schema: &Schema)
+    ensures accepted { (text : SourceText) (draft : SourceDraft AnyCode) →
+        is_plain_source text ≡ true → compiled schema.now text ≡ Ok draft → AreAccepted schema.now draft }
+{
+    // What holds of any schema.
+    schema.fits();
+}
+
+/// What the code of a part means, if the part has no `if`, no `with` and no `for`, whatever its expressions are.
+///
+/// - `means`: where the execution begins with units that fit the part, it gives the answer of the text and leaves the
+///   blackboard of the text, with its notes; it finds no room for one more unit exactly where the text finds none; it is
+///   never stuck; and as many steps as the code has ops are enough for that.
+///
+/// That the verifier accepts the code is no premise: it does (`compiled_code_is_accepted` of bb_compile_accepted). It says nothing
+/// of texts with `if`, `with` or `for`.
+pub fn compiled_code_means_its_text(code: &Code, board: &Board)
+    ensures means { (part : Part) (place : Place) (block : BlockTree) (entry : Entry) (limit : ℕ) →
+        is_plain block ≡ true → part_code board.now.schema part place block ≡ Ok code.now →
+        EntryFits board.now.schema board.now.world part entry → length code.now.ops ≤ limit →
+        IsTold (meaning part block entry board.now) (activation limit code.now entry board.now) }
+{
+    // What holds of any code, schema and blackboard.
+    let _ = code.ops();
+    board.schema().fits();
+    board.fits();
+}

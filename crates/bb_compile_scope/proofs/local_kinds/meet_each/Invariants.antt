@@ -1,0 +1,6 @@
+use Rattle.std.proofs.Common.{◌≡◌, ◌++◌, take, drop}
+use Rattle.bb_compile_scope.specs.LocalKinds.{paired, met_kind}
+use Rattle.bb_compile_scope.proofs.local_kinds.meet_each.Given as goal
+
+abbrev pub invariant-loop-i : goal.invariant-loop-i
+invariant-loop-i l = l.kinds ≡ paired met_kind (take l.i l.other) (take l.i l.fn.kinds) ++ drop l.i l.fn.kinds

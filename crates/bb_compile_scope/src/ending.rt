@@ -1,0 +1,67 @@
+//! Which statements always end. A part whose act is not `do` has to.
+
+ghost use Rattle.std.specs.Prelude.{◌≡◌};
+ghost use Rattle.bb_lang.specs.BlockView.{statement_of, otherwise_of};
+ghost use Rattle.bb_compile_scope.specs.Ending.{ends, otherwise_ends, always_ends, block_ends};
+
+use bb_lang::{Action, Block, Statement};
+
+/// Whether a statement without blocks ends.
+pub fn ends(action: &Action) -> bool
+    ensures { result ≡ ends action.now }
+{
+    match action {
+        Action::Rate(_value) => true,
+        Action::Decline => true,
+        Action::Answer(_value) => true,
+        _ => false,
+    }
+}
+
+/// Whether each way through an `else` ends.
+#[cycle(ends)]
+#[tactic(auto, unfolding(crate::specs::Ending::otherwise_ends))]
+fn otherwise_ends(otherwise: &Option<Block>) -> bool
+    ensures { result ≡ otherwise_ends (otherwise_of otherwise.now) }
+{
+    match otherwise {
+        None => false,
+        Some(block) => block_ends(block),
+    }
+}
+
+/// Whether each way through a statement ends.
+#[cycle(ends)]
+#[tactic(auto, unfolding(crate::specs::Ending::always_ends))]
+fn always_ends(statement: &Statement) -> bool
+    ensures { result ≡ always_ends (statement_of statement.now) }
+{
+    match statement {
+        Statement::Action(action) => ends(action),
+        Statement::If {
+            then,
+            otherwise,
+            ..
+        } => block_ends(then) && otherwise_ends(otherwise),
+        Statement::With {
+            then,
+            otherwise,
+            ..
+        } => block_ends(then) && otherwise_ends(otherwise),
+        Statement::For { .. } => false,
+    }
+}
+
+/// Whether each way through a block ends.
+#[cycle(ends)]
+#[tactic(auto, unfolding(crate::specs::Ending::block_ends))]
+pub fn block_ends(block: &Block) -> bool
+    ensures { result ≡ block_ends block.now }
+{
+    for placed in block.statements() {
+        if always_ends(&placed.statement) {
+            return true;
+        }
+    }
+    false
+}

@@ -1,0 +1,111 @@
+//! Why a source has no code. Refusal lines name it by its number.
+
+ghost use Rattle.std.specs.Prelude.{◌≡◌};
+ghost use Rattle.bb_compile_scope.specs.declared.fault.CompileFault.TheVariants.{Memory as OutOfMemory};
+ghost use Rattle.bb_compile_scope.specs.Faults.{flaw_number, fault_number, lowest};
+
+use bb_lang::Place;
+use std::alloc::{AllocError, AllocFailed};
+use thiserror::Error;
+
+/// What is wrong with a statement, a part or a clause.
+#[derive(Clone, Copy, Debug, PartialEq, Eq, Error)]
+pub enum Flaw {
+    /// A name, class, slot, space or label that is not there, or a dimension that is not there for the relation.
+    #[error("a name that is not there")]
+    Unknown,
+    /// A value or a slot of a wrong kind.
+    #[error("a value or a slot of a wrong kind")]
+    Kind,
+    /// A unit that may be deleted, where a live one is due.
+    #[error("a unit that may be deleted")]
+    DeadName,
+    /// The unit's class can't be linked by the slot.
+    #[error("a unit whose class the link does not lead to")]
+    LinkClass,
+    /// The space does not admit the unit's class.
+    #[error("a space that does not admit the unit")]
+    Space,
+    /// A change outside `do`.
+    #[error("a change outside `do`")]
+    Effect,
+    /// A statement that ends another part, a statement behind one that always ends, or a part with a way past its end.
+    #[error("an end that does not belong there, or none")]
+    NoEnd,
+    /// The code would pass one of its limits.
+    #[error("the code would be too large")]
+    Limit,
+}
+
+impl Flaw {
+    /// The number of the flaw, from 1 to 8. Of several of one statement the least is answered.
+    pub fn number(self) -> u8
+        ensures { result ≡ flaw_number self }
+    {
+        match self {
+            Flaw::Unknown => 1,
+            Flaw::Kind => 2,
+            Flaw::DeadName => 3,
+            Flaw::LinkClass => 4,
+            Flaw::Space => 5,
+            Flaw::Effect => 6,
+            Flaw::NoEnd => 7,
+            Flaw::Limit => 8,
+        }
+    }
+}
+
+/// Of the flaws of a statement that were seen so far and one more the one of the least number.
+#[tactic(auto, unfolding(crate::specs::Faults::lowest))]
+pub fn lowest(seen: Option<Flaw>, flaw: Flaw) -> Flaw
+    ensures { result ≡ lowest seen flaw }
+{
+    match seen {
+        None => flaw,
+        Some(first) => {
+            if first.number() < flaw.number() {
+                return first;
+            }
+            flaw
+        }
+    }
+}
+
+/// What is wrong with a source: the flaw of the lowest place, at one place that of the lowest number.
+#[derive(Clone, Copy, Debug, PartialEq, Eq, Error)]
+pub enum CompileFault {
+    /// The flaw of what begins at the place.
+    #[error("line {line}, column {column}: {flaw}", line = .place.line, column = .place.column)]
+    At { flaw: Flaw, place: Place },
+    /// Memory ran out.
+    #[error("out of memory")]
+    Memory,
+}
+
+impl CompileFault {
+    /// The number by which a refusal line names the fault, from 1 to 9.
+    pub fn number(self) -> u8
+        ensures { result ≡ fault_number self }
+    {
+        match self {
+            CompileFault::At { flaw, .. } => flaw.number(),
+            CompileFault::Memory => 9,
+        }
+    }
+}
+
+impl From<AllocError> for CompileFault {
+    ghost from_gives = { λ _ e. e ≡ OutOfMemory };
+
+    fn from(_refused: AllocError) -> CompileFault {
+        CompileFault::Memory
+    }
+}
+
+impl<T: Drop> From<AllocFailed<T>> for CompileFault {
+    ghost from_gives = { λ _ e. e ≡ OutOfMemory };
+
+    fn from(_refused: AllocFailed<T>) -> CompileFault {
+        CompileFault::Memory
+    }
+}

@@ -1,0 +1,104 @@
+//! What the names of slots and dimensions mean. The judgement of statements looks them up.
+
+ghost use Rattle.std.specs.Prelude.{◌≡◌, ◌<◌, IfSome, length, position};
+ghost use Rattle.bb_compile_scope.specs.Slots.{slot_of, value_slot, link_slot, partner_slot, index_of, operand_due, dimension};
+
+use crate::fault::Flaw;
+use bb_lang::Relation;
+use bb_schema::{Dim, Kind as SlotKind, LabelSetId, Link};
+use bb_verify_frame::{ClassId, Kind, Schema, SlotId, SpaceId};
+
+/// The slot of a name in a class, with what it can hold.
+#[tactic(auto, unfolding(crate::specs::Slots::slot_of))]
+fn slot_of(schema: &Schema, class: ClassId, name: &str) -> Result<(SlotId, SlotKind), Flaw>
+    ensures { result ≡ slot_of schema.now class name.now }
+{
+    let slot = schema.slot(class, name).ok_or(Flaw::Unknown)?;
+    if slot as usize >= schema.slot_count() {
+        return Err(Flaw::Unknown);
+    }
+    Ok((slot, schema.kind(slot)))
+}
+
+/// The ordinary slot of a name in a class, with the kind of its values. `Unknown` is a slot that is not there, `Kind` a
+/// link slot.
+#[tactic(auto, unfolding(crate::specs::Slots::value_slot))]
+pub fn value_slot(schema: &Schema, class: ClassId, name: &str) -> Result<(SlotId, Kind), Flaw>
+    ensures { result ≡ value_slot schema.now class name.now }
+{
+    let (slot, kind) = slot_of(schema, class, name)?;
+    match kind {
+        SlotKind::Int => Ok((slot, Kind::Int)),
+        SlotKind::Text => Ok((slot, Kind::Text)),
+        SlotKind::Bool => Ok((slot, Kind::Bool)),
+        SlotKind::Label(set) => Ok((slot, Kind::Label(set))),
+        SlotKind::Interval => Ok((slot, Kind::Interval)),
+        SlotKind::Link(_link) => Err(Flaw::Kind),
+    }
+}
+
+/// The link slot of a name in a class, with its link. `Unknown` is a slot that is not there, `Kind` an ordinary one.
+#[tactic(auto, unfolding(crate::specs::Slots::link_slot))]
+pub fn link_slot(schema: &Schema, class: ClassId, name: &str) -> Result<(SlotId, Link), Flaw>
+    ensures { result ≡ link_slot schema.now class name.now }
+{
+    let (slot, kind) = slot_of(schema, class, name)?;
+    match kind {
+        SlotKind::Link(link) => Ok((slot, link)),
+        _ => Err(Flaw::Kind),
+    }
+}
+
+/// The singular link slot of a name in a class, with the class of the partner. `Unknown` is a slot that is not there,
+/// `Kind` another.
+#[tactic(auto, unfolding(crate::specs::Slots::partner_slot))]
+pub fn partner_slot(schema: &Schema, class: ClassId, name: &str) -> Result<(SlotId, ClassId), Flaw>
+    ensures { result ≡ partner_slot schema.now class name.now }
+{
+    let (slot, link) = link_slot(schema, class, name)?;
+    if link.many {
+        return Err(Flaw::Kind);
+    }
+    Ok((slot, link.to))
+}
+
+/// The index of the dimension of a name.
+fn index_of(dims: &[Dim], name: &str) -> Option<usize>
+    ensures { result ≡ index_of dims.now name.now }
+{
+    dims.iter().position(|dim| dim.name.as_str() == name)
+}
+
+/// What the operand of a relation has to be, on a dimension with this label set, or with none.
+fn operand_due(relation: Relation, set: Option<LabelSetId>) -> Option<Kind>
+    ensures { result ≡ operand_due relation set }
+{
+    match (relation, set) {
+        (Relation::Is, Some(set)) => Some(Kind::Label(set)),
+        (Relation::Is, None) => None,
+        (_, Some(_set)) => None,
+        (_, None) => Some(Kind::Interval),
+    }
+}
+
+/// The dimension of a name in a space, with what its operand has to be, if it is there and of the relation's sort.
+#[tactic(auto, unfolding(crate::specs::Slots::dimension))]
+pub fn dimension(
+    schema: &Schema,
+    space: SpaceId,
+    name: &str,
+    relation: Relation,
+) -> Option<(u8, Kind)>
+    ensures { result ≡ dimension schema.now space name.now relation }
+{
+    if space as usize >= schema.space_count() {
+        return None;
+    }
+    let dims = schema.dims(space);
+    let index = index_of(dims, name)?;
+    let due = operand_due(relation, dims.get(index)?.set)?;
+    if index >= 256 {
+        return None;
+    }
+    Some((index as u8, due))
+}

@@ -1,0 +1,233 @@
+//! What a loop's body leaves of the names that are live: at the loop's start a name is not live if the body assigns to
+//! it, or may delete a unit of its class. Whoever lays a loop out calls `wear_under`.
+
+ghost use Rattle.std.specs.Prelude.{◌≡◌, OnOk};
+ghost use Rattle.bb_lang.specs.BlockView.{statement_of, otherwise_of};
+ghost use Rattle.bb_compile_scope.specs.Worn.{unit_kind, declared, unit_class, value_class, sequence_class, bound_name};
+ghost use Rattle.bb_compile_scope.specs.Worn.{bound_class};
+ghost use Rattle.bb_compile_scope.specs.Worn.{worn_name, worn_action, worn_statement, worn_otherwise, worn_under, worn_block};
+
+use crate::kinds::class_of;
+use crate::scope::{Scope, name_of};
+use crate::slots::{link_slot, partner_slot};
+use bb_basis::Text;
+use bb_lang::{Action, Atom, Binding, Block, Expr, ExprNode, Sequence, Statement, Variable};
+use bb_verify_frame::{ClassId, Kind, Schema};
+use std::alloc::{AllocError, Global};
+
+/// What a name is declared to hold, as far as it is a unit.
+fn unit_kind(class: Option<ClassId>) -> Kind
+    ensures { result ≡ unit_kind class }
+{
+    match class {
+        None => Kind::Int,
+        Some(class) => Kind::Ref(class),
+    }
+}
+
+/// Declares a name for the lowest free local, if there is one.
+#[tactic(auto, unfolding(crate::specs::Worn::declared))]
+fn declare(
+    alloc: Global,
+    scope: &mut Scope,
+    name: &Text,
+    class: Option<ClassId>,
+) -> Result<(), AllocError>
+    ensures { OnOk result (scope.new ≡ declared name.now class scope.old) }
+{
+    let Some(local) = scope.kinds.free() else {
+        return Ok(());
+    };
+    scope.name_local(alloc, name.as_str(), local, unit_kind(class))
+}
+
+/// The class of the unit of a name.
+#[tactic(auto, unfolding(crate::specs::Worn::unit_class))]
+fn unit_class(scope: &Scope, unit: &Variable) -> Option<ClassId>
+    ensures { result ≡ unit_class scope.now unit.now }
+{
+    class_of(scope.kind_of(name_of(unit))?)
+}
+
+/// The class of the unit that an expression is.
+fn value_class(scope: &Scope, value: &Expr) -> Option<ClassId>
+    ensures { result ≡ value_class scope.now value.now }
+{
+    match value.node() {
+        ExprNode::Atom(Atom::Variable(unit)) => unit_class(scope, unit),
+        _ => None,
+    }
+}
+
+/// The class of the units of a sequence.
+fn sequence_class(schema: &Schema, scope: &Scope, sequence: &Sequence) -> Option<ClassId>
+    ensures { result ≡ sequence_class schema.now scope.now sequence.now }
+{
+    match sequence {
+        Sequence::Find { class, .. } => schema.class(class.as_str()),
+        Sequence::Links { unit, slot } => {
+            let class = unit_class(scope, unit)?;
+            let (_slot, link) = link_slot(schema, class, slot.as_str()).ok()?;
+            Some(link.to)
+        }
+    }
+}
+
+/// The name that a `with` declares.
+fn bound_name(binding: &Binding) -> &Text
+    ensures { result.now ≡ bound_name binding.now }
+{
+    match binding {
+        Binding::As { name, .. } => name,
+        Binding::Linked { name, .. } => name,
+    }
+}
+
+/// The class of the unit that a `with` declares a name for.
+fn bound_class(schema: &Schema, scope: &Scope, binding: &Binding) -> Option<ClassId>
+    ensures { result ≡ bound_class schema.now scope.now binding.now }
+{
+    match binding {
+        Binding::As { class, .. } => schema.class(class.as_str()),
+        Binding::Linked { unit, slot, .. } => {
+            let class = unit_class(scope, unit)?;
+            let (_slot, to) = partner_slot(schema, class, slot.as_str()).ok()?;
+            Some(to)
+        }
+    }
+}
+
+/// After an assignment a unit may be deleted.
+#[tactic(auto, unfolding(crate::specs::Worn::worn_name))]
+fn wear_name(scope: &mut Scope, name: &Text)
+    ensures { scope.new ≡ worn_name name.now scope.old }
+{
+    let Some(local) = scope.local_of(name.as_str()) else {
+        return;
+    };
+    if let Some(class) = class_of(scope.kinds.get(local)) {
+        scope.kinds.put(local, Kind::Old(class));
+    }
+}
+
+#[tactic(auto, unfolding(crate::specs::Worn::worn_action))]
+fn wear_action(
+    alloc: Global,
+    schema: &Schema,
+    scope: &mut Scope,
+    action: &Action,
+) -> Result<(), AllocError>
+    ensures { OnOk result (scope.new ≡ worn_action schema.now scope.old action.now) }
+{
+    match action {
+        Action::Let { name, value } => {
+            let class = value_class(scope, value);
+            declare(alloc, scope, name, class)
+        }
+        Action::New { name, class } => {
+            let class = schema.class(class.as_str());
+            declare(alloc, scope, name, class)
+        }
+        Action::Assign { name, .. } => {
+            wear_name(scope, name);
+            Ok(())
+        }
+        Action::Delete { unit } => {
+            if let Some(class) = unit_class(scope, unit) {
+                scope.kinds.strike(schema, class);
+            }
+            Ok(())
+        }
+        _ => Ok(()),
+    }
+}
+
+#[cycle(wear)]
+#[tactic(auto, unfolding(crate::specs::Worn::worn_otherwise))]
+fn wear_otherwise(
+    alloc: Global,
+    schema: &Schema,
+    scope: &mut Scope,
+    otherwise: &Option<Block>,
+) -> Result<(), AllocError>
+    ensures { OnOk result (scope.new ≡ worn_otherwise schema.now scope.old (otherwise_of otherwise.now)) }
+{
+    match otherwise {
+        None => Ok(()),
+        Some(block) => wear(alloc, schema, scope, block),
+    }
+}
+
+/// Goes over a block in which a name is declared for a unit: the names that are not live behind it, whichever ways were
+/// gone, are marked so.
+#[cycle(wear)]
+pub fn wear_under(
+    alloc: Global,
+    schema: &Schema,
+    scope: &mut Scope,
+    name: &Text,
+    class: Option<ClassId>,
+    block: &Block,
+) -> Result<(), AllocError>
+    ensures { OnOk result (scope.new ≡ worn_under schema.now scope.old name.now class block.now) }
+{
+    let mark = scope.mark();
+    declare(alloc, scope, name, class)?;
+    wear(alloc, schema, scope, block)?;
+    scope.leave(&mark);
+    Ok(())
+}
+
+#[cycle(wear)]
+#[tactic(auto, unfolding(crate::specs::Worn::worn_statement))]
+fn wear_statement(
+    alloc: Global,
+    schema: &Schema,
+    scope: &mut Scope,
+    statement: &Statement,
+) -> Result<(), AllocError>
+    ensures { OnOk result (scope.new ≡ worn_statement schema.now scope.old (statement_of statement.now)) }
+{
+    match statement {
+        Statement::Action(action) => wear_action(alloc, schema, scope, action),
+        Statement::If {
+            then,
+            otherwise,
+            ..
+        } => {
+            wear(alloc, schema, scope, then)?;
+            wear_otherwise(alloc, schema, scope, otherwise)
+        }
+        Statement::With {
+            binding,
+            then,
+            otherwise,
+        } => {
+            let class = bound_class(schema, scope, binding);
+            wear_under(alloc, schema, scope, bound_name(binding), class, then)?;
+            wear_otherwise(alloc, schema, scope, otherwise)
+        }
+        Statement::For {
+            name,
+            sequence,
+            body,
+        } => {
+            let class = sequence_class(schema, scope, sequence);
+            wear_under(alloc, schema, scope, name, class, body)
+        }
+    }
+}
+
+/// Goes over a block.
+#[cycle(wear)]
+#[tactic(auto, unfolding(crate::specs::Worn::worn_statements))]
+fn wear(alloc: Global, schema: &Schema, scope: &mut Scope, block: &Block) -> Result<(), AllocError>
+    ensures { OnOk result (scope.new ≡ worn_block schema.now scope.old block.now) }
+{
+    let mark = scope.mark();
+    for placed in block.statements() {
+        wear_statement(alloc, schema, scope, &placed.statement)?;
+    }
+    scope.leave(&mark);
+    Ok(())
+}

@@ -1,2 +1,0 @@
--- The lemmas that crates above use: a number is of 64 bits exactly where the test says so.
-pub use Rattle.bb_document.proofs.NumberLemmas.{fits_i64, i64_fits}

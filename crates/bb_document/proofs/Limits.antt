@@ -1,7 +1,0 @@
--- The number of the limit: the quick way reads as deep as `serde_json` does.
-use Rattle.std.proofs.Common.{◌≡◌, refl}
-use Rattle.bb_document.specs.declared.quick.TheConstants.{MAX_DEPTH}
-
--- levels of a document
-pub max_depth : MAX_DEPTH ≡ 127
-max_depth = refl

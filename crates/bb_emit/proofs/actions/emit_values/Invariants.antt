@@ -1,8 +1,0 @@
-use Rattle.std.proofs.Common.{◌≡◌, drop}
-use Rattle.bb_code.specs.Limits.{STACK_LIMIT}
-use Rattle.bb_emit.specs.Actions.{values_code}
-use Rattle.bb_emit.proofs.actions.emit_values.Given as goal
-
--- what is laid out, and what is still to be
-abbrev pub invariant-loop-value : goal.invariant-loop-value
-invariant-loop-value l = values_code l.schema l.room (drop l.value-index l.values) l.sheet ≡ values_code l.schema STACK_LIMIT l.values l.fn.sheet

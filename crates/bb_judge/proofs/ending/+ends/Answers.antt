@@ -1,8 +1,0 @@
-use Rattle.std.proofs.Common.{arith}
-use Rattle.bb_judge.proofs.Laws.{statement_in_block}
-use Rattle.bb_judge.proofs.ending.+ends.Goals as goal
-
-pub block_ends-always_ends-requires : goal.block_ends-always_ends-requires
-block_ends-always_ends-requires t c =
-    let below = statement_in_block c.args.block.now c.statements-placed-items.result.now c.loop-placed.placed-index c.placed-item.result c.statements-placed-items.ensures c.loop-placed-test.true c.placed-item.is in
-    (omega (arith, below), tt)

@@ -1,0 +1,62 @@
+-- What a reader of a text goes by: the token that comes next, and what is left behind it.
+use Rattle.std.specs.Prelude.{ℕ, ◌+◌, Bool, List, [], length, take, drop, Result, Ok, Err, false, if◌then◌else◌}
+use Rattle.std.specs.Str.{bytes_eq}
+use Rattle.bb_basis.specs.Results.{◌>>=◌, ok_or}
+use Rattle.bb_lang_token.specs.declared.fault.LangFault.{LangFault}
+use Rattle.bb_lang_token.specs.declared.fault.LangFault.TheVariants.{Character, Token}
+use Rattle.bb_lang_token.specs.declared.place.Place.{Place}
+use Rattle.bb_lang_token.specs.declared.scan.TokenKind.{TokenKind}
+use Rattle.bb_lang_token.specs.declared.scan.TokenKind.TheVariants.{End}
+use Rattle.bb_lang_token.specs.Places.{start, place_after}
+use Rattle.bb_lang_token.specs.Tokens.{blank_len, token_at}
+
+pub record State : Type 0 where
+  -- the token that comes next, and where it begins
+  pub kind : TokenKind
+  pub token : List ℕ
+  pub place : Place
+  -- the bytes behind it
+  pub rest : List ℕ
+  -- the names in scope, in the order in which they were declared
+  pub scope : List (List ℕ)
+  -- the names of the sources so far
+  pub sources : List (List ℕ)
+
+-- what a reader gives: what it read, and the state behind it; or a fault
+abbrev pub Reader : Type 0 → Type 0
+Reader X = State → Result (X × State) LangFault
+
+-- before the first token
+abbrev pub before : List ℕ → State
+before text = record { kind = End; token = []; place = start; rest = text; scope = []; sources = [] }
+
+-- the state at the token that begins with these bytes
+unfoldable pub at_token : State → Place → List ℕ → Result State LangFault
+at_token s place bytes = do
+  t ← ok_or (token_at bytes) (Character place)
+  Ok (record {
+    kind = t.0;
+    token = take t.1 bytes;
+    place = place;
+    rest = drop t.1 bytes;
+    scope = s.scope;
+    sources = s.sources;
+  })
+
+-- the state at the next token: blanks and comments are passed over
+unfoldable pub next : State → Result State LangFault
+next s =
+    let blanks = blank_len false s.rest in
+    at_token s (place_after (place_after s.place s.token) (take blanks s.rest)) (drop blanks s.rest)
+
+-- whether the token is this symbol or word
+abbrev pub at : List ℕ → State → Bool
+at word s = bytes_eq s.token word
+
+-- the state behind a token that has to be this symbol or word
+unfoldable pub skip : List ℕ → State → Result State LangFault
+skip word s = if at word s then next s else Err (Token s.place)
+
+-- how many bytes are left, those of the token too
+abbrev pub left : State → ℕ
+left s = length s.token + length s.rest

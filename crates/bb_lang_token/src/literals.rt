@@ -1,0 +1,173 @@
+//! What numbers and text constants stand for. Readers of the grammar call these where one has to come.
+
+ghost use Rattle.std.specs.Prelude.{◌≡◌, ◌≤◌, ◌<◌, ◌^◌, pos, neg_ℤ, nat_le, drop, Some, None, if◌then◌else◌, false, IfOk, IfSome};
+ghost use Rattle.std.specs.Str.Lossy.{utf8_lossy};
+ghost use Rattle.bb_basis.specs.Results.{Gives};
+ghost use Rattle.bb_lang_token.specs.declared.fault.LangFault.TheVariants.{Memory as OutOfMemory};
+ghost use Rattle.bb_lang_token.specs.Literals.{with_digits, number_at, number, int, divisor, escape_of};
+ghost use Rattle.bb_lang_token.specs.Literals.{text_bytes, text_at, text};
+
+use crate::fault::LangFault;
+use crate::parser::Parser;
+use bb_basis::Text;
+use std::alloc::{AllocError, Global};
+
+/// The greatest length of a text constant, in bytes of what it stands for.
+pub const TEXT_LIMIT: usize = 65_535;
+
+/// The number that digits write, if it is within a limit.
+fn number_of(digits: &[u8], limit: u64) -> Option<u64>
+    ensures number { result ≡ if nat_le (with_digits 0 digits.now) limit then Some (with_digits 0 digits.now) else None }
+    ensures within { IfSome result (λ n. n ≤ limit) }
+{
+    let limit = u128::from(limit);
+    let mut number: u128 = 0;
+    for digit in digits {
+        number = number * 10 + u128::from(digit.saturating_sub(b'0'));
+        if number > limit {
+            return None;
+        }
+    }
+    Some(number as u64)
+}
+
+/// The number with a minus.
+fn negated(number: u64) -> i64
+    requires { number ≤ 2 ^ 63 }
+    ensures { result ≡ neg_ℤ (pos number) }
+{
+    (-i128::from(number)) as i64
+}
+
+/// The number without a minus.
+fn signed(number: u64) -> i64
+    requires { number < 2 ^ 63 }
+    ensures { result ≡ pos number }
+{
+    number as i64
+}
+
+/// All bytes but the first.
+fn behind_first(bytes: &[u8]) -> &[u8]
+    ensures { result.now ≡ drop 1 bytes.now }
+{
+    match bytes {
+        [] => bytes,
+        [_, behind @ ..] => behind,
+    }
+}
+
+fn escape_of(byte: u8) -> u8
+    ensures { result ≡ escape_of byte }
+{
+    match byte {
+        b'n' => b'\n',
+        b't' => b'\t',
+        _ => byte,
+    }
+}
+
+/// What the bytes behind an opening quote stand for, up to the closing one.
+fn text_bytes(alloc: Global, bytes: &[u8]) -> Result<Vec<u8>, AllocError>
+    ensures { IfOk result (λ v. v.items ≡ text_bytes false bytes.now) }
+{
+    let mut text = Vec::new(alloc);
+    let mut escaped = false;
+    for byte in bytes {
+        if escaped {
+            text.push(escape_of(*byte))?;
+            escaped = false;
+            continue;
+        }
+        if *byte == b'"' {
+            return Ok(text);
+        }
+        if *byte == b'\\' {
+            escaped = true;
+            continue;
+        }
+        text.push(*byte)?;
+    }
+    Ok(text)
+}
+
+impl<'a> Parser<'a> {
+    /// INT, of a number up to a limit.
+    #[tactic(auto, unfolding(crate::specs::Literals::number_at))]
+    fn number_at(&self, limit: u64) -> Result<u64, LangFault>
+        ensures number { Gives OutOfMemory (λ n. n) result (number_at limit self.now) }
+        ensures within { IfOk result (λ n. n ≤ limit) }
+    {
+        let place = self.place();
+        if !self.kind().is_int() {
+            return Err(LangFault::Token { place });
+        }
+        number_of(self.token(), limit).ok_or(LangFault::Limit { place })
+    }
+
+    /// INT, of a number up to a limit.
+    #[tactic(auto, unfolding(crate::specs::Literals::number))]
+    fn read_number(&mut self, limit: u64) -> Result<u64, LangFault>
+        ensures number { Gives OutOfMemory (λ n. (n, self.new)) result (number limit self.old) }
+        ensures within { IfOk result (λ n. n ≤ limit) }
+    {
+        let number = self.number_at(limit)?;
+        self.advance()?;
+        Ok(number)
+    }
+
+    /// A whole number, which may have a `-`.
+    #[tactic(auto, unfolding(crate::specs::Literals::int))]
+    pub fn read_int(&mut self) -> Result<i64, LangFault>
+        ensures { Gives OutOfMemory (λ n. (n, self.new)) result (int self.old) }
+    {
+        if self.at("-") {
+            self.advance()?;
+            let number = self.read_number(1 << 63)?;
+            return Ok(negated(number));
+        }
+        let number = self.read_number((1 << 63) - 1)?;
+        Ok(signed(number))
+    }
+
+    /// INT by which is divided.
+    #[tactic(auto, unfolding(crate::specs::Literals::divisor))]
+    pub fn read_divisor(&mut self) -> Result<i64, LangFault>
+        ensures { Gives OutOfMemory (λ n. (n, self.new)) result (divisor self.old) }
+    {
+        let number = self.number_at((1 << 63) - 1)?;
+        if number == 0 {
+            return Err(LangFault::Limit {
+                place: self.place(),
+            });
+        }
+        self.advance()?;
+        Ok(signed(number))
+    }
+
+    /// What a text constant stands for.
+    #[tactic(auto, unfolding(crate::specs::Literals::text_at))]
+    fn text_at(&self, alloc: Global) -> Result<Text, LangFault>
+        ensures { Gives OutOfMemory (λ t. t) result (text_at self.now) }
+    {
+        let place = self.place();
+        if !self.kind().is_text() {
+            return Err(LangFault::Token { place });
+        }
+        let bytes = text_bytes(alloc, behind_first(self.token()))?;
+        if bytes.len() > TEXT_LIMIT {
+            return Err(LangFault::Limit { place });
+        }
+        Ok(Text::new(alloc, String::from_utf8_lossy(alloc, &bytes)?)?)
+    }
+
+    /// A text constant.
+    #[tactic(auto, unfolding(crate::specs::Literals::text))]
+    pub fn read_text(&mut self, alloc: Global) -> Result<Text, LangFault>
+        ensures { Gives OutOfMemory (λ t. (t, self.new)) result (text self.old) }
+    {
+        let text = self.text_at(alloc)?;
+        self.advance()?;
+        Ok(text)
+    }
+}

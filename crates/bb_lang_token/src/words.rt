@@ -1,0 +1,123 @@
+//! Names, and the words that are none. Readers of the grammar call these where a name has to come.
+
+ghost use Rattle.std.specs.Prelude.{◌≡◌, true, IfOk};
+ghost use Rattle.std.specs.List.{list_all};
+ghost use Rattle.bb_basis.specs.Names.{is_name, is_name_byte, starts_with_letter};
+ghost use Rattle.bb_basis.specs.Results.{Gives};
+ghost use Rattle.bb_lang_token.specs.declared.fault.LangFault.TheVariants.{Memory as OutOfMemory};
+ghost use Rattle.bb_lang_token.specs.Words.{is_reserved, member_at, name_at, member, name, declared};
+
+use crate::fault::LangFault;
+use crate::parser::Parser;
+use crate::scan::is_name_byte;
+use bb_basis::{NAME_LIMIT, Text};
+use std::alloc::{AllocError, Global};
+
+const RESERVED: &str =
+    "source on when create delete update link unlink enter leave quiescence rate require obviate retrigger revalidate do native let if else with as for in find new set say decline answer where all and or not within covers overlaps less more is true false min max low high size it ev";
+
+fn is_reserved(word: &[u8]) -> bool
+    ensures { result ≡ is_reserved word.now }
+{
+    RESERVED
+        .split(' ')
+        .any(|reserved| word == reserved.as_bytes())
+}
+
+fn are_name_bytes(bytes: &[u8]) -> bool
+    ensures { result ≡ list_all is_name_byte bytes.now }
+{
+    bytes.iter().all(|byte| is_name_byte(*byte))
+}
+
+fn starts_with_letter(bytes: &[u8]) -> bool
+    ensures { result ≡ starts_with_letter bytes.now }
+{
+    match bytes {
+        [] => false,
+        [first, ..] => first.is_ascii_lowercase(),
+    }
+}
+
+/// Whether bytes are those of a name.
+#[tactic(auto, unfolding(bb_basis::specs::Names::is_name))]
+fn is_name(bytes: &[u8]) -> bool
+    ensures { result ≡ is_name bytes.now }
+{
+    starts_with_letter(bytes) && are_name_bytes(bytes) && bytes.len() <= NAME_LIMIT
+}
+
+/// The text of a name.
+fn name_text(alloc: Global, bytes: &[u8]) -> Result<Text, AllocError>
+    requires { is_name bytes.now ≡ true }
+    ensures { IfOk result (λ t. t ≡ bytes.now) }
+{
+    Text::new(alloc, String::from_utf8_lossy(alloc, bytes)?)
+}
+
+impl<'a> Parser<'a> {
+    /// The name that the token is behind a `.`, where each word is one.
+    #[tactic(auto, unfolding(crate::specs::Words::member_at))]
+    fn member_at(&self, alloc: Global) -> Result<Text, LangFault>
+        ensures { Gives OutOfMemory (λ t. t) result (member_at self.now) }
+    {
+        let place = self.place();
+        if !self.kind().is_word() {
+            return Err(LangFault::Token { place });
+        }
+        let token = self.token();
+        if !is_name(token) {
+            return Err(LangFault::Limit { place });
+        }
+        Ok(name_text(alloc, token)?)
+    }
+
+    /// The name that the token is.
+    #[tactic(auto, unfolding(crate::specs::Words::name_at))]
+    pub fn name_at(&self, alloc: Global) -> Result<Text, LangFault>
+        ensures { Gives OutOfMemory (λ t. t) result (name_at self.now) }
+    {
+        if is_reserved(self.token()) {
+            return Err(LangFault::Token {
+                place: self.place(),
+            });
+        }
+        self.member_at(alloc)
+    }
+
+    /// A name behind a `.`.
+    #[tactic(auto, unfolding(crate::specs::Words::member))]
+    pub fn read_member(&mut self, alloc: Global) -> Result<Text, LangFault>
+        ensures { Gives OutOfMemory (λ t. (t, self.new)) result (member self.old) }
+    {
+        let member = self.member_at(alloc)?;
+        self.advance()?;
+        Ok(member)
+    }
+
+    /// NAME.
+    #[tactic(auto, unfolding(crate::specs::Words::name))]
+    pub fn read_name(&mut self, alloc: Global) -> Result<Text, LangFault>
+        ensures { Gives OutOfMemory (λ t. (t, self.new)) result (name self.old) }
+    {
+        let name = self.name_at(alloc)?;
+        self.advance()?;
+        Ok(name)
+    }
+
+    /// NAME where it is declared: from now on it is in scope.
+    #[tactic(auto, unfolding(crate::specs::Words::declared))]
+    pub fn read_declared(&mut self, alloc: Global) -> Result<Text, LangFault>
+        ensures { Gives OutOfMemory (λ t. (t, self.new)) result (declared self.old) }
+    {
+        let name = self.name_at(alloc)?;
+        if self.in_scope(name.as_str()) {
+            return Err(LangFault::Twice {
+                place: self.place(),
+            });
+        }
+        self.declare(alloc, name.as_str())?;
+        self.advance()?;
+        Ok(name)
+    }
+}

@@ -1,0 +1,26 @@
+-- A block has more nodes than each block in it.
+use Rattle.std.specs.Prelude.{suc, ◌≤◌, max, List, [], ◌∷◌, Some, None}
+use Rattle.std.proofs.Common.{arith}
+use denote.Param.Weighed.{most}
+use Rattle.bb_lang_tree.specs.declared.block.Placed.{Placed}
+use Rattle.bb_lang_tree.specs.declared.block.Statement.{Statement}
+use Rattle.bb_lang_tree.specs.declared.block.Statement.TheVariants.{Action, If, With, For}
+use Rattle.bb_lang_tree.specs.declared.block.Block.TheDeep.{deep-Placed, deep-Statement}
+use Rattle.bb_lang_tree.specs.BlockView.{block_of, statement_of}
+use Rattle.bb_lang_tree.specs.proving.BlockCodes.{block_roses, parts, block_size}
+use Rattle.bb_lang_tree.specs.proving.Rose.{all_nodes}
+
+statement_below : (s : Statement) → deep-Statement s ≤ suc (all_nodes (parts (statement_of s)))
+statement_below (Action a) = omega arith
+statement_below (If test then None) = omega arith
+statement_below (If test then (Some other)) = omega arith
+statement_below (With binding then None) = omega arith
+statement_below (With binding then (Some other)) = omega arith
+statement_below (For name sequence body) = omega arith
+
+all_below : (ss : List Placed) → most deep-Placed ss ≤ all_nodes (block_roses (block_of ss))
+all_below [] = omega arith
+all_below (s ∷ ss) = omega (arith, statement_below s.statement, all_below ss)
+
+pub block_falls : (ss : List Placed) → max (most deep-Placed ss) 0 ≤ block_size (block_of ss)
+block_falls ss = omega (arith, all_below ss)

@@ -1,0 +1,163 @@
+//! Statements and blocks, which hold one another. The reader of statements (bb_lang) makes them.
+
+use crate::atom::Variable;
+use crate::tree::{Expr, Sequence};
+use bb_basis::{Items, Text};
+use bb_lang_token::Place;
+use std::marker::Model;
+
+/// A statement without blocks.
+#[derive(Debug, Drop)]
+pub enum Action {
+    /// `let name = value;`
+    Let {
+        name: Text,
+        value: Expr,
+    },
+    /// `name = value;`
+    Assign {
+        name: Text,
+        value: Expr,
+    },
+    /// `new name: class;`
+    New {
+        name: Text,
+        class: Text,
+    },
+    /// `set unit.slot = value;`
+    Set {
+        unit: Variable,
+        slot: Text,
+        value: Expr,
+    },
+    /// `link unit.slot other;`
+    Link {
+        unit: Variable,
+        slot: Text,
+        other: Variable,
+    },
+    /// `unlink unit.slot other;`
+    Unlink {
+        unit: Variable,
+        slot: Text,
+        other: Variable,
+    },
+    /// `enter unit space;`
+    Enter {
+        unit: Variable,
+        space: Text,
+    },
+    /// `leave unit space;`
+    Leave {
+        unit: Variable,
+        space: Text,
+    },
+    /// `delete unit;`
+    Delete {
+        unit: Variable,
+    },
+    /// `say ..;`
+    Say(Items<Expr>),
+    /// `rate value;`
+    Rate(Expr),
+    /// `decline;`
+    Decline,
+    /// `answer value;`
+    Answer(Expr),
+}
+
+/// What a `with` declares: a name for a unit that passes its test.
+#[derive(Debug, Drop)]
+pub enum Binding {
+    /// `name = unit as class`: the unit is live and of the class.
+    As {
+        name: Text,
+        unit: Variable,
+        class: Text,
+    },
+    /// `name = unit.slot`: the unit has a partner there, which the name is for.
+    Linked {
+        name: Text,
+        unit: Variable,
+        slot: Text,
+    },
+}
+
+/// Statements in order. Contracts see them as a tree.
+#[cycle(block)]
+#[derive(Debug, Drop)]
+pub struct Block {
+    statements: Vec<Placed>,
+}
+
+/// A statement with the place of its first token.
+#[cycle(block)]
+#[derive(Debug, Drop)]
+pub struct Placed {
+    pub place: Place,
+    pub statement: Statement,
+}
+
+/// A statement.
+#[cycle(block)]
+#[derive(Debug, Drop)]
+pub enum Statement {
+    /// It has no blocks.
+    Action(Action),
+    /// `if test { .. } else { .. }`
+    If {
+        test: Expr,
+        then: Block,
+        otherwise: Option<Block>,
+    },
+    /// `with .. { .. } else { .. }`
+    With {
+        binding: Binding,
+        then: Block,
+        otherwise: Option<Block>,
+    },
+    /// `for name in sequence { .. }`
+    For {
+        name: Text,
+        sequence: Sequence,
+        body: Block,
+    },
+}
+
+impl Model for Block {
+    ghost use Rattle.bb_lang_tree.specs.Blocks.{BlockTree};
+    ghost use Rattle.bb_lang_tree.specs.proving.BlockCodes.{block_code, block_size};
+
+    ghost Value = { BlockTree };
+
+    ghost coded = { block_code };
+
+    ghost use Rattle.bb_lang_tree.specs.BlockView.{block_of};
+
+    ghost view = { λ b. block_of b.statements.items };
+
+    ghost size = { block_size };
+
+    ghost use Rattle.bb_lang_tree.specs.proving.BlockDepths.{block_falls};
+
+    ghost size_decreases = { λ b h. block_falls b.statements.items };
+}
+
+impl Block {
+    ghost use Rattle.std.specs.Prelude.{◌≡◌};
+    ghost use Rattle.bb_lang_tree.specs.BlockView.{block_of};
+
+    /// The block of statements.
+    pub fn new(statements: Vec<Placed>) -> Block
+        ensures { result ≡ block_of statements.items }
+    {
+        Block { statements }
+    }
+
+    /// The statements.
+    pub fn statements(&self) -> &[Placed]
+        ensures { block_of result.now ≡ self.now }
+    {
+        self.statements.as_slice()
+    }
+}

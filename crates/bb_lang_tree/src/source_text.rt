@@ -1,0 +1,131 @@
+//! A source as a text has it: its names are texts that are not looked up yet. `parse` of bb_lang makes it.
+
+use crate::block::Block;
+use bb_basis::{Items, Text};
+use bb_lang_token::Place;
+use std::alloc::AllocError;
+
+/// What happens, as a clause names it.
+#[derive(Debug, Drop)]
+pub enum ChangeText {
+    /// A unit is created.
+    Create,
+    /// A unit is deleted.
+    Delete,
+    /// The slot of this name is set.
+    Update(Text),
+    /// A link is added to the slot of this name.
+    Link(Text),
+    /// A link is taken from the slot of this name.
+    Unlink(Text),
+    /// A unit enters the space of this name.
+    Enter(Text),
+    /// A unit leaves the space of this name.
+    Leave(Text),
+}
+
+/// Which events a clause names.
+#[derive(Debug, Drop)]
+pub enum ClauseText {
+    /// A change of this kind, of a unit whose class has this name or descends from it.
+    Change { kind: ChangeText, class: Text },
+    /// No activation could be chosen.
+    Quiescence,
+}
+
+impl Clone for ChangeText {
+    ghost use Rattle.std.specs.Prelude.{◌≡◌};
+
+    ghost is_clone = { λ change copy. copy ≡ change };
+
+    fn clone(&self) -> Result<ChangeText, AllocError> {
+        Ok(match self {
+            ChangeText::Create => ChangeText::Create,
+            ChangeText::Delete => ChangeText::Delete,
+            ChangeText::Update(slot) => ChangeText::Update(slot.clone()?),
+            ChangeText::Link(slot) => ChangeText::Link(slot.clone()?),
+            ChangeText::Unlink(slot) => ChangeText::Unlink(slot.clone()?),
+            ChangeText::Enter(space) => ChangeText::Enter(space.clone()?),
+            ChangeText::Leave(space) => ChangeText::Leave(space.clone()?),
+        })
+    }
+}
+
+impl Clone for ClauseText {
+    ghost use Rattle.std.specs.Prelude.{◌≡◌};
+
+    ghost is_clone = { λ clause copy. copy ≡ clause };
+
+    fn clone(&self) -> Result<ClauseText, AllocError> {
+        Ok(match self {
+            ClauseText::Change { kind, class } => ClauseText::Change {
+                kind: kind.clone()?,
+                class: class.clone()?,
+            },
+            ClauseText::Quiescence => ClauseText::Quiescence,
+        })
+    }
+}
+
+/// A part of a source that is a block, with the place of its first token.
+#[derive(Debug, Drop)]
+pub struct PartText {
+    pub place: Place,
+    pub block: Block,
+}
+
+/// What a source does about its pending activations when certain events happen, with the places of its first token and
+/// of `on`.
+#[derive(Debug, Drop)]
+pub struct ReactionText {
+    pub place: Place,
+    pub on: Place,
+    pub class: Text,
+    pub clauses: Items<ClauseText>,
+    pub block: Block,
+}
+
+/// What an activation does.
+#[derive(Debug, Drop)]
+pub enum ActText {
+    /// It executes this block.
+    Do(PartText),
+    /// It calls the native of the source's name.
+    Native,
+}
+
+/// Who a source is: its name, and the class of the units that it works on, with the place of `on`.
+#[derive(Debug, Drop)]
+pub struct HeaderText {
+    pub name: Text,
+    pub on: Place,
+    pub class: Text,
+}
+
+/// What a source does besides its act, where the text has it.
+#[derive(Debug, Drop)]
+pub struct PartTexts {
+    /// Whether an event that triggers it makes an activation, and with which base rating.
+    pub require: Option<PartText>,
+    /// Which pending activations end without acting.
+    pub obviate: Option<ReactionText>,
+    /// Which pending activations are rated anew.
+    pub retrigger: Option<ReactionText>,
+    /// Whether an activation that was chosen may still act.
+    pub revalidate: Option<PartText>,
+}
+
+/// A source.
+#[derive(Debug, Drop)]
+pub struct SourceText {
+    /// Its name and class.
+    pub header: HeaderText,
+    /// Which events trigger it. There is one at least.
+    pub clauses: Items<ClauseText>,
+    /// The base rating of its activations.
+    pub rate: i64,
+    /// Its parts.
+    pub parts: PartTexts,
+    /// What an activation does.
+    pub act: ActText,
+}

@@ -1,0 +1,169 @@
+//! Expressions, the sequences that a loop goes over, and the patterns of `find`. They hold one another.
+
+use crate::atom::{Atom, Binary, Division, Operator, Relation, Unary, Variable};
+use bb_basis::Text;
+use std::marker::Model;
+
+/// An expression. Contracts see it as a tree.
+#[cycle(tree)]
+#[derive(Debug, Drop)]
+pub struct Expr {
+    pub(crate) node: ExprNode,
+}
+
+/// What an expression is made of.
+#[cycle(tree)]
+#[derive(Debug, Drop)]
+pub enum ExprNode {
+    /// It has no parts.
+    Atom(Atom),
+    /// What one operand becomes.
+    Unary {
+        operation: Unary,
+        operand: Box<Expr>,
+    },
+    /// What two operands become.
+    Binary {
+        operation: Binary,
+        left: Box<Expr>,
+        right: Box<Expr>,
+    },
+    /// Operands with operators of one rank between them, of which each takes all that stands before it. There is one
+    /// step at least.
+    Chain {
+        first: Box<Expr>,
+        steps: Vec<Step>,
+    },
+    /// `size(..)`: how many units are in a sequence.
+    Size(Box<Sequence>),
+}
+
+/// One more operator of a chain, with its operand.
+#[cycle(tree)]
+#[derive(Debug, Drop)]
+pub enum Step {
+    /// An operator with an expression.
+    Apply { operator: Operator, operand: Expr },
+    /// A division by a number that is not 0.
+    Divide { division: Division, divisor: i64 },
+}
+
+/// Units in order.
+#[cycle(tree)]
+#[derive(Debug, Drop)]
+pub enum Sequence {
+    /// `find class in space where pattern`
+    Find {
+        class: Text,
+        space: Text,
+        pattern: Pattern,
+    },
+    /// `unit.slot`: the units that a unit is linked to.
+    Links {
+        unit: Variable,
+        slot: Text,
+    },
+}
+
+/// A condition on the values that a unit has on the dimensions of a space. Contracts see it as a tree.
+#[cycle(tree)]
+#[derive(Debug, Drop)]
+pub struct Pattern {
+    pub(crate) node: PatternNode,
+}
+
+/// What a pattern is made of.
+#[cycle(tree)]
+#[derive(Debug, Drop)]
+pub enum PatternNode {
+    /// `all`: it holds of each unit.
+    All,
+    /// `and(..)`: each of these holds.
+    And(Vec<Pattern>),
+    /// `or(..)`: one of these holds.
+    Or(Vec<Pattern>),
+    /// `not(..)`: this does not hold.
+    Not(Box<Pattern>),
+    /// `dimension relation operand`
+    Test {
+        dimension: Text,
+        relation: Relation,
+        operand: Expr,
+    },
+}
+
+impl Model for Expr {
+    ghost use Rattle.bb_lang_tree.specs.Trees.{ExprTree};
+    ghost use Rattle.bb_lang_tree.specs.proving.Codes.{expr_code, expr_size};
+
+    ghost Value = { ExprTree };
+
+    ghost coded = { expr_code };
+
+    ghost use Rattle.bb_lang_tree.specs.View.{expr_of};
+
+    ghost view = { λ e. expr_of e.node };
+
+    ghost size = { expr_size };
+
+    ghost use Rattle.bb_lang_tree.specs.proving.Depths.{expr_falls};
+
+    ghost size_decreases = { λ e h. expr_falls e.node };
+}
+
+impl Model for Pattern {
+    ghost use Rattle.bb_lang_tree.specs.Trees.{PatternTree};
+    ghost use Rattle.bb_lang_tree.specs.proving.Codes.{pattern_code, pattern_size};
+
+    ghost Value = { PatternTree };
+
+    ghost coded = { pattern_code };
+
+    ghost use Rattle.bb_lang_tree.specs.View.{pattern_of};
+
+    ghost view = { λ p. pattern_of p.node };
+
+    ghost size = { pattern_size };
+
+    ghost use Rattle.bb_lang_tree.specs.proving.Depths.{pattern_falls};
+
+    ghost size_decreases = { λ p h. pattern_falls p.node };
+}
+
+impl Expr {
+    ghost use Rattle.std.specs.Prelude.{◌≡◌};
+    ghost use Rattle.bb_lang_tree.specs.View.{expr_of};
+
+    /// The expression of a node.
+    pub fn new(node: ExprNode) -> Expr
+        ensures { result ≡ expr_of node }
+    {
+        Expr { node }
+    }
+
+    /// The node at the top.
+    pub fn node(&self) -> &ExprNode
+        ensures { expr_of result.now ≡ self.now }
+    {
+        &self.node
+    }
+}
+
+impl Pattern {
+    ghost use Rattle.std.specs.Prelude.{◌≡◌};
+    ghost use Rattle.bb_lang_tree.specs.View.{pattern_of};
+
+    /// The pattern of a node.
+    pub fn new(node: PatternNode) -> Pattern
+        ensures { result ≡ pattern_of node }
+    {
+        Pattern { node }
+    }
+
+    /// The node at the top.
+    pub fn node(&self) -> &PatternNode
+        ensures { pattern_of result.now ≡ self.now }
+    {
+        &self.node
+    }
+}

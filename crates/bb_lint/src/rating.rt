@@ -1,0 +1,62 @@
+//! Sources whose activations are never chosen, as long as no unit is a focus. What is said of sources asks.
+
+ghost use Rattle.std.specs.Prelude.{◌≡◌};
+ghost use Rattle.std.specs.List.{list_any};
+ghost use Rattle.bb_lint.specs.Ratings.{any_makes_focus, makes_focus, may_make_focus, starts_below, stays_below};
+
+use bb_code::{ClassId, Op, Schema};
+use bb_rules::{Act, Source};
+
+// The class of foci, which is the first of each schema.
+const FOCUS: ClassId = 0;
+
+// Whether an op creates a focus.
+fn makes_focus(schema: &Schema, op: Op) -> bool
+    ensures { result ≡ makes_focus schema.now op }
+{
+    match op {
+        Op::New(class) => schema.descends(class, FOCUS),
+        _ => false,
+    }
+}
+
+// Whether one of the ops does.
+fn any_op_makes_focus(schema: &Schema, ops: &[Op]) -> bool
+    ensures { result ≡ list_any (makes_focus schema.now) ops.now }
+{
+    ops.iter().any(|op| makes_focus(schema, *op))
+}
+
+// Whether what an activation does may create one.
+fn may_make_focus(schema: &Schema, act: &Act) -> bool
+    ensures { result ≡ may_make_focus schema.now act.now }
+{
+    match act {
+        Act::Code(checked) => any_op_makes_focus(schema, checked.code().ops()),
+        Act::Native => true,
+    }
+}
+
+/// Whether one of the sources may create a focus.
+pub(crate) fn any_makes_focus(schema: &Schema, sources: &[Source]) -> bool
+    ensures { result ≡ any_makes_focus schema.now sources.now }
+{
+    sources
+        .iter()
+        .any(|source| may_make_focus(schema, &source.parts().act))
+}
+
+// Whether each activation of a source has its rate for a base, which is below the floor.
+fn starts_below(floor: i64, source: &Source) -> bool
+    ensures { result ≡ starts_below floor source.now }
+{
+    let parts = source.parts();
+    parts.require.is_none() && parts.retrigger.is_none() && parts.rate < floor
+}
+
+/// The same, and that they stay there: `raised` says whether a source may create a focus.
+pub(crate) fn stays_below(raised: bool, floor: i64, source: &Source) -> bool
+    ensures { result ≡ stays_below raised floor source.now }
+{
+    !raised && starts_below(floor, source)
+}

@@ -1,0 +1,36 @@
+//! What an op comes to where the execution does not go on. The ops answer it, and the execution makes its outcome of it.
+
+ghost use Rattle.std.specs.Prelude.{◌≡◌};
+ghost use Rattle.bb_machine_state.specs.declared.halt.Halt.TheVariants.{Memory};
+
+use crate::outcome::{Answer, Stuck};
+use std::alloc::{AllocError, AllocFailed};
+
+/// Why no op follows this one.
+#[derive(Clone, Copy, Debug, PartialEq, Eq)]
+pub enum Halt {
+    /// The op ends the execution.
+    Answered(Answer),
+    /// No more units can be created.
+    Full,
+    /// The op can't be done.
+    Stuck(Stuck),
+    /// Memory ran out.
+    Memory,
+}
+
+impl From<AllocError> for Halt {
+    ghost from_gives = { λ _ halt. halt ≡ Memory };
+
+    fn from(_error: AllocError) -> Halt {
+        Halt::Memory
+    }
+}
+
+impl<T: Drop> From<AllocFailed<T>> for Halt {
+    ghost from_gives = { λ _ halt. halt ≡ Memory };
+
+    fn from(_error: AllocFailed<T>) -> Halt {
+        Halt::Memory
+    }
+}

@@ -1,0 +1,66 @@
+//! The command line as `clap` is told of it: its words, what their values are, and what help shows. `options` parses by
+//! it.
+
+ghost use Rattle.std.specs.Prelude.{◌≡◌, IfOk, List};
+ghost use Rattle.clap.specs.Words.{app_of};
+ghost use Rattle.clap.specs.declared.builder.value_parser.ValueParser.TheVariants.{Values};
+ghost use Rattle.bb_main_options.specs.CommandLine.{command_with, names_in};
+ghost use Rattle.bb_main_options.specs.CommandLine.{mode_names};
+
+use clap::builder::PossibleValue;
+use clap::{Arg, Command, value_parser};
+use std::alloc::{AllocError, Global};
+
+/// The version that the program tells.
+pub const VERSION: &str = "0.9.0";
+
+/// The end of help: what the program's statuses mean.
+const STATUSES: &str = "Exit status:
+  0  The run came to quiescence, or the check or the bundle was written
+  2  The input is refused, or these words are
+  3  The run made as many cycles as its limit
+  4  The run found no room for one more unit or activation
+  5  Memory ran out
+  6  The output took no more";
+
+/// The modes, with what help says of each.
+pub(crate) fn mode_values() -> [PossibleValue<'static>; 3]
+    ensures { names_in result ≡ mode_names }
+{
+    [
+        PossibleValue::new("run").help("Run the sources and write the trace"),
+        PossibleValue::new("check").help("Verify all sources and write what their parts cost"),
+        PossibleValue::new("compile").help("Write the bundle of the sources that are text"),
+    ]
+}
+
+/// The command, whose mode is one of these values.
+pub(crate) fn command<'a>(
+    alloc: Global,
+    modes: &'a [PossibleValue<'a>],
+) -> Result<Command<'a>, AllocError>
+    ensures { IfOk result (λ c. app_of c ≡ command_with (Values modes.entry)) }
+{
+    let mode = Arg::new(alloc, "mode")
+        .value_name("MODE")
+        .value_parser(modes)
+        .help("What to do with the input [default: run]");
+    let limit = Arg::new(alloc, "limit")
+        .long("limit")
+        .value_name("N")
+        .value_parser(value_parser!(u32))
+        .help("The most cycles of a run [default: 1000000]");
+    let floor = Arg::new(alloc, "floor")
+        .long("floor")
+        .value_name("N")
+        .value_parser(value_parser!(i64))
+        .help("The least rating that is chosen, a negative one as --floor=-5 [default: 0]");
+    Command::new(alloc, "bb")
+        .version(VERSION)
+        .about("A blackboard shell: reads an input from standard input")
+        .after_help(STATUSES)
+        .no_binary_name(true)
+        .arg(mode)?
+        .arg(limit)?
+        .arg(floor)
+}

@@ -1,0 +1,43 @@
+//! Why words give no options. `options` answers it, and programs print its text.
+
+ghost use Rattle.std.specs.Prelude.{◌≡◌};
+ghost use Rattle.bb_main_options.specs.declared.fault.OptionsFault.TheVariants.{Memory as OutOfMemory};
+ghost use Rattle.bb_main_options.specs.Faults.{fault_number};
+
+use std::alloc::AllocError;
+use thiserror::Error;
+
+/// Why the words of a command line give no options.
+#[derive(Debug, Drop, Error)]
+pub enum OptionsFault {
+    /// They ask for help or the version, which is this text.
+    #[error("{0}")]
+    Help(String),
+    /// They are not those of the command, as this text explains.
+    #[error("{0}")]
+    Words(String),
+    /// Memory ran out.
+    #[error("out of memory")]
+    Memory,
+}
+
+impl OptionsFault {
+    /// The number of the fault, from 1 to 3.
+    pub fn number(&self) -> u8
+        ensures { result ≡ fault_number self.now }
+    {
+        match self {
+            OptionsFault::Help(_) => 1,
+            OptionsFault::Words(_) => 2,
+            OptionsFault::Memory => 3,
+        }
+    }
+}
+
+impl From<AllocError> for OptionsFault {
+    ghost from_gives = { λ _ e. e ≡ OutOfMemory };
+
+    fn from(_refused: AllocError) -> OptionsFault {
+        OptionsFault::Memory
+    }
+}

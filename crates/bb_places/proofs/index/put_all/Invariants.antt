@@ -1,6 +1,0 @@
-use Rattle.bb_places.specs.Places.{ArePut}
-use Rattle.bb_places.proofs.PlaceLemmas.{AreIn}
-use Rattle.bb_places.proofs.index.put_all.Given as goal
-
-abbrev pub invariant-loop-dim : goal.invariant-loop-dim
-invariant-loop-dim l = ArePut l.unit l.values l.fn.places l.places × AreIn l.dim l.unit l.values l.places

@@ -1,0 +1,11 @@
+//! How pieces of an input are shown to people: a line of a text with a caret, a name in quotes, and where a document
+//! stops being JSON. The notes of refusals (bb_refusal_report) are made of these.
+#![tactic(auto)]
+
+mod excerpt;
+mod scan;
+mod words;
+
+pub use excerpt::{line_at, write_excerpt, write_whole_line};
+pub use scan::fault_at;
+pub use words::{begin_line, write_note, write_phrase, write_quoted};

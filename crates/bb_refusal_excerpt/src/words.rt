@@ -1,0 +1,51 @@
+//! How names of an input are shown, and how a note begins. All notes (bb_refusal_report) use these.
+
+use bb_basis::Memory;
+
+/// The margin before each line that stands below a sentence.
+const MARGIN: &str = "\n  | ";
+
+/// The most characters of a name that are shown.
+const SHOWN: usize = 64;
+
+/// What marks that a text goes on.
+pub(crate) const MORE: &str = "..";
+
+/// Begins a line below the sentence.
+pub fn begin_line(text: &mut String) -> Result<(), Memory> {
+    text.push_str(MARGIN)
+}
+
+/// Appends a name in quotes, cut where it is long. A control character is a blank, so that a text of a stranger does
+/// nothing to a terminal.
+pub fn write_quoted(text: &mut String, name: &str) -> Result<(), Memory> {
+    text.push_str("\"")?;
+    for c in name.chars().take(SHOWN) {
+        text.push(if c.is_control() { ' ' } else { c })?;
+    }
+    if name.chars().nth(SHOWN).is_some() {
+        text.push_str(MORE)?;
+    }
+    text.push_str("\"")
+}
+
+/// Appends a phrase, and then a name in quotes.
+pub fn write_phrase(text: &mut String, phrase: &str, name: &str) -> Result<(), Memory> {
+    text.push_str(phrase)?;
+    text.push_str(" ")?;
+    write_quoted(text, name)
+}
+
+/// Appends a note: what something is called and what is wrong with it, with a colon between the two where both are
+/// there. Where neither is, there is no note.
+pub fn write_note(text: &mut String, called: &str, flaw: &str) -> Result<(), Memory> {
+    if called.is_empty() && flaw.is_empty() {
+        return Ok(());
+    }
+    begin_line(text)?;
+    text.push_str(called)?;
+    if !called.is_empty() && !flaw.is_empty() {
+        text.push_str(": ")?;
+    }
+    text.push_str(flaw)
+}

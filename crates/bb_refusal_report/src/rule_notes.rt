@@ -1,0 +1,103 @@
+//! The line of a bundle that has the clause, or the class, by which a source is refused. Texts of sources have their
+//! faults when they are compiled.
+
+use bb_basis::Memory;
+use bb_refusal_excerpt::{begin_line, write_whole_line};
+use bb_rules::{ClassPlace, ClauseList, ClausePlace, RuleFault};
+use std::fmt::Write;
+
+/// Appends the line of the bundle with the clause, or the class, of a source's fault, where it has one: nothing where
+/// not just one source has the name.
+pub(crate) fn note_rule(
+    text: &mut String,
+    name: &str,
+    fault: RuleFault,
+    bundle: &str,
+) -> Result<(), Memory> {
+    let Some(place) = place_of(fault) else {
+        return Ok(());
+    };
+    if bundle.lines().filter(|line| is_header(line, name)).count() != 1 {
+        return Ok(());
+    }
+    match line_of(bundle, name, place) {
+        None => Ok(()),
+        Some(line) => {
+            begin_line(text)?;
+            write!(text, "line {line} of the bundle")?;
+            write_whole_line(text, bundle, line)
+        }
+    }
+}
+
+fn place_of(fault: RuleFault) -> Option<ClassPlace> {
+    match fault {
+        RuleFault::Slot { place } | RuleFault::Space { place } => Some(ClassPlace::Clause(place)),
+        RuleFault::Class { place } => Some(place),
+        _ => None,
+    }
+}
+
+// Whether a line begins the source of a name.
+fn is_header(line: &str, name: &str) -> bool {
+    let mut words = line.split(' ');
+    words.next() == Some("source") && words.next() == Some(name)
+}
+
+// How far the lines of a source have come.
+#[derive(Drop)]
+struct Walk {
+    // It is the source of the name.
+    is_there: bool,
+    list: Option<ClauseList>,
+    index: usize,
+}
+
+impl Walk {
+    // Goes over a line, and answers the place that it has.
+    fn step(&mut self, line: &str, name: &str) -> Option<ClassPlace> {
+        match line.split(' ').next() {
+            Some("source") => {
+                self.is_there = is_header(line, name);
+                self.begin(Some(ClauseList::Triggers), ClassPlace::Source)
+            }
+            Some("obviate") => self.begin(Some(ClauseList::Obviate), ClassPlace::Obviate),
+            Some("retrigger") => self.begin(Some(ClauseList::Retrigger), ClassPlace::Retrigger),
+            Some("when") => {
+                let list = self.list?;
+                let index = self.index;
+                self.index = index.saturating_add(1);
+                Some(ClassPlace::Clause(ClausePlace { list, index }))
+            }
+            _ => {
+                self.list = None;
+                None
+            }
+        }
+    }
+
+    // Begins a list of clauses with a line that names a class.
+    fn begin(&mut self, list: Option<ClauseList>, place: ClassPlace) -> Option<ClassPlace> {
+        self.list = list;
+        self.index = 0;
+        Some(place)
+    }
+}
+
+// The number of the line, from 1, that has a place in the source of a name.
+fn line_of(bundle: &str, name: &str, place: ClassPlace) -> Option<u64> {
+    let mut walk = Walk {
+        is_there: false,
+        list: None,
+        index: 0,
+    };
+    let mut number = 0u64;
+    for line in bundle.lines() {
+        number = number.saturating_add(1);
+        let found = walk.step(line, name);
+        if walk.is_there && found == Some(place) {
+            return Some(number);
+        }
+    }
+    None
+}

@@ -1,0 +1,103 @@
+//! The parts of a schema that is being read: its classes so far, and slots whose links still have names. The readers of
+//! entries, `read/classes.rt` and below, add to them.
+
+ghost use Rattle.std.specs.Prelude.{◌≡◌, ◌<◌, length, OnOk};
+ghost use Rattle.std.specs.List.{list_any};
+ghost use Rattle.bb_schema_classes.specs.declared.draft.TheConstants.{SLOT_LIMIT};
+ghost use Rattle.bb_schema_classes.specs.Drafts.{draft_has_name};
+
+use crate::class::{Class, ClassId};
+use crate::kind::SlotId;
+use crate::value::Value;
+use bb_basis::{Items, Table, Text};
+use std::alloc::AllocError;
+
+/// The greatest number of slots of a class, with the inherited ones.
+pub(crate) const CLASS_SLOT_LIMIT: usize = 64;
+
+/// The greatest number of slots of all classes.
+pub const SLOT_LIMIT: usize = 65_536;
+
+/// A slot of a schema that is being read.
+#[derive(Drop)]
+pub struct Draft {
+    pub name: Text,
+    pub owner: ClassId,
+    pub content: DraftContent,
+}
+
+/// What a slot holds, where a link still has names: its class may come later.
+#[derive(Drop)]
+pub enum DraftContent {
+    Default(Value),
+    Link { to: Text, many: bool, inverse: Text },
+}
+
+/// The classes that were read so far, and all their slots.
+#[derive(Drop)]
+pub struct SchemaDraft {
+    pub classes: Table<Class>,
+    pub slots: Items<Draft>,
+}
+
+/// A class that is being read: all slots so far, and the numbers of its own, inherited ones first.
+#[derive(Drop)]
+pub struct ClassDraft {
+    pub slots: Items<Draft>,
+    pub class_slots: Items<SlotId>,
+}
+
+/// The class that slots are read for.
+#[derive(Drop)]
+pub struct Owner {
+    pub name: Text,
+    pub number: ClassId,
+}
+
+/// Whether the slot of a number has the name.
+#[tactic(auto, unfolding(crate::specs::Drafts::draft_has_name))]
+pub(crate) fn draft_has_name(slots: &[Draft], slot: SlotId, name: &str) -> bool
+    ensures { result ≡ draft_has_name slots.now name.now slot }
+{
+    match slots.get(slot as usize) {
+        None => false,
+        Some(found) => name == found.name.as_str(),
+    }
+}
+
+/// Whether one of some slots has the name.
+fn is_any_named(slots: &[Draft], numbers: &[SlotId], name: &str) -> bool
+    ensures { result ≡ list_any (draft_has_name slots.now name.now) numbers.now }
+{
+    numbers
+        .iter()
+        .any(|number| draft_has_name(slots, *number, name))
+}
+
+impl ClassDraft {
+    ghost use Rattle.bb_schema_classes.specs.Drafts.{has_slot_named, is_full, with_slot};
+
+    /// Whether the class has a slot of the name, an inherited one perhaps.
+    pub(crate) fn has_slot_named(&self, name: &str) -> bool
+        ensures { result ≡ has_slot_named self.now name.now }
+    {
+        is_any_named(self.slots.as_slice(), self.class_slots.as_slice(), name)
+    }
+
+    /// Whether the class can have no more slots.
+    pub(crate) fn is_full(&self) -> bool
+        ensures { result ≡ is_full self.now }
+    {
+        self.class_slots.len() >= CLASS_SLOT_LIMIT || self.slots.len() >= SLOT_LIMIT
+    }
+
+    /// Appends a slot to the class, which gets the next number.
+    pub(crate) fn push(&mut self, draft: Draft) -> Result<(), AllocError>
+        requires { length self.old.slots < SLOT_LIMIT }
+        ensures { OnOk result (self.new ≡ with_slot self.old draft) }
+    {
+        self.class_slots.push(self.slots.len() as SlotId)?;
+        self.slots.push(draft)?;
+        Ok(())
+    }
+}

@@ -1,0 +1,137 @@
+//! Why a document means no schema. `Walked::of` answers it, and `Schema::read` of `bb_schema`, from which the faults of
+//! the form and of spaces come.
+
+ghost use Rattle.std.specs.Prelude.{◌≡◌};
+ghost use Rattle.bb_basis.specs.Results.{map_err};
+ghost use Rattle.bb_schema_classes.specs.declared.fault.SchemaFault.TheVariants.{Memory as OutOfMemory};
+ghost use Rattle.bb_schema_classes.specs.Faults.{flaw_number, fault_number, here, inside};
+
+use bb_schema_form::{DocumentPlace, ListKey};
+use std::alloc::{AllocError, AllocFailed};
+use thiserror::Error;
+
+/// What is wrong with a document, or with an entry of it.
+#[derive(Clone, Copy, Debug, PartialEq, Eq, Error)]
+pub enum SchemaFlaw {
+    /// The text is not JSON.
+    #[error("the schema is not JSON")]
+    Json,
+    /// The JSON does not have the form of a schema: another key, a missing one, or a value of another form.
+    #[error("the schema has not the form of a schema")]
+    Shape,
+    /// An entry declares a text that is no name.
+    #[error("a declared name is not a name")]
+    Name,
+    /// An entry declares a name that is declared already.
+    #[error("a name is declared twice")]
+    Twice,
+    /// An entry refers to something that is not declared.
+    #[error("a reference to what is not declared")]
+    Unknown,
+    /// The inverse of a link slot does not point back to it.
+    #[error("the inverse of a link slot does not point back")]
+    Inverse,
+    /// A class of a space lacks a slot for a dimension.
+    #[error("a class of a space lacks a slot of a dimension")]
+    Dimension,
+    /// The entry is past the limit of its list.
+    #[error("too many entries")]
+    Limit,
+}
+
+impl SchemaFlaw {
+    /// The number by which a refusal line names the flaw, from 1 to 8.
+    pub fn number(self) -> u8
+        ensures { result ≡ flaw_number self }
+    {
+        match self {
+            SchemaFlaw::Json => 1,
+            SchemaFlaw::Shape => 2,
+            SchemaFlaw::Name => 3,
+            SchemaFlaw::Twice => 4,
+            SchemaFlaw::Unknown => 5,
+            SchemaFlaw::Inverse => 6,
+            SchemaFlaw::Dimension => 7,
+            SchemaFlaw::Limit => 8,
+        }
+    }
+}
+
+/// Why a document means no schema: the first flaw that its reading meets, and the entry at which it stands.
+#[derive(Clone, Copy, Debug, PartialEq, Eq, Error)]
+pub enum SchemaFault {
+    /// The flaw of the entry at the place; that of a text that is not JSON is of the whole document.
+    #[error("{flaw}")]
+    At {
+        flaw: SchemaFlaw,
+        place: DocumentPlace,
+    },
+    /// Memory ran out.
+    #[error("out of memory")]
+    Memory,
+}
+
+impl SchemaFault {
+    /// The number by which a refusal line names the fault, from 1 to 9.
+    pub fn number(self) -> u8
+        ensures { result ≡ fault_number self }
+    {
+        match self {
+            SchemaFault::At { flaw, place: _ } => flaw.number(),
+            SchemaFault::Memory => 9,
+        }
+    }
+
+    /// The fault of what is read itself, and not of an entry of one of its lists.
+    pub fn here(flaw: SchemaFlaw) -> SchemaFault
+        ensures { result ≡ here flaw }
+    {
+        SchemaFault::At {
+            flaw,
+            place: DocumentPlace::Whole,
+        }
+    }
+
+    /// The fault of an entry, seen from where the entry is one of a list.
+    pub fn inside(self, list: ListKey, index: usize) -> SchemaFault
+        ensures { result ≡ inside list index self }
+    {
+        match self {
+            SchemaFault::At { flaw, place } => SchemaFault::At {
+                flaw,
+                place: place.inside(list, index),
+            },
+            SchemaFault::Memory => SchemaFault::Memory,
+        }
+    }
+}
+
+/// The answer of an entry of a list, a fault at its place in there.
+pub fn placed<T>(
+    answer: Result<T, SchemaFault>,
+    list: ListKey,
+    index: usize,
+) -> Result<T, SchemaFault>
+    ensures { result ≡ map_err (inside list index) answer }
+{
+    match answer {
+        Ok(value) => Ok(value),
+        Err(fault) => Err(fault.inside(list, index)),
+    }
+}
+
+impl From<AllocError> for SchemaFault {
+    ghost from_gives = { λ _ e. e ≡ OutOfMemory };
+
+    fn from(_refused: AllocError) -> SchemaFault {
+        SchemaFault::Memory
+    }
+}
+
+impl<T: Drop> From<AllocFailed<T>> for SchemaFault {
+    ghost from_gives = { λ _ e. e ≡ OutOfMemory };
+
+    fn from(_refused: AllocFailed<T>) -> SchemaFault {
+        SchemaFault::Memory
+    }
+}

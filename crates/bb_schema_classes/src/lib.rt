@@ -1,0 +1,22 @@
+//! The classes of a schema: its label sets, classes with their inheritance, the values of slots, and slots as their
+//! entries declare them. `Walked::of` reads all that, and `bb_schema` stands on it.
+#![tactic(auto)]
+
+mod class;
+mod draft;
+mod fault;
+mod kind;
+mod label_set;
+mod read;
+mod span;
+mod value;
+
+pub use bb_schema_form::{DocumentPlace, ListItem, ListKey};
+pub use class::{Class, ClassId, parent};
+pub use draft::{Draft, DraftContent, SLOT_LIMIT, SchemaDraft};
+pub use fault::{SchemaFault, SchemaFlaw, placed};
+pub use kind::{Kind, Link, SlotId};
+pub use label_set::{LabelId, LabelSet, LabelSetId, Labels};
+pub use read::{CLASS_LIMIT, LABEL_SET_LIMIT, Walked, resolve_link};
+pub use span::{Span, span_at, spans_of};
+pub use value::{TEXT_LIMIT, Value};

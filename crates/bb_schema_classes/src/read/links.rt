@@ -1,0 +1,108 @@
+//! The link slots of a class, read one entry after another.
+
+ghost use Rattle.std.specs.Prelude.{◌≡◌, IfOk, map, string_bytes};
+ghost use Rattle.bb_basis.specs.Results.{Gives, try_fold_at};
+ghost use Rattle.bb_schema_form.specs.Document.{link_declaration};
+ghost use Rattle.bb_schema_classes.specs.declared.fault.SchemaFault.TheVariants.{Memory as OutOfMemory};
+ghost use Rattle.bb_schema_classes.specs.declared.draft.DraftContent.TheVariants.{Link as LinkByName};
+ghost use Rattle.bb_schema_form.specs.declared.place.ListKey.TheVariants as lists;
+ghost use Rattle.bb_schema_classes.specs.Faults.{inside};
+ghost use Rattle.bb_schema_classes.specs.LinkReading.{leads_to, leads_back, link_after};
+
+use crate::draft::{ClassDraft, Draft, DraftContent, Owner};
+use crate::fault::{SchemaFault, SchemaFlaw, placed};
+use crate::read::entries::{ClassIndex, Entries};
+use bb_basis::{Text, is_name};
+use bb_schema_form::{LinkEntry, ListKey};
+use std::alloc::{AllocError, Global};
+
+fn leads_to(link: &LinkEntry, class: &str, inverse: &str) -> bool
+    ensures { result ≡ leads_to (link_declaration link.now) class.now inverse.now }
+{
+    link.to.as_str() == class && link.inverse.as_str() == inverse
+}
+
+/// Whether the class that a link leads to declares its inverse, another slot, which leads back.
+fn leads_back(target: &ClassIndex, class: &str, link: &LinkEntry) -> bool
+    ensures { result ≡ leads_back target.now class.now (link_declaration link.now) }
+{
+    let name = link.name.as_str();
+    if leads_to(link, class, name) {
+        return false;
+    }
+    match target.link(link.inverse.as_str()) {
+        None => false,
+        Some(back) => leads_to(back, class, name),
+    }
+}
+
+fn link_content(alloc: Global, entry: &LinkEntry) -> Result<DraftContent, AllocError>
+    ensures { IfOk result (λ content. content ≡
+        LinkByName (string_bytes entry.now.to) entry.now.many (string_bytes entry.now.inverse)) }
+{
+    Ok(DraftContent::Link {
+        to: Text::from_str(alloc, entry.to.as_str())?,
+        many: entry.many,
+        inverse: Text::from_str(alloc, entry.inverse.as_str())?,
+    })
+}
+
+/// Appends the link slot of an entry to the class `owner`.
+#[tactic(auto, unfolding(crate::specs::LinkReading::link_after))]
+fn add_link(
+    alloc: Global,
+    all: &Entries,
+    owner: &Owner,
+    draft: &mut ClassDraft,
+    entry: &LinkEntry,
+) -> Result<(), SchemaFault>
+    ensures { Gives OutOfMemory (λ _. draft.new) result
+        (link_after all.now owner.now.name owner.now.number draft.old (link_declaration entry.now)) }
+{
+    let name = entry.name.as_str();
+    if !is_name(name) {
+        return Err(SchemaFault::here(SchemaFlaw::Name));
+    }
+    if draft.has_slot_named(name) {
+        return Err(SchemaFault::here(SchemaFlaw::Twice));
+    }
+    let target = all
+        .named(entry.to.as_str())
+        .ok_or(SchemaFault::here(SchemaFlaw::Unknown))?;
+    if !leads_back(target, owner.name.as_str(), entry) {
+        return Err(SchemaFault::here(SchemaFlaw::Inverse));
+    }
+    if draft.is_full() {
+        return Err(SchemaFault::here(SchemaFlaw::Limit));
+    }
+    let name = Text::from_str(alloc, name)?;
+    let content = link_content(alloc, entry)?;
+    draft.push(Draft {
+        name,
+        owner: owner.number,
+        content,
+    })?;
+    Ok(())
+}
+
+/// Appends the link slots of some entries to the class `owner`.
+pub(crate) fn add_links(
+    alloc: Global,
+    all: &Entries,
+    owner: &Owner,
+    draft: &mut ClassDraft,
+    entries: &[LinkEntry],
+) -> Result<(), SchemaFault>
+    ensures { Gives OutOfMemory (λ _. draft.new) result
+        (try_fold_at (inside lists.Links) (link_after all.now owner.now.name owner.now.number) 0 draft.old
+        (map link_declaration entries.now)) }
+{
+    for (index, entry) in entries.iter().enumerate() {
+        placed(
+            add_link(alloc, all, owner, draft, entry),
+            ListKey::Links,
+            index,
+        )?;
+    }
+    Ok(())
+}

@@ -1,0 +1,17 @@
+-- Faults of a document, and their places.
+use Rattle.std.specs.Prelude.{ℕ}
+use Rattle.bb_schema_form.specs.declared.fault.DocumentFault.{DocumentFault}
+use Rattle.bb_schema_form.specs.declared.fault.DocumentFault.TheVariants.{Json, Shape, Memory}
+use Rattle.bb_schema_form.specs.declared.place.ListKey.{ListKey}
+use Rattle.bb_schema_form.specs.declared.place.DocumentPlace.TheVariants.{Whole}
+use Rattle.bb_schema_form.specs.Places.{inside_place}
+
+-- what is read has not its form itself
+abbrev pub misshapen : DocumentFault
+misshapen = Shape Whole
+
+-- the fault of an entry, seen from where the entry is one of a list
+abbrev pub inside : ListKey → ℕ → DocumentFault → DocumentFault
+inside list index Json = Json
+inside list index (Shape place) = Shape (inside_place list index place)
+inside list index Memory = Memory

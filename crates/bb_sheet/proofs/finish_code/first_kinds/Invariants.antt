@@ -1,7 +1,0 @@
-use Rattle.std.proofs.Common.{◌≡◌, map}
-use Rattle.std.specs.List.{range_with_len}
-use Rattle.bb_judge.specs.LocalKinds.{kind_at}
-use Rattle.bb_sheet.proofs.finish_code.first_kinds.Given as goal
-
-abbrev pub invariant-loop-local : goal.invariant-loop-local
-invariant-loop-local l = l.first.items ≡ map (kind_at l.kinds) (range_with_len 0 l.local)

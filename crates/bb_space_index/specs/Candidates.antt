@@ -1,0 +1,29 @@
+-- Which values can pass a test: by the low end of an interval, or by the label.
+use Rattle.std.specs.Prelude.{ℕ, ℤ, Bool, true, false, ◌&&◌, ◌==◌, int_le, int_lt, if◌then◌else◌}
+use Rattle.bb_pattern.specs.declared.pattern.Relation.{Relation}
+use Rattle.bb_pattern.specs.declared.pattern.Relation.TheVariants.{Within, Covers, Overlaps, Less, More}
+use Rattle.bb_pattern.specs.declared.value.DimValue.{DimValue}
+use Rattle.bb_pattern.specs.declared.value.DimValue.TheVariants as values
+use Rattle.bb_space_index.specs.declared.leaf.Leaf.{Leaf}
+use Rattle.bb_space_index.specs.declared.leaf.Leaf.TheVariants.{Ordered, Is}
+
+-- whether an interval that begins at a number can be in the relation to [low, high]
+abbrev pub reaches : Relation → ℤ → ℤ → ℤ → Bool
+reaches Within from low high = int_le low from && int_le from high
+reaches Covers from low high = int_le from low
+reaches Overlaps from low high = int_le from high
+reaches Less from low high = int_lt from low
+reaches More from low high = int_lt high from
+
+-- whether a value can pass the test; two numbers of which the second is less are no interval, and can
+abbrev pub may_pass : Leaf → DimValue → Bool
+may_pass (Ordered relation dim low high) (values.Interval from to) =
+    if int_le from to then reaches relation from low high else true
+may_pass (Ordered relation dim low high) (values.Label set label) = false
+may_pass (Is dim set label) (values.Interval from to) = false
+may_pass (Is dim set label) (values.Label of other) = (of == set) && (other == label)
+
+-- the dimension that the test is of
+abbrev pub dim_of : Leaf → ℕ
+dim_of (Ordered relation dim low high) = dim
+dim_of (Is dim set label) = dim

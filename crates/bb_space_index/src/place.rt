@@ -1,0 +1,91 @@
+//! Where a value stands in the index of a space. index.rt keeps the places of all members in their order.
+
+ghost use Rattle.std.specs.Prelude.{◌≡◌, ◌<◌, length};
+ghost use Rattle.bb_space_index.specs.Places.{sort_of, key_of, next_of, place_of, is_at};
+
+use bb_pattern::DimValue;
+use bb_schema::UnitId;
+
+/// A value that a unit has on a dimension. Those of a dimension stand together: first the intervals by their low ends,
+/// then those that are none, then the labels by their sets. Those of one low end, or of one label, stand by what their
+/// units have on the next dimension.
+#[derive(Clone, Copy, PartialEq, Eq, PartialOrd, Ord)]
+pub struct Place {
+    pub dim: usize,
+    /// 1 for an interval, 2 for two numbers of which the second is less, 4 and the number of its set for a label.
+    pub sort: u32,
+    /// The low end, or the label.
+    pub key: i64,
+    /// 1 for each value. So 0 stands before all of a sort and key, and 2 behind them.
+    pub edge: u8,
+    /// The same of the value on the next dimension. All are 0 where there is none.
+    pub next_sort: u32,
+    pub next_key: i64,
+    pub next_edge: u8,
+    pub unit: UnitId,
+}
+
+/// Where values of a kind stand among those of a dimension.
+fn sort_of(value: DimValue) -> u32
+    ensures { result ≡ sort_of value }
+{
+    match value {
+        DimValue::Interval(low, high) if low <= high => 1,
+        DimValue::Interval(_, _) => 2,
+        DimValue::Label(set, _) => 4 + u32::from(set),
+    }
+}
+
+/// Where a value stands among those of its kind.
+fn key_of(value: DimValue) -> i64
+    ensures { result ≡ key_of value }
+{
+    match value {
+        DimValue::Interval(low, high) if low <= high => low,
+        DimValue::Interval(_, _) => 0,
+        DimValue::Label(_, label) => i64::from(label),
+    }
+}
+
+/// The value on the dimension after one, or behind the last of them that on the first.
+pub(crate) fn next_of(values: &[DimValue], dim: usize) -> Option<DimValue>
+    requires { dim < length values.now }
+    ensures { result ≡ next_of values.now dim }
+{
+    if let Some(next) = values.get(dim + 1) {
+        return Some(*next);
+    }
+    Some(*values.first()?)
+}
+
+impl Place {
+    /// The place of a value that a unit has on a dimension, before another on the next one.
+    pub(crate) fn of(dim: usize, value: DimValue, next: Option<DimValue>, unit: UnitId) -> Place
+        ensures { result ≡ place_of dim unit value next }
+    {
+        let (next_sort, next_key, next_edge) = match next {
+            None => (0, 0, 0),
+            Some(next) => (sort_of(next), key_of(next), 1),
+        };
+        Place {
+            dim,
+            sort: sort_of(value),
+            key: key_of(value),
+            edge: 1,
+            next_sort,
+            next_key,
+            next_edge,
+            unit,
+        }
+    }
+
+    /// Whether one of these values, one for each dimension in order, stands here.
+    pub(crate) fn is_of(&self, values: &[DimValue]) -> bool
+        ensures { result ≡ is_at values.now self.now }
+    {
+        let Some(value) = values.get(self.dim) else {
+            return false;
+        };
+        Place::of(self.dim, *value, next_of(values, self.dim), self.unit) == *self
+    }
+}

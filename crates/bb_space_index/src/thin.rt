@@ -1,0 +1,165 @@
+//! Which of some units can pass tests, by a walk over the places where each test asks. These lie side by side, and so
+//! many of them are gone over in the time in which one unit is looked up. `bb_space` asks for them.
+
+ghost use Rattle.std.specs.Prelude.{◌≡◌, ℕ, true, IfOk, IfSome, filter};
+ghost use Rattle.bb_space_index.specs.Spots.{stands_in, is_near};
+ghost use Rattle.bb_space_index.specs.Marks.{is_kept, is_left, LeavesNear, LeavesAllNear};
+
+use crate::leaf::Leaf;
+use crate::near::{end_spot, first_spot, spot};
+use crate::place::Place;
+use bb_basis::Memory;
+use bb_schema::UnitId;
+use std::alloc::Global;
+use std::collections::BTreeSet;
+
+/// Marks of units, one after another from a first one on, and how many places may still be gone over.
+#[derive(Drop)]
+pub(crate) struct Marks {
+    first: UnitId,
+    marks: Vec<bool>,
+    left: usize,
+}
+
+/// Marks a unit, if it has a mark.
+fn mark(marks: &mut Vec<bool>, first: UnitId, unit: UnitId)
+    ensures keeps { (n : ℕ) → is_kept first marks.old.items n ≡ true → is_kept first marks.new.items n ≡ true }
+    ensures marked { is_kept first marks.new.items unit ≡ true }
+{
+    let Some(at) = unit.checked_sub(first) else {
+        return;
+    };
+    let at = at as usize;
+    if at < marks.len() {
+        marks[at] = true;
+    }
+}
+
+/// Whether a unit is marked, or has no mark.
+fn is_kept(first: UnitId, marks: &[bool], unit: UnitId) -> bool
+    ensures { result ≡ is_kept first marks.now unit }
+{
+    let Some(at) = unit.checked_sub(first) else {
+        return true;
+    };
+    match marks.get(at as usize) {
+        None => true,
+        Some(mark) => *mark,
+    }
+}
+
+/// Marks the units whose places stand between two, and says whether it came to the end.
+fn mark_between(places: &BTreeSet<Place>, from: Place, to: Place, marks: &mut Marks) -> bool
+    ensures keeps { (n : ℕ) → is_left marks.old n ≡ true → is_left marks.new n ≡ true }
+    ensures marked { result ≡ true
+        → (n : ℕ) → stands_in from to places.now n ≡ true → is_left marks.new n ≡ true }
+{
+    if to < from {
+        return true;
+    }
+    for place in places.range(from..to) {
+        if marks.left == 0 {
+            return false;
+        }
+        marks.left -= 1;
+        mark(&mut marks.marks, marks.first, place.unit);
+    }
+    true
+}
+
+/// Marks the candidates for a test, and says whether it came to the end.
+fn mark_near(places: &BTreeSet<Place>, leaf: &Leaf, marks: &mut Marks) -> bool
+    ensures { result ≡ true → (n : ℕ) → is_near leaf.now places.now n ≡ true → is_left marks.new n ≡ true }
+{
+    match *leaf {
+        Leaf::Ordered {
+            relation,
+            dim,
+            low,
+            high,
+        } => {
+            let dim = dim as usize;
+            let from = first_spot(relation, dim, low, high);
+            let to = end_spot(relation, dim, low, high);
+            if !mark_between(places, from, to, marks) {
+                return false;
+            }
+            mark_between(places, spot(dim, 2, 0, 0), spot(dim, 3, 0, 0), marks)
+        }
+        Leaf::Is { dim, set, label } => {
+            let dim = dim as usize;
+            let sort = 4 + u32::from(set);
+            let key = i64::from(label);
+            mark_between(
+                places,
+                spot(dim, sort, key, 0),
+                spot(dim, sort, key, 2),
+                marks,
+            )
+        }
+    }
+}
+
+/// Those of some units that are marked, or have no mark.
+fn kept(
+    alloc: Global,
+    first: UnitId,
+    marks: &[bool],
+    among: &[UnitId],
+) -> Result<Vec<UnitId>, Memory>
+    ensures { IfOk result (λ list. list.items ≡ filter (is_kept first marks.now) among.now) }
+{
+    let mut list = Vec::new(alloc);
+    for unit in among {
+        if is_kept(first, marks, *unit) {
+            list.push(*unit)?;
+        }
+    }
+    Ok(list)
+}
+
+/// Some units without others that can't pass a test, or `None` where too many places stand where it asks.
+fn thin_by(
+    alloc: Global,
+    places: &BTreeSet<Place>,
+    test: &Leaf,
+    room: usize,
+    among: &[UnitId],
+) -> Result<Option<Vec<UnitId>>, Memory>
+    ensures { IfOk result (λ thin. IfSome thin (λ list.
+        LeavesNear (is_near test.now places.now) among.now list.items)) }
+{
+    let first = among.first().copied().unwrap_or(0);
+    let mut marks = Vec::new(alloc);
+    marks.resize(room, false)?;
+    let left = among.len().saturating_mul(32);
+    let mut marks = Marks { first, marks, left };
+    if !mark_near(places, test, &mut marks) {
+        return Ok(None);
+    }
+    Ok(Some(kept(alloc, marks.first, &marks.marks, among)?))
+}
+
+/// Some units without others that can't pass each of some tests, where marks for so many tell which.
+pub fn thin_all(
+    alloc: Global,
+    places: &BTreeSet<Place>,
+    tests: &[Leaf],
+    room: usize,
+    among: &[UnitId],
+) -> Result<Vec<UnitId>, Memory>
+    ensures { IfOk result (λ list. LeavesAllNear tests.now places.now among.now list.items) }
+{
+    let mut list = among.to_vec(alloc)?;
+    for test in tests {
+        // So few are sooner looked up.
+        if list.len() < 16 {
+            break;
+        }
+        let Some(less) = thin_by(alloc, places, test, room, &list)? else {
+            continue;
+        };
+        list = less;
+    }
+    Ok(list)
+}

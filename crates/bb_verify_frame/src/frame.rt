@@ -1,0 +1,131 @@
+//! Frames: what is known of the locals and of the stack at a place. The verifier keeps one for each place.
+
+ghost use Rattle.std.specs.Prelude.{◌≡◌, ◌≤◌, length, map, IfOk, Ok};
+ghost use Rattle.bb_code.specs.Answers.{map_ok};
+ghost use Rattle.bb_code.specs.Limits.{LOCAL_LIMIT, STACK_LIMIT};
+ghost use Rattle.bb_verify_frame.specs.Frame.{frame_of, pop, pop_two, enough, top, without, room, push, local_at, with_local};
+
+use crate::locals::Locals;
+use crate::stack::Stack;
+use bb_code::{Flaw, Frame as Declared, Kind, LocalId, STACK_LIMIT};
+
+/// The kinds of all locals and of the entries of the stack.
+#[derive(Drop)]
+pub struct Frame {
+    pub locals: Locals,
+    pub stack: Stack,
+}
+
+impl Frame {
+    /// A declared frame.
+    pub fn of(declared: &Declared) -> Frame
+        requires locals { length declared.now.locals ≤ LOCAL_LIMIT }
+        requires stack { length declared.now.stack ≤ STACK_LIMIT }
+        ensures { result ≡ frame_of declared.now }
+    {
+        Frame {
+            locals: Locals::of(declared.locals.as_slice()),
+            stack: Stack::of(declared.stack.as_slice()),
+        }
+    }
+
+    /// The same once more.
+    pub fn copied(&self) -> Frame
+        ensures { result ≡ self.now }
+    {
+        Frame {
+            locals: self.locals.copied(),
+            stack: self.stack.copied(),
+        }
+    }
+
+    /// Pops the newest entry.
+    #[tactic(auto, unfolding(crate::specs::Frame::pop))]
+    pub fn pop(&mut self) -> Result<Kind, Flaw>
+        ensures { map_ok (λ kind. (kind, self.new)) result ≡ pop self.old }
+    {
+        match self.stack.pop() {
+            None => Err(Flaw::Depth),
+            Some(kind) => Ok(kind),
+        }
+    }
+
+    /// Pops the two newest entries, of which it returns the deeper one first.
+    #[tactic(auto, unfolding(crate::specs::Frame::pop_two))]
+    pub fn pop_two(&mut self) -> Result<(Kind, Kind), Flaw>
+        ensures { map_ok (λ two. (two, self.new)) result ≡ pop_two self.old }
+    {
+        let second = self.pop()?;
+        let first = self.pop()?;
+        Ok((first, second))
+    }
+
+    /// There are so many entries.
+    #[tactic(auto, unfolding(crate::specs::Frame::enough))]
+    pub fn enough(&self, count: usize) -> Result<(), Flaw>
+        ensures value { result ≡ enough count self.now }
+        ensures some { IfOk result (λ _. count ≤ length self.now.stack) }
+    {
+        if self.stack.len() < count {
+            return Err(Flaw::Depth);
+        }
+        Ok(())
+    }
+
+    /// So many of the newest entries, the deepest first.
+    pub fn top(&self, count: usize) -> &[Kind]
+        requires { count ≤ length self.now.stack }
+        ensures { result.now ≡ top count self.now }
+    {
+        self.stack.top(count)
+    }
+
+    /// Drops so many of the newest entries.
+    pub fn shorten(&mut self, count: usize)
+        requires { count ≤ length self.old.stack }
+        ensures { self.new ≡ without count self.old }
+    {
+        self.stack.shorten(count);
+    }
+
+    /// The stack has room for one more entry.
+    #[tactic(auto, unfolding(crate::specs::Frame::room))]
+    pub fn room(&self) -> Result<(), Flaw>
+        ensures { result ≡ room self.now }
+    {
+        if self.stack.len() >= STACK_LIMIT {
+            return Err(Flaw::Depth);
+        }
+        Ok(())
+    }
+
+    /// Pushes an entry.
+    #[tactic(auto, unfolding(crate::specs::Frame::push, crate::specs::Frame::room))]
+    pub fn push(&mut self, kind: Kind) -> Result<(), Flaw>
+        ensures { map_ok (λ _. self.new) result ≡ push kind self.old }
+    {
+        if self.stack.len() >= STACK_LIMIT {
+            return Err(Flaw::Depth);
+        }
+        self.stack.push(kind);
+        Ok(())
+    }
+
+    /// What is known of a local.
+    #[tactic(auto, unfolding(crate::specs::Frame::local_at))]
+    pub fn local(&self, local: LocalId) -> Kind
+        ensures { result ≡ local_at local self.now }
+    {
+        match self.locals.get(local) {
+            None => Kind::Any,
+            Some(kind) => kind,
+        }
+    }
+
+    /// Gives a local another kind.
+    pub fn set_local(&mut self, local: LocalId, kind: Kind)
+        ensures { self.new ≡ with_local local kind self.old }
+    {
+        self.locals.put(local, kind);
+    }
+}

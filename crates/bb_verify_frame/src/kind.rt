@@ -1,0 +1,116 @@
+//! Kinds: which may stand where others are declared, and what a deletion leaves of them. The checks of ops and of edges
+//! call it.
+
+ghost use Rattle.std.specs.Prelude.{◌≡◌, map};
+ghost use Rattle.std.specs.Cmp.Lexicographic.{pointwise};
+ghost use Rattle.bb_verify_frame.specs.Kinds.{is_same_plain, weakens, weakens_local, frame_weakens, struck};
+ghost use Rattle.bb_verify_frame.specs.Frame.{frame_of};
+
+use crate::frame::Frame;
+use bb_code::{ClassId, Frame as Declared, Kind, Schema};
+
+/// Whether both are one kind of values that are neither units nor sequences.
+pub fn is_same_plain(kind: Kind, other: Kind) -> bool
+    ensures { result ≡ is_same_plain kind other }
+{
+    match (kind, other) {
+        (Kind::Int, Kind::Int) => true,
+        (Kind::Text, Kind::Text) => true,
+        (Kind::Bool, Kind::Bool) => true,
+        (Kind::Label(set), Kind::Label(of)) => set == of,
+        (Kind::Interval, Kind::Interval) => true,
+        _ => false,
+    }
+}
+
+/// Whether an entry of the stack may stand where another kind is declared.
+#[tactic(auto, unfolding(crate::specs::Kinds::weakens))]
+pub(crate) fn weakens(schema: &Schema, kind: Kind, declared: Kind) -> bool
+    ensures { result ≡ weakens schema.now kind declared }
+{
+    match (kind, declared) {
+        (Kind::Ref(class), Kind::Ref(ancestor)) => schema.descends(class, ancestor),
+        (Kind::Ref(class), Kind::Old(ancestor)) => schema.descends(class, ancestor),
+        (Kind::Old(class), Kind::Old(ancestor)) => schema.descends(class, ancestor),
+        (Kind::Seq(class), Kind::Seq(ancestor)) => schema.descends(class, ancestor),
+        _ => is_same_plain(kind, declared),
+    }
+}
+
+/// Whether a local may stand where another kind is declared.
+#[tactic(auto, unfolding(crate::specs::Kinds::weakens_local))]
+pub(crate) fn weakens_local(schema: &Schema, kind: Kind, declared: Kind) -> bool
+    ensures { result ≡ weakens_local schema.now kind declared }
+{
+    match declared {
+        Kind::Any => true,
+        _ => weakens(schema, kind, declared),
+    }
+}
+
+fn all_weaken(schema: &Schema, kinds: &[Kind], declared: &[Kind]) -> bool
+    ensures { result ≡ pointwise (weakens schema.now) kinds.now declared.now }
+{
+    if kinds.len() != declared.len() {
+        return false;
+    }
+    for i in 0..kinds.len() {
+        if !weakens(schema, kinds[i], declared[i]) {
+            return false;
+        }
+    }
+    true
+}
+
+fn all_locals_weaken(schema: &Schema, kinds: &[Kind], declared: &[Kind]) -> bool
+    ensures { result ≡ pointwise (weakens_local schema.now) kinds.now declared.now }
+{
+    if kinds.len() != declared.len() {
+        return false;
+    }
+    for i in 0..kinds.len() {
+        if !weakens_local(schema, kinds[i], declared[i]) {
+            return false;
+        }
+    }
+    true
+}
+
+/// Whether a frame may stand where another is declared.
+#[tactic(auto, unfolding(crate::specs::Kinds::frame_weakens), using(crate::proofs::StackLemmas::pointwise_onto))]
+pub fn frame_weakens(schema: &Schema, frame: &Frame, declared: &Declared) -> bool
+    ensures { result ≡ frame_weakens schema.now frame.now (frame_of declared.now) }
+{
+    if !all_locals_weaken(schema, frame.locals.kinds(), declared.locals.as_slice()) {
+        return false;
+    }
+    all_weaken(schema, frame.stack.entries(), declared.stack.as_slice())
+}
+
+/// What is known of a unit, of a local or an entry of the stack, once a unit of a class was deleted.
+#[tactic(auto, unfolding(crate::specs::Kinds::struck))]
+fn struck(schema: &Schema, deleted: ClassId, kind: Kind) -> Kind
+    ensures { result ≡ struck schema.now deleted kind }
+{
+    match kind {
+        Kind::Ref(class) => {
+            if schema.descends(class, deleted) {
+                return Kind::Old(class);
+            }
+            if schema.descends(deleted, class) {
+                return Kind::Old(class);
+            }
+            kind
+        }
+        _ => kind,
+    }
+}
+
+/// The same of all that a slice holds.
+pub(crate) fn mark_stale(schema: &Schema, deleted: ClassId, kinds: &mut [Kind])
+    ensures { kinds.new ≡ map (struck schema.now deleted) kinds.old }
+{
+    for i in 0..kinds.len() {
+        kinds[i] = struck(schema, deleted, kinds[i]);
+    }
+}

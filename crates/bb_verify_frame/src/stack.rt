@@ -1,0 +1,121 @@
+//! The kinds of the entries of a stack. Frames hold it.
+
+ghost use Rattle.std.specs.Prelude.{◌≡◌, ◌<◌, ◌≤◌, length, [], ◌∷◌, List, Option, Some, None, option_map, drop, reverse, take, map};
+ghost use Rattle.bb_code.specs.Limits.{STACK_LIMIT};
+ghost use Rattle.bb_verify_frame.specs.Kinds.{struck};
+ghost use Rattle.bb_verify_frame.specs.Stack.{newest};
+
+use crate::kind::mark_stale;
+use bb_code::{ClassId, Kind, STACK_LIMIT, Schema};
+use std::marker::Model;
+
+/// The kinds of at most `STACK_LIMIT` entries. Contracts see them as a list, the newest first.
+#[derive(Drop)]
+pub struct Stack {
+    // The deepest first. Those from `len` on mean nothing.
+    kinds: [Kind; STACK_LIMIT],
+    len: usize,
+}
+
+impl Model for Stack {
+    ghost use Rattle.std.specs.Prelude.{◌≡◌, ◌≤◌, List, length, reverse, take};
+    ghost use Rattle.bb_code.specs.Kind.{Kind as Entry};
+
+    ghost Value = { List Entry };
+
+    ghost view = { λ s. reverse (take s.len s.kinds) };
+
+    ghost invariant = { λ s. (length s.kinds ≡ 64) × (s.len ≤ 64) };
+}
+
+impl Stack {
+    /// The same once more.
+    pub(crate) fn copied(&self) -> Stack
+        ensures { result ≡ self.now }
+    {
+        Stack {
+            kinds: self.kinds,
+            len: self.len,
+        }
+    }
+
+    /// The empty stack.
+    pub fn new() -> Stack
+        ensures { result ≡ [] }
+    {
+        Stack {
+            kinds: [Kind::Any; STACK_LIMIT],
+            len: 0,
+        }
+    }
+
+    /// The stack of these entries, the deepest first.
+    pub(crate) fn of(entries: &[Kind]) -> Stack
+        requires { length entries.now ≤ STACK_LIMIT }
+        ensures { result ≡ reverse entries.now }
+    {
+        let mut stack = Stack::new();
+        for kind in entries {
+            stack.push(*kind);
+        }
+        stack
+    }
+
+    /// The number of entries.
+    pub fn len(&self) -> usize
+        ensures { result ≡ length self.now }
+    {
+        self.len
+    }
+
+    /// Pushes an entry.
+    pub(crate) fn push(&mut self, kind: Kind)
+        requires { length self.old < STACK_LIMIT }
+        ensures { self.new ≡ kind ∷ self.old }
+    {
+        self.kinds[self.len] = kind;
+        self.len += 1;
+    }
+
+    /// Pops the newest entry.
+    pub(crate) fn pop(&mut self) -> Option<Kind>
+        ensures { option_map (λ kind. (kind, self.new)) result ≡ newest self.old }
+    {
+        if self.len == 0 {
+            return None;
+        }
+        self.len -= 1;
+        Some(self.kinds[self.len])
+    }
+
+    /// Drops so many of the newest entries.
+    pub(crate) fn shorten(&mut self, count: usize)
+        requires { count ≤ length self.old }
+        ensures { self.new ≡ drop count self.old }
+    {
+        self.len -= count;
+    }
+
+    /// So many of the newest entries, the deepest first.
+    pub(crate) fn top(&self, count: usize) -> &[Kind]
+        requires { count ≤ length self.now }
+        ensures { result.now ≡ reverse (take count self.now) }
+    {
+        &self.kinds[self.len - count..self.len]
+    }
+
+    /// All entries, the deepest first.
+    pub fn entries(&self) -> &[Kind]
+        ensures value { result.now ≡ reverse self.now }
+        ensures few { length self.now ≤ STACK_LIMIT }
+    {
+        &self.kinds[..self.len]
+    }
+
+    /// Leaves what is known of the entries once a unit of a class was deleted.
+    pub fn mark_stale(&mut self, schema: &Schema, deleted: ClassId)
+        ensures { self.new ≡ map (struck schema.now deleted) self.old }
+    {
+        mark_stale(schema, deleted, &mut self.kinds);
+    }
+}

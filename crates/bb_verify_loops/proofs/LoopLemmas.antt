@@ -1,0 +1,95 @@
+-- The loops of a code.
+use Rattle.std.proofs.Common.{◌≡◌, ℕ, zero, suc, ◌+◌, ◌-◌, ◌<◌, ◌≤◌, Bool, true, false, List, ◌∷◌, length, drop, get_or, Option, Some, None, Result, Ok, Err, refl, sym, ap, ◌∙◌, arith, add-one, drop-cons, cond}
+use Rattle.std.specs.Prelude.{nat_le, nat_lt, slice_get}
+use Rattle.std.specs.List.{range_with_len}
+use Rattle.std.proofs.lemmas.List.{drop_all}
+use Rattle.std.proofs.lemmas.Option.{slice_get-get_or}
+use Rattle.std.proofs.lemmas.Bool.Decides.{nat_tests}
+use Rattle.bb_basis.specs.Results.{◌>>=◌, map_err}
+use Rattle.bb_basis.proofs.ResultLemmas.{bind_ok}
+use Rattle.bb_code.specs.Code.{Code}
+use Rattle.bb_code.specs.Loop.{Loop}
+use Rattle.bb_code.specs.Op.{Op}
+use Rattle.bb_code.specs.Op.TheVariants as ops
+use Rattle.bb_verify_loops.specs.declared.loops.TheConstants.{NESTING_LIMIT}
+use Rattle.bb_code.specs.Each.{each}
+use Rattle.bb_code.specs.Flaws.{fault_at}
+use Rattle.bb_verify_loops.specs.Loops.{check_order, rising, lesser, lowest_outside, depth, head_due, op_due, place_due, loop_at, loops, none_outside}
+
+-- ---- two loops of the list, one behind the other
+
+next_is : (ls : List Loop) (i : ℕ) (d : Loop) → i < length ls → drop i ls ≡ get_or ls i d ∷ drop (i + 1) ls
+next_is ls i d lt = drop-cons ls i d lt ∙ ap (λ k. get_or ls i d ∷ drop k ls) (sym (add-one i))
+
+pub two_next : (ls : List Loop) (next : ℕ) (d e : Loop) → 1 ≤ next → next < length ls → drop (next - 1) ls ≡ get_or ls (next - 1) d ∷ get_or ls next e ∷ drop (next + 1) ls
+two_next ls next d e some lt =
+    next_is ls (next - 1) d (omega (arith, some, lt))
+    ∙ ap (λ l. get_or ls (next - 1) d ∷ l) (ap (λ k. drop k ls) (omega (arith, some)) ∙ next_is ls next e lt)
+
+pub after_one : (ls : List Loop) (next : ℕ) (e : Loop) → next < length ls → drop (next + 1 - 1) ls ≡ get_or ls next e ∷ drop (next + 1) ls
+after_one ls next e lt = ap (λ k. drop k ls) (omega arith) ∙ next_is ls next e lt
+
+-- ---- heads outside the code
+
+outside_step : (count : ℕ) (so_far : Option ℕ) (ls : List Loop) (i : ℕ) (d : Loop) → i < length ls
+    → lowest_outside count so_far (drop i ls) ≡ lowest_outside count (cond (nat_lt (get_or ls i d).head count) so_far (Some (lesser so_far (get_or ls i d).head))) (drop (i + 1) ls)
+unfolding lowest_outside
+outside_step count so_far ls i d lt = ap (lowest_outside count so_far) (next_is ls i d lt)
+
+pub outside_skip : (count : ℕ) (so_far : Option ℕ) (ls : List Loop) (i : ℕ) (d : Loop) (total : Option ℕ) → i < length ls → (get_or ls i d).head < count
+    → lowest_outside count so_far (drop i ls) ≡ total → lowest_outside count so_far (drop (i + 1) ls) ≡ total
+outside_skip count so_far ls i d total lt inside before =
+    let test : nat_lt (get_or ls i d).head count ≡ true = grind (arith, nat_tests) in
+    sym (ap (λ b. lowest_outside count (cond b so_far (Some (lesser so_far (get_or ls i d).head))) (drop (i + 1) ls)) test) ∙ (sym (outside_step count so_far ls i d lt) ∙ before)
+
+pub outside_take : (count : ℕ) (so_far : Option ℕ) (ls : List Loop) (i : ℕ) (d : Loop) (r : ℕ) (total : Option ℕ) → i < length ls → count ≤ (get_or ls i d).head → r ≡ lesser so_far (get_or ls i d).head
+    → lowest_outside count so_far (drop i ls) ≡ total → lowest_outside count (Some r) (drop (i + 1) ls) ≡ total
+outside_take count so_far ls i d r total lt outside is before =
+    let test : nat_lt (get_or ls i d).head count ≡ false = grind (arith, nat_tests) in
+    ap (λ x. lowest_outside count (Some x) (drop (i + 1) ls)) is
+    ∙ (sym (ap (λ b. lowest_outside count (cond b so_far (Some (lesser so_far (get_or ls i d).head))) (drop (i + 1) ls)) test) ∙ (sym (outside_step count so_far ls i d lt) ∙ before))
+
+pub outside_end : (count : ℕ) (so_far : Option ℕ) (ls : List Loop) (i : ℕ) (total : Option ℕ) → length ls ≤ i → lowest_outside count so_far (drop i ls) ≡ total → so_far ≡ total
+unfolding lowest_outside
+outside_end count so_far ls i total le before = sym (ap (lowest_outside count so_far) (drop_all i ls le)) ∙ before
+
+-- ---- how many loops hold a place of a code whose loops are in order
+
+pub each_at : {E : Type 0} (f : ℕ → Result (Unit {0}) E) (a n i : ℕ) → i < n → each f (range_with_len a n) ≡ Ok tt → f (a + i) ≡ Ok tt
+unfolding each
+each_at f a zero i lt h = absurd (omega (arith, lt))
+each_at f a (suc n) zero lt h =
+    let one = bind_ok (f a) (λ _. each f (range_with_len (a + 1) n)) tt h in
+    ap f (omega arith) ∙ one.1
+each_at f a (suc n) (suc i) lt h =
+    let one = bind_ok (f a) (λ _. each f (range_with_len (a + 1) n)) tt h in
+    ap f (omega arith) ∙ each_at f (a + 1) n i (omega (arith, lt)) one.2
+
+pub without_fault : {E F : Type 0} (f : E → F) (r : Result (Unit {0}) E) → map_err f r ≡ Ok tt → r ≡ Ok tt
+without_fault f (Ok x) h = refl
+without_fault f (Err e) h = absurd cc
+
+few_of : (n : ℕ) → check_order (nat_le n NESTING_LIMIT) ≡ Ok tt → n ≤ 4
+few_of n h = by (nat_le n NESTING_LIMIT) refl h
+  where
+    by : (b : Bool) → nat_le n NESTING_LIMIT ≡ b → check_order b ≡ Ok tt → n ≤ 4
+    by true test ok = grind (arith, nat_tests)
+    by false test ok = absurd cc
+
+place_few : (code : Code) (place : ℕ) (op : Op) → place_due code place (Some op) ≡ Ok tt → depth code place ≤ 4
+unfolding place_due
+place_few code place op h =
+    let one = bind_ok (rising place code.loops) (λ _. each (head_due code place) code.loops >>= λ _. check_order (nat_le (depth code place) NESTING_LIMIT) >>= λ _. op_due code place op) tt h in
+    let two = bind_ok (each (head_due code place) code.loops) (λ _. check_order (nat_le (depth code place) NESTING_LIMIT) >>= λ _. op_due code place op) tt one.2 in
+    let three = bind_ok (check_order (nat_le (depth code place) NESTING_LIMIT)) (λ _. op_due code place op) tt two.2 in
+    few_of (depth code place) three.1
+
+pub few_around : (code : Code) (place : ℕ) → loops code ≡ Ok tt → place < length code.ops → depth code place ≤ 4
+unfolding loops loop_at
+few_around code place h lt =
+    let one = bind_ok (each (loop_at code) (range_with_len 0 (length code.ops))) (λ _. none_outside (lowest_outside (length code.ops) None code.loops)) tt h in
+    let at : loop_at code (0 + place) ≡ Ok tt = each_at (loop_at code) 0 (length code.ops) place lt one.1 in
+    let here : place_due code (0 + place) (slice_get code.ops (0 + place)) ≡ Ok tt = without_fault (fault_at (0 + place)) (place_due code (0 + place) (slice_get code.ops (0 + place))) at in
+    let same : 0 + place ≡ place = omega arith in
+    let now : place_due code place (slice_get code.ops place) ≡ Ok tt = ap (λ p. place_due code p (slice_get code.ops p)) (sym same) ∙ here in
+    place_few code place (get_or code.ops place ops.Pop) (ap (place_due code place) (sym (slice_get-get_or code.ops place ops.Pop lt)) ∙ now)

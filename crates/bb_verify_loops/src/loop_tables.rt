@@ -1,0 +1,104 @@
+//! Tables of the loops of a code, by places. They are made before the places are gone through.
+
+ghost use Rattle.std.specs.Prelude.{◌≡◌, ◌<◌, IfOk, length, max, set, slice_index, true};
+ghost use Rattle.bb_verify_loops.specs.proving.LoopTables.{HasEnds, HasReach, IsDeepest, HasDeepest, HasHeads, HasTables};
+
+use bb_basis::Items;
+use bb_code::{Code, Loop};
+use std::alloc::{AllocError, Global};
+
+/// What is known of all loops of a code, whether or not they are in order.
+#[derive(Drop)]
+pub(crate) struct LoopTables {
+    /// For each place, and for the one past the last, whether a loop ends there.
+    pub(crate) ends: Items<bool>,
+    /// For each place, one further on, one more than the greatest head of the loops that hold it, or 0.
+    pub(crate) deepest: Items<usize>,
+}
+
+fn put_end(ends: &mut Vec<bool>, end: usize)
+    ensures { ends.new.items ≡ set ends.old.items end true }
+{
+    if end < ends.len() {
+        ends[end] = true;
+    }
+}
+
+// For each of so many places whether a loop ends there.
+fn ends_of(alloc: Global, count: usize, loops: &[Loop]) -> Result<Vec<bool>, AllocError>
+    ensures { IfOk result (λ v. HasEnds count loops.now v.items) }
+{
+    let mut ends = vec![in alloc; false; count]?;
+    for l in loops {
+        put_end(&mut ends, l.end as usize);
+    }
+    Ok(ends)
+}
+
+fn put_reach(reach: &mut Vec<usize>, head: usize, end: usize)
+    ensures { reach.new.items ≡ set reach.old.items head (max (slice_index reach.old.items head) end) }
+{
+    if head < reach.len() {
+        reach[head] = reach[head].max(end);
+    }
+}
+
+// For each of so many places the greatest end of the loops with their heads there, or 0.
+fn reach_of(alloc: Global, count: usize, loops: &[Loop]) -> Result<Vec<usize>, AllocError>
+    ensures { IfOk result (λ v. HasReach count loops.now v.items) }
+{
+    let mut reach = vec![in alloc; 0; count]?;
+    for l in loops {
+        put_reach(&mut reach, l.head as usize, l.end as usize);
+    }
+    Ok(reach)
+}
+
+// One more than the greatest head from which a loop reaches over the place, or 0. A head from which none does is passed
+// over, and with it those from which none reaches over the place before it.
+fn deepest_at(reach: &[usize], deepest: &[usize], place: usize) -> usize
+    requires inside { place < length reach.now }
+    requires before { HasDeepest place reach.now deepest.now }
+    ensures { IsDeepest reach.now place result }
+{
+    let mut found = place + 1;
+    while found > 0 && reach[found - 1] <= place {
+        found = deepest[found - 1];
+    }
+    found
+}
+
+// The same for each place, one further on.
+fn deepest_of(alloc: Global, reach: &[usize]) -> Result<Vec<usize>, AllocError>
+    ensures { IfOk result (λ v. HasDeepest (length reach.now) reach.now v.items) }
+{
+    let mut deepest = Vec::new(alloc);
+    deepest.push(0)?;
+    let count = reach.len();
+    for place in 0..count {
+        let found = deepest_at(reach, &deepest, place);
+        deepest.push(found)?;
+    }
+    Ok(deepest)
+}
+
+// For each place, one further on, one more than the greatest head of the loops that hold it, or 0.
+fn heads_of(alloc: Global, count: usize, loops: &[Loop]) -> Result<Vec<usize>, AllocError>
+    ensures { IfOk result (λ v. HasHeads count loops.now v.items) }
+{
+    let reach = reach_of(alloc, count, loops)?;
+    deepest_of(alloc, &reach)
+}
+
+/// The tables of a code.
+pub(crate) fn loop_tables(alloc: Global, code: &Code) -> Result<LoopTables, AllocError>
+    ensures { IfOk result (λ tables. HasTables code.now tables) }
+{
+    let count = code.ops().len();
+    let ends = ends_of(alloc, count + 1, code.loops())?;
+    let deepest = heads_of(alloc, count, code.loops())?;
+    Ok(LoopTables {
+        ends: Items::from(ends),
+        deepest: Items::from(deepest),
+    })
+}

@@ -1,9 +1,0 @@
-use Rattle.std.proofs.Common.{◌≡◌, ◌++◌, drop}
-use Rattle.std.specs.List.{flat_map}
-use Rattle.bb_world.specs.Links.{slot_partings}
-use Rattle.bb_world.proofs.state.State.add_all_partings.Given as goal
-
-abbrev pub invariant-loop-slot : goal.invariant-loop-slot
-invariant-loop-slot l =
-    l.notes.items ++ flat_map (slot_partings l.schema l.self l.unit) (drop l.slot-index l.slots)
-    ≡ l.fn.notes.items ++ flat_map (slot_partings l.fn.schema l.fn.self l.fn.unit) l.fn.slots
