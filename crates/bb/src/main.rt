@@ -20,13 +20,13 @@ fn main(rt: HostRuntime) -> ExitCode {
     ExitCode::from(status)
 }
 
-/// What the words behind the program's name choose.
+// What the words after the program's name choose.
 fn chosen<R: Env + AllocGlobal>(rt: &R) -> Result<Options, OptionsFault> {
     let words = words(rt)?;
     options(rt.alloc(), words.as_slice())
 }
 
-/// The words behind the program's name, which have to be UTF-8.
+// The words after the program's name, which have to be UTF-8.
 fn words<R: Env + AllocGlobal>(rt: &R) -> Result<Vec<String>, OptionsFault> {
     match env::args(rt) {
         Ok(all) => Ok(all.skip(1).collect(rt.alloc())?),

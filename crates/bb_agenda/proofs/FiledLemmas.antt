@@ -72,7 +72,7 @@ module _ (xs : List Activation) (ns : List ℕ) (ls : BTreeMap ℕ (List ℕ)) (
   pub numbers_below : (n : ℕ) → AllByRecursion (λ x. x.number < n) xs → AllByRecursion (λ m. m < n) ns
   numbers_below n below = subst (AllByRecursion (λ m. m < n)) (sym filed.numbered) (each_map (λ m. m < n) number_of xs below)
 
-  -- the same in other lists
+  -- activations are filed in other lists too, if these have the same numbers for each source
   pub filed_same : (ms : BTreeMap ℕ (List ℕ)) → ((s : ℕ) → listed ms s ≡ listed ls s) → AreFiled xs ns ms
   filed_same ms same = record {
     rising = filed.rising;

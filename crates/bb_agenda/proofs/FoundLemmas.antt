@@ -41,7 +41,7 @@ found_rebased number n base (a ∷ kept) = at (has_number n a) (found_rebased nu
 
 -- ---- on an agenda
 
--- one that is pending is the one of its number
+-- an activation that is pending is the one of its number
 pub pending_itself : (a : Agenda) → Fits a → (x : Activation) → Contains (pending_of a) x → pending_at a x.number ≡ Some x
 pending_itself a fits x there = found_contained number_of (pending_of a) x fits.rising there
 
@@ -57,7 +57,7 @@ contains_kept p (y ∷ ys) x there = at (p y) there (contains_kept p ys x)
     at true (suc k, lt, is) further = later (further (k, omega (arith, lt), is))
     at false there further = later (further there)
 
--- so is one that is pending of a source
+-- an activation that is pending of a source is the one of its number
 pub pending_for_itself : (a : Agenda) → Fits a → (source : ℕ) (x : Activation) → Contains (pending_for a source) x → pending_at a x.number ≡ Some x
 pending_for_itself a fits source x there = pending_itself a fits x (contains_kept (is_of source) (pending_of a) x there)
 

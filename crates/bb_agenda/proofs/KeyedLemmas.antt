@@ -72,7 +72,7 @@ module _ (es : Entries) (keyed : AreKeyed es) where
     pub keyed_put : AreKeyed (insert_entry nat_cmp es a.number a)
     keyed_put = subst AreKeyed (sym put_is) (each_more (λ (e : ℕ × Activation). e.0 ≡ e.1.number) es (a.number, a) keyed refl)
 
-    -- and away again
+    -- an activation that was put is taken away again
     pub put_gone : remove_entry (is_at (nat_cmp a.number)) (insert_entry nat_cmp es a.number a) ≡ es
     put_gone = ap (remove_entry (is_at (nat_cmp a.number))) put_is ∙ remove_last a.number a es (keys_below a.number es keyed below)
 
@@ -126,7 +126,7 @@ nothing_less n (x ∷ xs) none = at (has_number n x) none (nothing_less n xs)
     at true none later = absurd cc
     at false none later = ap (λ ys. x ∷ ys) (later none)
 
--- it has the base already
+-- an activation that gets the base that it has stays as it is
 pub same_base : (n : ℕ) (xs : List Activation) (a : Activation) → RisesBy number_of xs → find (has_number n) xs ≡ Some a → map (rebased n a.base) xs ≡ xs
 same_base n [] a rising is = refl
 same_base n (x ∷ xs) a rising is = at (has_number n x) refl is (same_base n xs a rising.1)

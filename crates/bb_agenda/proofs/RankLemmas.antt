@@ -55,7 +55,7 @@ other_rank r q apart = by (same_rank r q) refl
 abbrev pub has_rank : ℕ → Rank → Activation → Bool
 has_rank s r a = is_of s a && same_rank r (rank_of a)
 
--- the same by its own rank
+-- the activation has a source, and its own rank is this one
 abbrev pub ranks_as : Activation → ℕ → Rank → Bool
 ranks_as a s r = a.source == s && same_rank (rank_of a) r
 

@@ -1,4 +1,4 @@
--- Numbers behind those that went from the front.
+-- Numbers after those that were removed from the front.
 use Rattle.std.proofs.Common.{◌≡◌, ℕ, zero, suc, ◌+◌, ◌-◌, ◌<◌, List, [], ◌∷◌, ◌++◌, length, take, drop, refl, sym, ap, ◌∙◌, arith, eq-eqb, ne_eqb}
 use Rattle.std.specs.List.{AllByRecursion, remove}
 use Rattle.std.proofs.Math.Seq.{take-append_seam}

@@ -50,7 +50,7 @@ first = record { number = 1; source = 0; unit = 1; base = pos 100 }
 second : Activation
 second = record { number = 2; source = 1; unit = 1; base = pos 100 }
 
--- both are pending
+-- an agenda on which both activations are pending
 both : Agenda
 both = with_activation (with_activation (no_activations (record { schema = schema; sources = notes })) 0 1 (pos 100)) 1 1 (pos 100)
 

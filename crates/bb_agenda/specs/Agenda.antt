@@ -21,23 +21,23 @@ if_pending (pending a) = Some a
 if_pending executed = None
 if_pending obviated = None
 
--- the same in one word
+-- what became of an activation, as a status
 abbrev pub status_of : Entry → Status
 status_of (pending a) = statuses.Pending
 status_of executed = statuses.Executed
 status_of obviated = statuses.Obviated
 
 pub record Agenda : Type 0 where
-  -- all that were ever given, in order of their numbers, from 1
+  -- all activations that were ever given, in order of their numbers, from 1
   pub given : List Entry
   -- the foci that are set
   pub foci : Foci
-  -- what they are matched with
+  -- what the foci are matched with
   pub setting : Setting
   -- whether memory was refused to a change; from then on each change is refused
   pub refused : Bool
 
--- none was given, and no focus is set
+-- an agenda to which no activation was given, and without foci
 abbrev pub no_activations : Setting → Agenda
 no_activations setting = record { given = []; foci = fin.empty; setting = setting; refused = false }
 
@@ -65,7 +65,7 @@ numbers_pending a = map number_of (pending_of a)
 abbrev pub pending_for : Agenda → ℕ → List Activation
 pending_for a source = filter (is_of source) (pending_of a)
 
--- the numbers of that
+-- the numbers of what is pending of a source
 abbrev pub numbers_for : Agenda → ℕ → List ℕ
 numbers_for a source = map number_of (pending_for a source)
 

@@ -30,11 +30,11 @@ becoming number new_entry obviated = obviated
 abbrev pub with_entry : Agenda → ℕ → (Activation → Entry) → Agenda
 with_entry a number new_entry = record a { given = map (becoming number new_entry) a.given }
 
--- after it is obviated
+-- the agenda after the pending activation of this number is obviated
 abbrev pub with_obviated : Agenda → ℕ → Agenda
 with_obviated a number = with_entry a number (λ _. obviated)
 
--- after it is executed
+-- the agenda after the pending activation of this number is executed
 abbrev pub with_executed : Agenda → ℕ → Agenda
 with_executed a number = with_entry a number (λ _. executed)
 
@@ -42,28 +42,28 @@ with_executed a number = with_entry a number (λ _. executed)
 abbrev pub based_at : ℤ → Activation → Activation
 based_at base a = record { number = a.number; source = a.source; unit = a.unit; base = base }
 
--- after it gets another base
+-- the agenda after the pending activation of this number gets another base
 abbrev pub with_base : Agenda → ℕ → ℤ → Agenda
 with_base a number base = with_entry a number (λ x. pending (based_at base x))
 
--- after the focus of a unit is this one
+-- the agenda after the focus of a unit is this one
 abbrev pub with_focus : Agenda → ℕ → Focus → Agenda
 with_focus a unit focus = record a { foci = fin.insert a.foci unit focus }
 
--- after a unit has no focus any more
+-- the agenda after a unit has no focus any more
 abbrev pub without_focus : Agenda → ℕ → Agenda
 without_focus a unit = record a { foci = fin.remove a.foci unit }
 
--- the same agenda, once memory was refused
+-- the agenda, once memory was refused
 abbrev pub when_refused : Agenda → Agenda
 when_refused a = record a { refused = true }
 
--- after an activation could not be added
+-- the agenda after an activation could not be added
 abbrev pub after_add_fault : Agenda → AddFault → Agenda
 after_add_fault a faults.Full = a
 after_add_fault a faults.Memory = when_refused a
 
--- ---- what that does to what is pending
+-- ---- what the changes do to what is pending
 
 -- the activation has another number
 abbrev pub other_than : ℕ → Activation → Bool

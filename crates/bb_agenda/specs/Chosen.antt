@@ -21,5 +21,5 @@ pub record IsChosen (rate : Activation → ℤ) (floor : ℤ) (pending : List Ac
   pub waits : Contains pending a
   pub enough : floor ≤ℤ rate a
   pub highest : (b : Activation) → Contains pending b → rate b ≤ℤ rate a
-  -- of those rated the same it is the first
+  -- no activation rated the same has a lower number
   pub earliest : (b : Activation) → Contains pending b → rate b ≡ rate a → a.number ≤ b.number

@@ -16,7 +16,7 @@ pub data Change : Type 0 where
   unfocusing : (unit : ℕ) → Change
   refusing : Change
 
--- the agenda after it
+-- the agenda after a change
 abbrev pub changed : Agenda → Change → Agenda
 changed a (adding source unit base) = with_activation a source unit base
 changed a (obviating number) = with_obviated a number

@@ -1,8 +1,8 @@
 -- all activations that were given, what is pending of them, and the foci
 pub mod Agenda
--- each change of them
+-- each change of an agenda
 pub mod Changes
--- what holds at any time
+-- what holds of an agenda at any time
 pub mod Fits
 -- changes one after another
 pub mod History

@@ -4,6 +4,6 @@ use Rattle.bb_agenda_foci.specs.declared.activation.Activation.{Activation}
 use Rattle.bb_agenda.specs.Agenda.{Agenda}
 pub use Rattle.bb_agenda_foci.specs.Rating.{rating, total_weight}
 
--- by the foci of an agenda
+-- the rating of an activation by the foci of an agenda
 abbrev pub rating_in : Agenda → Activation → ℤ
 rating_in agenda a = rating agenda.setting.schema agenda.setting.sources agenda.foci a

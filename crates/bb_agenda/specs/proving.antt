@@ -1,8 +1,8 @@
 -- how the code keeps an agenda
 pub mod Kept
--- in which order those of a source are executed
+-- in which order the activations of a source are executed
 pub mod Ranks
--- how it finds what is pending
+-- how the code finds what is pending
 pub mod Filed
 -- lists of numbers that rise, and one for each source
 pub mod Lists

@@ -1,5 +1,5 @@
-//! The agenda. Here stands what can be asked of it, in `changes` what changes it. A run (bb_run) adds to it what events
-//! trigger, and takes off it what a cycle executes.
+//! The agenda. The calls here read it, those in `changes` change it. A run (bb_run) adds to it what events trigger, and
+//! takes off it what a cycle executes.
 
 ghost use Rattle.std.specs.Prelude.{◌≡◌, Contains, IfSome, IsSome, Some, option_map};
 ghost use Rattle.bb_agenda.specs.Agenda.{no_activations, pending_of, is_full, number_of, numbers_pending, numbers_for};
@@ -28,7 +28,7 @@ pub const NUMBER_LIMIT: u64 = (1 << 63) - 1;
 
 /// All activations that were ever given, each under its number, what is pending of them, the foci that are set, and
 /// whether memory was refused to a change (GBBopen Reference Manual, Agenda Shell; foci are of this project). From then
-/// on each change is refused. Of those that are over it keeps no more than how many there were, and which of them were
+/// on each change is refused. Of activations that are over it keeps only how many there were, and which of them were
 /// obviated.
 #[derive(Drop)]
 pub struct Agenda {
@@ -61,8 +61,8 @@ impl Model for Agenda {
 }
 
 impl Agenda {
-    /// An agenda with nothing on it and without foci, whose first activation gets number 1. `sources` has what it knows
-    /// of each source, at that source's index. It allocates nothing.
+    /// An agenda with nothing on it and without foci, whose first activation gets number 1. `sources` has what the
+    /// agenda knows of each source, at that source's index. It allocates nothing.
     pub fn new(alloc: Global, schema: SharedSchema, sources: Vec<RatedSource>) -> Agenda
         ensures { result ≡ no_activations (record { schema = schema; sources = sources.items }) }
     {
@@ -92,7 +92,7 @@ impl Agenda {
     /// The numbers of what is pending of a source, rising.
     pub fn pending_for(&self, source: u16) -> &[u64]
         ensures numbers { result.now ≡ numbers_for self.now source }
-        // Each is pending under its number.
+        // Each activation is pending under its number.
         ensures itself { (a : Activation) → Contains (pending_for self.now source) a
             → pending_at self.now a.number ≡ Some a }
     {

@@ -18,7 +18,7 @@ pub(crate) struct Candidate {
 }
 
 impl Candidate {
-    /// Whether it is rated higher than another one, or the same under a lower number.
+    // Whether the candidate is rated higher than another one, or the same under a lower number.
     fn is_before(&self, other: &Candidate) -> bool
         ensures { result ≡ precedes self.now.rating self.now.number other.now.rating other.now.number }
     {

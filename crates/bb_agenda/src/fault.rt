@@ -1,4 +1,4 @@
-//! Why an activation could not be added. `Agenda::add` answers it.
+//! Why an activation could not be added. `Agenda::add` returns it.
 
 ghost use Rattle.std.specs.Prelude.{◌≡◌};
 ghost use Rattle.bb_agenda.specs.declared.fault.AddFault.TheVariants.{Memory as OutOfMemory};

@@ -1,5 +1,11 @@
-//! The agenda of a blackboard: which activations are pending, and which of them a cycle executes. bb_run calls it.
-//! Crates above take activations and foci from here too.
+//! The agenda of a blackboard: which activations are pending, what became of each, and which of them a cycle executes.
+//!
+//! - In: activations, foci, and what events do to those that are pending.
+//! - Out: `Agenda`, which gives numbers and ratings and answers the activation to execute next.
+//! - Callers rely on: the one that is chosen is the best and of equals the first (`chosen_is_best`), and what is over
+//!   stays over.
+//! - Family: bb_agenda_foci has the ratings.
+//! - Cases: `foci`, `floors`; tests in bb_rules_tests.
 #![tactic(auto)]
 
 mod agenda;

@@ -1,4 +1,4 @@
-//! A list of numbers that rise for each source. waiting.rt keeps the numbers of what is pending so.
+//! A list of numbers that rise for each source. waiting.rt keeps the numbers of what is pending in it.
 
 ghost use Rattle.std.specs.Prelude.{◌≡◌, ℕ, OnOk, OnErr, IsSome};
 ghost use Rattle.std.specs.Ordering.{nat_cmp};
@@ -39,7 +39,7 @@ pub(crate) fn add_to(
     Ok(())
 }
 
-/// Appends a number to the list of a source that has one.
+// Appends a number to the list of a source that has one.
 fn push_at(lists: &mut BTreeMap<u16, Row>, source: u16, number: u64) -> Result<(), Memory>
     requires { IsSome (get nat_cmp lists.old source) }
     ensures ok { OnOk result ((s : ℕ) → listed lists.new s ≡ one_more lists.old source number s) }

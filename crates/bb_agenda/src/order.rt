@@ -9,7 +9,7 @@ use bb_basis::Memory;
 use std::alloc::Global;
 use std::collections::BTreeSet;
 
-/// Makes orders up to that of a source, each empty. An error changes no order.
+// Makes orders up to that of a source, each empty. An error changes no order.
 fn reach(alloc: Global, orders: &mut Vec<BTreeSet<Rank>>, source: u16) -> Result<(), Memory>
     ensures ok { OnOk result (source < length orders.new.items) }
     ensures same { (s : ℕ) (r : Ranked) → is_ranked orders.new.items s r ≡ is_ranked orders.old.items s r }

@@ -7,7 +7,7 @@ use bb_agenda_foci::Activation;
 use std::cmp::Reverse;
 
 /// The rank of an activation: the higher its base, the earlier, and of equals the lower its number. All foci that match
-/// one of a source match the others too, so these are in order of their ratings.
+/// one activation of a source match the others too, so ranks are in the order of ratings.
 #[derive(Clone, Copy, PartialEq, Eq, PartialOrd, Ord)]
 pub(crate) struct Rank {
     pub(crate) base: Reverse<i64>,

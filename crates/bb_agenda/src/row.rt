@@ -1,4 +1,4 @@
-//! Numbers that rise, lent as one slice. What is pending is listed so (waiting.rt, lists.rt).
+//! Numbers that rise, lent as one slice. waiting.rt and lists.rt list what is pending in it.
 
 ghost use Rattle.std.specs.Prelude.{◌≡◌, [], ◌∷◌, ◌++◌, OnOk, OnErr, IfSome, IfNone, false};
 ghost use Rattle.std.specs.Prelude.{◌≤◌, length, drop};
@@ -8,10 +8,11 @@ use bb_basis::Memory;
 use std::alloc::Global;
 use std::marker::Model;
 
-/// Numbers that rise. The first goes without a walk; one that goes from the middle moves those behind it, at one go.
+/// Numbers that rise. The first is removed without a walk; one in the middle is removed by moving those after it, all
+/// at once.
 #[derive(Drop)]
 pub(crate) struct Row {
-    // Behind those that went from the front.
+    // The numbers, after those that were removed from the front.
     items: Vec<u64>,
     start: usize,
 }
@@ -26,7 +27,7 @@ impl Model for Row {
     ghost invariant = { λ r. r.start ≤ length r.items.items };
 }
 
-/// The place of a number in a list that rises.
+// The place of a number in a list that rises.
 fn place_of(numbers: &[u64], number: u64) -> Option<usize>
     requires { Rising numbers.now }
     ensures found { IfSome result (λ place. IsAt numbers.now place number) }
@@ -35,7 +36,7 @@ fn place_of(numbers: &[u64], number: u64) -> Option<usize>
     numbers.binary_search(&number).ok()
 }
 
-/// Takes away what went from the front, once it is more than half.
+// Drops what was removed from the front, once it is more than half.
 fn shed(items: &mut Vec<u64>, start: usize) -> usize
     requires { start ≤ length items.old.items }
     ensures within { result ≤ length items.new.items }

@@ -1,12 +1,12 @@
-//! What became of an activation. The agenda answers it.
+//! What became of an activation. The agenda returns it.
 
 /// What became of an activation that was given.
 #[derive(Clone, Copy, Debug, PartialEq, Eq)]
 pub enum Status {
-    /// It waits for a cycle that chooses it.
+    /// The activation waits for a cycle that chooses it.
     Pending,
-    /// A cycle has executed it.
+    /// A cycle has executed the activation.
     Executed,
-    /// It was taken off the agenda before a cycle chose it.
+    /// The activation was taken off the agenda before a cycle chose it.
     Obviated,
 }

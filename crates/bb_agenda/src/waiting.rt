@@ -32,11 +32,11 @@ use std::marker::Model;
 pub(crate) struct Waiting {
     alloc: Global,
     activations: BTreeMap<u64, Activation>,
-    // Their numbers.
+    // The numbers of the activations.
     numbers: Row,
-    // The numbers of those of each source.
+    // The numbers of the activations of each source.
     by_source: BTreeMap<u16, Row>,
-    // The ranks of those of each source, at its index.
+    // The ranks of the activations of each source, at its index.
     orders: Vec<BTreeSet<Rank>>,
 }
 
@@ -68,14 +68,14 @@ impl Waiting {
         }
     }
 
-    /// How many there are.
+    /// The number of activations.
     pub(crate) fn len(&self) -> usize
         ensures { result ≡ length self.now }
     {
         self.numbers.as_slice().len()
     }
 
-    /// Their numbers.
+    /// The numbers of the activations.
     pub(crate) fn numbers(&self) -> &[u64]
         ensures value { result.now ≡ map number_of self.now }
         ensures rising { RisesBy number_of self.now }
@@ -83,7 +83,7 @@ impl Waiting {
         self.numbers.as_slice()
     }
 
-    /// The numbers of those of a source.
+    /// The numbers of the activations of a source.
     pub(crate) fn of_source(&self, source: u16) -> &[u64]
         ensures value { result.now ≡ map number_of (filter (is_of source) self.now) }
         ensures rising { RisesBy number_of self.now }
@@ -105,7 +105,7 @@ impl Waiting {
         self.get(number).is_some()
     }
 
-    /// The number of the one to execute, of those rated at least `floor`. The first of each source is compared.
+    /// The number of the activation to execute, of those rated at least `floor`. The first of each source is compared.
     pub(crate) fn choose(&self, steering: &Steering, floor: i64) -> Option<u64>
         ensures number { let s = steering.now in let rate = rating s.setting.schema s.setting.sources s.foci in
             result ≡ option_map number_of (chosen rate floor self.now) }

@@ -39,6 +39,6 @@ unfolding IsStrictlySortedBy
 entries_are {X} [] s = nil_from_length (entries (empty {X = X} {R = nat_cmp})) (sym (len-entries (empty {X = X} {R = nat_cmp})) ∙ len-empty nat_cmp X)
 entries_are (e ∷ es) s = entries-insert nat_cmp_total (from_entries es) e.0 e.1 ∙ (ap (put nat_cmp e.0 e.1) (entries_are es s.1) ∙ put_first e.0 e.1 es s)
 
--- and their values
+-- the map of entries in order has the values of these entries
 pub values_are : {X : Type 0} (es : List (ℕ × X)) → IsStrictlySortedBy nat_cmp (keys_of es) → map (λ e. e.1) (entries (from_entries {R = nat_cmp} es)) ≡ values_of es
 values_are es s = ap (map (λ e. e.1)) (entries_are es s)

@@ -36,7 +36,7 @@ other_at xs k q v other = other_by xs k q v other (nat_lt q (length xs)) refl
 
 -- ---- one sum after another is changed
 
--- the sum at a place, once so many are changed
+-- the sum at a place, once the first count sums are changed
 abbrev shifted : Setting → (gone new : Option Focus) → (count place : ℕ) → ℤ → ℤ
 shifted setting gone new count place w = cond (nat_lt place count) (w +ℤ shift_at setting gone new place) w
 
@@ -61,7 +61,7 @@ module _ (setting : Setting) (gone new : Option Focus) where
       by None = refl
       by (Some w) = ap (λ b. Some (cond b (w +ℤ shift_at setting gone new place) w)) (sym (le-ltb place 0 (omega arith)))
 
-  -- it was not changed yet
+  -- the sum at a place was not changed yet
   unchanged_by : (k : ℕ) (w : ℤ) (o : Option ℤ) → Some w ≡ option_map (shifted setting gone new k k) o → o ≡ Some w
   unchanged_by k w None is = absurd cc
   unchanged_by k w (Some v) is = sym (is ∙ ap (λ b. Some (cond b (v +ℤ shift_at setting gone new k) v)) (not_below k))

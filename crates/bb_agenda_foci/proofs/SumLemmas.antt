@@ -120,7 +120,7 @@ pub weighed_without : (q : ℕ → Bool) (es : Entries) → AreWeighed es → Ar
 weighed_without q [] all = tt
 weighed_without q (e ∷ es) all = weighed_taken (q e.0) e es (remove_entry q es) all (weighed_without q es all.1)
 
--- the sum of so many is near 0
+-- the sum of count weights is near 0
 record IsWithin (count : ℕ) (sum : ℤ) : Type 0 where
   low : neg_ℤ (pos (2 ^ 63 * count)) ≤ℤ sum
   high : sum ≤ℤ pos (2 ^ 63 * count)

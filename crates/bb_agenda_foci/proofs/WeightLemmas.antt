@@ -38,7 +38,7 @@ module _ (p : Focus → Bool) where
 
 -- ---- no sum is too large
 
--- the sum of so many numbers of 64 bits is near 0
+-- the sum of count numbers of 64 bits is near 0
 pub record IsNear (count : ℕ) (sum : ℤ) : Type 0 where
   pub low : neg_ℤ (pos (2 ^ 63 * count)) ≤ℤ sum
   pub high : sum ≤ℤ pos (2 ^ 63 * count)

@@ -1,4 +1,5 @@
--- The foci of an agenda, and what activations are rated by (of this project; that control is data on the blackboard is Hayes-Roth's idea, 1985).
+-- The foci of an agenda, and what activations are rated by (of this project; that control is data on the blackboard is
+-- Hayes-Roth's idea, 1985).
 use Rattle.std.specs.Prelude.{List}
 use Rattle.std.specs.Ordering.{nat_cmp}
 use Rattle.std.specs.FinMap as fin
@@ -21,6 +22,6 @@ pub record Steered : Type 0 where
   pub setting : Setting
   pub foci : Foci
 
--- by other foci
+-- what activations are rated by, with other foci
 abbrev pub with_foci : Steered → Foci → Steered
 with_foci s foci = record { setting = s.setting; foci = foci }

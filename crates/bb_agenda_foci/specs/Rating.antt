@@ -18,6 +18,6 @@ total_weight (focus ∷ foci) = focus.weight +ℤ total_weight foci
 unfoldable pub rating : Schema → List RatedSource → Foci → Activation → ℤ
 rating s sources foci a = a.base +ℤ total_weight (filter (matches s sources a) (fin.values foci))
 
--- the rating of those of the source at a place that have a base
+-- the rating of activations with a base, of the source at a place
 abbrev pub rating_at : Schema → List RatedSource → Foci → ℕ → ℤ → ℤ
 rating_at s sources foci place base = rating s sources foci (one_at place base)

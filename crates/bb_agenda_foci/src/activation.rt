@@ -5,12 +5,12 @@ use bb_schema::UnitId;
 /// A source that is to be executed on a unit (GBBopen Reference Manual, KSAs; Hayes-Roth 1985, KSARs).
 #[derive(Clone, Copy, Debug, PartialEq, Eq)]
 pub struct Activation {
-    /// Its number, from 1.
+    /// The number of the activation, from 1.
     pub number: u64,
-    /// The index of its source.
+    /// The index of the source.
     pub source: u16,
-    /// The unit of the event that triggered it, 0 where that had none.
+    /// The unit of the event that triggered the source, 0 where the event had none.
     pub unit: UnitId,
-    /// Its rating before any focus counts.
+    /// The rating before any focus counts.
     pub base: i64,
 }

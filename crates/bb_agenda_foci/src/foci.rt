@@ -38,7 +38,7 @@ impl Model for Foci {
     ghost invariant = { λ f. AllByRecursion (λ e. IsWeight e.1.weight) f.foci.entries };
 }
 
-/// A base, and the weights of all foci that match the source at a place.
+// A base, and the weights of all foci that match the source at a place.
 fn weighed(foci: &BTreeMap<UnitId, Focus>, setting: &Setting, place: usize, base: i64) -> i128
     ensures { result ≡ rating_at setting.now.schema setting.now.sources (foci_of foci.now.entries) place base }
 {
@@ -100,7 +100,7 @@ impl Foci {
         ensures weights { (p : Weighing → Bool) →
             weight_by p self.new +ℤ part_of p result ≡ weight_by p self.old }
     {
-        // Its keys ascend.
+        // Read, so that the proof knows that the keys ascend.
         let _count = self.foci.len();
         self.foci.remove(&unit)
     }

@@ -1,5 +1,5 @@
-//! How foci rate activations: what a focus matches, and the rating of an activation by its base and by the weights of
-//! the foci that match it. The agenda (bb_agenda) keeps a `Steering` and rates what is pending by it.
+//! How foci rate activations: which of them a focus matches, and the rating of an activation by its base and by the
+//! weights of the foci that match it.
 #![tactic(auto)]
 
 mod activation;

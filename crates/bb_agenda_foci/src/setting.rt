@@ -33,7 +33,7 @@ impl Model for Setting {
     ghost view = { λ s. record { schema = s.schema; sources = s.sources } };
 }
 
-/// Whether a name is that of a class, or of an ancestor of it.
+// Whether a name is that of a class, or of an ancestor of it.
 #[tactic(auto, unfolding(crate::specs::Matching::is_ancestor))]
 fn is_ancestor(schema: &Schema, class: ClassId, name: &str) -> bool
     ensures { result ≡ is_ancestor schema.now class name.now }
@@ -44,7 +44,7 @@ fn is_ancestor(schema: &Schema, class: ClassId, name: &str) -> bool
     }
 }
 
-/// Whether a name is that of the source at a place.
+// Whether a name is that of the source at a place.
 #[tactic(auto, unfolding(crate::specs::Matching::is_source))]
 fn is_source(sources: &[RatedSource], place: usize, name: &str) -> bool
     ensures { result ≡ is_source sources.now place name.now }
@@ -55,7 +55,7 @@ fn is_source(sources: &[RatedSource], place: usize, name: &str) -> bool
     }
 }
 
-/// Whether a name is that of the class of the source at a place, or of an ancestor of that class.
+// Whether a name is that of the class of the source at a place, or of an ancestor of that class.
 #[tactic(auto, unfolding(crate::specs::Matching::is_area))]
 fn is_area(schema: &Schema, sources: &[RatedSource], place: usize, name: &str) -> bool
     ensures { result ≡ is_area schema.now sources.now place name.now }

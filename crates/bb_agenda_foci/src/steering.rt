@@ -41,14 +41,14 @@ impl Model for Steering {
     ghost invariant = { λ s. AreWeights s.setting s.foci s.weights.items };
 }
 
-/// The sum of the source at a place, if it is kept.
+// The sum of the source at a place, if it is kept.
 fn weight_at(weights: &[i128], place: usize) -> Option<i128>
     ensures { result ≡ slice_get weights.now place }
 {
     weights.get(place).copied()
 }
 
-/// What a focus adds to the ratings of the source at a place, if there is one.
+// What a focus adds to the ratings of the source at a place, if there is one.
 fn part_of(setting: &Setting, focus: Option<&Focus>, place: usize) -> i64
     ensures { result ≡ part_of (matches_at setting.now.schema setting.now.sources place)
         (option_map (λ f. f.now) focus.entry) }
@@ -59,7 +59,7 @@ fn part_of(setting: &Setting, focus: Option<&Focus>, place: usize) -> i64
     }
 }
 
-/// Makes the sum of each source, where it was not made yet. An error changes no sum.
+// Makes the sum of each source, where it was not made yet. An error changes no sum.
 fn reach(weights: &mut Vec<i128>, setting: &Setting, foci: &Foci) -> Result<(), Memory>
     requires { AreWeights setting.now foci.now weights.old.items }
     ensures { AreWeights setting.now foci.now weights.new.items }
@@ -71,7 +71,7 @@ fn reach(weights: &mut Vec<i128>, setting: &Setting, foci: &Foci) -> Result<(), 
     Ok(())
 }
 
-/// Changes each sum by a focus that is gone, and one that came.
+// Changes each sum by a focus that is gone, and one that came.
 fn shift(weights: &mut Vec<i128>, setting: &Setting, gone: Option<&Focus>, new: Option<&Focus>)
     requires { AreSums weights.old.items }
     ensures { AreShifted setting.now (option_map (λ f. f.now) gone.entry) (option_map (λ f. f.now) new.entry)

@@ -1,5 +1,5 @@
--- What is told with the index of an item, `try_map_at` and `try_fold_at`, is `try_map` and `try_fold` with another
--- fault.
+-- Where no fault comes, `try_map_at` and `try_fold_at`, which add the index of an item to a fault, give what `try_map`
+-- and `try_fold` give.
 use Rattle.std.proofs.Common.{◌≡◌, ◌⊎◌, inl, inr, ℕ, suc, List, [], ◌∷◌, Result, Ok, Err, ap, sym, ◌∙◌}
 use Rattle.bb_basis.specs.Results.{◌>>=◌, Gives, map_err, try_map, try_fold, try_map_at, try_fold_at}
 use Rattle.bb_basis.proofs.ResultLemmas.{bind_ok, same_ok}
@@ -8,7 +8,7 @@ pub map_err_ok : {X E F : Type 0} (f : E → F) (r : Result X E) (x : X) → map
 map_err_ok f (Ok y) x h = ap (λ z. Ok z) (let q : y ≡ x = cc in q)
 map_err_ok f (Err e) x h = absurd cc
 
--- what a call gives, it gives with a fault told otherwise too: at the error, and without one
+-- what a call gives, it gives with a fault mapped too: at the error, and without one
 pub placed_err : {X Y E F : Type 0} (memory : E) (gone : F) (at : E → F) (view : X → Y) (r : Result X E) (given : Result Y E) (e : F) → at memory ≡ gone → Gives memory view r given → Err e ≡ map_err at r → (e ≡ gone) ⊎ (map_err at given ≡ Err e)
 placed_err memory gone at view (Ok x) given e kept gives is = absurd cc
 placed_err memory gone at view (Err d) given e kept (inl m) is = inl (let same : at d ≡ e = cc in sym same ∙ (ap at m ∙ kept))
@@ -18,7 +18,7 @@ pub placed_ok : {X Y E F : Type 0} (memory : E) (at : E → F) (view : X → Y) 
 placed_ok memory at view (Ok y) given x gives is = ap (map_err at) gives ∙ ap (λ z. Ok (view z)) (let same : y ≡ x = cc in same)
 placed_ok memory at view (Err e) given x gives is = absurd cc
 
--- without a fault places tell nothing
+-- without a fault, try_fold gives what try_fold_at gives
 pub fold_at_ok : {S A E F : Type 0} (at : ℕ → E → F) (f : S → A → Result S E) (n : ℕ) (s t : S) (items : List A) → try_fold_at at f n s items ≡ Ok t → try_fold f s items ≡ Ok t
 unfolding try_fold try_fold_at
 fold_at_ok at f n s t [] h = ap (λ u. Ok u) (same_ok s t h)
@@ -26,7 +26,7 @@ fold_at_ok at f n s t (a ∷ more) h =
     let one = bind_ok (map_err (at n) (f s a)) (λ next. try_fold_at at f (suc n) next more) t h in
     ap (λ r. r >>= λ next. try_fold f next more) (map_err_ok (at n) (f s a) one.0 one.1) ∙ fold_at_ok at f (suc n) one.0 t more one.2
 
--- so a step that begins with such a walk begins with one that tells no places
+-- a step that begins with try_fold_at and has no fault begins with try_fold
 pub bind_fold : {S A B E F : Type 0} (at : ℕ → E → F) (f : S → A → Result S E) (n : ℕ) (s : S) (items : List A) (g : S → Result B F) (y : B) → (try_fold_at at f n s items >>= g) ≡ Ok y → (t : S) × (try_fold f s items ≡ Ok t) × (g t ≡ Ok y)
 bind_fold at f n s items g y h =
     let one = bind_ok (try_fold_at at f n s items) g y h in

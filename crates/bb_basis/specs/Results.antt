@@ -1,4 +1,4 @@
--- Words on a call that may fail: what its definition gives, where only memory may come in between.
+-- Definitions for calls that may fail: what a call's definition gives, where only memory may come in between.
 use Rattle.std.specs.Prelude.{◌≡◌, ◌⊎◌, ℕ, suc, List, [], ◌∷◌, Result, Ok, Err}
 pub use Rattle.std.specs.Option.{ok_or}
 
@@ -8,7 +8,7 @@ abbrev pub ◌>>=◌ : {A B E : Type 0} → Result A E → (A → Result B E) �
 (Ok x) >>= f = f x
 (Err e) >>= f = Err e
 
--- the same answer, with another fault in place of the one that was met
+-- a result with f applied to its fault; an answer stays as it is
 abbrev pub map_err : {X E F : Type 0} → (E → F) → Result X E → Result X F
 map_err f (Ok x) = Ok x
 map_err f (Err e) = Err (f e)
@@ -28,7 +28,7 @@ try_fold f s (a ∷ as') = do
   next ← f s a
   try_fold f next as'
 
--- try_map, where a fault is told with the index of its item, by at; n is that of the first item
+-- try_map, where at adds the index of its item to a fault; n is the index of the first item
 unfoldable pub try_map_at : {A X E F : Type 0} → (ℕ → E → F) → (A → Result X E) → ℕ → List A → Result (List X) F
 try_map_at at f n [] = Ok []
 try_map_at at f n (a ∷ as') = do
@@ -36,7 +36,7 @@ try_map_at at f n (a ∷ as') = do
   others ← try_map_at at f (suc n) as'
   Ok (first ∷ others)
 
--- try_fold, where a fault is told with the index of its item, by at; n is that of the first item
+-- try_fold, where at adds the index of its item to a fault; n is the index of the first item
 unfoldable pub try_fold_at : {S A E F : Type 0} → (ℕ → E → F) → (S → A → Result S E) → ℕ → S → List A → Result S F
 try_fold_at at f n s [] = Ok s
 try_fold_at at f n s (a ∷ as') = do

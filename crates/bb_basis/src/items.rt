@@ -1,4 +1,4 @@
-//! A list as part of a greater value. Structs and enums whose values contracts compare keep their lists in it.
+//! A list as part of a larger value. Structs and enums whose values contracts compare keep their lists in it.
 
 ghost use Rattle.std.specs.Prelude.{◌≡◌, [], ◌∷◌, ◌++◌, length, take, OnOk, OnErr};
 

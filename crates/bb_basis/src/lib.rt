@@ -1,5 +1,12 @@
-//! The words that all crates share: texts, names and lists as parts of greater values, and, in `specs/` and `proofs/`,
+//! The types that all crates share: texts, names and lists as parts of larger values, and, in `specs/` and `proofs/`,
 //! what a call that may fail gives and the lemmas of loops and lists.
+//!
+//! - In: nothing. It is the lowest crate.
+//! - Out: `Text`, `Name`, `Names`, `Table`, `Items`, `IdSet` and `Memory`; in `specs/Results` `Gives`, `try_map` and
+//!   `try_fold`, in which most contracts above are written.
+//! - Callers rely on: a `Text`, an `Items` and an `IdSet` are seen by contracts as plain lists. All of `proofs/` is for
+//!   callers here.
+//! - Tests: bb_board_parts_tests.
 #![tactic(auto)]
 
 mod id_set;

@@ -1,4 +1,4 @@
-//! Names, each found by its text. Whoever reads names one after another and looks them up keeps them in it.
+//! Names, each found by its text. Readers that add names one after another and look them up keep them in it.
 
 ghost use Rattle.std.specs.Prelude.{◌≡◌, [], ◌∷◌, ◌++◌, length, position, slice_get, option_map, IsTrue, OnErr, IfOk};
 ghost use Rattle.std.specs.Prelude.{not, if◌then◌else◌};
@@ -60,7 +60,7 @@ impl Names {
         self.set.contains(name)
     }
 
-    /// Appends a name that is not there yet, and answers whether it was. A name that is there keeps its index.
+    /// Appends a name unless it is there, and returns whether it was new. A name that is there keeps its index.
     pub fn insert(&mut self, alloc: Global, name: &str) -> Result<bool, AllocError>
         ensures fresh { IfOk result (λ fresh. fresh ≡ not (list_any (bytes_eq name.now) self.old)) }
         ensures added { IfOk result (λ fresh. self.new ≡ if fresh then self.old ++ name.now ∷ [] else self.old) }

@@ -1,4 +1,4 @@
-//! A text as part of a greater value, which several owners share. Structs and enums whose values contracts compare keep
+//! A text as part of a larger value, which several owners share. Structs and enums whose values contracts compare keep
 //! their texts in it.
 
 ghost use Rattle.std.specs.Prelude.{◌≡◌, length, IfOk, IsTrue, ◌↔◌};
@@ -8,7 +8,7 @@ use std::alloc::{AllocError, Global};
 use std::marker::Model;
 use std::rc::Rc;
 
-/// A text as part of a greater value. Its clones share it, so that what has a text may be copied however long the text
+/// A text as part of a larger value. Its clones share it, so that what has a text may be copied however long the text
 /// is. Contracts see it as its bytes, wherever they lie in memory.
 #[derive(Debug, Drop)]
 pub struct Text {

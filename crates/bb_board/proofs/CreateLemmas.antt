@@ -18,7 +18,7 @@ use Rattle.bb_board.specs.UnitsFaults.{here, of_create_fault}
 use Rattle.bb_board_state.specs.World.{after_create}
 use Rattle.bb_board.specs.Load.{with_unit}
 
--- the same test decides whether there is a number and whether a unit is made
+-- one test decides whether there is a number and whether a unit is made
 where_room : {X : Type 0} (full : Bool) (next n : ℕ) (x : X) → (let r : Result ℕ CreateFault = cond full (Err NoMoreUnits) (Ok next) in r) ≡ Ok n → (let r : Result X UnitsFault = cond full (Err (here Full)) (Ok x) in r) ≡ Ok x
 where_room true next n x given = absurd cc
 where_room false next n x given = refl
@@ -42,7 +42,7 @@ class_within s name class is =
     let within = position_within (bytes_eq name) (map (λ (k : Class). k.name) s.classes) class is in
     omega (arith, within, length-map s.classes (λ (k : Class). k.name))
 
--- what a call leaves where it has no fault, it leaves where none was told with a place
+-- a call that has no fault once its fault is mapped leaves what it leaves without a fault
 pub placed_leaves : {X E F : Type 0} (P : Type 0) (at : E → F) (r : Result X E) (x : X) → Ok x ≡ map_err at r → OnOk r P → P
 placed_leaves P at (Ok y) x is left = left
 placed_leaves P at (Err e) x is left = absurd cc

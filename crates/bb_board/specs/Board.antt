@@ -18,11 +18,11 @@ pub record Board : Type 0 where
 abbrev pub new_board : Schema → Board
 new_board s = record { schema = s; world = empty_world s; refused = false }
 
--- the same blackboard in another state
+-- a blackboard with another state
 abbrev pub with_world : Board → World → Board
 with_world b w = record { schema = b.schema; world = w; refused = b.refused }
 
--- the same blackboard, once memory was refused
+-- a blackboard, once memory was refused
 abbrev pub when_refused : Board → Board
 when_refused b = record { schema = b.schema; world = b.world; refused = true }
 

@@ -29,7 +29,7 @@ pub use Rattle.bb_board_state.specs.Named
 pub mod Board
 -- the numbers of the faults of a document of first units
 pub mod UnitsFaults
--- the blackboard that such a document means, or its first fault
+-- the blackboard that a document of first units means, or its first fault
 pub mod Load
 -- what only the contracts of private functions and proofs speak of
 pub mod proving

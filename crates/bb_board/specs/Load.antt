@@ -1,4 +1,5 @@
--- The blackboard that a text means, or the text's first fault: the JSON, its form, then one walk over the units, one over the links.
+-- The blackboard that a text means, or the text's first fault: the JSON, its form, then one walk over the units, one
+-- over the links, and one over the members of spaces.
 use Rattle.std.specs.Prelude.{ℕ, Bool, false, is_some, is_ok, List, find, Option, Some, None, option_map, option_and_then, Result, Ok, Err, if◌then◌else◌}
 use Rattle.std.specs.FinMap as map
 use Rattle.std.specs.Ordering.{nat_cmp}
@@ -81,7 +82,7 @@ with_value schema n w slot given = do
   value ← ok_or (value_at schema slot given) (here Kind)
   if is_ok (may_set w n slot value) then Ok (after_set schema w n slot value) else Err (here Kind)
 
--- the same, if a value is given
+-- a unit's slot holds the value that is given for it, if one is given
 abbrev pub if_given : Schema → (unit : ℕ) → World → (slot : ℕ) → Option ValueDeclaration → Result World UnitsFault
 if_given schema n w slot None = Ok w
 if_given schema n w slot (Some given) = with_value schema n w slot given
@@ -107,8 +108,8 @@ entry_after schema so_far entry = if map.contains_key so_far.names entry.name th
   world ← with_values schema so_far.world.units.next class entry.slots created
   Ok (record { names = map.insert so_far.names entry.name so_far.world.units.next; world = world }))
 
--- a blackboard's state after one more link, or what is wrong with its entry: a unit that is not there, or no link slot of
--- the name, and then a partner that is not of the class that the slot leads to
+-- a blackboard's state after one more link, or what is wrong with its entry: a unit that is not there, or no link slot
+-- of the name, and then a partner that is not of the class that the slot leads to
 unfoldable pub link_after : Schema → map.FinMap (slice_cmp nat_cmp) ℕ → World → FirstLinkDeclaration → Result World UnitsFault
 link_after schema names w entry = do
   n ← ok_or (map.get names entry.from) (here Unknown)
@@ -117,8 +118,8 @@ link_after schema names w entry = do
   allowed ← map_err of_reason (may_link schema w n slot m)
   Ok (after_link schema w n slot m)
 
--- a blackboard's state after one more unit is in a space, or what is wrong with its entry: a unit or a space that is not
--- there, and then a unit of a class that the space does not take
+-- a blackboard's state after one more unit is in a space, or what is wrong with its entry: a unit or a space that is
+-- not there, and then a unit of a class that the space does not take
 unfoldable pub member_after : Schema → map.FinMap (slice_cmp nat_cmp) ℕ → World → MemberDeclaration → Result World UnitsFault
 member_after schema names w entry = do
   n ← ok_or (map.get names entry.unit) (here Unknown)

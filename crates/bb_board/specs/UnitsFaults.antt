@@ -31,7 +31,7 @@ fault_number Memory = 9
 abbrev pub here : UnitsFlaw → UnitsFault
 here flaw = At flaw Whole
 
--- the fault of an entry, seen from where the entry is one of a list
+-- the fault of an entry, its place seen from the value that lists the entry
 abbrev pub inside : ListKey → ℕ → UnitsFault → UnitsFault
 inside list index (At flaw place) = At flaw (inside_place list index place)
 inside list index Memory = Memory

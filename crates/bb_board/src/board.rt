@@ -1,5 +1,5 @@
-//! The blackboard. Here stands what can be asked of it, in `changes` what changes it. The machine changes it
-//! (bb_machine_step), and a run takes its notes (bb_run).
+//! The blackboard. The calls here read it, those in `changes` change it. The machine changes it (bb_machine_step), and
+//! a run takes its notes (bb_run).
 
 ghost use Rattle.std.specs.Prelude.{◌≡◌, ◌≤◌, ◌↔◌, Ok, Some, length, map, slice_get, IfOk, IsTrue, IsSome};
 ghost use Rattle.bb_pattern.specs.Fits.{query_fits};
@@ -24,8 +24,8 @@ use std::alloc::Global;
 use std::marker::Model;
 
 /// A blackboard (Hayes-Roth, 1985): a world, which is a schema with units and what was noted since the notes were last
-/// taken, and whether memory was refused to a change. From then on each change is refused, and what can be read is as it
-/// was before.
+/// taken, and whether memory was refused to a change. From then on each change is refused, and what can be read is as
+/// it was before.
 #[derive(Drop)]
 pub struct Board {
     world: World,
@@ -129,8 +129,8 @@ impl Board {
         self.world.can_hold(slot, value)
     }
 
-    /// Whether a unit may enter a space, or the first reason why not: `Deleted` where the unit is not live, `Space` where
-    /// the space is not there or does not take units of its class.
+    /// Whether a unit may enter a space, or the first reason why not: `Deleted` where the unit is not live, `Space`
+    /// where the space is not there or does not take units of its class.
     pub fn may_enter(&self, unit: UnitId, space: SpaceId) -> Result<(), Reason>
         ensures { result ≡ may_enter self.now.schema self.now.world unit space }
     {
@@ -188,9 +188,9 @@ impl Board {
         self.world.can_say(said)
     }
 
-    /// Whether a unit may be linked to another by a slot, or the first reason why not: `Deleted` where one of them is not
-    /// live, `Slot` where the unit's class has no such link slot, `LinkClass` where the other's class does not descend
-    /// from the one that the slot leads to. An unlink asks for the same.
+    /// Whether a unit may be linked to another by a slot, or the first reason why not: `Deleted` where one of them is
+    /// not live, `Slot` where the unit's class has no such link slot, `LinkClass` where the other's class does not
+    /// descend from the one that the slot leads to. An unlink asks for the same.
     pub fn may_link(&self, unit: UnitId, slot: SlotId, partner: UnitId) -> Result<(), Reason>
         ensures { result ≡ may_link self.now.schema self.now.world unit slot partner }
     {

@@ -20,7 +20,7 @@ use bb_schema_form::{
 };
 use std::alloc::Global;
 
-/// Creates a unit of a class that is there, where there is room, and returns its number.
+// Creates a unit of a class that is there, where there is room, and returns its number.
 fn create(world: &mut World, class: ClassId) -> Result<UnitId, UnitsFault>
     requires { class < length world.old.schema.classes }
     ensures gives { Gives OutOfMemory (λ _. world.new.world) result (with_unit world.old.world class) }
@@ -52,7 +52,7 @@ impl Progress {
         })
     }
 
-    /// Creates the unit of an entry, and sets the values that it gives.
+    // Creates the unit of an entry, and sets the values that it gives.
     #[tactic(auto, unfolding(crate::specs::Load::entry_after))]
     fn add(&mut self, alloc: Global, schema: &Schema, entry: &UnitEntry) -> Result<(), UnitsFault>
         requires { self.old.world.schema ≡ schema.now }
@@ -91,7 +91,7 @@ impl Progress {
     }
 }
 
-/// Links two units as an entry asks.
+// Links two units as an entry asks.
 #[tactic(auto, unfolding(crate::specs::Load::link_after))]
 fn add_link(
     world: &mut World,
@@ -118,7 +118,7 @@ fn add_link(
     Ok(())
 }
 
-/// Links units as some entries ask, one after another.
+// Links units as some entries ask, one after another.
 fn add_links(
     world: &mut World,
     schema: &Schema,
@@ -137,7 +137,7 @@ fn add_links(
     Ok(())
 }
 
-/// Lets a unit enter a space as an entry asks.
+// Lets a unit enter a space as an entry asks.
 #[tactic(auto, unfolding(crate::specs::Load::member_after))]
 fn add_member(
     world: &mut World,
@@ -161,7 +161,7 @@ fn add_member(
     Ok(())
 }
 
-/// Lets units enter spaces as some entries ask, one after another.
+// Lets units enter spaces as some entries ask, one after another.
 fn add_members(
     world: &mut World,
     schema: &Schema,
@@ -214,7 +214,7 @@ pub(crate) fn read_units(fresh: &World, text: &str) -> Result<World, UnitsFault>
     } = document(alloc, text)?;
     let mut progress = Progress::new(alloc, fresh.shared_schema()?)?;
     progress.add_all(alloc, schema, &units)?;
-    // The spaces take the room that the entries of the units leave.
+    // The links and spaces may use the memory of the units' entries.
     drop(units);
     let Progress { names, mut world } = progress;
     add_links(&mut world, schema, &names, &links)?;

@@ -1,5 +1,5 @@
-//! The names of a document's units. The loader puts each new name there, which tells whether it was there already, and
-//! finds the units of links by them.
+//! The names of a document's units. The loader adds each new name, by which it learns whether the name was there
+//! already, and finds the units of links by them.
 
 ghost use Rattle.std.specs.Prelude.{◌≡◌, IfOk, OnOk, OnErr};
 ghost use Rattle.std.specs.FinMap as map;
@@ -10,7 +10,7 @@ use std::alloc::Global;
 use std::collections::BTreeMap;
 use std::marker::Model;
 
-/// Units under their names. It goes by the order of names and not by a hash, so that no choice of names makes it slow.
+/// Units under their names, found by the order of names and not by a hash, so that no choice of names makes it slow.
 pub(crate) struct UnitNames {
     units: BTreeMap<String, UnitId>,
 }

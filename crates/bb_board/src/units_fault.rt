@@ -1,4 +1,4 @@
-//! Why a document of first units is refused. The loader returns it, and a refusal line tells its number (bb_shell).
+//! Why a document of first units is refused. The loader returns it, and a refusal line has its number (bb_shell).
 
 ghost use Rattle.std.specs.Prelude.{◌≡◌};
 ghost use Rattle.bb_basis.specs.Results.{map_err};
@@ -102,7 +102,7 @@ impl UnitsFault {
         }
     }
 
-    /// The fault of an entry, seen from where the entry is one of a list.
+    // The fault of an entry, its place seen from the value that lists the entry.
     fn inside(self, list: ListKey, index: usize) -> UnitsFault
         ensures { result ≡ inside list index self }
     {
@@ -116,7 +116,7 @@ impl UnitsFault {
     }
 }
 
-/// The answer of an entry of a list, a fault at its place in there.
+/// The answer of an entry of a list, a fault at its place in that list.
 pub(crate) fn placed<T>(
     answer: Result<T, UnitsFault>,
     list: ListKey,

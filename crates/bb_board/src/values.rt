@@ -16,7 +16,7 @@ use bb_schema::{ClassId, Kind, Schema, SlotId, UnitId, Value};
 use bb_schema_form::{GivenEntry, GivenValue};
 use std::alloc::{AllocError, Global};
 
-/// Whether the name is that of an ordinary slot of a class.
+// Whether the name is that of an ordinary slot of a class.
 fn is_ordinary_in(schema: &Schema, class: ClassId, name: &str) -> bool
     ensures { result ≡ is_ordinary_in schema.now class name.now }
 {
@@ -26,7 +26,7 @@ fn is_ordinary_in(schema: &Schema, class: ClassId, name: &str) -> bool
     }
 }
 
-/// Whether each value is given for an ordinary slot of a class.
+// Whether each value is given for an ordinary slot of a class.
 fn are_slots(schema: &Schema, class: ClassId, given: &[GivenEntry]) -> bool
     ensures { result ≡ are_slots schema.now class (map given_declaration given.now) }
 {
@@ -35,7 +35,7 @@ fn are_slots(schema: &Schema, class: ClassId, given: &[GivenEntry]) -> bool
         .all(|entry| is_ordinary_in(schema, class, entry.slot.as_str()))
 }
 
-/// The first value that is given for a name.
+// The first value that is given for a name.
 fn given_for<'a>(name: &str, given: &'a [GivenEntry]) -> Option<&'a GivenValue>
     ensures { option_map (λ v. value_declaration v.now) result ≡ given_for name.now (map given_declaration given.now) }
 {
@@ -43,7 +43,7 @@ fn given_for<'a>(name: &str, given: &'a [GivenEntry]) -> Option<&'a GivenValue>
     Some(&entry.value)
 }
 
-/// The value that is given for a slot.
+// The value that is given for a slot.
 fn given_at<'a>(schema: &Schema, given: &'a [GivenEntry], slot: SlotId) -> Option<&'a GivenValue>
     ensures { option_map (λ v. value_declaration v.now) result ≡
         given_at schema.now (map given_declaration given.now) slot }
@@ -51,7 +51,7 @@ fn given_at<'a>(schema: &Schema, given: &'a [GivenEntry], slot: SlotId) -> Optio
     given_for(schema.slot_name(slot)?, given)
 }
 
-/// What a given value is in a slot of a kind, whether it fits or not. A label is given by its name.
+// What a given value is in a slot of a kind, whether it fits or not. A label is given by its name.
 #[tactic(auto, unfolding(crate::specs::Load::value_in))]
 fn value_in(
     alloc: Global,
@@ -77,7 +77,7 @@ fn value_in(
     }
 }
 
-/// What a given value is in a slot.
+// What a given value is in a slot.
 fn value_at(
     alloc: Global,
     schema: &Schema,
@@ -92,7 +92,7 @@ fn value_at(
     value_in(alloc, schema, schema.kind(slot), given)
 }
 
-/// Sets a slot of a unit to a value that is given for it.
+// Sets a slot of a unit to a value that is given for it.
 #[tactic(auto, unfolding(crate::specs::Load::with_value))]
 fn set_value(
     alloc: Global,
@@ -115,7 +115,7 @@ fn set_value(
     Ok(())
 }
 
-/// Sets a slot of a unit, if a value is given for it.
+// Sets a slot of a unit, if a value is given for it.
 #[tactic(auto, unfolding(crate::specs::Load::slot_after))]
 fn set_slot(
     alloc: Global,
@@ -136,7 +136,7 @@ fn set_slot(
     }
 }
 
-/// Sets some slots of a unit, in their order.
+// Sets some slots of a unit, in their order.
 fn set_slots(
     alloc: Global,
     schema: &Schema,

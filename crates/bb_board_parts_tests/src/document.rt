@@ -3,7 +3,7 @@
 use bb_schema_form::{Document, UnitsDocument};
 use std::test::Fail;
 
-/// A document of a schema, with an entry of each sort.
+// A document of a schema, with an entry of each sort.
 const SCHEMA: &str = r#"{"labels":[{"name":"hue","values":["red","blue"]}],
 "classes":[{"name":"thing","slots":[{"name":"at","kind":"int","default":-1}],
 "links":[{"name":"parts","to":"thing","many":true,"inverse":"whole"}]},{"name":"box","parent":"thing"}],
@@ -41,7 +41,7 @@ fn schema(rt: HostRuntime) -> Result<(), Fail> {
     Ok(())
 }
 
-/// A document of first units, with an entry of each sort.
+// A document of first units, with an entry of each sort.
 const UNITS: &str = r#"{"units":[{"name":"a","class":"thing","slots":{"at":3}}],
 "links":[["a","parts","a"]],"spaces":[["a","floor"]]}"#;
 

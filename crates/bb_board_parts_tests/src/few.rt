@@ -7,7 +7,7 @@ use std::alloc::Global;
 use std::fmt::Write;
 use std::test::Fail;
 
-/// Whether an interval on the first dimension lies within `[low, high]`.
+// Whether an interval on the first dimension lies within `[low, high]`.
 fn within(low: i64, high: i64) -> Leaf {
     Leaf::Ordered {
         relation: Relation::Within,
@@ -17,7 +17,7 @@ fn within(low: i64, high: i64) -> Leaf {
     }
 }
 
-/// Whether the label on the second dimension is red, or else green.
+// Whether the label on the second dimension is red, or else green.
 fn is_red(red: bool) -> Leaf {
     Leaf::Is {
         dim: 1,
@@ -26,7 +26,7 @@ fn is_red(red: bool) -> Leaf {
     }
 }
 
-/// The few members of `board` that can pass some tests, at most so many, or `none`.
+// The few members of `board` that can pass some tests, at most `most`, or `none`.
 fn few(alloc: Global, spaces: &Spaces, tests: &[Leaf], most: usize) -> Result<String, Fail> {
     let mut text = String::new(alloc);
     if spaces.count() == 0 {
@@ -43,7 +43,7 @@ fn few(alloc: Global, spaces: &Spaces, tests: &[Leaf], most: usize) -> Result<St
     Ok(text)
 }
 
-/// Whether the few are these.
+// Whether the few are these.
 fn are_few(
     alloc: Global,
     spaces: &Spaces,
@@ -68,7 +68,7 @@ fn few_of_a_thousand(rt: HostRuntime) -> Result<(), Fail> {
     Ok(())
 }
 
-/// Whether those of the few for two tests that pass both are what a walk over all members finds.
+// Whether those of the few for two tests that pass both are what a walk over all members finds.
 fn as_a_walk(spaces: &Spaces, tests: &[Leaf]) -> Result<bool, Fail> {
     if spaces.count() == 0 {
         return Ok(false);

@@ -1,5 +1,5 @@
-//! Tests of the crates that a world is made of, from bb_basis to bb_links and bb_space, which stand here so that the gate
-//! proves those crates once: calls with memory, and answers that no case shows.
+//! Tests of the crates that a blackboard is made of, from bb_basis to bb_links and bb_space: calls with memory, and
+//! answers that no case shows. They stand here so that the gate proves those crates once.
 #![tactic(auto)]
 
 #[cfg(test)]

@@ -1,5 +1,5 @@
-//! Tests of links: what a link answers with memory, by which slots there is one partner, that a couple takes many pairs,
-//! and all against a plain list of pairs.
+//! Tests of links: what a link answers with memory, by which slots there is one partner, that a couple takes many
+//! pairs, and all against a plain list of pairs.
 
 use bb_links::{Couples, Taken};
 use bb_schema::{CoupleId, Schema, SlotId, UnitId};
@@ -7,7 +7,7 @@ use std::alloc::{AllocError, Global};
 use std::fmt::Write;
 use std::test::Fail;
 
-/// Slots 4 and 5 are `mate` and `mate_of`, 6 and 7 `parts` and `whole`, 8 and 9 `knows` and `known_by`.
+// Slots 4 and 5 are `mate` and `mate_of`, 6 and 7 `parts` and `whole`, 8 and 9 `knows` and `known_by`.
 const SCHEMA: &str = r#"{"classes":[{"name":"thing","links":[
 {"name":"mate","to":"thing","many":false,"inverse":"mate_of"},
 {"name":"mate_of","to":"thing","many":false,"inverse":"mate"},
@@ -22,7 +22,7 @@ const PARTS: CoupleId = 1;
 
 const KNOWS: CoupleId = 2;
 
-/// What a link takes away and adds that changes nothing.
+// What a link takes away and adds that changes nothing.
 const NOTHING: Taken = Taken {
     first: None,
     second: None,
@@ -34,7 +34,7 @@ fn no_links(alloc: Global) -> Result<Couples, Fail> {
     Ok(Couples::new(alloc, &schema)?)
 }
 
-/// Links two units, where the couple is there.
+// Links two units, where the couple is there.
 fn link(couples: &mut Couples, couple: CoupleId, a: UnitId, b: UnitId) -> Result<Taken, Fail> {
     if couple as usize >= couples.count() {
         return Ok(NOTHING);
@@ -42,7 +42,7 @@ fn link(couples: &mut Couples, couple: CoupleId, a: UnitId, b: UnitId) -> Result
     Ok(couples.link(couple, a, b)?)
 }
 
-/// Whether two units are linked, and what a link would change, where the couple is there.
+// Whether two units are linked, and what a link would change, where the couple is there.
 fn foreseen(couples: &Couples, couple: CoupleId, a: UnitId, b: UnitId) -> (bool, Taken) {
     if couple as usize >= couples.count() {
         return (false, NOTHING);
@@ -54,7 +54,7 @@ fn unlink(couples: &mut Couples, couple: CoupleId, a: UnitId, b: UnitId) -> bool
     (couple as usize) < couples.count() && couples.unlink(couple, a, b)
 }
 
-/// The links of units 1 to 8 by a slot.
+// The links of units 1 to 8 by a slot.
 fn shown(alloc: Global, couples: &Couples, slot: SlotId) -> Result<String, Fail> {
     let mut text = String::new(alloc);
     for unit in 1..9 {
@@ -65,7 +65,7 @@ fn shown(alloc: Global, couples: &Couples, slot: SlotId) -> Result<String, Fail>
     Ok(text)
 }
 
-/// Couples with these pairs, which were added one after another.
+// Couples with these pairs, which were added one after another.
 fn linked(alloc: Global, couple: CoupleId, pairs: &[(UnitId, UnitId)]) -> Result<Couples, Fail> {
     let mut couples = no_links(alloc)?;
     for (a, b) in pairs {
@@ -94,7 +94,7 @@ fn link_displaces_both(rt: HostRuntime) -> Result<(), Fail> {
 
 #[test]
 fn one_partner_by_any_slot(rt: HostRuntime) -> Result<(), Fail> {
-    // Of many the first, and by a slot that is no link none.
+    // The first of many partners, and none by a slot that is no link slot.
     let couples = linked(rt.alloc(), PARTS, &[(1, 3), (2, 4), (1, 2)])?;
     assert_eq!(rt; couples.one(1, 6), Some(3));
     let couples = linked(rt.alloc(), MATE, &[(1, 2)])?;
@@ -103,7 +103,7 @@ fn one_partner_by_any_slot(rt: HostRuntime) -> Result<(), Fail> {
     Ok(())
 }
 
-/// Links unit 1 to so many others, and answers how many partners it has then.
+// Links unit 1 to `times` others, and returns how many partners it has then.
 fn partners_after(alloc: Global, times: u64) -> Result<usize, Fail> {
     let mut couples = no_links(alloc)?;
     for other in 0..times {
@@ -118,7 +118,7 @@ fn many_pairs(rt: HostRuntime) -> Result<(), Fail> {
     Ok(())
 }
 
-/// The pairs of a couple as a plain list, changed as the definitions say.
+// The pairs of a couple as a plain list, changed as the definitions say.
 #[derive(Drop)]
 struct Plain {
     single_a: bool,
@@ -145,7 +145,7 @@ impl Plain {
         self.pairs.retain(|pair| pair.0 != unit && pair.1 != unit);
     }
 
-    /// The links of units 1 to 8, from side B if it is `turned`, else from side A.
+    // The links of units 1 to 8, from side B if it is `turned`, else from side A.
     fn shown(&self, alloc: Global, turned: bool) -> Result<String, Fail> {
         let mut text = String::new(alloc);
         for unit in 1..9 {
@@ -160,7 +160,7 @@ impl Plain {
     }
 }
 
-/// A pair with the unit at one side first.
+// A pair with the unit at one side first.
 fn seen(pair: (UnitId, UnitId), turned: bool) -> (UnitId, UnitId) {
     if turned {
         return (pair.1, pair.0);
@@ -168,7 +168,7 @@ fn seen(pair: (UnitId, UnitId), turned: bool) -> (UnitId, UnitId) {
     pair
 }
 
-/// Makes the same change, which a number says, in couples and in a plain list.
+// Makes one change, chosen by a number, in couples and in a plain list.
 fn change(
     couples: &mut Couples,
     plain: &mut Plain,
@@ -193,7 +193,7 @@ fn change(
     Ok(())
 }
 
-/// Whether couples and a plain list have the same links by a slot.
+// Whether couples and a plain list have the same links by a slot.
 fn are_same(
     alloc: Global,
     couples: &Couples,
@@ -205,8 +205,8 @@ fn are_same(
     Ok(shown(alloc, couples, slot)?.as_str() == expected.as_str())
 }
 
-/// Whether couples and a plain list agree, from both sides, after each of 2,000 changes, where `slot` is the couple's
-/// side A and the next one its side B.
+// Whether couples and a plain list agree, from both sides, after each of 2,000 changes, where `slot` is the couple's
+// side A and the next one its side B.
 fn agrees(alloc: Global, couple: CoupleId, slot: SlotId, plain: Plain) -> Result<bool, Fail> {
     let mut plain = plain;
     let mut couples = no_links(alloc)?;

@@ -8,7 +8,7 @@ use std::alloc::{AllocError, Global};
 use std::fmt::Write;
 use std::test::Fail;
 
-/// `board` has the dimensions `pos` and `hue`, `desk` has none.
+// `board` has the dimensions `pos` and `hue`, `desk` has none.
 const SCHEMA: &str = r#"{"labels":[{"name":"hue","values":["red","green"]}],
 "classes":[{"name":"thing","slots":[{"name":"pos","kind":"interval"},
 {"name":"hue","kind":"label","of":"hue"}]},{"name":"word","parent":"thing"}],
@@ -27,12 +27,12 @@ pub(crate) fn no_members(alloc: Global) -> Result<Spaces, Fail> {
     Ok(Spaces::new(alloc, &schema)?)
 }
 
-/// The values of a red unit on the dimensions of `board`.
+// The values of a red unit on the dimensions of `board`.
 fn red_at(alloc: Global, low: i64, high: i64) -> Result<Items<DimValue>, AllocError> {
     Ok(Items::from([DimValue::Interval(low, high), RED].to_vec(alloc)?))
 }
 
-/// Lets a unit enter `board`, red at `[low, high]`.
+// Lets a unit enter `board`, red at `[low, high]`.
 fn enter(
     spaces: &mut Spaces,
     alloc: Global,
@@ -46,7 +46,7 @@ fn enter(
     Ok(spaces.enter(BOARD, unit, red_at(alloc, low, high)?)?)
 }
 
-/// Tells `board` that a unit is red at `[low, high]`.
+// Tells `board` that a unit is red at `[low, high]`.
 fn move_to(
     spaces: &mut Spaces,
     alloc: Global,
@@ -60,7 +60,7 @@ fn move_to(
     Ok(())
 }
 
-/// The members of a space with their values.
+// The members of a space with their values.
 fn shown(alloc: Global, spaces: &Spaces, space: SpaceId) -> Result<String, Fail> {
     let mut text = String::new(alloc);
     if space as usize >= spaces.count() {
@@ -73,7 +73,7 @@ fn shown(alloc: Global, spaces: &Spaces, space: SpaceId) -> Result<String, Fail>
     Ok(text)
 }
 
-/// A test of where a unit is on `board`.
+// A test of where a unit is on `board`.
 fn at(relation: Relation, low: i64, high: i64) -> Leaf {
     Leaf::Ordered {
         relation,
@@ -83,7 +83,7 @@ fn at(relation: Relation, low: i64, high: i64) -> Leaf {
     }
 }
 
-/// The candidates in `board` for a test.
+// The candidates in `board` for a test.
 fn near(alloc: Global, spaces: &Spaces, leaf: &Leaf) -> Result<String, Fail> {
     let mut text = String::new(alloc);
     if spaces.count() == 0 {
@@ -95,7 +95,7 @@ fn near(alloc: Global, spaces: &Spaces, leaf: &Leaf) -> Result<String, Fail> {
     Ok(text)
 }
 
-/// Whether the candidates in `board` for each test are those that stand beside it.
+// Whether the candidates in `board` for each test are those that stand beside it.
 fn are_near(
     alloc: Global,
     spaces: &Spaces,
@@ -110,7 +110,7 @@ fn are_near(
     Ok(true)
 }
 
-/// Those of some members of `board` whose values pass a test.
+// The members of `board` in a list whose values pass a test.
 fn passing(
     alloc: Global,
     spaces: &Spaces,
@@ -129,7 +129,7 @@ fn passing(
     Ok(list)
 }
 
-/// Whether those of the candidates for a test that pass it are what a walk over all members finds.
+// Whether those of the candidates for a test that pass it are what a walk over all members finds.
 fn as_a_walk(alloc: Global, spaces: &Spaces, leaf: &Leaf) -> Result<bool, Fail> {
     if spaces.count() == 0 {
         return Ok(false);
@@ -159,7 +159,7 @@ pub(crate) fn change(spaces: &mut Spaces, alloc: Global, number: u64) -> Result<
     Ok(())
 }
 
-/// Lets a unit enter `desk`.
+// Lets a unit enter `desk`.
 fn sit_down(spaces: &mut Spaces, alloc: Global, unit: UnitId) -> Result<(), Fail> {
     if spaces.count() > 1 {
         spaces.enter(DESK, unit, Items::new(alloc))?;
@@ -167,7 +167,7 @@ fn sit_down(spaces: &mut Spaces, alloc: Global, unit: UnitId) -> Result<(), Fail
     Ok(())
 }
 
-/// Whether the spaces that a unit is in are these.
+// Whether the spaces that a unit is in are these.
 fn is_in(alloc: Global, spaces: &Spaces, unit: UnitId, list: &str) -> Result<bool, Fail> {
     let mut text = String::new(alloc);
     for space in spaces.spaces_of(unit) {
@@ -176,7 +176,7 @@ fn is_in(alloc: Global, spaces: &Spaces, unit: UnitId, list: &str) -> Result<boo
     Ok(text.as_str() == list)
 }
 
-/// Whether 2, which enters `desk` and then `board`, is in both then.
+// Whether 2, which enters `desk` and then `board`, is in both then.
 fn stands_in_both(alloc: Global, spaces: &mut Spaces) -> Result<bool, Fail> {
     sit_down(spaces, alloc, 2)?;
     enter(spaces, alloc, 2, 0, 1)?;
@@ -184,7 +184,7 @@ fn stands_in_both(alloc: Global, spaces: &mut Spaces) -> Result<bool, Fail> {
     is_in(alloc, spaces, 2, "0 1 ")
 }
 
-/// Whether 2, which leaves `board`, is in `desk` then.
+// Whether 2, which leaves `board`, is in `desk` then.
 fn stands_in_one(alloc: Global, spaces: &mut Spaces) -> Result<bool, Fail> {
     if spaces.count() > 0 {
         spaces.leave(BOARD, 2);
@@ -192,7 +192,7 @@ fn stands_in_one(alloc: Global, spaces: &mut Spaces) -> Result<bool, Fail> {
     is_in(alloc, spaces, 2, "1 ")
 }
 
-/// Whether 2, which is forgotten, is in none then, and 3 where it was.
+// Whether 2, which is forgotten, is in none then, and 3 where it was.
 fn stands_in_none(alloc: Global, spaces: &mut Spaces) -> Result<bool, Fail> {
     spaces.forget(2);
     Ok(is_in(alloc, spaces, 2, "")? && is_in(alloc, spaces, 3, "0 ")?)
@@ -207,7 +207,7 @@ fn spaces_of_units(rt: HostRuntime) -> Result<(), Fail> {
     Ok(())
 }
 
-/// Lets 3 enter `board` at `[0, 1]`, 1 at `[0, 9]` and 2 at `[1, 1]`, and says whether all were new.
+// Lets 3 enter `board` at `[0, 1]`, 1 at `[0, 9]` and 2 at `[1, 1]`, and says whether all were new.
 fn three(spaces: &mut Spaces, alloc: Global) -> Result<bool, Fail> {
     let first = enter(spaces, alloc, 3, 0, 1)?;
     let second = enter(spaces, alloc, 1, 0, 9)?;
@@ -231,7 +231,7 @@ fn members_enter_once(rt: HostRuntime) -> Result<(), Fail> {
     Ok(())
 }
 
-/// Unit 1 is in `board` alone, and moves there and in `desk`.
+// Unit 1 is in `board` alone, and moves there and in `desk`.
 fn moved(alloc: Global) -> Result<Spaces, Fail> {
     let mut spaces = no_members(alloc)?;
     enter(&mut spaces, alloc, 1, 1, 3)?;
@@ -242,7 +242,7 @@ fn moved(alloc: Global) -> Result<Spaces, Fail> {
     Ok(spaces)
 }
 
-/// Whether a space has these members with these values.
+// Whether a space has these members with these values.
 fn shows(alloc: Global, spaces: &Spaces, space: SpaceId, text: &str) -> Result<bool, Fail> {
     Ok(shown(alloc, spaces, space)?.as_str() == text)
 }
@@ -272,7 +272,7 @@ pub(crate) fn thousand(alloc: Global) -> Result<Spaces, Fail> {
     Ok(spaces)
 }
 
-/// The candidates among a thousand once 15 is at `[5000, 5000]`.
+// The candidates among a thousand once 15 is at `[5000, 5000]`.
 const ONE_FAR_OFF: [(Relation, i64, i64, &str); 6] = [
     (Relation::Within, 10, 20, "10 11 12 13 14 16 17 18 19 20 "),
     (Relation::More, 999, 999, "15 1000 "),

@@ -6,7 +6,7 @@ use std::alloc::Global;
 use std::collections::BTreeMap;
 use std::test::Fail;
 
-/// Slots 4 to 6 are `pos`, `hue` and `score`, 7 and 8 the links, 9 and 10 `count` and `tint`.
+// Slots 4 to 6 are `pos`, `hue` and `score`, 7 and 8 the links, 9 and 10 `count` and `tint`.
 const SCHEMA: &str = r#"{"labels":[{"name":"hue","values":["red","green"]}],
 "classes":[{"name":"thing","slots":[{"name":"pos","kind":"interval"},
 {"name":"hue","kind":"label","of":"hue"},{"name":"score","kind":"int"}],
@@ -19,7 +19,7 @@ const THING: ClassId = 1;
 
 const WORD: ClassId = 2;
 
-/// Creates a unit, where its class is there.
+// Creates a unit, where its class is there.
 fn create(units: &mut Units, class: ClassId) -> Result<UnitId, CreateFault> {
     if !units.has_class(class) {
         return Err(CreateFault::Memory);
@@ -27,7 +27,7 @@ fn create(units: &mut Units, class: ClassId) -> Result<UnitId, CreateFault> {
     units.create(class)
 }
 
-/// Units of these classes, under the numbers from 1 on.
+// Units of these classes, under the numbers from 1 on.
 fn units_of(alloc: Global, classes: &[ClassId]) -> Result<Units, Fail> {
     let schema = Schema::read(alloc, SCHEMA)?;
     let mut units = Units::new(alloc, &schema)?;
@@ -37,7 +37,7 @@ fn units_of(alloc: Global, classes: &[ClassId]) -> Result<Units, Fail> {
     Ok(units)
 }
 
-/// Sets a slot, and answers whether it takes the value.
+// Sets a slot, and returns whether it takes the value.
 fn set(units: &mut Units, unit: UnitId, slot: SlotId, value: Value) -> bool {
     let takes = units.takes(unit, slot, &value);
     if takes {
@@ -62,7 +62,7 @@ fn created_units(rt: HostRuntime) -> Result<(), Fail> {
     Ok(())
 }
 
-/// Creates a unit, or deletes one of the last 64, by a number, and does the same with a plain map from unit to class.
+// Creates a unit, or deletes one of the last 64, by a number, and does the same with a plain map from unit to class.
 fn change(
     units: &mut Units,
     plain: &mut BTreeMap<UnitId, ClassId>,
@@ -80,13 +80,13 @@ fn change(
     Ok(())
 }
 
-/// Whether both say the same of a unit.
+// Whether both say the same of a unit.
 fn say_the_same(units: &Units, plain: &BTreeMap<UnitId, ClassId>, unit: UnitId) -> bool {
     units.class_if_live(unit) == plain.get(&unit).copied()
         && units.live(unit) == plain.contains_key(&unit)
 }
 
-/// Whether both say the same of some units: the last one that was created, the next one, and two by a number.
+// Whether both say the same of some units: the last one that was created, the next one, and two by a number.
 fn are_alike(units: &Units, plain: &BTreeMap<UnitId, ClassId>, number: u64) -> bool {
     let next = units.next();
     units.count() == plain.len()

@@ -23,7 +23,7 @@ module _ {X : Type 0} (p q : X → Bool) where
       and_from (p x && q x) (list_all (λ y. p y && q y) xs) (and_from (p x) (q x) ps.0 qs.0) (all_both xs ps.1 qs.1)
 
 module _ {X : Type 0} (p q kept : X → Bool) where
-  -- of those that are kept, another test
+  -- items that are kept and pass one test pass another
   filtered_by : (from : (x : X) → kept x ≡ true → p x ≡ true → q x ≡ true) (b : Bool) (x : X) (xs : List X) → kept x ≡ b → p x ≡ true → list_all q xs ≡ true → list_all q (cond b (x ∷ xs) xs) ≡ true
   filtered_by from true x xs is one rest = and_from (q x) (list_all q xs) (from x is one) rest
   filtered_by from false x xs is one rest = rest

@@ -91,7 +91,7 @@ module _ (side : Side) (n : ℕ) where
       distinct_by p qs (near side p == n) refl (only_by p (same_pair p p) qs refl (once p))
       (distinct qs (λ q. fewer_by (same_pair q p) p (filter (same_pair q) qs) (once q)))
 
--- and each is live
+-- each partner is live
 
 all_there_by : (test : ℕ → Bool) (x q : ℕ) (xs : List ℕ) (b : Bool) → tied q x ≡ b → (b || list_any (tied q) xs) ≡ true → test x ≡ true → (list_any (tied q) xs ≡ true → test q ≡ true) → test q ≡ true
 all_there_by test x q xs true is any here rest = ap test (eqb-true q x (sym (unsigned_tied q x) ∙ is)) ∙ here

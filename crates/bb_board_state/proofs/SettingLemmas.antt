@@ -63,7 +63,7 @@ module _ (slot : ℕ) (value : Value) where
     set_value_other : (s : ℕ) → s ≢ slot → value_of (after_set u n slot value) n s ≡ value_of u n s
     set_value_other s apart = set_other_by s (get u.units n) refl apart
 
-    -- so a dimension that reads the slot has the new value, and another what it had
+    -- a dimension that reads the slot has the new value, and another what it had
     pub on_the_slot : (sc : Schema) (class : ℕ) (d : Dim) (read : ℕ) → slot_named sc class d.name ≡ Some read → read ≡ slot → is_some (value_of u n slot) ≡ true
         → value_on sc (after_set u n slot value) n class d ≡ dim_value_of value
     on_the_slot sc class d read named same there =
@@ -75,7 +75,7 @@ module _ (slot : ℕ) (value : Value) where
     on_another sc class d read named apart =
         ap (option_and_then (λ s. option_and_then dim_value_of (value_of (after_set u n slot value) n s))) named ∙ ap (option_and_then dim_value_of) (set_value_other read apart)
 
--- those that are told nothing can be left out
+-- items of which nothing is told can be left out
 module _ {X : Type 0} (f : ℕ → Option X) where
   pub told_few : (p : ℕ → Bool) → ((q : ℕ) → p q ≡ false → f q ≡ None) → (xs : List ℕ) → filter_map f (filter p xs) ≡ filter_map f xs
   told_few p out [] = refl

@@ -12,6 +12,6 @@ pub record Contents : Type 0 where
 abbrev pub new_world : Schema → Contents
 new_world s = record { schema = s; world = empty_world s }
 
--- the same schema with another state
+-- a schema, with another state in place of its own
 abbrev pub with_state : Contents → World → Contents
 with_state c w = record { schema = c.schema; world = w }

@@ -7,7 +7,7 @@ use Rattle.bb_board_state.specs.declared.event.ChangeKind.TheVariants as kinds
 use Rattle.bb_board_state.specs.declared.event.Event.{Event}
 use Rattle.bb_board_state.specs.declared.event.Event.TheVariants as events
 
--- what kind of change it is: a link or an unlink is told by its slot, whoever the partner is
+-- the kind of a change: that of a link or an unlink has its slot, but no partner
 abbrev pub kind_of : Change → ChangeKind
 kind_of changes.Create = kinds.Create
 kind_of changes.Delete = kinds.Delete

@@ -24,7 +24,7 @@ abbrev pub joining : Schema → World → (unit slot partner : ℕ) → List Not
 joining s w n slot m =
     event n (class_at w n) (Link slot m) ∷ event m (class_at w m) (Link (inverse_of s.slots slot) n) ∷ []
 
--- the notes that it is no longer
+-- the notes that a unit is no longer linked by a slot: by the slot, and by its inverse
 abbrev pub parting : Schema → World → (unit slot partner : ℕ) → List Note
 parting s w n slot m =
     event n (class_at w n) (Unlink slot m) ∷ event m (class_at w m) (Unlink (inverse_of s.slots slot) n) ∷ []
@@ -76,8 +76,8 @@ unlinked_at s w n slot m e = let p = pair_of e.1 n m in record {
 abbrev pub after_unlink : Schema → World → (unit slot partner : ℕ) → World
 after_unlink s w n slot m = option_map_or (unlinked_at s w n slot m) (couple_of s slot) w
 
--- whether a deleted unit's link is noted at the turn of a slot at a side: a link to itself is in the lists of both slots
--- of its couple, and the slot at side A comes first
+-- whether a deleted unit's link is noted at the turn of a slot at a side: a link to itself is in the lists of both
+-- slots of its couple, and the slot at side A comes first
 abbrev pub is_turn : Side → (unit partner : ℕ) → Bool
 is_turn A n m = true
 is_turn B n m = not (m == n)

@@ -7,7 +7,7 @@ use Rattle.bb_board_state.specs.declared.note.Note.TheVariants.{Event, Said}
 use Rattle.bb_board_state.specs.Events.{unit_of}
 use Rattle.bb_board_state.specs.State.{World}
 
--- the note tells of a change of this unit
+-- the note is of a change of this unit
 abbrev pub names : (unit : ℕ) → Note → Bool
 names n (Event e) = unit_of e == n
 names n (Said values) = false

@@ -27,7 +27,7 @@ is_fresh w = w.units.next == 1 && length w.notes == 0
 abbrev pub event : (unit class : ℕ) → Change → Note
 event n class change = notes.Event (events.Change n class change)
 
--- the same state with one note more
+-- a state with one note more
 abbrev pub after_note : World → Note → World
 after_note w note = record { units = w.units; links = w.links; spaces = w.spaces; notes = w.notes ++ note ∷ [] }
 
@@ -53,10 +53,10 @@ after_set s w n slot value = let u = with_value w.units n slot value in record {
   notes = w.notes ++ event n (class_at w n) (Update slot) ∷ [];
 }
 
--- these values were said
+-- a state after values were said
 abbrev pub after_say : World → List Said → World
 after_say w values = after_note w (notes.Said values)
 
--- its notes were taken
+-- a state after its notes were taken
 abbrev pub after_take : World → World
 after_take w = record { units = w.units; links = w.links; spaces = w.spaces; notes = [] }

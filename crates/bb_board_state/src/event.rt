@@ -8,19 +8,19 @@ use bb_schema::{ClassId, SlotId, SpaceId, UnitId};
 /// What changed of a unit (GBBopen Reference Manual, events).
 #[derive(Clone, Copy, Debug, PartialEq, Eq)]
 pub enum Change {
-    /// It was created.
+    /// The unit was created.
     Create,
-    /// It was deleted.
+    /// The unit was deleted.
     Delete,
-    /// An ordinary slot was set, perhaps to an equal value.
+    /// An ordinary slot of the unit was set, perhaps to an equal value.
     Update(SlotId),
-    /// It was linked to a partner by a link slot.
+    /// The unit was linked to a partner by a link slot.
     Link { slot: SlotId, partner: UnitId },
-    /// It is no longer linked to a partner by a link slot.
+    /// The unit is no longer linked to a partner by a link slot.
     Unlink { slot: SlotId, partner: UnitId },
-    /// It entered a space.
+    /// The unit entered a space.
     Enter(SpaceId),
-    /// It left a space.
+    /// The unit left a space.
     Leave(SpaceId),
 }
 

@@ -1,5 +1,5 @@
-//! A schema with a state of a blackboard that fits it, and each change of it with its notes. The board (bb_board) keeps
-//! such a world and changes it.
+//! A schema with a state of a blackboard that fits it, and each change of it with its notes. `Board` is such a state
+//! that takes no change after memory was refused to one.
 #![tactic(auto)]
 
 mod event;

@@ -17,7 +17,7 @@ use bb_links::Taken;
 use bb_schema::{ClassId, Schema, Side, SlotId, UnitId};
 use std::alloc::Global;
 
-/// The old pair of the unit at a side.
+// The old pair of the unit at a side.
 fn own_pair(side: Side, taken: Taken) -> Option<(UnitId, UnitId)>
     ensures { result ≡ own_pair side taken }
 {
@@ -27,7 +27,7 @@ fn own_pair(side: Side, taken: Taken) -> Option<(UnitId, UnitId)>
     }
 }
 
-/// The old pair of its partner.
+// The old pair of the partner of the unit at a side.
 fn partners_pair(side: Side, taken: Taken) -> Option<(UnitId, UnitId)>
     ensures { result ≡ partners_pair side taken }
 {
@@ -37,7 +37,7 @@ fn partners_pair(side: Side, taken: Taken) -> Option<(UnitId, UnitId)>
     }
 }
 
-/// Whether a deleted unit's link is noted at the turn of a slot at a side.
+// Whether a deleted unit's link is noted at the turn of a slot at a side.
 fn is_turn(side: Side, unit: UnitId, partner: UnitId) -> bool
     ensures { result ≡ is_turn side unit partner }
 {
@@ -47,7 +47,7 @@ fn is_turn(side: Side, unit: UnitId, partner: UnitId) -> bool
     }
 }
 
-/// A link that is to be made: of a unit, by a slot that is at a side of its couple, to a partner.
+// A link that is to be made: of a unit, by a slot that is at a side of its couple, to a partner.
 #[derive(Clone, Copy)]
 struct Linking {
     side: Side,
@@ -75,7 +75,7 @@ impl State {
         })
     }
 
-    /// Adds the notes that a unit is linked.
+    // Adds the notes that a unit is linked.
     fn add_joining(
         &self,
         notes: &mut Vec<Note>,
@@ -98,7 +98,7 @@ impl State {
         Ok(())
     }
 
-    /// Adds the notes that a unit is no longer linked.
+    // Adds the notes that a unit is no longer linked.
     fn add_parting(
         &self,
         notes: &mut Vec<Note>,
@@ -121,7 +121,7 @@ impl State {
         Ok(())
     }
 
-    /// Adds the notes that an old pair goes, if there is one, seen from a side.
+    // Adds the notes that an old pair goes, if there is one, seen from a side.
     fn add_pair_parting(
         &self,
         notes: &mut Vec<Note>,
@@ -140,7 +140,7 @@ impl State {
             Side::B => self.add_parting(notes, schema, b, slot, a),
         }
     }
-    /// The notes of a link.
+    // The notes of a link.
     fn link_notes(
         &self,
         alloc: Global,
@@ -222,7 +222,7 @@ impl State {
         Ok(())
     }
 
-    /// Adds the notes of the links that a deleted unit loses by a slot at a side, of which these are the partners.
+    // Adds the notes of the links that a deleted unit loses by a slot at a side, of which these are the partners.
     fn add_partings(
         &self,
         notes: &mut Vec<Note>,
@@ -243,7 +243,7 @@ impl State {
         Ok(())
     }
 
-    /// Adds the notes of the links that a deleted unit loses by a slot.
+    // Adds the notes of the links that a deleted unit loses by a slot.
     fn add_slot_partings(
         &self,
         alloc: Global,
@@ -262,7 +262,7 @@ impl State {
         self.add_partings(notes, schema, (side, slot), unit, &partners)
     }
 
-    /// Adds the notes of the links that a deleted unit loses by some slots, slot by slot.
+    // Adds the notes of the links that a deleted unit loses by some slots, slot by slot.
     fn add_all_partings(
         &self,
         alloc: Global,
@@ -280,7 +280,8 @@ impl State {
         Ok(())
     }
 
-    /// Deletes a live unit with all its links, takes it out of its spaces, and notes all that and its end. An error changes nothing.
+    /// Deletes a live unit with all its links, takes it out of its spaces, and notes all that and its end. An error
+    /// changes nothing.
     pub(crate) fn delete(
         &mut self,
         alloc: Global,

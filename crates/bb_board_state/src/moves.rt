@@ -10,14 +10,14 @@ use bb_schema::{Dim, Schema, SlotId, SpaceId, UnitId, Value};
 use bb_space::Spaces;
 use std::alloc::Global;
 
-/// The place of the dimension of a name.
+// The place of the dimension of a name.
 fn place_of(dims: &[Dim], name: &str) -> Option<usize>
     ensures { result ≡ position (λ d. bytes_eq d.name name.now) dims.now }
 {
     dims.iter().position(|dim| dim.name.as_str() == name)
 }
 
-/// The place of the dimension of a space that reads a slot.
+// The place of the dimension of a space that reads a slot.
 fn reading(schema: &Schema, slot: SlotId, space: SpaceId) -> Option<usize>
     requires { space < length schema.now.spaces }
     ensures { result ≡ reading schema.now slot space }
@@ -26,7 +26,7 @@ fn reading(schema: &Schema, slot: SlotId, space: SpaceId) -> Option<usize>
     place_of(schema.dims(space), name)
 }
 
-/// Values with another one at a place.
+// Values with another one at a place.
 fn with_value(
     alloc: Global,
     told: &[DimValue],
@@ -42,8 +42,8 @@ fn with_value(
     Ok(Items::from(values))
 }
 
-/// The values of a unit in a space, once a slot of it is set to a value. `None` where it is no member, or the space
-/// does not read the slot.
+// The values of a unit in a space, once a slot of it is set to a value. `None` where it is no member, or the space
+// does not read the slot.
 fn values_anew(
     alloc: Global,
     schema: &Schema,

@@ -1,4 +1,4 @@
-//! Why a change may not be made. The calls of a world, and of the board, that begin with `may` tell it.
+//! Why a change may not be made. The calls of a world, and of the board, that begin with `may` return it.
 
 ghost use Rattle.std.specs.Prelude.{◌≡◌};
 ghost use Rattle.bb_board_state.specs.May.{reason_number};
@@ -12,7 +12,7 @@ pub enum Reason {
     Slot,
     /// The slot can't hold the value.
     Kind,
-    /// The other unit is not of the class that the link slot leads to.
+    /// The partner is not of the class that the link slot leads to.
     LinkClass,
     /// The space isn't there, or does not allow units of the class.
     Space,

@@ -1,5 +1,5 @@
-//! A world: a schema, and a state of a blackboard that fits it. Here stands what can be asked of it, in `changes` what
-//! changes it. The board (bb_board) keeps one.
+//! A world: a schema, and a state of a blackboard that fits it. The calls here read it, those in `changes` change it.
+//! The board (bb_board) keeps one.
 
 ghost use Rattle.std.specs.Prelude.{◌≡◌, ◌<◌, ◌≤◌, ◌↔◌, Ok, Some, length, map, slice_get, IfOk, IsTrue, IsSome};
 ghost use Rattle.bb_pattern.specs.Fits.{query_fits};
@@ -77,7 +77,7 @@ impl World {
         })
     }
 
-    /// The allocator of all that it keeps.
+    /// The allocator of all that the world keeps.
     pub fn alloc(&self) -> Global {
         self.alloc
     }
@@ -247,8 +247,8 @@ impl World {
         find(self.alloc, schema, units, spaces, query, operands)
     }
 
-    /// The partners of a unit by a slot, in order of addition, 65,536 at most: each is live, and none comes twice. A slot
-    /// that is no link slot has none. It fails only for want of memory.
+    /// The partners of a unit by a slot, in order of addition, 65,536 at most: each is live, and none comes twice. A
+    /// slot that is no link slot has none. It fails only for want of memory.
     pub fn links(&self, unit: UnitId, slot: SlotId) -> Result<Vec<UnitId>, Memory>
         ensures links { IfOk result (λ found. found.items ≡ ends self.now.world.links unit slot) }
         ensures few { IfOk result (λ found. length found.items ≤ UNIT_LIMIT) }

@@ -6,7 +6,7 @@ use std::alloc::Global;
 use std::fmt::Write;
 use std::test::Fail;
 
-/// In it `thing` is class 1 with the slots 4, `score`, to 11, `known_by`, and `word` class 2 with these and 12, `whole`.
+// `thing` is class 1 with the slots 4, `score`, to 11, `known_by`, and `word` class 2 with these and 12, `whole`.
 const SCHEMA: &str = r#"{"classes":[{"name":"thing","slots":[{"name":"score","kind":"int"}],
 "links":[{"name":"mate","to":"thing","many":false,"inverse":"mate_of"},
 {"name":"mate_of","to":"thing","many":false,"inverse":"mate"},
@@ -24,7 +24,7 @@ const MATE: SlotId = 5;
 
 const KNOWS: SlotId = 10;
 
-/// A blackboard before anything was created.
+// A blackboard before anything was created.
 fn empty(alloc: Global) -> Result<Board, Fail> {
     Ok(Board::new(alloc, Schema::read(alloc, SCHEMA)?)?)
 }
@@ -37,7 +37,7 @@ pub(crate) fn load(board: &mut Board, text: &str) -> Result<(), UnitsFault> {
     board.load(text)
 }
 
-/// A blackboard with words 1, 2 and 3 and the thing 4, named by their numbers, with these links.
+// A blackboard with words 1, 2 and 3 and the thing 4, named by their numbers, with these links.
 fn four(alloc: Global, links: &str) -> Result<Board, Fail> {
     let mut text = String::from_str(
         alloc,
@@ -52,7 +52,7 @@ fn four(alloc: Global, links: &str) -> Result<Board, Fail> {
     Ok(board)
 }
 
-/// Links two units where they may be linked, or says why they may not.
+// Links two units where they may be linked, or says why they may not.
 fn link(board: &mut Board, unit: UnitId, slot: SlotId, partner: UnitId) -> Result<u8, Fail> {
     match board.may_link(unit, slot, partner) {
         Ok(()) => {
@@ -77,7 +77,7 @@ fn delete(board: &mut Board, unit: UnitId) -> Result<(), Fail> {
     Ok(())
 }
 
-/// Appends what changed of a unit.
+// Appends what changed of a unit.
 fn add_change(
     text: &mut String,
     schema: &Schema,

@@ -12,7 +12,7 @@ use bb_schema::{ClassId, Schema, SlotId, SpaceId, UnitId, Value};
 use std::alloc::Global;
 use std::test::Fail;
 
-/// `thing` is class 1, `word` 2; `pos`, `hue` and `score` are slots 4 to 6. Things are taken by `board`, words by `desk`.
+// `thing` is class 1, `word` 2; `pos`, `hue` and `score` are slots 4 to 6. `board` takes things, `desk` words.
 const SCHEMA: &str = r#"{"labels":[{"name":"hue","values":["red","green"]}],
 "classes":[{"name":"thing","slots":[{"name":"pos","kind":"interval"},
 {"name":"hue","kind":"label","of":"hue"},{"name":"score","kind":"int"}],
@@ -33,7 +33,7 @@ const BOARD: SpaceId = 0;
 
 const DESK: SpaceId = 1;
 
-/// A blackboard with the units of a document, whose notes are taken.
+// A blackboard with the units of a document, whose notes are taken.
 fn loaded(alloc: Global, text: &str) -> Result<Board, Fail> {
     let mut board = Board::new(alloc, Schema::read(alloc, SCHEMA)?)?;
     load(&mut board, text)?;
@@ -101,7 +101,7 @@ pub(crate) fn found(
     }
 }
 
-/// The things on the board within `[low, high]`.
+// The things on the board within `[low, high]`.
 fn within(alloc: Global, board: &Board, low: i64, high: i64) -> Result<Vec<UnitId>, Fail> {
     let operands = [DimValue::Interval(low, high)];
     let pattern = ordered(Relation::Within, 0, 0);

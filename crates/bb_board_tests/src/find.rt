@@ -9,7 +9,7 @@ use bb_schema::{ClassId, LabelId, Schema, SlotId, SpaceId, UnitId, Value};
 use std::alloc::Global;
 use std::test::Fail;
 
-/// `pos` and `hue` are slots 4 and 5 of things and words, and the dimensions of `board`, which takes both.
+// `pos` and `hue` are slots 4 and 5 of things and words, and the dimensions of `board`, which takes both.
 const SCHEMA: &str = r#"{"labels":[{"name":"hue","values":["red","green","blue"]}],
 "classes":[{"name":"thing","slots":[{"name":"pos","kind":"interval"},
 {"name":"hue","kind":"label","of":"hue"}]},{"name":"word","parent":"thing"}],
@@ -26,10 +26,10 @@ const POS: SlotId = 4;
 
 const HUE: SlotId = 5;
 
-/// Even numbers are words.
+// Even numbers are words.
 const UNITS: u64 = 256;
 
-/// Whether a unit is in the space, and what it has on its dimensions.
+// Whether a unit is in the space, and what it has on its dimensions.
 #[derive(Clone, Copy)]
 struct Told {
     inside: bool,
@@ -38,7 +38,7 @@ struct Told {
     hue: LabelId,
 }
 
-/// The next of some numbers that look random.
+// The next of some numbers that look random.
 fn next(number: u64) -> u64 {
     let number = number ^ (number << 13);
     let number = number ^ (number >> 7);
@@ -49,7 +49,7 @@ fn class_of(unit: UnitId) -> ClassId {
     if unit % 2 == 0 { WORD } else { THING }
 }
 
-/// A blackboard with the units, none of them in the space.
+// A blackboard with the units, none of them in the space.
 fn outside(alloc: Global) -> Result<Board, Fail> {
     let mut board = Board::new(alloc, Schema::read(alloc, SCHEMA)?)?;
     for unit in 1..=UNITS {
@@ -61,7 +61,7 @@ fn outside(alloc: Global) -> Result<Board, Fail> {
     Ok(board)
 }
 
-/// What is told of the units at first: the defaults of their slots.
+// What is told of the units at first: the defaults of their slots.
 fn at_first(alloc: Global) -> Result<Vec<Told>, Fail> {
     let mut told = Vec::new(alloc);
     for _ in 0..UNITS {
@@ -75,7 +75,7 @@ fn at_first(alloc: Global) -> Result<Vec<Told>, Fail> {
     Ok(told)
 }
 
-/// Lets a unit enter the space, leave it, or be elsewhere, by a number. It answers what the unit has then.
+// Lets a unit enter the space, leave it, or be elsewhere, by a number. It returns what the unit has then.
 fn changed(board: &mut Board, unit: UnitId, old: Told, number: u64) -> Result<Told, Fail> {
     let mut told = old;
     match (number >> 24) % 4 {
@@ -101,7 +101,7 @@ fn changed(board: &mut Board, unit: UnitId, old: Told, number: u64) -> Result<To
     Ok(told)
 }
 
-/// Changes a unit by a number.
+// Changes a unit by a number.
 fn change(board: &mut Board, told: &mut Vec<Told>, number: u64) -> Result<(), Fail> {
     let place = (number % UNITS) as usize;
     if place < told.len() {
@@ -120,7 +120,7 @@ fn relation_of(number: u64) -> Relation {
     }
 }
 
-/// A pattern of the place, the hue or both, by a number.
+// A pattern of the place, the hue or both, by a number.
 fn pattern_of(alloc: Global, number: u64) -> Result<Pattern, Fail> {
     let place = ordered(relation_of(number >> 8), 0, 0);
     let hue = is(1, 1);
@@ -135,7 +135,7 @@ fn pattern_of(alloc: Global, number: u64) -> Result<Pattern, Fail> {
     Ok(Pattern::new(node))
 }
 
-/// The interval and the label that a number asks for.
+// The interval and the label that a number asks for.
 fn operands_of(number: u64) -> [DimValue; 2] {
     let low = (number % 256) as i64;
     let high = low + ((number >> 8) % 64) as i64;
@@ -143,7 +143,7 @@ fn operands_of(number: u64) -> [DimValue; 2] {
     [DimValue::Interval(low, high), DimValue::Label(0, hue)]
 }
 
-/// Whether a pattern holds of what a unit has.
+// Whether a pattern holds of what a unit has.
 fn holds(pattern: &Pattern, operands: &[DimValue], told: Told) -> bool {
     let values = [
         DimValue::Interval(told.low, told.high),
@@ -152,7 +152,7 @@ fn holds(pattern: &Pattern, operands: &[DimValue], told: Told) -> bool {
     told.inside && pattern.holds(operands, &values)
 }
 
-/// The units of a class of which a pattern holds, by a scan of all.
+// The units of a class of which a pattern holds, by a scan of all.
 fn scanned(
     alloc: Global,
     told: &[Told],
@@ -173,7 +173,7 @@ fn scanned(
     Ok(list)
 }
 
-/// Whether a query finds what a scan finds.
+// Whether a query finds what a scan finds.
 fn agrees(alloc: Global, board: &Board, told: &[Told], number: u64) -> Result<bool, Fail> {
     let class = class_of(number);
     let pattern = pattern_of(alloc, number >> 1)?;

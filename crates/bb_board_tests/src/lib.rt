@@ -1,5 +1,5 @@
-//! Tests of patterns, of queries and of the blackboard, which stand here so that the gate proves those crates once: calls
-//! with memory, and answers that no case shows.
+//! Tests of patterns, of queries and of the blackboard: calls with memory, and answers that no case shows. They stand
+//! here so that the gate proves those crates once.
 #![tactic(auto)]
 
 #[cfg(test)]

@@ -6,7 +6,7 @@ use bb_schema::{ClassId, Schema, SpaceId, Value};
 use std::alloc::Global;
 use std::test::Fail;
 
-/// Space 0, `board`, has the dimensions `pos`, an ordered one, and `hue`, an enumerated one; space 1, `desk`, has none.
+// Space 0, `board`, has the dimensions `pos`, an ordered one, and `hue`, an enumerated one; space 1, `desk`, has none.
 const SCHEMA: &str =
     r#"{"labels":[{"name":"hue","values":["red","green"]},{"name":"size","values":["big"]}],
 "classes":[{"name":"thing","slots":[{"name":"pos","kind":"interval"},
@@ -40,7 +40,7 @@ pub(crate) fn not(alloc: Global, pattern: Pattern) -> Result<Pattern, Fail> {
     Ok(Pattern::new(Node::Not(Box::new(alloc, pattern)?)))
 }
 
-/// So many times `not`, around `all`.
+// `not`, `count` times, around `all`.
 fn nots(alloc: Global, count: usize) -> Result<Pattern, Fail> {
     let mut pattern = Pattern::new(Node::All);
     for _ in 0..count {
@@ -49,7 +49,7 @@ fn nots(alloc: Global, count: usize) -> Result<Pattern, Fail> {
     Ok(pattern)
 }
 
-/// The number of the fault of a pattern for things on the board, or 0.
+// The number of the fault of a pattern for things on the board, or 0.
 fn fault(alloc: Global, pattern: Pattern) -> Result<u8, Fail> {
     let schema = Schema::read(alloc, SCHEMA)?;
     match pattern.fits(&schema, THING, BOARD, &KINDS) {
@@ -58,7 +58,7 @@ fn fault(alloc: Global, pattern: Pattern) -> Result<u8, Fail> {
     }
 }
 
-/// The number of the fault of `all` for a class in a space with so many operands, or 0.
+// The number of the fault of `all` for a class in a space with `kinds` operands, or 0.
 fn query_fault(alloc: Global, class: ClassId, space: SpaceId, kinds: usize) -> Result<u8, Fail> {
     let schema = Schema::read(alloc, SCHEMA)?;
     let mut operands = Items::new(alloc);
@@ -111,14 +111,14 @@ fn values_and_what_is_missing(rt: HostRuntime) -> Result<(), Fail> {
 fn nodes(rt: HostRuntime) -> Result<(), Fail> {
     assert_eq!(rt; fault(rt.alloc(), nots(rt.alloc(), 63)?)?, 0);
     assert_eq!(rt; fault(rt.alloc(), nots(rt.alloc(), 64)?)?, 4);
-    // It is judged without going deeper than the limit.
+    // The pattern is judged without going deeper than the limit.
     assert_eq!(rt; fault(rt.alloc(), nots(rt.alloc(), 10_000)?)?, 4);
     // 31 nodes, 32, and the node above them.
     let mut parts = Vec::new(rt.alloc());
     parts.push(nots(rt.alloc(), 30)?)?;
     parts.push(nots(rt.alloc(), 31)?)?;
     assert_eq!(rt; fault(rt.alloc(), Pattern::new(Node::Or(parts)))?, 0);
-    // One more.
+    // One node more.
     let mut parts = Vec::new(rt.alloc());
     parts.push(nots(rt.alloc(), 31)?)?;
     parts.push(nots(rt.alloc(), 31)?)?;

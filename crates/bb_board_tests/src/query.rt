@@ -12,8 +12,8 @@ use bb_units::Units;
 use std::alloc::Global;
 use std::test::Fail;
 
-/// Slots 4 to 6 are `pos`, `hue` and `score` of things, 7 and 8 the links, 10 `count` of words; 12 and 13 are `hue` and
-/// `pos` of boxes. Things are admitted in `board`, words in `desk`, things and boxes in `shelf`.
+// Slots 4 to 6 are `pos`, `hue` and `score` of things, 7 and 8 the links, 10 `count` of words; 12 and 13 are `hue` and
+// `pos` of boxes. Things are admitted in `board`, words in `desk`, things and boxes in `shelf`.
 const SCHEMA: &str = r#"{"labels":[{"name":"hue","values":["red","green"]}],
 "classes":[{"name":"thing","slots":[{"name":"pos","kind":"interval"},
 {"name":"hue","kind":"label","of":"hue"},{"name":"score","kind":"int"}],
@@ -51,7 +51,7 @@ const BOX_POS: SlotId = 13;
 
 const GREEN: DimValue = DimValue::Label(0, 1);
 
-/// Units of these classes, under the numbers from 1 on.
+// Units of these classes, under the numbers from 1 on.
 fn units_of(alloc: Global, schema: &Schema, classes: &[ClassId]) -> Result<Units, Fail> {
     let mut units = Units::new(alloc, schema)?;
     for class in classes {
@@ -71,7 +71,7 @@ fn set(units: &mut Units, unit: UnitId, slot: SlotId, value: Value) -> Result<()
     Ok(())
 }
 
-/// Enters a unit that a space admits, with its present values.
+// Enters a unit that a space admits, with its present values.
 fn enter(
     alloc: Global,
     schema: &Schema,
@@ -94,14 +94,14 @@ fn enter(
     Ok(())
 }
 
-/// The spaces, without members.
+// The spaces, without members.
 fn no_members(alloc: Global, schema: &Schema, units: &Units) -> Result<Spaces, Fail>
     ensures { IfOk result (λ spaces. KnowsValues schema.now units.now spaces) }
 {
     Ok(Spaces::new(alloc, schema)?)
 }
 
-/// What a query for a class in a space answers.
+// What a query for a class in a space answers.
 fn found(
     alloc: Global,
     schema: &Schema,
@@ -130,8 +130,8 @@ fn all() -> Pattern {
     Pattern::new(Node::All)
 }
 
-/// Unit 1 is a thing at `[1, 3]`, 2 a word at `[5, 5]`, 3 a box at 2, and 4 a thing at `[0, 0]`; 2 and 3 are green, the
-/// others red. All are in the spaces that admit them, and entered in another order.
+// Unit 1 is a thing at `[1, 3]`, 2 a word at `[5, 5]`, 3 a box at 2, and 4 a thing at `[0, 0]`; 2 and 3 are green, the
+// others red. All are in the spaces that admit them, and entered in another order.
 fn scene(alloc: Global, schema: &Schema) -> Result<Units, Fail> {
     let mut units = units_of(alloc, schema, &[THING, WORD, BOX, THING])?;
     set(&mut units, 1, POS, Value::Interval(1, 3))?;
@@ -142,7 +142,7 @@ fn scene(alloc: Global, schema: &Schema) -> Result<Units, Fail> {
     Ok(units)
 }
 
-/// The spaces of the scene.
+// The spaces of the scene.
 fn scene_spaces(alloc: Global, schema: &Schema, units: &Units) -> Result<Spaces, Fail>
     ensures { IfOk result (λ spaces. KnowsValues schema.now units.now spaces) }
 {
@@ -158,7 +158,7 @@ fn scene_spaces(alloc: Global, schema: &Schema, units: &Units) -> Result<Spaces,
     Ok(spaces)
 }
 
-/// What a query answers in the scene.
+// What a query answers in the scene.
 fn found_in_scene(
     alloc: Global,
     class: ClassId,
@@ -174,8 +174,8 @@ fn found_in_scene(
     )
 }
 
-/// What a scan of all units of the scene finds: those that the space admits, whose class descends from the query's, and
-/// of whose present values the pattern holds.
+// What a scan of all units of the scene finds: those that the space admits, whose class descends from the query's, and
+// of whose present values the pattern holds.
 fn scanned(
     alloc: Global,
     class: ClassId,
@@ -202,7 +202,7 @@ fn scanned(
     Ok(found)
 }
 
-/// Whether a query finds in the scene what a scan finds.
+// Whether a query finds in the scene what a scan finds.
 fn agrees(
     alloc: Global,
     class: ClassId,
@@ -256,13 +256,13 @@ pub(crate) fn two(alloc: Global, one: Pattern, other: Pattern) -> Result<Vec<Pat
     Ok(parts)
 }
 
-/// Whether a query for things on the board finds what a scan finds, where operand 0 is green and 1 is `[0, 3]`.
+// Whether a query for things on the board finds what a scan finds, where operand 0 is green and 1 is `[0, 3]`.
 fn pattern_agrees(alloc: Global, pattern: Pattern) -> Result<bool, Fail> {
     let operands = [GREEN, DimValue::Interval(0, 3)];
     agrees(alloc, THING, BOARD, pattern, &operands)
 }
 
-/// The same, for one of two patterns.
+// Whether a query for one of two patterns finds what a scan finds, as `pattern_agrees` says.
 fn or_agrees(alloc: Global, one: Pattern, other: Pattern) -> Result<bool, Fail> {
     pattern_agrees(alloc, Pattern::new(Node::Or(two(alloc, one, other)?)))
 }

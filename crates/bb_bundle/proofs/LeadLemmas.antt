@@ -20,7 +20,7 @@ use Rattle.bb_bundle.proofs.LinesLemmas.{is_line, line_again}
 abbrev pub joined : Words → List ℕ
 joined ws = join_with_byte 32 ws
 
--- these lines lead from what was read so far to what is read then
+-- lines lead from what was read before them to what is read after them
 pub record Leads (d : List (SourceDraft Code)) (p : Option PartialSource) (wss : List Words) (d' : List (SourceDraft Code)) (p' : Option PartialSource) : Type 0 where
   pub are_lines : list_all is_line wss ≡ true
   pub reads : (n : ℕ) → (m : ℕ) × (try_fold after_line (record { lines = n; sources = d; partial = p }) (map joined wss) ≡ Ok (record { lines = m; sources = d'; partial = p' }))

@@ -91,7 +91,7 @@ rate_again (negsuc n) fits =
     let value : with_digits 0 (decimal (suc n)) ≤ 2 ^ 63 = omega (arith, digits.2) in
     ap (option_map (λ k. neg_ℤ (pos k))) (found (2 ^ 63) (decimal (suc n)) digits.0 digits.1 value) ∙ ap (λ k. Some (neg_ℤ (pos k))) digits.2
 
--- its bytes are digits and perhaps a sign
+-- the bytes of a rate are digits and perhaps a sign
 digits_from : (ds : List ℕ) → list_all is_digit ds ≡ true → from 33 ds ≡ true
 digits_from [] h = refl
 digits_from (d ∷ ds) h =

@@ -42,7 +42,7 @@ joined_from (w ∷ v ∷ ws) h =
     let parts = and_parts (from 33 w) (are_words (v ∷ ws)) h in
     from-append 32 w (32 ∷ join_with_byte 32 (v ∷ ws)) (lower 32 33 w (omega arith) parts.0) (joined_from (v ∷ ws) parts.1)
 
--- its words are these
+-- a line of words is split into these words
 pub split_again : (w : List ℕ) (ws : List (List ℕ)) → are_words (w ∷ ws) ≡ true → slice_split (λ b. b == 32) (join_with_byte 32 (w ∷ ws)) ≡ w ∷ ws
 split_again w [] h = slice_split_none (λ b. b == 32) w (lacks 32 33 w (lit< tt) (and_parts (from 33 w) true h).0)
 split_again w (v ∷ ws) h =

@@ -88,7 +88,7 @@ after_obviate p source ws = do
   reaction ← reaction_of_words p.lines ws
   Ok (with_source p (with_obviate source reaction))
 
--- after the beginning of the reaction that rates activations anew
+-- after the beginning of the reaction that rates activations again
 unfoldable pub after_retrigger : Parser → PartialSource → List (List ℕ) → Result Parser BundleFault
 after_retrigger p source ws = do
   reaction ← reaction_of_words p.lines ws

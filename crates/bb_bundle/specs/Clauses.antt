@@ -30,7 +30,7 @@ space_change event space =
     else if bytes_eq event (codes "leave") then Some (Leave space)
     else None
 
--- what stands before the first dot of a word, and what stands behind it
+-- what comes before the first dot of a word, and what comes after it
 unfoldable pub split_dot : List ℕ → Option (List ℕ × List ℕ)
 split_dot [] = None
 split_dot (b ∷ bs) = if b == 46 then Some ([], bs) else option_map (λ p. (b ∷ p.0, p.1)) (split_dot bs)
@@ -39,7 +39,7 @@ split_dot (b ∷ bs) = if b == 46 then Some ([], bs) else option_map (λ p. (b �
 unfoldable pub unit_clause : ChangeText → (class : List ℕ) → Option ClauseText
 unit_clause kind class = if is_name class then Some (Change kind class) else None
 
--- the same, where there is a change
+-- a change of units of a class, where there is a change and the class has a name
 abbrev pub change_clause : Option ChangeText → (class : List ℕ) → Option ClauseText
 change_clause None class = None
 change_clause (Some kind) class = unit_clause kind class
@@ -57,7 +57,7 @@ abbrev pub dotted_clause : (event : List ℕ) → Option (List ℕ × List ℕ) 
 dotted_clause event None = None
 dotted_clause event (Some p) = slot_clause event p.0 p.1
 
--- a change of units whose class is the word, or, where the event is none, of a slot
+-- a change of units whose class is the word, or, where the event is no such change, of a slot
 abbrev pub unit_or_slot_clause : Option ChangeText → (event subject : List ℕ) → Option ClauseText
 unit_or_slot_clause (Some kind) event subject = unit_clause kind subject
 unit_or_slot_clause None event subject = dotted_clause event (split_dot subject)
@@ -70,7 +70,7 @@ subject_clause event subject = unit_or_slot_clause (unit_change event) event sub
 unfoldable pub quiescence_clause : (event : List ℕ) → Option ClauseText
 quiescence_clause event = if bytes_eq event (codes "quiescence") then Some Quiescence else None
 
--- one of those, `enter C W`, `leave C W` or `quiescence`
+-- `quiescence`, a clause of an event and one more word, `enter C W` or `leave C W`
 unfoldable pub clause_of : List (List ℕ) → Option ClauseText
 clause_of (event ∷ []) = quiescence_clause event
 clause_of (event ∷ subject ∷ []) = subject_clause event subject

@@ -28,15 +28,15 @@ takes_clause s = is_none s.revalidate && (is_none s.require || is_some s.obviate
 abbrev pub before_revalidate : PartialSource → Bool
 before_revalidate s = has_clauses s && is_none s.revalidate
 
--- `retrigger` comes before it
+-- whether `retrigger` may still come: it comes before `revalidate`
 abbrev pub before_retrigger : PartialSource → Bool
 before_retrigger s = before_revalidate s && is_none s.retrigger
 
--- `obviate` comes before that
+-- whether `obviate` may still come: it comes before `retrigger`
 abbrev pub before_obviate : PartialSource → Bool
 before_obviate s = before_retrigger s && is_none s.obviate
 
--- and `require` before all
+-- whether `require` may still come: it comes before `obviate`
 abbrev pub before_require : PartialSource → Bool
 before_require s = before_obviate s && is_none s.require
 

@@ -51,7 +51,7 @@ fn space_change(event: &str, space: Text) -> Option<ChangeText>
     None
 }
 
-/// What stands before the first dot of a word, and behind it.
+// What comes before the first dot of a word, and what comes after it.
 fn split_dot(word: &str) -> Option<(&str, &str)>
     ensures { option_map (λ p. (p.0.now, p.1.now)) result ≡ split_dot word.now }
 {
@@ -111,7 +111,7 @@ fn read_space_clause(
     read_unit_clause(alloc, kind, class)
 }
 
-/// A clause of an event and one word more, which names a class, or a class and a slot with a dot between.
+// A clause of an event and one word more, which names a class, or a class and a slot with a dot between.
 #[tactic(auto, unfolding(crate::specs::Clauses::subject_clause))]
 fn read_subject_clause(
     alloc: Global,
@@ -139,7 +139,7 @@ fn quiescence(event: &str) -> Option<ClauseText>
     None
 }
 
-/// The clause that the words behind `when` spell.
+/// The clause that the words after `when` spell.
 #[tactic(auto, unfolding(crate::specs::Clauses::clause_of))]
 pub(crate) fn read_clause(alloc: Global, words: &[&str]) -> Result<Option<ClauseText>, AllocError>
     ensures { IfOk result (λ c. c ≡ clause_of (map (λ w. w.now) words.now)) }

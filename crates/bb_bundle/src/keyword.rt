@@ -1,4 +1,4 @@
-//! The words that a further line of a source begins with. The parser asks for that of each line.
+//! The words that a further line of a source begins with. The parser asks for the one of each line.
 
 ghost use Rattle.std.specs.Prelude.{◌≡◌};
 ghost use Rattle.bb_bundle.specs.Keywords.{keyword_of};

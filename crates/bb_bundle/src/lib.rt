@@ -1,5 +1,10 @@
-//! Sources from the text of a bundle, and back: who reads or writes a bundle (bb_shell) calls it, and bb_rules looks up
-//! the names.
+//! Sources as the text of a bundle, and back.
+//!
+//! - In: the text of a bundle, or sources with their codes.
+//! - Out: `unbundle`, the sources that it spells, or the first `BundleFault` with its line; `bundle`, the text of
+//!   sources.
+//! - Callers rely on: what `bundle` writes `unbundle` reads as the same sources.
+//! - Cases: `bundles`, `model-compiles`; tests in bb_rules_tests.
 #![tactic(auto)]
 
 mod clause;

@@ -8,7 +8,7 @@ use crate::rate::rate_of;
 use bb_basis::{Items, Text, is_name};
 use std::alloc::{AllocError, Global};
 
-/// So many words of a line are told apart: no line of a bundle has as many.
+/// How many words of a line are read at most. No line of a bundle has as many.
 pub(crate) const WORD_LIMIT: usize = 5;
 
 /// The first words of a line. Between two spaces that follow each other there is an empty one.

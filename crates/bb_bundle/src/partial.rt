@@ -35,7 +35,7 @@ fn has_clause(reaction: &Option<ReactionDraft<Code>>) -> bool
 }
 
 impl PartialSource {
-    /// Whether each list of clauses that was begun has one.
+    // Whether each list of clauses that was begun has one.
     #[tactic(auto, unfolding(crate::specs::Partial::has_clauses))]
     fn has_clauses(&self) -> bool
         ensures { result ≡ has_clauses self.now }
@@ -43,7 +43,7 @@ impl PartialSource {
         self.triggers.len() > 0 && has_clause(&self.obviate) && has_clause(&self.retrigger)
     }
 
-    /// Whether the part that was begun last has clauses.
+    // Whether the part that was begun last has clauses.
     #[tactic(auto, unfolding(crate::specs::Partial::takes_clause))]
     fn takes_clause(&self) -> bool
         ensures { result ≡ takes_clause self.now }
@@ -52,28 +52,28 @@ impl PartialSource {
             && (self.require.is_none() || self.obviate.is_some() || self.retrigger.is_some())
     }
 
-    /// Whether `revalidate` may still come.
+    // Whether `revalidate` may still come.
     fn before_revalidate(&self) -> bool
         ensures { result ≡ before_revalidate self.now }
     {
         self.has_clauses() && self.revalidate.is_none()
     }
 
-    /// Whether `retrigger` may still come.
+    // Whether `retrigger` may still come.
     fn before_retrigger(&self) -> bool
         ensures { result ≡ before_retrigger self.now }
     {
         self.before_revalidate() && self.retrigger.is_none()
     }
 
-    /// Whether `obviate` may still come.
+    // Whether `obviate` may still come.
     fn before_obviate(&self) -> bool
         ensures { result ≡ before_obviate self.now }
     {
         self.before_retrigger() && self.obviate.is_none()
     }
 
-    /// Whether `require` may still come.
+    // Whether `require` may still come.
     fn before_require(&self) -> bool
         ensures { result ≡ before_require self.now }
     {
@@ -126,7 +126,7 @@ impl PartialSource {
         self
     }
 
-    /// The source with a reaction that rates activations anew.
+    /// The source with a reaction that rates activations again.
     pub(crate) fn with_retrigger(mut self, reaction: ReactionDraft<Code>) -> PartialSource
         ensures { result ≡ with_retrigger self reaction }
     {

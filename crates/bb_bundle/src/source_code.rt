@@ -15,18 +15,18 @@ use std::marker::Model;
 pub struct ReactionDraft<C> {
     /// The name of the class of the units whose events are told.
     pub class: Text,
-    /// Which events it reacts to.
+    /// Which events the source reacts to.
     pub clauses: Items<ClauseText>,
-    /// What it does then.
+    /// The code that says what it does then.
     pub code: C,
 }
 
 /// What an activation does.
 #[derive(Debug, Drop)]
 pub enum ActDraft<C> {
-    /// It executes this code.
+    /// The activation executes this code.
     Do(C),
-    /// It calls the native of the source's name.
+    /// The activation calls the native of the source's name.
     Native,
 }
 
@@ -45,7 +45,7 @@ pub struct SourceDraft<C> {
     pub require: Option<C>,
     /// Which pending activations end without acting.
     pub obviate: Option<ReactionDraft<C>>,
-    /// Which pending activations are rated anew.
+    /// Which pending activations are rated again.
     pub retrigger: Option<ReactionDraft<C>>,
     /// Whether an activation that was chosen may still act.
     pub revalidate: Option<C>,

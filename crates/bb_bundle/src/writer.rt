@@ -65,7 +65,7 @@ fn put_clauses(out: &mut String, clauses: &[ClauseText]) -> Result<(), AllocErro
     Ok(())
 }
 
-/// The hex digits of bytes.
+// The hex digits of bytes.
 fn hex_of(alloc: Global, bytes: &[u8]) -> Result<String, AllocError>
     ensures digits { IfOk result (λ digits. string_bytes digits ≡ encode_lower bytes.now) }
     ensures bytes { IsBytes bytes.now }
@@ -73,7 +73,7 @@ fn hex_of(alloc: Global, bytes: &[u8]) -> Result<String, AllocError>
     hex::encode(alloc, bytes)
 }
 
-/// The hex digits of a code.
+// The hex digits of a code.
 fn digits_of(alloc: Global, code: &Code) -> Result<String, AllocError>
     ensures digits { IfOk result (λ digits. string_bytes digits ≡ code_digits code.now) }
     ensures again { OnOk result (IsAgain code.now) }
@@ -84,7 +84,7 @@ fn digits_of(alloc: Global, code: &Code) -> Result<String, AllocError>
     hex_of(alloc, bytes.as_slice())
 }
 
-/// A part that is a code alone.
+// A part that is a code alone.
 #[tactic(auto, unfolding(crate::specs::Written::text_of))]
 fn put_code(
     alloc: Global,

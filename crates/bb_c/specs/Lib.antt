@@ -1,2 +1,2 @@
--- what a call is answered
+-- what a call returns
 pub mod Served

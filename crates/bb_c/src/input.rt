@@ -2,7 +2,7 @@
 
 use bb_main::In;
 
-/// Bytes that are read from the front, in whatever pieces they are asked for.
+/// Bytes that are read from the front, in pieces of any length.
 #[derive(Drop)]
 pub(crate) struct Input<'a> {
     left: &'a [u8],

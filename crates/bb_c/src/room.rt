@@ -1,11 +1,11 @@
-//! Room for so many bytes as an output. `bb_serve` has what it answers written there.
+//! Room for a given number of bytes as an output. `bb_serve` has its answer written there.
 
 ghost use Rattle.std.specs.Prelude.{◌≡◌, ◌≤◌, ◌-◌, [], false, length, drop, take, IfOk};
 
 use bb_main::{Memory, Out};
 use std::alloc::Global;
 
-/// Takes so many bytes, and then fails.
+/// An output that takes `limit` bytes, and then fails.
 #[derive(Drop)]
 pub(crate) struct Room {
     bytes: Vec<u8>,
@@ -14,7 +14,7 @@ pub(crate) struct Room {
 }
 
 impl Room {
-    /// Room for so many bytes.
+    /// Room for `limit` bytes.
     pub(crate) fn new(alloc: Global, limit: usize) -> Result<Room, Memory>
         ensures empty { IfOk result (λ r. r.bytes.items ≡ []) }
         ensures limit { IfOk result (λ r. r.limit ≡ limit) }

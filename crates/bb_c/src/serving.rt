@@ -9,16 +9,16 @@ use crate::room::Room;
 use bb_main::{Mode, NativeSource, ProgramNative, serve};
 use std::alloc::Global;
 
-/// The version of these calls. It rises where one changes its meaning.
+// The version of these calls. It rises when one changes its meaning.
 const VERSION: u32 = 1;
 
-/// The status of a refused input, and of a mode that is none.
+// The status of a refused input, and of a number that is no mode.
 const REFUSED: u8 = 2;
 
-/// The status where memory ran out.
+// The status if memory ran out.
 const MEMORY: u8 = 5;
 
-/// The status where the room was too small.
+// The status if the room was too small.
 const ROOM: u8 = 6;
 
 /// The version of these calls.
@@ -30,9 +30,9 @@ pub extern "C" fn bb_version() -> u32
 }
 
 /// Serves an input as the program does, with no natives: mode 0 runs it, 1 checks it, 2 compiles it. What the program
-/// would write goes into `output`, as far as there is room, and the number of its bytes into `written`. Answers the
+/// would write goes into `output`, as far as there is room, and the number of its bytes into `written`. Returns the
 /// status: 0 quiescence, a check or a bundle written, 2 a refused input or no such mode, 3 the limit, 4 full, 5 no
-/// memory, 6 the answer is longer than the output, which a front of it fills.
+/// memory, 6 the answer is longer than the output, which is filled by a front of it.
 #[unsafe(no_mangle)]
 pub extern "C" fn bb_serve(
     alloc: Global,
@@ -56,7 +56,7 @@ pub extern "C" fn bb_serve(
     let Some(mode) = mode_of(mode) else {
         return REFUSED;
     };
-    // A byte more than the output has: whether the answer is longer shows by it.
+    // One byte more than the output has, to see whether the answer is longer.
     let Ok(mut room) = Room::new(alloc, output.len() + 1) else {
         return MEMORY;
     };
@@ -71,7 +71,7 @@ pub extern "C" fn bb_serve(
         &mut room,
     );
     let answer = room.bytes();
-    // An output that fails before it is full finds no memory. This one has its memory from the start.
+    // An output that fails before it is full finds no memory, as this one has its memory from the start.
     if status == ROOM && answer.len() <= output.len() {
         return MEMORY;
     }
@@ -83,7 +83,7 @@ pub extern "C" fn bb_serve(
     }
 }
 
-// Copies bytes to the front of the output, as many as there is room for. Answers their number.
+// Copies bytes to the front of the output, as many as there is room for, and returns their number.
 fn hand_out(bytes: &[u8], output: &mut [u8]) -> usize
     ensures front { take result output.new ≡ take result bytes.now }
     ensures count { result ≡ min (length bytes.now) (length output.new) }

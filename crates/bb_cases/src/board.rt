@@ -1,4 +1,4 @@
-//! The blackboards of cases, each made anew for a case. Executions use them.
+//! The blackboards of cases, each made for one case. Executions use them.
 
 use bb_board::Board;
 use bb_cases_format::{Fault, Scene};
@@ -10,7 +10,7 @@ pub(crate) fn schema_of(alloc: Global, document: &str) -> Result<Schema, Fault> 
     Schema::read(alloc, document).ok().ok_or(Fault::Schema)
 }
 
-/// A blackboard that is made so, without notes.
+/// The blackboard of a scene, without notes.
 pub(crate) fn board_of(alloc: Global, scene: &Scene) -> Result<Board, Fault> {
     let schema = schema_of(alloc, scene.schema.as_str())?;
     let units = match &scene.units {
@@ -24,7 +24,7 @@ pub(crate) fn board_of(alloc: Global, scene: &Scene) -> Result<Board, Fault> {
     }
 }
 
-/// A blackboard of first units, without notes.
+// A blackboard of first units, without notes.
 fn loaded(alloc: Global, schema: Schema, units: &str) -> Option<Board> {
     let mut board = Board::new(alloc, schema).ok()?;
     if board.fresh() {
@@ -34,7 +34,7 @@ fn loaded(alloc: Global, schema: Schema, units: &str) -> Option<Board> {
     Some(board)
 }
 
-/// The blackboard without a unit, if the unit is there.
+// The blackboard without a unit, if the unit is there.
 fn without(board: Board, unit: UnitId) -> Option<Board> {
     let mut board = board;
     if !board.live(unit) {

@@ -1,5 +1,4 @@
-//! A code is executed on a blackboard, and what comes of it is written in lines. Cases of codes and tables of runs call
-//! it.
+//! The execution of a code on a blackboard, and the lines of what comes of it, for cases of codes and tables of runs.
 
 use bb_board::Board;
 use bb_cases_format::{Code, Fault, number};

@@ -1,5 +1,5 @@
-//! Inputs go through `serve_with`, and the output and the status are compared, and what there is to say of a refusal or
-//! of a check. The suite calls it for a case, and tables for their rows.
+//! Inputs go through `serve_with`, and the output, the status, and the report of a refusal or the advice of a check are
+//! compared. The suite calls it for a case, and tables for their rows.
 
 ghost use Rattle.std.specs.Prelude.{◌≡◌, Some, true, false, map, IfOk};
 ghost use Rattle.bb_main.specs.Roster.{all_open};
@@ -10,7 +10,7 @@ use bb_main::{
 };
 use std::alloc::{AllocError, Global};
 
-/// Takes `room` bytes, at most `step` in one call, and then fails.
+// An output that takes `room` bytes, at most `step` in one call, and then fails.
 #[derive(Drop)]
 struct Narrow {
     taken: Vec<u8>,
@@ -39,12 +39,12 @@ impl Out for Narrow {
     }
 }
 
-/// What is to come of an input.
+/// What has to come of an input.
 #[derive(Drop)]
 pub(crate) struct Wanted {
     status: u8,
     output: Vec<u8>,
-    /// What is to be said of a check, where that is compared.
+    // The advice that a check has to have, if that is compared.
     said: Option<Vec<u8>>,
 }
 
@@ -60,7 +60,7 @@ pub(crate) struct Serving {
 }
 
 impl Serving {
-    /// What a header says of it.
+    /// How the inputs below a header are served.
     pub fn of(header: &Header<'_>) -> Result<Serving, Fault> {
         header.check(&["mode", "limit", "floor", "room", "by", "natives"])?;
         Ok(Serving {
@@ -73,7 +73,7 @@ impl Serving {
         })
     }
 
-    /// What comes of an input, and what is written.
+    // What comes of an input, and what is written.
     fn serve(self, alloc: Global, input: &[u8]) -> Result<(Served, Vec<u8>), AllocError> {
         let mut reader = Intake::new(input);
         let mut out = Narrow {
@@ -92,8 +92,8 @@ impl Serving {
         Ok((served, out.taken))
     }
 
-    /// The first difference between what comes of an input and what is to come of it, and then, where lines are to be
-    /// said of a check, between these and what there is to say of it.
+    /// The first difference between what comes of an input and what has to come of it, and then, if the advice of a
+    /// check is compared, between that and what it has to be.
     pub fn compare(
         self,
         alloc: Global,
@@ -112,8 +112,8 @@ impl Serving {
         }
     }
 
-    /// The first difference between what comes of a refused input and the line that is to come of it, and then between
-    /// what there is to say of it and the lines that are to be said.
+    /// The first difference between what comes of a refused input and the line that has to come of it, and then between
+    /// its report and the lines that this has to be, unless these are empty.
     pub fn compare_refusal(
         self,
         alloc: Global,
@@ -132,7 +132,7 @@ impl Serving {
     }
 }
 
-/// The first difference of an output, or that of the status.
+// The first difference of an output, or else that of the status.
 fn differs(
     alloc: Global,
     served: &Served,
@@ -152,7 +152,7 @@ fn differs(
     }))
 }
 
-/// Whether a header hands in the natives of the program; else there are none.
+// Whether a header hands in the natives of the program; else there are none.
 fn has_natives(header: &Header<'_>) -> Result<bool, Fault> {
     match header.option("natives") {
         None => Ok(false),
@@ -161,7 +161,7 @@ fn has_natives(header: &Header<'_>) -> Result<bool, Fault> {
     }
 }
 
-/// The natives of the program, or none.
+// The natives of the program, or none.
 fn natives(alloc: Global, are_handed_in: bool) -> Result<Vec<ProgramNative>, AllocError>
     ensures { IfOk result (λ natives. all_open (map ⟦<ProgramNative as NativeSource>⟧.meaning natives.items) ≡ true) }
 {
@@ -171,7 +171,7 @@ fn natives(alloc: Global, are_handed_in: bool) -> Result<Vec<ProgramNative>, All
     program_natives(alloc)
 }
 
-/// The mode that a header names, or `run`.
+// The mode that a header names, or `run`.
 fn mode_of(header: &Header<'_>) -> Result<Mode, Fault> {
     match header.option("mode") {
         None | Some("run") => Ok(Mode::Run),
@@ -181,7 +181,7 @@ fn mode_of(header: &Header<'_>) -> Result<Mode, Fault> {
     }
 }
 
-/// What a header wants to be said of a check: the lines of the `let` that its option `said` names.
+// The advice that a header wants of a check: the lines of the `let` that its option `said` names.
 fn said(alloc: Global, scope: Scope<'_>, gives: &Header<'_>) -> Result<Option<Vec<u8>>, Fault> {
     let Some(name) = gives.option("said") else {
         return Ok(None);

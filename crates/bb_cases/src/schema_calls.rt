@@ -6,7 +6,7 @@ use bb_trace::add_value;
 use std::alloc::{AllocError, Global};
 use std::fmt::Write;
 
-/// What a call answers.
+/// What a call returns.
 #[derive(Drop)]
 pub(crate) enum Answer<'a> {
     Number(Option<u16>),
@@ -20,7 +20,7 @@ pub(crate) enum Answer<'a> {
     Dims(&'a [Dim]),
 }
 
-/// The answer of a call, behind whose name these words stand.
+/// The answer of a call, with the words after its name.
 pub(crate) fn answer_of<'a>(
     schema: &'a Schema,
     call: &str,
@@ -51,7 +51,7 @@ pub(crate) fn answer_of<'a>(
     })
 }
 
-/// The answer of a call that wants an entry of this number to be there: no number where it is not.
+// The answer of a call that needs an entry of this number: no number if there is no such entry.
 fn entry_answer<'a>(schema: &'a Schema, call: &str, entry: u16) -> Result<Answer<'a>, Fault> {
     let at = usize::from(entry);
     Ok(match call {
@@ -75,7 +75,7 @@ fn entry_answer<'a>(schema: &'a Schema, call: &str, entry: u16) -> Result<Answer
     })
 }
 
-/// Appends an answer, behind a space.
+/// Appends a space and an answer.
 pub(crate) fn add_answer(
     alloc: Global,
     text: &mut String,
@@ -121,7 +121,7 @@ fn add_slots(text: &mut String, slots: &[SlotId]) -> Result<(), AllocError> {
     Ok(())
 }
 
-/// Appends dimensions: the name of an ordered one, and that of an enumerated one with its label set.
+// Appends dimensions: the name of an ordered one, and that of an enumerated one with its label set.
 fn add_dims(text: &mut String, dims: &[Dim]) -> Result<(), AllocError> {
     for dim in dims {
         match dim.set {

@@ -1,11 +1,11 @@
-//! Documents of schemas, and what the calls of a schema answer. The suite calls it for a case.
+//! Documents of schemas, and what the calls of a schema return. The suite calls it for a case.
 
 use crate::schema_calls::{add_answer, answer_of};
 use bb_cases_format::{Difference, Entry, Fault, Scope, expanded_text};
 use bb_schema::{Schema, SchemaFault};
 use std::alloc::Global;
 
-/// Appends a line with the call that it begins with, and its answer.
+// Appends a line with the call that it begins with, and its answer.
 fn add_call(alloc: Global, text: &mut String, schema: &Schema, line: &str) -> Result<(), Fault> {
     let (asked, _) = line.split_once(" =").ok_or(Fault::Call)?;
     let (call, rest) = asked.split_once(' ').unwrap_or((asked, ""));
@@ -17,7 +17,7 @@ fn add_call(alloc: Global, text: &mut String, schema: &Schema, line: &str) -> Re
     Ok(())
 }
 
-/// What the calls of the lines answer, where the document is a schema.
+// What the calls of the lines return, if the document is a schema; else its refusal.
 fn given(alloc: Global, document: &str, wanted: &str) -> Result<String, Fault> {
     let mut text = String::new(alloc);
     match Schema::read(alloc, document) {

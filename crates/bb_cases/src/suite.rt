@@ -1,4 +1,4 @@
-//! All cases: each entry of a file is run after the other, and reported. `main` runs file after file.
+//! All cases: the entries of a file are run one after the other, and reported. `main` runs file after file.
 
 use crate::inputs::compare_input;
 use crate::schemas::compare_schema;
@@ -10,7 +10,7 @@ use bb_cases_format::{
 };
 use std::alloc::{AllocError, Global};
 
-/// The names so far, and what came of the cases.
+/// The names so far, and the report on the cases.
 #[derive(Drop)]
 pub(crate) struct Suite {
     alloc: Global,
@@ -78,7 +78,7 @@ impl Suite {
         self.report.add(spot, outcome)
     }
 
-    /// The first difference of a single case.
+    // The first difference of a single case.
     fn compare(&self, entry: &Entry<'_>) -> Result<Option<Difference>, Fault> {
         let scope = Scope::new(self.alloc, &self.names);
         match entry.first.header.kind {
@@ -89,7 +89,7 @@ impl Suite {
         }
     }
 
-    /// Names a text or a board.
+    // Names a text or a board.
     fn define(&mut self, entry: &Entry<'_>) -> Result<(), Fault> {
         let header = &entry.first.header;
         let scope = Scope::new(self.alloc, &self.names);
@@ -115,7 +115,7 @@ impl Suite {
         self.names.add(header.name, meaning)
     }
 
-    /// Compares the rows of a table.
+    // Compares the rows of a table.
     fn run_table(&mut self, spot: Spot<'_>, entry: &Entry<'_>) -> Result<(), Fault> {
         let rows = rows_of(self.alloc, entry.rows()?)?;
         let table = Table::of(self.alloc, &self.names, entry)?;

@@ -13,18 +13,18 @@ use bb_verify::{Part, verify};
 use std::alloc::Global;
 use std::fmt::Write;
 
-/// What the rows of a table have in common.
+// What the rows of a table have in common.
 #[derive(Drop)]
 enum Common<'a> {
-    /// Inputs of one form, each refused.
+    // Inputs of one form, each refused.
     Inputs { serving: Serving, form: String },
-    /// Bytes, and the fault of decoding them.
+    // Bytes, and the fault of decoding them.
     Bytes,
-    /// Texts that are no codes.
+    // Texts that are no codes.
     Assembly,
-    /// Codes, and the fault of verifying them.
+    // Codes, and the fault of verifying them.
     Verify { schema: Schema, part: Part },
-    /// Executions of codes.
+    // Executions of codes.
     Runs(&'a Scene),
 }
 
@@ -34,7 +34,7 @@ pub(crate) struct Table<'a> {
     alloc: Global,
     names: &'a Names,
     common: Common<'a>,
-    /// The text that each code begins with.
+    // The text that each code begins with.
     head: String,
 }
 
@@ -107,7 +107,7 @@ impl<'a> Table<'a> {
         Ok(serving.compare_refusal(self.alloc, &input, line, said)?)
     }
 
-    /// Appends what is given of a text.
+    // Appends what comes of a text.
     fn add_given(&self, given: &mut String, front: &str, text: &str) -> Result<(), Fault> {
         match &self.common {
             Common::Inputs { .. } => Ok(()),
@@ -121,7 +121,7 @@ impl<'a> Table<'a> {
         }
     }
 
-    /// The code of a text behind the head.
+    // The code of the head and the text after it.
     fn headed_code(&self, text: &str) -> Result<Code, Fault> {
         let whole = format!(in self.alloc; "{}{text}", self.head.as_str())?;
         code_of(self.alloc, whole.as_str())
@@ -143,7 +143,7 @@ impl<'a> Table<'a> {
     }
 }
 
-/// Appends what decoding the bytes of some hex comes to.
+// Appends what comes of decoding the bytes of some hex.
 fn add_decoding(alloc: Global, given: &mut String, digits: &str) -> Result<(), Fault> {
     let bytes = bytes_of(alloc, digits)?;
     match Code::decode(alloc, &bytes) {
@@ -157,7 +157,7 @@ fn add_decoding(alloc: Global, given: &mut String, digits: &str) -> Result<(), F
     Ok(())
 }
 
-/// Appends the line of the first fault of a text.
+// Appends the line of the first fault of a text.
 fn add_assembly(alloc: Global, given: &mut String, text: &str) -> Result<(), Fault> {
     match assemble(alloc, text) {
         Ok(_) => given.push_str("ok\n")?,

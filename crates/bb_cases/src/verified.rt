@@ -1,4 +1,4 @@
-//! Codes are verified, and what is said of them is written in lines, before they are executed where a case asks for it.
+//! Codes are verified, and the verdict is written in lines; then they are executed, if a case asks for that.
 
 use crate::board::{board_of, schema_of};
 use crate::executions::{add_execution, entry_of};
@@ -29,7 +29,7 @@ pub(crate) fn part_of(word: Option<&str>) -> Result<Part, Fault> {
     }
 }
 
-/// Appends a line of what the verifier answers.
+/// Appends a line with the answer of the verifier.
 pub(crate) fn add_verdict(
     text: &mut String,
     answer: &Result<Checked, VerifyFault>,
@@ -63,7 +63,7 @@ fn add_frame(text: &mut String, frame: &Frame) -> Result<(), AllocError> {
     text.push_str("\n")
 }
 
-/// Appends the budget or the frame that a line begins to speak of.
+// Appends the budget or the frame that the beginning of a line names.
 fn add_fact(text: &mut String, checked: &Checked, asked: &str) -> Result<(), Fault> {
     write!(text, "{asked} =")?;
     match asked.split_once(' ') {
@@ -87,7 +87,7 @@ fn add_fact(text: &mut String, checked: &Checked, asked: &str) -> Result<(), Fau
     Ok(())
 }
 
-/// Appends the facts that the lines speak of.
+// Appends the budgets and frames that the lines name.
 fn add_facts(text: &mut String, checked: &Checked, wanted: &str) -> Result<(), Fault> {
     for line in wanted.lines() {
         if line.starts_with("budget ") || line.starts_with("frame ") {
@@ -98,7 +98,7 @@ fn add_facts(text: &mut String, checked: &Checked, wanted: &str) -> Result<(), F
     Ok(())
 }
 
-/// What is given of the text of a code, where these lines are wanted.
+// What comes of the text of a code, where these lines are wanted.
 fn given(
     alloc: Global,
     scene: &Scene,

@@ -20,7 +20,7 @@ pub(crate) fn hex_of(alloc: Global, text: &str) -> Result<String, Fault> {
     Ok(hex::encode(alloc, code.encode(alloc)?)?)
 }
 
-/// The code of some bytes, where these are its spelling, and where its text has the same bytes.
+/// The code of some bytes, if these are its spelling, and if its text has the same bytes.
 pub fn respelled(alloc: Global, code: Code, bytes: &[u8]) -> Result<Code, Fault> {
     if code.encode(alloc)?.as_slice() != bytes {
         return Err(Fault::Spelling);

@@ -1,15 +1,15 @@
-//! The first difference between what is wanted and what is given. Cases answer it where they do not hold.
+//! The first difference between what is wanted and what is given. A case that does not hold has one.
 
 use std::alloc::{AllocError, Global};
 use std::fmt::Write;
 
-/// How much of a line is shown.
+// How much of a line is shown.
 const SHOWN_LIMIT: usize = 300;
 
-/// Where what is given begins to differ from what is wanted.
+/// The place where what is given begins to differ from what is wanted.
 #[derive(Drop)]
 pub struct Difference {
-    /// The number of the line, from 1, or 0 where it is the status.
+    /// The number of the line, from 1, or 0 if the status differs.
     pub line: usize,
     /// What is wanted, as a report shows it.
     pub wanted: String,
@@ -48,7 +48,7 @@ impl Difference {
     }
 }
 
-/// The front of a line in quotes, with numbers for bytes that are no plain characters, or the end of a text.
+// The front of a line in quotes, with numbers for bytes that are no plain characters, or the end of a text.
 fn shown(alloc: Global, line: Option<&[u8]>) -> Result<String, AllocError> {
     let Some(bytes) = line else {
         return String::from_str(alloc, "the end");

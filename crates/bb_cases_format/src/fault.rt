@@ -1,4 +1,4 @@
-//! Why a case can't be run. Whatever reads files and makes calls answers it, and the report says it.
+//! Why a case can't be run. What reads files and makes calls returns it, and the report says it.
 
 use bb_code_asm::AsmFault;
 use std::alloc::{AllocError, AllocFailed};
@@ -19,7 +19,7 @@ pub enum Fault {
     /// A header begins with no kind of entries.
     #[error("no kind of entries has this name")]
     Kind,
-    /// A second header stands where none is due, or another.
+    /// A second header stands where none belongs, or another.
     #[error("`gives` or `rows` stands behind no case that has it")]
     Second,
     /// A second header is missing.
@@ -46,7 +46,7 @@ pub enum Fault {
     /// A parenthesis of an insert is not closed.
     #[error("an insert has no end")]
     Open,
-    /// A line goes on behind `$(join)`.
+    /// A line goes on after `$(join)`.
     #[error("`$(join)` stands at the end of a line")]
     Join,
     /// An insert stands for nothing at its place.
@@ -58,7 +58,7 @@ pub enum Fault {
     /// A word is not bytes in hex.
     #[error("bytes in hex are due")]
     Hex,
-    /// Bytes that are used as a text are none.
+    /// Bytes that are used as a text are not UTF-8.
     #[error("a text is not UTF-8")]
     Utf8,
     /// A row is not in two sides, or lines stand above the first.
@@ -67,13 +67,13 @@ pub enum Fault {
     /// A text is no code.
     #[error("in its code, {0}")]
     Assembly(AsmFault),
-    /// A code is not spelled again as it was.
+    /// A code, written out and read again, has other bytes.
     #[error("a code, written out and read again, has other bytes")]
     Spelling,
     /// A document is no schema.
     #[error("the schema is refused")]
     Schema,
-    /// A document is no first units.
+    /// A document is not one of first units.
     #[error("the document of units is refused")]
     Units,
     /// A unit to delete is not there.

@@ -1,11 +1,11 @@
-//! Which files are read: those that the arguments name, or all of the working folder. The program (bb_cases) asks.
+//! Which files the program (bb_cases) reads: those that the arguments name, or all of the working folder.
 
 use std::{env, fs, io};
 
-/// The file whose names stand for all files.
+// The file whose names hold in all files.
 const SHARED: &str = "shared.case";
 
-/// Whether a file is the one whose names stand for all.
+/// Whether a file is the one whose names hold in all files.
 pub fn is_shared(file: &str) -> bool {
     match file.rsplit_once('/') {
         Some((_, name)) => name == SHARED,

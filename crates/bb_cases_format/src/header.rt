@@ -9,9 +9,9 @@ use std::str::FromStr;
 pub struct Header<'a> {
     /// The kind of the entry, or the word that a second text begins with.
     pub kind: &'a str,
-    /// The word behind the kind, or nothing.
+    /// The word after the kind, or nothing.
     pub name: &'a str,
-    /// The words behind that.
+    // The words after the name: options and their values.
     options: Vec<&'a str>,
     /// Whether the case has to be reported.
     pub wrong: bool,
@@ -36,7 +36,7 @@ impl<'a> Header<'a> {
         })
     }
 
-    /// There is a name, and the options are all among these.
+    /// Checks that there is a name, and that the options are all among the allowed ones.
     pub fn check(&self, allowed: &[&str]) -> Result<(), Fault> {
         if !is_name(self.name) {
             return Err(Fault::Name);
@@ -65,7 +65,7 @@ impl<'a> Header<'a> {
         None
     }
 
-    /// The number that an option has, or what stands for it.
+    /// The number that an option has, or `absent` without the option.
     pub fn number<T: FromStr + Drop>(&self, option: &str, absent: T) -> Result<T, Fault>
     where
         T::Err: Drop,
@@ -85,7 +85,7 @@ where
     word.parse::<T>().ok().ok_or(Fault::Number)
 }
 
-/// Whether a word has letters, digits and `_` alone, one at least.
+/// Whether a word is made of letters, digits and `_`, at least one.
 pub(crate) fn is_name(word: &str) -> bool {
     !word.is_empty()
         && word

@@ -7,10 +7,10 @@ use crate::names::Names;
 use crate::pieces::{Piece, cut};
 use std::alloc::Global;
 
-/// How deep inserts may be in each other.
+// How deep inserts may be in each other.
 const DEPTH_LIMIT: u8 = 8;
 
-/// What ends the first word of an insert.
+// What ends the first word of an insert.
 const BETWEEN: [char; 2] = [' ', '\n'];
 
 /// What inserts can stand for at a place.
@@ -18,16 +18,16 @@ const BETWEEN: [char; 2] = [' ', '\n'];
 pub struct Scope<'a> {
     alloc: Global,
     names: &'a Names,
-    /// The row of a table.
+    // The row of a table.
     row: Option<&'a [u8]>,
-    /// How many came before, where something is repeated.
+    // The number of the turn, from 0, inside a `$(times)`.
     n: Option<u64>,
-    /// The same of what is around that.
+    // The number of the turn of the `$(times)` around that one.
     m: Option<u64>,
 }
 
 impl<'a> Scope<'a> {
-    /// Outside of tables.
+    /// The scope outside of tables.
     pub fn new(alloc: Global, names: &'a Names) -> Scope<'a> {
         Scope {
             alloc,
@@ -38,7 +38,7 @@ impl<'a> Scope<'a> {
         }
     }
 
-    /// At a row of a table.
+    /// The scope at a row of a table.
     pub fn at_row(self, row: &'a [u8]) -> Scope<'a> {
         Scope {
             alloc: self.alloc,
@@ -49,7 +49,7 @@ impl<'a> Scope<'a> {
         }
     }
 
-    /// The number that words between `*` are.
+    // The number that words between `*` are.
     fn product(self, text: &str) -> Result<u64, Fault> {
         let mut product = 1u64;
         for word in text.split('*') {
@@ -63,7 +63,7 @@ impl<'a> Scope<'a> {
         Ok(product)
     }
 
-    /// The number that products between `+` are.
+    // The number that products between `+` are.
     fn sum(self, text: &str) -> Result<u64, Fault> {
         let mut sum = 0u64;
         for part in text.split('+') {
@@ -91,7 +91,7 @@ pub(crate) fn text_of(bytes: &[u8]) -> Result<&str, Fault> {
     str::from_utf8(bytes).ok().ok_or(Fault::Utf8)
 }
 
-/// Appends what a text stands for.
+// Appends what a text stands for.
 #[cycle(putting)]
 fn put(scope: Scope<'_>, text: &str, depth: u8, out: &mut Vec<u8>) -> Result<(), Fault> {
     for piece in &cut(scope.alloc, text)? {
@@ -103,7 +103,7 @@ fn put(scope: Scope<'_>, text: &str, depth: u8, out: &mut Vec<u8>) -> Result<(),
     Ok(())
 }
 
-/// Appends what an insert stands for.
+// Appends what an insert stands for.
 #[cycle(putting)]
 fn put_insert(scope: Scope<'_>, insert: &str, depth: u8, out: &mut Vec<u8>) -> Result<(), Fault> {
     if depth == 0 {
@@ -118,7 +118,7 @@ fn put_insert(scope: Scope<'_>, insert: &str, depth: u8, out: &mut Vec<u8>) -> R
     }
 }
 
-/// Appends a text so many times.
+// Appends a text as many times as the number before it says.
 #[cycle(putting)]
 fn put_times(scope: Scope<'_>, text: &str, depth: u8, out: &mut Vec<u8>) -> Result<(), Fault> {
     let (word, text) = text.split_once(BETWEEN).unwrap_or((text, ""));
@@ -138,7 +138,7 @@ fn put_times(scope: Scope<'_>, text: &str, depth: u8, out: &mut Vec<u8>) -> Resu
     Ok(())
 }
 
-/// Appends the bytes of the code of a text, in hex.
+// Appends the bytes of the code of a text, in hex.
 #[cycle(putting)]
 fn put_code(scope: Scope<'_>, text: &str, depth: u8, out: &mut Vec<u8>) -> Result<(), Fault> {
     let mut code = Vec::new(scope.alloc);
@@ -148,7 +148,7 @@ fn put_code(scope: Scope<'_>, text: &str, depth: u8, out: &mut Vec<u8>) -> Resul
     Ok(())
 }
 
-/// Appends bytes, which are written in hex.
+// Appends bytes, which are written in hex.
 fn put_bytes(words: &str, out: &mut Vec<u8>) -> Result<(), Fault> {
     for word in words.split(' ') {
         let byte = u8::from_str_radix(word, 16).ok().ok_or(Fault::Hex)?;
@@ -157,7 +157,7 @@ fn put_bytes(words: &str, out: &mut Vec<u8>) -> Result<(), Fault> {
     Ok(())
 }
 
-/// Appends the row, a number or what a name stands for.
+// Appends the row, a number or what a name stands for.
 fn put_value(scope: Scope<'_>, insert: &str, out: &mut Vec<u8>) -> Result<(), Fault> {
     if insert == "row" {
         out.extend_from_slice(scope.row.ok_or(Fault::Insert)?)?;

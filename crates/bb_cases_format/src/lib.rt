@@ -1,5 +1,5 @@
 //! Files of cases: their headers and texts, the inserts and rows of these, what names stand for, and the report of what
-//! does not hold. The program bb_cases makes the calls of each kind of case.
+//! does not hold.
 #![tactic(auto)]
 
 mod codes;

@@ -6,7 +6,7 @@ use crate::inserts::text_of;
 use std::alloc::Global;
 use std::collections::BTreeMap;
 
-/// The words of inserts, which name nothing else.
+// The words of inserts, which name nothing else.
 const RESERVED: [&str; 7] = ["n", "m", "row", "join", "byte", "code", "times"];
 
 /// How a blackboard is made.
@@ -14,9 +14,9 @@ const RESERVED: [&str; 7] = ["n", "m", "row", "join", "byte", "code", "times"];
 pub struct Scene {
     /// The document of the schema.
     pub schema: String,
-    /// That of the first units, if there are some.
+    /// The document of the first units, if there are some.
     pub units: Option<String>,
-    /// The unit that is deleted after that.
+    /// The unit that is deleted after the first units were created.
     pub deleted: Option<u64>,
 }
 
@@ -29,13 +29,13 @@ pub enum Meaning {
     Board(Scene),
 }
 
-/// The names of a file, and those that stand for all files.
+/// The names of a file, and those that hold in all files.
 #[derive(Drop)]
 pub struct Names {
     alloc: Global,
     shared: BTreeMap<String, Meaning>,
     own: BTreeMap<String, Meaning>,
-    /// Whether new names stand for all files.
+    // Whether new names hold in all files.
     sharing: bool,
 }
 

@@ -8,13 +8,13 @@ use std::alloc::{AllocError, Global};
 /// A line of a file, without its end.
 #[derive(Clone, Copy)]
 pub struct Line<'a> {
-    /// Its number, from 1.
+    /// The number of the line, from 1.
     pub number: usize,
-    /// What it says, without what indents it.
+    /// The text of the line, without its indent.
     pub text: &'a str,
 }
 
-/// A header and the lines below it, without what indents them.
+/// A header and the lines below it, without their indent.
 #[derive(Drop)]
 pub struct Part<'a> {
     /// The line of the header.
@@ -40,9 +40,9 @@ impl Part<'_> {
 /// An entry of a file.
 #[derive(Drop)]
 pub struct Entry<'a> {
-    /// What it is, and its text.
+    /// What the entry is, and its text.
     pub first: Part<'a>,
-    /// What it gives, or its rows.
+    /// What the entry gives, or its rows.
     pub second: Option<Part<'a>>,
 }
 
@@ -57,7 +57,7 @@ impl<'a> Entry<'a> {
         }
     }
 
-    /// The part that has the rows of a table: that of inputs stands behind their form.
+    /// The part that has the rows of a table: for inputs it comes after their form.
     pub fn rows(&self) -> Result<&Part<'a>, Fault> {
         if self.first.header.kind == "inputs" {
             return self.second("rows");
@@ -72,7 +72,7 @@ impl<'a> Entry<'a> {
 /// The entries of a file so far.
 #[derive(Drop)]
 pub struct Entries<'a> {
-    /// Where their memory comes from.
+    /// The allocator of the entries.
     pub alloc: Global,
     /// The entries, in the order of the file.
     pub list: Vec<Entry<'a>>,
@@ -81,7 +81,7 @@ pub struct Entries<'a> {
 }
 
 impl<'a> Entries<'a> {
-    /// Reads a file. Where it fails, `number` is that of the line.
+    /// Reads a file. If it fails, `number` is that of the faulty line.
     pub fn read(&mut self, text: &'a str) -> Result<(), Fault> {
         for line in text.split('\n') {
             self.number = self.number.saturating_add(1);

@@ -1,4 +1,4 @@
-//! A text is cut into what stands for itself and the inserts in it. Templates (inserts.rt) and rows (rows.rt) are cut.
+//! The cutting of a text into plain pieces and the inserts in it. Templates (inserts.rt) and rows (rows.rt) are cut.
 
 use crate::fault::Fault;
 use std::alloc::Global;
@@ -6,7 +6,7 @@ use std::alloc::Global;
 /// A piece of a text.
 #[derive(Clone, Copy)]
 pub(crate) enum Piece<'a> {
-    /// It stands for itself.
+    /// Plain text, which stands for itself.
     Text(&'a str),
     /// What is between `$(` and `)`.
     Insert(&'a str),
@@ -25,7 +25,7 @@ pub(crate) const OUTSIDE: Nesting = Nesting {
     before: b' ',
 };
 
-/// What a byte does to the inserts of a text.
+// What a byte does to the inserts of a text.
 #[derive(Clone, Copy)]
 enum Turn {
     Begins,
@@ -34,7 +34,7 @@ enum Turn {
 }
 
 impl Nesting {
-    /// Counts the next byte of a text.
+    // Counts the next byte of a text.
     fn turn(&mut self, byte: u8) -> Turn {
         let before = self.before;
         self.before = byte;
@@ -63,20 +63,20 @@ impl Nesting {
     }
 }
 
-/// A text that is being cut.
+// A text that is being cut.
 #[derive(Drop)]
 struct Cutter<'a> {
     text: &'a str,
     pieces: Vec<Piece<'a>>,
     nesting: Nesting,
-    /// Where the next piece begins.
+    // Where the next piece begins.
     start: usize,
-    /// Whether the end of the line is due, and left out.
+    // Whether the line has to end here, and its end is left out.
     joins: bool,
 }
 
 impl<'a> Cutter<'a> {
-    /// Takes the byte of an index.
+    // Takes the byte of an index.
     fn take(&mut self, at: usize, byte: u8) -> Result<(), Fault> {
         let turn = self.nesting.turn(byte);
         if self.joins {
@@ -95,7 +95,7 @@ impl<'a> Cutter<'a> {
         Ok(())
     }
 
-    /// Adds a piece that ends there.
+    // Adds the piece that ends at `end`.
     fn add(&mut self, end: usize, is_insert: bool) -> Result<(), Fault> {
         match self.text.get(self.start..end).unwrap_or("") {
             "" => {}
@@ -107,7 +107,7 @@ impl<'a> Cutter<'a> {
     }
 }
 
-/// The pieces of a text. `$()` is none, and `$(join)` and the end of its line are none.
+/// The pieces of a text. `$()` is no piece, nor are `$(join)` and the end of its line.
 pub(crate) fn cut<'a>(alloc: Global, text: &'a str) -> Result<Vec<Piece<'a>>, Fault> {
     let mut cutter = Cutter {
         text,

@@ -10,15 +10,15 @@ use std::fmt::Write;
 pub struct Spot<'a> {
     /// The name of the file.
     pub file: &'a str,
-    /// The line of its header, or of its row.
+    /// The line of the header of the case, or of its row.
     pub line: usize,
     /// The name of the case.
     pub name: &'a str,
-    /// Whether it is marked as wrong.
+    /// Whether the case is marked as wrong.
     pub wrong: bool,
 }
 
-/// The lines so far, and how many cases there were.
+/// The lines of the report so far, and how many cases there were.
 #[derive(Drop)]
 pub struct Report {
     /// The lines that are not printed yet.

@@ -9,15 +9,15 @@ use std::alloc::{AllocError, Global};
 /// A row of a table.
 #[derive(Drop)]
 pub struct Row {
-    /// The number of its line in the file.
+    /// The number of the row's line in the file.
     pub number: usize,
     text: String,
-    /// The lines below it, each with its end.
+    /// The lines below the row, each with its end.
     pub below: String,
 }
 
 impl Row {
-    /// What is before the first `|` and what is behind it, without the spaces around it.
+    /// What is before the first `|` and what is after it, without the spaces around it.
     pub fn sides(&self) -> Result<(&str, &str), Fault> {
         let (front, back) = self.text.split_once('|').ok_or(Fault::Row)?;
         Ok((

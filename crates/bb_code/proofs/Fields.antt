@@ -262,7 +262,7 @@ text_again text rest fits =
 pub text_spelled : IsSpelled (List ℕ) text_at text_bytes IsText
 text_spelled = record { takes = text_takes; again = text_again }
 
--- so many bytes that are no text
+-- n bytes that are no text, after their number, are refused
 pub text_refused : (bytes : List ℕ) (n : ℕ) (rest front : List ℕ) → number_at bytes ≡ Ok (n, rest) → n ≤ length rest → front ≡ take n rest → ¬ (IsUtf8 front) → text_at bytes ≡ Err Operand
 unfolding text_at
 text_refused bytes n rest front counted enough is invalid =
@@ -270,7 +270,7 @@ text_refused bytes n rest front counted enough is invalid =
     let refused : is_utf8 (take n rest) ≡ false = false_from_ne_true _ (λ valid. invalid (IsUtf8-from_is_utf8 front (ap is_utf8 is ∙ valid))) in
     rw (counted, long, refused) refl
 
--- so many bytes that are a text
+-- n bytes that are a text, after their number, are read
 pub text_read : (bytes : List ℕ) (n : ℕ) (rest front : List ℕ) → number_at bytes ≡ Ok (n, rest) → n ≤ length rest → front ≡ take n rest → IsUtf8 front → text_at bytes ≡ Ok (front, drop n rest)
 unfolding text_at
 text_read bytes n rest front counted enough is text =

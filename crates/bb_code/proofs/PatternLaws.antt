@@ -71,7 +71,7 @@ pub record IsRead (at : Ahead) (x : Tree × Ahead) : Type 0 where
   pub fits : IsTree x.0
   pub left : node_count x.0 + x.1.0 ≡ at.0
 
--- so many patterns were read, and their nodes were counted
+-- n patterns were read, and their nodes were counted
 record AreRead (n : ℕ) (at : Ahead) (x : List Tree × Ahead) : Type 0 where
   takes : Takes at.1 (trees_bytes (trees_of x.0)) x.1.1
   fits : AreTrees (trees_of x.0)

@@ -81,7 +81,7 @@ short_list_at high field bytes = do
 
 -- ---- texts
 
--- a text: its length, and so many bytes of UTF-8
+-- a text: its length, and that many bytes of UTF-8
 unfoldable pub text_at : Field (List ℕ)
 text_at bytes = do
   n ← number_at bytes
@@ -113,7 +113,7 @@ kind_at bytes = do
   form ← ok_or (slice_get KINDS tag.0) Operand
   kind_after form tag.1
 
--- a declared frame of a code with so many locals: its place, a kind for each local, the kinds of the stack
+-- a declared frame of a code with `locals` locals: its place, a kind for each local, the kinds of the stack
 unfoldable pub frame_at : ℕ → Field FrameEntry
 frame_at locals bytes = do
   place ← number_at bytes

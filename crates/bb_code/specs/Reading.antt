@@ -1,4 +1,4 @@
--- Reading a code from the front, with the first fault that is met.
+-- Reading a code from the front, with the first fault.
 use Rattle.std.specs.Prelude.{ℕ, List, [], ◌∷◌, length, Result, Ok, Err, ◌==◌, if◌then◌else◌}
 use Rattle.bb_basis.specs.Results.{◌>>=◌}
 use Rattle.bb_code_ops.specs.declared.parts.TheConstants.{LOCAL_LIMIT, TEXT_COUNT_LIMIT, QUERY_LIMIT, FRAME_LIMIT}

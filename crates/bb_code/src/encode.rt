@@ -13,17 +13,17 @@ use bb_basis::Text;
 use bb_code_ops::{FrameEntry, Kind, Loop, Node, Op, OperandKind, Pattern, Query, Relation};
 use std::alloc::{AllocError, Global};
 
-/// What can stand in a list.
+// A value that can stand in a list.
 trait Spelled: Sized {
     ghost use Rattle.std.specs.Prelude.{List, ℕ, ◌≡◌, ◌++◌, OnOk};
 
-    /// The bytes that spell it.
+    /// The bytes that spell the value.
     ghost bytes: { Self → List ℕ };
 
-    /// What can be spelled so.
+    /// Which values can be spelled so.
     ghost Fits: { Self → Type 0 };
 
-    /// Appends its bytes.
+    // Appends the bytes of the value.
     fn put(&self, out: &mut Vec<u8>) -> Result<(), AllocError>
         requires { Fits self.now }
         ensures { OnOk result (out.new.items ≡ out.old.items ++ bytes self.now) };
@@ -69,7 +69,7 @@ fn put_int(out: &mut Vec<u8>, number: i64) -> Result<(), AllocError>
     out.extend_from_slice(&number.cast_unsigned().to_be_bytes())
 }
 
-/// A byte, and a number behind it.
+// Appends a byte, and a number after it.
 fn put_tagged(out: &mut Vec<u8>, tag: u8, number: u16) -> Result<(), AllocError>
     ensures { OnOk result (out.new.items ≡ out.old.items ++ tag ∷ two_bytes number) }
 {
@@ -140,7 +140,7 @@ fn put_pattern(out: &mut Vec<u8>, pattern: &Pattern) -> Result<(), AllocError>
     }
 }
 
-/// The byte of a node, the number of its parts, and the parts.
+// The byte of a node, the number of its parts, and the parts.
 #[cycle(putting)]
 fn put_parts(out: &mut Vec<u8>, tag: u8, parts: &[Pattern]) -> Result<(), AllocError>
     requires { nodes_count (trees_of parts.now) < 2 ^ 8 }
@@ -220,7 +220,7 @@ impl Spelled for Loop {
     }
 }
 
-/// What follows the opcode of an op.
+// What follows the opcode of an op.
 fn put_operands(out: &mut Vec<u8>, op: Op) -> Result<(), AllocError>
     ensures { OnOk result (out.new.items ≡ out.old.items ++ operand_bytes op) }
 {

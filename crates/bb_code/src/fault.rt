@@ -16,7 +16,7 @@ pub enum CodeFault {
     /// The version is not 1.
     #[error("the code has another version")]
     Version,
-    /// The bytes end where more are due.
+    /// The bytes end where more are needed.
     #[error("the code ends too early")]
     Short,
     /// No op has this number.

@@ -1,5 +1,10 @@
-//! The code that sources execute, and the bytes that spell it. bb_bundle decodes it, bb_verify checks it and the
-//! machine executes it. Crates above take what it is made of from here, the schema too.
+//! The code that sources execute, and the bytes that spell it.
+//!
+//! - In: bytes, or `CodeParts`.
+//! - Out: `Code::decode`, the code that the bytes spell, or the first `CodeFault`; `Code::encode`, the bytes.
+//! - Callers rely on: one code has one spelling (`one_spelling`), and a `Code` keeps all limits of its tables.
+//! - Family: bb_code_ops has the ops, bb_code_text how one is written, bb_code_asm a text form of whole codes.
+//! - Cases: `bytes`, `limits_of_codes`; tests in bb_code_tests.
 #![tactic(auto)]
 
 mod code;

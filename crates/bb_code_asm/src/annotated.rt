@@ -1,4 +1,4 @@
-//! A code's text with a comment at each op: its place, its byte, and what the numbers name. The program bbasm prints it.
+//! A code's text with a comment at each op: its place, its byte, and what its numbers name. bbasm prints it.
 
 use crate::text::{json_of, write_tables};
 use bb_code::{Code, Op, Query, Schema};
@@ -6,8 +6,8 @@ use bb_code_text::write_op;
 use std::alloc::{AllocError, Global};
 use std::fmt::Write;
 
-/// The text of a code, which `assemble` reads like any other. Behind each op stand its place, the index of its first byte
-/// in the code, both from 0, and a text's words; given a schema also the names of slots, classes, spaces and labels.
+/// The text of a code, which `assemble` reads like any other. After each op come its place and the index of its first
+/// byte in the code, both from 0, and a text's words; with a schema also names of slots, classes, spaces and labels.
 pub fn listing(alloc: Global, code: &Code, schema: Option<&Schema>) -> Result<String, AllocError> {
     let mut text = String::new(alloc);
     write_tables(alloc, &mut text, code)?;
@@ -26,7 +26,7 @@ pub fn listing(alloc: Global, code: &Code, schema: Option<&Schema>) -> Result<St
     Ok(text)
 }
 
-/// The number of bytes that spell an op.
+// The number of bytes that spell an op.
 fn bytes_of(op: Op) -> usize {
     match op {
         Op::PushInt(_) | Op::Divide(_, _) => 9,
@@ -48,7 +48,7 @@ fn bytes_of_all(ops: &[Op]) -> usize {
     count
 }
 
-/// Appends what an op names.
+// Appends what an op names.
 fn write_names(
     alloc: Global,
     text: &mut String,
@@ -75,14 +75,14 @@ fn write_names(
     }
 }
 
-/// Appends the class and the space of a query.
+// Appends the class and the space of a query.
 fn write_query_names(text: &mut String, schema: &Schema, query: &Query) -> Result<(), AllocError> {
     let class = schema.class_name(query.class).unwrap_or("?");
     let space = schema.space_name(query.space).unwrap_or("?");
     write!(text, "  {class} on {space}")
 }
 
-/// The name of the slot, class, space or label of an op.
+// The name of the slot, class, space or label of an op.
 fn name_of(schema: &Schema, op: Op) -> Option<&str> {
     match op {
         Op::PushLabel(set, label) => schema.label_name(set, label),

@@ -33,14 +33,14 @@ pub fn assemble(alloc: Global, text: &str) -> Result<Code, AsmFault> {
     Code::new(draft.parts).ok_or(AsmFault::At { line, slip })
 }
 
-/// The parts of a code so far.
+// The parts of a code so far.
 #[derive(Drop)]
 struct Draft {
     alloc: Global,
     parts: CodeParts,
 }
 
-/// There is room for one more.
+// Checks that `count` entries leave room for one more.
 fn room(count: usize, limit: u16) -> Result<(), Slip> {
     if count < usize::from(limit) {
         Ok(())
@@ -64,7 +64,7 @@ impl Draft {
         }
     }
 
-    /// Adds what a statement says.
+    // Adds what a statement says.
     fn add(&mut self, statement: &Statement<'_>, operands: &mut Operands<'_>) -> Result<(), Halt> {
         match statement.name {
             "" => Ok(()),
@@ -77,7 +77,7 @@ impl Draft {
         }
     }
 
-    /// `locals COUNT`
+    // `locals COUNT`
     fn set_locals(&mut self, operands: &mut Operands<'_>) -> Result<(), Halt> {
         if self.parts.frames.len() > 0 {
             return Err(Halt::Slip(Slip::Late));
@@ -91,7 +91,7 @@ impl Draft {
         Ok(())
     }
 
-    /// `text "TEXT"`
+    // `text "TEXT"`
     fn add_text(&mut self, operands: &mut Operands<'_>) -> Result<(), Halt> {
         room(self.parts.texts.len(), TEXT_COUNT_LIMIT)?;
         let word = operands.word()?;
@@ -106,7 +106,7 @@ impl Draft {
         Ok(())
     }
 
-    /// `query CLASS SPACE KIND.. where PATTERN`
+    // `query CLASS SPACE KIND.. where PATTERN`
     fn add_query(&mut self, operands: &mut Operands<'_>) -> Result<(), Halt> {
         room(self.parts.queries.len(), QUERY_LIMIT)?;
         let class = operands.number()?;
@@ -134,7 +134,7 @@ impl Draft {
         Ok(())
     }
 
-    /// `frame PLACE KIND.. / KIND..`
+    // `frame PLACE KIND.. / KIND..`
     fn add_frame(&mut self, operands: &mut Operands<'_>) -> Result<(), Halt> {
         room(self.parts.frames.len(), FRAME_LIMIT)?;
         let place = operands.place()?;
@@ -152,7 +152,7 @@ impl Draft {
         Ok(())
     }
 
-    /// `loop HEAD-END`
+    // `loop HEAD-END`
     fn add_loop(&mut self, operands: &mut Operands<'_>) -> Result<(), Halt> {
         room(self.parts.loops.len(), LOOP_LIMIT)?;
         let (head, end) = operands.word()?.split_once('-').ok_or(Slip::Loop)?;
@@ -171,10 +171,10 @@ impl Draft {
     }
 }
 
-/// The kinds up to a `/` or the end.
+// The kinds up to a `/` or the end.
 fn kinds_of(alloc: Global, operands: &mut Operands<'_>) -> Result<Items<Kind>, Halt> {
     let mut kinds = Items::new(alloc);
-    // More than a frame may have are a fault, and so no more need be read.
+    // More kinds than a frame may have are a fault, so there is no need to read on.
     for _ in 0..=STACK_LIMIT {
         if operands.takes("/") {
             break;

@@ -1,4 +1,4 @@
-//! Why a text is no code. Whoever assembles tells people where.
+//! Why a text is no code. Whoever assembles reports where.
 
 use std::alloc::{AllocError, AllocFailed};
 use thiserror::Error;
@@ -21,7 +21,7 @@ pub enum Slip {
     /// A place is neither a number nor a label.
     #[error("no such place")]
     Place,
-    /// Two places have the same label, or it is no name.
+    /// Two places have the same label, or a label is no name.
     #[error("a label is due that no other place has")]
     Label,
     /// A text is not in the form of JSON.
@@ -36,7 +36,7 @@ pub enum Slip {
     /// A loop is not written so.
     #[error("a loop is its head, `-` and its end")]
     Loop,
-    /// The number of locals stands behind another statement.
+    /// The number of locals comes after another statement.
     #[error("the number of locals comes first")]
     Late,
     /// A frame has not one kind for each local.

@@ -13,7 +13,7 @@ pub(crate) struct Labels {
     places: BTreeMap<String, Place>,
 }
 
-/// Whether a label is a letter or `_`, then letters, digits and `_`.
+// Whether a label is a letter or `_`, then letters, digits and `_`.
 fn is_label(name: &str) -> bool {
     let first = name.bytes().next().unwrap_or(b'0');
     !first.is_ascii_digit() && name.bytes().all(|b| b.is_ascii_alphanumeric() || b == b'_')

@@ -1,5 +1,5 @@
 //! Codes as text, for people, cases and examples: one statement a line, the ops by their names. The program bbasm and
-//! the cases (bb_cases_format) call it.
+//! the cases (bb_cases_format) call `assemble` and `disassemble`.
 #![tactic(auto)]
 
 mod annotated;

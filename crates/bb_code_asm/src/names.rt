@@ -3,12 +3,12 @@
 use crate::fault::Slip;
 use bb_code::{Kind, OperandKind};
 
-/// The number behind the `:` of a word.
+// The number after the `:` of a word.
 fn behind(word: &str) -> Result<u16, Slip> {
     word.parse::<u16>().ok().ok_or(Slip::Number)
 }
 
-/// The kind of a value: `Any`, `Int`, `Text`, `Bool`, `Interval`, or `Label:SET`, `Ref:CLASS`, `Old:CLASS`, `Seq:CLASS`.
+/// The kind of a value: `Any`, `Int`, `Text`, `Bool`, `Interval`, `Label:SET`, `Ref:CLASS`, `Old:CLASS` or `Seq:CLASS`.
 pub(crate) fn kind_of(word: &str) -> Result<Kind, Slip> {
     match word.split_once(':') {
         None => match word {

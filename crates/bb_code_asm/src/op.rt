@@ -21,7 +21,7 @@ pub(crate) fn op_of(name: &str, operands: &mut Operands<'_>) -> Result<Op, Slip>
     Ok(op)
 }
 
-/// An op on values and locals, if one has the name.
+// An op on values and locals, if one has the name.
 fn value_op(name: &str, operands: &mut Operands<'_>) -> Result<Option<Op>, Slip> {
     let op = match name {
         "PushInt" => Op::PushInt(operands.number()?),
@@ -49,7 +49,7 @@ fn said_count(operands: &mut Operands<'_>) -> Result<u8, Slip> {
     Ok(count)
 }
 
-/// An op on units that the next op follows, if one has the name.
+// An op on units that the next op follows, if one has the name.
 fn unit_op(name: &str, operands: &mut Operands<'_>) -> Result<Option<Op>, Slip> {
     let op = match name {
         "Get" => Op::Get(operands.number()?),
@@ -66,7 +66,7 @@ fn unit_op(name: &str, operands: &mut Operands<'_>) -> Result<Option<Op>, Slip> 
     Ok(Some(op))
 }
 
-/// An op that may go to a place, if one has the name.
+// An op that may go to a place, if one has the name.
 fn jumping_op(name: &str, operands: &mut Operands<'_>) -> Result<Option<Op>, Slip> {
     let op = match name {
         "One" => {

@@ -5,7 +5,7 @@ use crate::labels::Labels;
 use bb_code::Place;
 use std::str::FromStr;
 
-/// The operands of a statement, of which so many were taken.
+/// The operands of a statement, of which the first `taken` were taken.
 #[derive(Drop)]
 pub(crate) struct Operands<'a> {
     words: &'a [&'a str],
@@ -80,7 +80,7 @@ impl<'a> Operands<'a> {
         self.labels.place(word)
     }
 
-    /// Nothing is left.
+    /// Checks that no operand is left.
     pub fn end(&self) -> Result<(), Slip> {
         if self.taken < self.words.len() {
             Err(Slip::TooMany)

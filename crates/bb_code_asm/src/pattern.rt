@@ -7,7 +7,7 @@ use bb_code::{Node, Pattern};
 use bb_code_text::relation_of;
 use std::alloc::Global;
 
-/// Reads a pattern of at most so many levels, and takes its nodes from the room.
+/// Reads a pattern of at most `depth` levels, and takes its nodes from `room`.
 #[cycle(reading)]
 pub(crate) fn read_pattern(
     alloc: Global,
@@ -30,7 +30,7 @@ pub(crate) fn read_pattern(
     Ok(Pattern::new(node))
 }
 
-/// A word is due.
+// Takes a word that has to come next.
 fn expect(operands: &mut Operands<'_>, word: &str) -> Result<(), Halt> {
     if operands.takes(word) {
         Ok(())
@@ -39,7 +39,7 @@ fn expect(operands: &mut Operands<'_>, word: &str) -> Result<(), Halt> {
     }
 }
 
-/// Reads one pattern in parentheses.
+// Reads one pattern in parentheses.
 #[cycle(reading)]
 fn read_part(
     alloc: Global,
@@ -53,7 +53,7 @@ fn read_part(
     Ok(part)
 }
 
-/// Reads patterns in parentheses, parted by commas. There may be none.
+// Reads patterns in parentheses, separated by commas. There may be none.
 #[cycle(reading)]
 fn read_parts(
     alloc: Global,
@@ -66,7 +66,7 @@ fn read_parts(
     if operands.takes(")") {
         return Ok(parts);
     }
-    // A node has at most so many parts.
+    // A node has at most `u8::MAX` parts.
     for _ in 0..=u8::MAX {
         parts.push(read_pattern(alloc, depth, room, operands)?)?;
         if operands.takes(")") {
@@ -77,7 +77,7 @@ fn read_parts(
     Err(Halt::Slip(Slip::Limit))
 }
 
-/// Reads the dimension and the operand of a test.
+// Reads the dimension and the operand of a test.
 fn read_test(name: &str, operands: &mut Operands<'_>) -> Result<Node, Slip> {
     match relation_of(name) {
         Some(relation) => Ok(Node::Ordered {

@@ -1,5 +1,5 @@
 //! The statements of a text: which words belong together, and in which line they stand. The assembler goes over them
-//! twice, once for the labels and once for all else.
+//! twice, once for the labels and once for everything else.
 
 use crate::words::words_of;
 use std::alloc::{AllocError, Global};
@@ -7,27 +7,27 @@ use std::alloc::{AllocError, Global};
 /// Some words that belong together.
 #[derive(Drop)]
 pub(crate) struct Statement<'a> {
-    /// The line that it stands in, from 1.
+    /// The line that the statement stands in, from 1.
     pub line: u32,
-    /// The label before it, without its `:`.
+    /// The label before the statement, without its `:`.
     pub label: Option<&'a str>,
-    /// The op or the table; empty behind a label alone.
+    /// The op or the table; empty after a label alone.
     pub name: &'a str,
-    /// What stands behind the name.
+    /// The words after the name.
     pub operands: Vec<&'a str>,
 }
 
-/// The tables, which come with the ops but are none.
+// The names of statements that are tables and not ops.
 const TABLES: [&str; 5] = ["locals", "text", "query", "frame", "loop"];
 
-/// The label that a word is, where it ends with `:`.
+// The label that a word is, where it ends with `:`.
 fn label_of<'a>(words: &[&'a str]) -> Option<&'a str> {
     let first = words.first()?;
     first.strip_suffix(':')
 }
 
 impl<'a> Statement<'a> {
-    /// The statement of some words.
+    // The statement of some words.
     fn of(alloc: Global, line: u32, words: &[&'a str]) -> Result<Statement<'a>, AllocError> {
         let label = label_of(words);
         let before = usize::from(label.is_some());
@@ -41,13 +41,13 @@ impl<'a> Statement<'a> {
         })
     }
 
-    /// Whether it is meant as an op.
+    /// Whether the statement is meant as an op.
     pub fn is_op(&self) -> bool {
         !self.name.is_empty() && !TABLES.contains(&self.name)
     }
 }
 
-/// Appends the statements of a line.
+// Appends the statements of a line.
 fn add_line<'a>(
     alloc: Global,
     statements: &mut Vec<Statement<'a>>,

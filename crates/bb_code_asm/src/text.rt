@@ -63,7 +63,7 @@ fn write_query(text: &mut String, query: &Query) -> Result<(), AllocError> {
     text.push_str("\n")
 }
 
-/// Appends a pattern.
+// Appends a pattern.
 #[cycle(writing)]
 fn write_pattern(text: &mut String, pattern: &Pattern) -> Result<(), AllocError> {
     match pattern.node() {
@@ -90,7 +90,7 @@ fn write_pattern(text: &mut String, pattern: &Pattern) -> Result<(), AllocError>
     }
 }
 
-/// Appends patterns in parentheses.
+// Appends patterns in parentheses.
 #[cycle(writing)]
 fn write_parts(text: &mut String, parts: &[Pattern]) -> Result<(), AllocError> {
     text.push_str("(")?;

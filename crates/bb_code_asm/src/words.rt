@@ -2,22 +2,22 @@
 
 use std::alloc::{AllocError, Global};
 
-/// Where the scan of a line is. A number is where the word began.
+// Where the scan of a line is. A number is where the word began.
 #[derive(Clone, Copy)]
 enum Reading {
     Between,
     Word(usize),
     Quoted(usize),
-    /// Behind a `\` of a quoted text.
+    // After a `\` in a quoted text.
     Escaped(usize),
 }
 
-/// Whether a character is a word of its own, wherever it stands.
+// Whether a character is a word of its own, wherever it stands.
 fn is_mark(ch: char) -> bool {
     matches!(ch, ';' | '(' | ')' | ',' | '/')
 }
 
-/// Appends the word from one place of a line to another.
+// Appends the word from one place of a line to another.
 fn add<'a>(
     words: &mut Vec<&'a str>,
     line: &'a str,

@@ -21,7 +21,7 @@ pub enum Flaw {
     Depth,
     /// An operand of a wrong kind.
     Kind,
-    /// A unit that may be deleted, where a live one is due.
+    /// A unit that may be deleted, where a live one is needed.
     Dead,
     /// A slot that is unknown, not of the class, or of the wrong sort.
     Slot,

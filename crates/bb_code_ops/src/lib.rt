@@ -1,5 +1,5 @@
-//! What a code is made of: its ops, its declared frames and loops, its parts and their limits, and what may be wrong with
-//! a code. bb_code spells it, and the verifier's crates stand on it by way of bb_code.
+//! What a code is made of: its ops, its declared frames and loops, its parts and their limits, and what may be wrong
+//! with a code.
 #![tactic(auto)]
 
 mod flaw;

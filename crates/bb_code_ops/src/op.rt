@@ -8,7 +8,7 @@ pub type Place = u16;
 /// The number of a local, from 0.
 pub type LocalId = u8;
 
-/// What two numbers are made into. Results saturate at the ends of `i64`.
+/// A calculation with two numbers. Results saturate at the ends of `i64`.
 #[derive(Clone, Copy, Debug, PartialEq, Eq)]
 pub enum Calculation {
     Add,
@@ -18,7 +18,7 @@ pub enum Calculation {
     Max,
 }
 
-/// What a number is made into by a positive divisor. It rounds down.
+/// The quotient or the remainder of a number by a positive divisor. Quotients are rounded down.
 #[derive(Clone, Copy, Debug, PartialEq, Eq)]
 pub enum Division {
     DivBy,
@@ -54,8 +54,8 @@ pub enum LinkChange {
     Unlink,
 }
 
-/// One step of a code. Values are popped from the stack and pushed to it. An op that goes to a place is followed by the
-/// op there.
+/// One step of a code. It pops values from the stack and pushes values to it. An op that goes to a place is followed by
+/// the op there.
 #[derive(Clone, Copy, Debug, PartialEq, Eq)]
 pub enum Op {
     /// Pushes a number.
@@ -72,11 +72,11 @@ pub enum Op {
     Store(LocalId),
     /// Pops a value.
     Pop,
-    /// Pops two numbers and pushes what they are made into.
+    /// Pops two numbers and pushes the result of a calculation.
     Calculate(Calculation),
-    /// Pops a number and pushes what a divisor makes of it, which is 1 or more.
+    /// Pops a number and pushes its quotient or remainder by a divisor, which is 1 or more.
     Divide(Division, i64),
-    /// Pops two numbers and pushes whether they compare so.
+    /// Pops two numbers and pushes whether a comparison of them holds.
     Compare(Comparison),
     /// Pops two texts and pushes whether they are equal.
     EqText,
@@ -86,7 +86,7 @@ pub enum Op {
     EqUnit,
     /// Pops a truth value and pushes the other one.
     Not,
-    /// Pops two truth values and pushes what they are combined to.
+    /// Pops two truth values and pushes their combination.
     Combine(Logic),
     /// Pops two numbers and pushes the interval between them, the lesser first.
     MakeInterval,

@@ -72,7 +72,7 @@ fn is_query(query: &Query) -> bool
     query.kinds.len() <= OPERAND_LIMIT && is_pattern(&query.pattern)
 }
 
-/// The numbers of operand kinds have two bytes.
+// The numbers of operand kinds have two bytes.
 fn operand_kinds_fit(kinds: &[OperandKind])
     ensures { All IsOperandKind kinds.now }
 {
@@ -100,8 +100,8 @@ fn is_pattern(pattern: &Pattern) -> bool
     }
 }
 
-/// How many nodes are left of a number, once those of the pattern are taken away, or `None` where it has more. It goes
-/// no deeper than that number.
+// How many of `room` nodes are left once those of the pattern are taken away, or `None` where it has more. It goes no
+// deeper than `room`.
 #[cycle(room)]
 fn room_after(pattern: &Pattern, room: usize) -> Option<usize>
     ensures left { result ≡ room_after room pattern.now }
@@ -126,12 +126,12 @@ fn room_after(pattern: &Pattern, room: usize) -> Option<usize>
     }
 }
 
-/// A dimension and an operand have one byte each.
+// A dimension and an operand have one byte each.
 fn test_fits(dim: u8, operand: u8)
     ensures { InByte dim × InByte operand }
 {}
 
-/// How many nodes are left of a number, once those of some patterns are taken away.
+// How many of `room` nodes are left once those of some patterns are taken away, or `None` where they have more.
 #[cycle(room)]
 fn rooms_after(patterns: &[Pattern], room: usize) -> Option<usize>
     ensures left { result ≡ rooms_after room (trees_of patterns.now) }
@@ -167,7 +167,7 @@ fn is_frame(locals: u8, entry: &FrameEntry) -> bool
     entry.frame.locals.len() == locals as usize && entry.frame.stack.len() <= STACK_LIMIT
 }
 
-/// The numbers of kinds have two bytes.
+// The numbers of kinds have two bytes.
 fn kinds_fit(kinds: &[Kind])
     ensures { All IsKind kinds.now }
 {
@@ -195,7 +195,7 @@ fn are_loops(loops: &[Loop]) -> bool
     loops.len() <= LOOP_LIMIT as usize
 }
 
-/// The numbers of loops have two bytes.
+// The numbers of loops have two bytes.
 fn loops_fit(loops: &[Loop])
     ensures { All IsLoop loops.now }
 {

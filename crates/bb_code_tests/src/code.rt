@@ -8,13 +8,13 @@ use bb_code::{
 use std::alloc::Global;
 use std::test::Fail;
 
-/// One text, "hello", and three ops: PushText 0, Say 1, Done.
+// One text, "hello", and three ops: PushText 0, Say 1, Done.
 const FIRST: [u8; 28] = [
     0x42, 0x42, 0x43, 0x01, 0x01, 0x00, 0x01, 0x00, 0x05, 0x68, 0x65, 0x6c, 0x6c, 0x6f, 0x00, 0x00,
     0x00, 0x00, 0x00, 0x00, 0x00, 0x03, 0x02, 0x00, 0x00, 0x29, 0x01, 0x2e,
 ];
 
-/// Two locals, the text "hi", a query with each node of patterns, a frame with each kind, two loops.
+// Two locals, the text "hi", a query with each node of patterns, a frame with each kind, two loops.
 const TABLES: [u8; 71] = [
     0x42, 0x42, 0x43, 0x01, 0x02, // two locals
     0x00, 0x01, 0x00, 0x02, 0x68, 0x69, // one text
@@ -33,10 +33,10 @@ const TABLES: [u8; 71] = [
     0x00, 0x02, // two loops
 ];
 
-/// The loops from 10 to 20 and from 12 to 300, and the number of all ops.
+// The loops from 10 to 20 and from 12 to 300, and the number of all ops.
 const LOOPS: [u8; 10] = [0x00, 0x0a, 0x00, 0x14, 0x00, 0x0c, 0x01, 0x2c, 0x00, 0x31];
 
-/// Each op, in the order of their numbers.
+// Each op, in the order of their numbers.
 const OPS: [u8; 119] = [
     0x01, 0xff, 0xff, 0xff, 0xff, 0xff, 0xff, 0xff, 0xfe, // PushInt -2
     0x02, 0x00, 0x00, // PushText 0
@@ -67,7 +67,7 @@ const OPS: [u8; 119] = [
     0x2e, 0x2f, 0x30, 0x31, // Done, Rate, Decline, Answer
 ];
 
-/// The bytes of a code with each kind of everything.
+// The bytes of a code with each kind of everything.
 fn full(alloc: Global) -> Result<Vec<u8>, Fail> {
     let mut bytes = TABLES.to_vec(alloc)?;
     bytes.extend_from_slice(&LOOPS)?;
@@ -94,7 +94,7 @@ fn first_code(rt: HostRuntime) -> Result<(), Fail> {
     Ok(())
 }
 
-/// Whether bytes are refused for what they are, or spell the code that they are read as.
+// Whether bytes are refused for what they are, or spell the code that they are read as.
 fn is_answered(alloc: Global, bytes: &[u8]) -> Result<bool, Fail> {
     match Code::decode(alloc, bytes) {
         Ok(code) => Ok(code.encode(alloc)?.as_slice() == bytes),
@@ -102,7 +102,7 @@ fn is_answered(alloc: Global, bytes: &[u8]) -> Result<bool, Fail> {
     }
 }
 
-/// The first byte that is answered wrongly at a place of a code.
+// The first byte that is answered wrongly at a place of a code.
 fn wrong_byte(alloc: Global, bytes: &[u8], place: usize) -> Result<Option<u8>, Fail> {
     let mut other = bytes.to_vec(alloc)?;
     for byte in 0..=255u8 {
@@ -127,7 +127,7 @@ fn each_byte_of_the_full_code(rt: HostRuntime) -> Result<(), Fail> {
     Ok(())
 }
 
-/// Parts of a code with so many locals, and these ops.
+// Parts of a code with `locals` locals, and these ops.
 fn parts(alloc: Global, locals: u8, ops: Vec<Op>) -> CodeParts {
     CodeParts {
         locals,
@@ -149,7 +149,7 @@ fn made_code(rt: HostRuntime) -> Result<(), Fail> {
     Ok(())
 }
 
-/// Whether a code can have so many locals, and so many times this op.
+// Whether a code can have `locals` locals, and this op `count` times.
 fn takes_ops(alloc: Global, locals: u8, count: usize, op: Op) -> Result<bool, Fail> {
     let mut ops = Vec::new(alloc);
     for _ in 0..count {
@@ -180,7 +180,7 @@ fn limits_of_ops(rt: HostRuntime) -> Result<(), Fail> {
     Ok(())
 }
 
-/// Whether a frame with so many kinds of locals and of the stack can stand in a code with two locals.
+// Whether a frame with `locals` kinds of locals and `stack` of the stack can stand in a code with two locals.
 fn takes_frame(alloc: Global, locals: usize, stack: usize) -> Result<bool, Fail> {
     let ops = vec![in alloc; Op::Done]?;
     let mut made = parts(alloc, 2, ops);
@@ -198,7 +198,7 @@ fn takes_frame(alloc: Global, locals: usize, stack: usize) -> Result<bool, Fail>
     Ok(Code::new(made).is_some())
 }
 
-/// Whether a query with so many operands and this pattern can stand in a code.
+// Whether a query with `operands` operands and this pattern can stand in a code.
 fn takes_query(alloc: Global, operands: usize, pattern: Pattern) -> Result<bool, Fail> {
     let ops = vec![in alloc; Op::Done]?;
     let mut made = parts(alloc, 1, ops);
@@ -215,7 +215,7 @@ fn takes_query(alloc: Global, operands: usize, pattern: Pattern) -> Result<bool,
     Ok(Code::new(made).is_some())
 }
 
-/// And, with so many parts, each of which is all.
+// An `And` of `count` parts, each of which is `All`.
 fn wide(alloc: Global, count: usize) -> Result<Pattern, Fail> {
     let mut parts = Vec::new(alloc);
     for _ in 0..count {

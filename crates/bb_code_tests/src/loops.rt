@@ -1,4 +1,5 @@
-//! The loops of a code, all looked at anew at each place, by a plain program. The verifier's answer is compared with it.
+//! The loops of a code, by a plain program that looks at all of them again at each place. The verifier's answer is
+//! compared with it.
 
 use bb_basis::{Items, Text};
 use bb_code::{Code, CodeParts, FrameEntry, LocalId, Loop, Op, Place, Query};
@@ -15,7 +16,7 @@ fn depth(loops: &[Loop], place: usize) -> usize {
     loops.iter().filter(|l| holds(place, **l)).count()
 }
 
-// A loop with its head at the place is listed right behind one whose head is not before it.
+// A loop with its head at the place is listed right after one whose head is not before it.
 fn is_misplaced(loops: &[Loop], place: Place) -> bool {
     for next in 1..loops.len() {
         if loops[next].head == place && place <= loops[next - 1].head {
@@ -136,7 +137,7 @@ fn made(alloc: Global, ops: &[Op], loops: &[Loop]) -> Result<Code, Fail> {
     Ok(code.ok_or("the parts are within their limits")?)
 }
 
-/// Where the verifier finds loops that are not in order; `None` where the jumps are not.
+// Where the verifier finds loops that are not in order; `None` where the jumps are not.
 fn found(
     alloc: Global,
     schema: &Schema,
@@ -184,7 +185,7 @@ const OPS: [Op; 16] = [
     Op::Done,
 ];
 
-/// The first four are those of `OPS`.
+// The first four are those of `OPS`.
 const LOOPS: [Loop; 6] = [
     Loop { head: 2, end: 12 },
     Loop { head: 4, end: 9 },
@@ -206,7 +207,7 @@ fn changed_op(seed: u32) -> Op {
     }
 }
 
-// The same loop with another head or another end.
+// A loop with another head or another end.
 fn changed_loop(seed: u32, l: Loop) -> Loop {
     let place = ((seed >> 17) % 18) as u16;
     if (seed >> 8) % 2 == 0 {
@@ -243,7 +244,7 @@ fn swap_loops(seed: u32, loops: &mut [Loop]) {
     }
 }
 
-/// One of the ops or one of the loops is another, or two loops change places.
+// One of the ops or one of the loops is another, or two loops change places.
 fn change(seed: u32, ops: &mut [Op], loops: &mut [Loop]) {
     match (seed >> 10) % 7 {
         0..=3 => change_op(seed, ops),

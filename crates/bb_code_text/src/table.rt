@@ -3,7 +3,7 @@
 
 use bb_code::{Bound, Calculation, Comparison, Logic, Op, Relation};
 
-/// The ops without operands.
+// The ops without operands.
 const PLAIN: [(&str, Op); 24] = [
     ("Pop", Op::Pop),
     ("Add", Op::Calculate(Calculation::Add)),
@@ -31,7 +31,7 @@ const PLAIN: [(&str, Op); 24] = [
     ("Answer", Op::Answer),
 ];
 
-/// The relations of patterns to their operands.
+// The relations of patterns to their operands.
 const RELATIONS: [(&str, Relation); 5] = [
     ("within", Relation::Within),
     ("covers", Relation::Covers),

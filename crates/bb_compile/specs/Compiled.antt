@@ -1,5 +1,4 @@
--- The source of a tree, with a code for each of its parts that is a block, or the first flaw: from the front to the back of
--- the text.
+-- The source of a tree, with a code for each part that is a block, or the first flaw from the front of the text.
 use Rattle.std.specs.Prelude.{ℕ, List, Option, Some, None, Result, Ok, Err, if◌then◌else◌}
 use Rattle.bb_basis.specs.Results.{◌>>=◌, ok_or}
 use Rattle.bb_code_ops.specs.Code.{Code}
@@ -28,11 +27,11 @@ use Rattle.bb_compile.specs.declared.source.Head.{Head}
 
 -- ---- parts
 
--- the class of a name behind `on`, which stands at a place
+-- the class of the name after an `on` at a place
 abbrev pub class_on : Schema → (name : List ℕ) → Place → Result ℕ CompileFault
 class_on schema name on = ok_or (class_named schema name) (At Unknown on)
 
--- the class of a reaction's events; a reaction with a way past its end is refused first, where it begins
+-- the class of a reaction's events; a reaction that can run past its end is refused first, where it begins
 abbrev pub class_of_events : Schema → ReactionText → Result ℕ CompileFault
 class_of_events schema text =
     if block_ends text.block then class_on schema text.class text.on else Err (At NoEnd text.place)
@@ -115,7 +114,7 @@ draft_of schema text = do
   act ← act_of schema class text.act
   Ok (assembled (head_of text) codes act)
 
--- where all of its names are names, and it has clauses
+-- the source of a tree, where all of its names are names, and it has clauses
 unfoldable pub compiled : Schema → SourceText → Result (SourceDraft Code) CompileFault
 compiled schema text = do
   draft ← draft_of schema text

@@ -1,5 +1,13 @@
-//! The compiler: from a tree of the source language to the source that a bundle can spell, with its codes. bb_shell
-//! calls `compile` for each source of a text.
+//! The compiler: from the tree of a source to the source that a bundle can spell, with its codes.
+//!
+//! - In: a schema and a `SourceText`.
+//! - Out: `compile`, a `SourceCode`, or the first `CompileFault` with its line and column.
+//! - Callers rely on: a fault is the first of the text. What is proved of the code that comes out stands in
+//!   bb_compile_accepted and bb_compile_meaning.
+//! - Family: bb_compile_scope judges a statement, bb_compile_buffer holds the code so far, bb_compile_emit emits
+//!   statements.
+//! - Cases: `statements`, `limits_of_parts`, `refused_sources`, `model-compiles`; tests in bb_compile_tests and
+//!   bb_rules_tests.
 #![tactic(auto)]
 
 mod part_codes;

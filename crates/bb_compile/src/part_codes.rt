@@ -44,7 +44,7 @@ impl Drop for PartCodes {
     }
 }
 
-/// The class of a name behind `on`, which stands at a place.
+/// The class of the name after an `on` at a place.
 pub(crate) fn class_on(schema: &Schema, name: &Text, place: Place) -> Result<ClassId, CompileFault>
     ensures { result ≡ class_on schema.now name.now place }
 {
@@ -54,7 +54,7 @@ pub(crate) fn class_on(schema: &Schema, name: &Text, place: Place) -> Result<Cla
         .ok_or(CompileFault::At { flaw, place })
 }
 
-/// The class of a reaction's events. A reaction with a way past its end is refused first, where it begins.
+// The class of a reaction's events. A reaction that can run past its end is refused first, where it begins.
 fn class_of_events(schema: &Schema, text: &ReactionText) -> Result<ClassId, CompileFault>
     ensures { result ≡ class_of_events schema.now text.now }
 {
@@ -66,7 +66,7 @@ fn class_of_events(schema: &Schema, text: &ReactionText) -> Result<ClassId, Comp
     class_on(schema, &text.class, text.on)
 }
 
-/// The code of a part, where the source has it.
+// The code of a part, where the source has it.
 fn part_if(
     alloc: Global,
     schema: &Schema,
@@ -84,7 +84,7 @@ fn part_if(
     }
 }
 
-/// What a reaction is.
+// What a reaction is.
 #[tactic(auto, unfolding(crate::specs::Compiled::reaction_of))]
 fn reaction_of(
     alloc: Global,
@@ -102,7 +102,7 @@ fn reaction_of(
     })
 }
 
-/// The reaction that ends activations, where the source has it.
+// The reaction that ends activations, where the source has it.
 fn obviation(
     alloc: Global,
     schema: &Schema,
@@ -119,7 +119,7 @@ fn obviation(
     Ok(Some(reaction_of(alloc, schema, part, text)?))
 }
 
-/// The reaction that rates activations anew, where the source has it.
+// The reaction that rates activations again, where the source has it.
 fn retriggering(
     alloc: Global,
     schema: &Schema,
@@ -137,7 +137,7 @@ fn retriggering(
 }
 
 impl PartCodes {
-    /// No codes.
+    // No codes.
     fn none() -> PartCodes
         ensures { result ≡ no_codes }
     {

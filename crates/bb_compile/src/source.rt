@@ -15,7 +15,7 @@ use bb_lang::{ActText, ClauseText, SourceText};
 use bb_verify_frame::{ClassId, Part, Schema};
 use std::alloc::{AllocError, Global};
 
-/// Who a source is: its name, class, rate and clauses.
+/// The head of a source: its name, class, rate and clauses.
 #[derive(Drop)]
 pub(crate) struct Head {
     name: Text,
@@ -25,7 +25,7 @@ pub(crate) struct Head {
 }
 
 impl Head {
-    /// That of a tree.
+    // The head of a source's tree.
     fn of(text: &SourceText) -> Result<Head, AllocError>
         ensures { IfOk result (λ head. head ≡ head_of text.now) }
     {
@@ -38,7 +38,7 @@ impl Head {
     }
 }
 
-/// What an activation does.
+// What an activation does.
 fn act_of(
     alloc: Global,
     schema: &Schema,
@@ -57,7 +57,7 @@ fn act_of(
     }
 }
 
-/// A source of this head with these codes.
+// A source of this head with these codes.
 fn assembled(head: Head, codes: PartCodes, act: ActDraft<Code>) -> SourceDraft<Code>
     ensures { result ≡ assembled head codes act }
 {
@@ -81,7 +81,7 @@ fn assembled(head: Head, codes: PartCodes, act: ActDraft<Code>) -> SourceDraft<C
     }
 }
 
-/// The source of a tree, for a schema.
+// The source of a tree, for a schema.
 #[tactic(auto, unfolding(crate::specs::Compiled::draft_of))]
 fn draft_of(
     alloc: Global,

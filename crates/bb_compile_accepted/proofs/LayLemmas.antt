@@ -32,7 +32,7 @@ module _ (schema : Schema) (sf : schemas.Fits schema) (part : Part) (code : Code
   pub known_same : (f : Frame) (s t : Sheet) → bare t ≡ bare s → Known f s → Known f t
   known_same f s t same known = (known.0, subst (λ (u : Sheet). AreKnown schema sf f.locals u.scope.kinds u.scope.names) (sym same) known.1)
 
-  -- what is laid out from one sheet to another pushes a value of a kind, where the stack has room for so many
+  -- what is laid out from one sheet to another pushes a value of a kind, where the stack has room for `space` values
   pub record Lays (space : ℕ) (s t : Sheet) (made : Made) : Type 0 where
     pub grown : Grown s t
     pub clean : Clean s
@@ -42,7 +42,7 @@ module _ (schema : Schema) (sf : schemas.Fits schema) (part : Part) (code : Code
     pub made_is : made ≡ Some kind
     pub leads : (f : Frame) → Known f s → length f.stack + space ≡ STACK_LIMIT → (k : Kind) × IsUnder schema sf k kind × Leads schema part code grown.ops f (with_stack (k ∷ f.stack) f)
 
-  -- it leaves a value of a kind in the place of the newest one
+  -- what is laid out from one sheet to another leaves a value of a kind in the place of the newest one
   pub record Turns (space : ℕ) (s t : Sheet) (left made : Made) : Type 0 where
     pub grown : Grown s t
     pub clean : Clean s

@@ -15,8 +15,8 @@ use bb_verify_frame::Schema;
 
 /// The code of a part that has no `if`, no `with` and no `for` is accepted for that part, whatever its expressions are.
 ///
-/// - `accepted`: whatever code the compiler gives for such a part, under a schema and for whatever classes, the verifier
-///   takes it, with a frame for each of its places.
+/// - `accepted`: for any schema and any classes the verifier takes each code that the compiler gives for such a part,
+///   with a frame for each of its places.
 ///
 /// It says nothing of texts with `if`, `with` or `for`.
 pub fn compiled_code_is_accepted(schema: &Schema)

@@ -89,7 +89,7 @@ label_in schema label (Some set) room s = label_of set (label_named schema set l
 unfoldable pub label_code : Schema → (set label : List ℕ) → (room : ℕ) → Step Made
 label_code schema set label room s = label_in schema label (label_set_named schema set) room s
 
--- an expression without parts, where the stack has room for so many values
+-- an expression without parts, where the stack has room for `room` values
 unfoldable pub atom_code : Schema → (room : ℕ) → Atom → Step Made
 atom_code schema room (atoms.Int n) s = pushed (ops.PushInt n) kinds.Int room s
 atom_code schema room (atoms.Text text) s = text_code text room s

@@ -32,7 +32,7 @@ empty_sheet part start = record {
 
 -- ---- the code of a sheet
 
--- the frame of a label, for so many locals: the stack is empty
+-- the frame of a label, for `locals` locals: the stack is empty
 abbrev pub frame_of : (locals : ℕ) → Label → FrameEntry
 frame_of locals label = record {
   place = label.place;

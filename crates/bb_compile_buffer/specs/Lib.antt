@@ -1,6 +1,6 @@
 -- what is laid out so far of a code
 pub mod Sheets
--- what operands become
+-- operations
 pub mod Operations
 -- expressions without parts
 pub mod Atoms

@@ -1,4 +1,4 @@
--- What operands become, behind them.
+-- Operations, after their operands.
 use Rattle.std.specs.Prelude.{ℕ, ℤ, pos, int_lt, Option, Some, None, Ok, if◌then◌else◌}
 use Rattle.bb_basis.specs.Results.{◌>>=◌}
 use Rattle.bb_verify_frame.specs.Kind.{Kind}

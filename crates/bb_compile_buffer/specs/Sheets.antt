@@ -21,11 +21,11 @@ use Rattle.bb_compile_scope.specs.Scope.{with_name, back_to}
 use Rattle.bb_compile_buffer.specs.declared.label.Label.{Label}
 use Rattle.bb_compile_buffer.specs.declared.sheet.Sheet.{Sheet}
 
--- one step: what it makes and the sheet behind it, or a fault
+-- one step: what it makes and the sheet after it, or a fault
 abbrev pub Step : Type 0 → Type 0
 Step X = Sheet → Result (X × Sheet) CompileFault
 
--- the same where it makes nothing
+-- one step that makes nothing: the sheet after it, or a fault
 abbrev pub Change : Type 0
 Change = Sheet → Result Sheet CompileFault
 
@@ -39,7 +39,7 @@ too_large s = Err (At Limit s.start)
 abbrev pub noted : Flaw → Sheet → Sheet
 noted flaw s = record s { flaw = Some (lowest s.flaw flaw) }
 
--- a value, as far as its kind is known, is of the kind that is due
+-- a value, as far as its kind is known, is of the kind that is wanted
 unfoldable pub due : Option Kind → (wanted : Kind) → Sheet → Sheet
 due None wanted s = s
 due (Some kind) wanted s = if is_same_plain kind wanted then s else noted WrongKind s
@@ -67,7 +67,7 @@ put op s = if nat_le OP_LIMIT (length s.ops) then too_large s else Ok (record s 
 unfoldable pub put_value : Op → (room : ℕ) → Change
 put_value op room s = put op (if room == 0 then noted Limit s else s)
 
--- an op that goes to another place than before, where it goes to one
+-- an op with another place to go to, if it goes to one
 abbrev pub aimed : Op → (place : ℕ) → Op
 aimed (One slot _) place = One slot place
 aimed (Alive _) place = Alive place
@@ -127,7 +127,7 @@ unfoldable pub kept : List Label → Option Label → (place : ℕ) → List Lab
 kept labels None place = labels
 kept labels (Some last) place = if last.place == place then labels else labels ++ last ∷ []
 
--- ops go to the place of the next op
+-- a label is put at the place of the next op
 unfoldable pub labelled : Sheet → Sheet
 labelled s = record s {
   labels = kept s.labels s.last (length s.ops);
@@ -164,7 +164,7 @@ declare name kind s = do
   (local, t) ← take_local kind s
   put (Store local) (record t { scope = with_name name local kind t.scope })
 
--- two ways meet: this one, and another of which it is known what the locals hold; one that has ended does not count
+-- a branch is merged with another, after which the locals hold `other`; a branch that has ended does not count
 unfoldable pub met : (ended : Bool) → (other : List Kind) → (other_ended : Bool) → Sheet → Sheet
 met ended other other_ended s =
     if ended then with_kinds other s

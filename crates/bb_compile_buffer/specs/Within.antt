@@ -54,7 +54,7 @@ query_within q =
     two_bytes q.class && (two_bytes q.space && (nat_le (length q.kinds) OPERAND_LIMIT
     && (list_all operand_within q.kinds && (nat_le (node_count q.pattern) NODE_LIMIT && tree_within q.pattern))))
 
--- a frame for so many locals, and a loop
+-- a frame for `locals` locals, and a loop
 abbrev pub kind_within : Kind → Bool
 kind_within (kinds.Label set) = two_bytes set
 kind_within (kinds.Ref class) = two_bytes class
@@ -96,7 +96,7 @@ op_within (ops.Next local place) = byte local && two_bytes place
 op_within (ops.Back place) = two_bytes place
 op_within _ = true
 
--- at most so many, each within its limits
+-- at most `few` items, each within its limits
 abbrev pub list_within : {X : Type 0} → (few : ℕ) → (X → Bool) → List X → Bool
 list_within few each xs = nat_le (length xs) few && list_all each xs
 

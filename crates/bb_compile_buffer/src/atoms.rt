@@ -15,7 +15,7 @@ use bb_compile_scope::{
 use bb_lang::Atom;
 use std::alloc::Global;
 
-/// An op that pushes a value of a kind.
+// An op that pushes a value of a kind.
 #[tactic(auto, unfolding(crate::specs::Atoms::pushed))]
 fn emit_pushed(
     sheet: &mut Sheet,
@@ -29,7 +29,7 @@ fn emit_pushed(
     Ok(Some(gives))
 }
 
-/// Loads what a name holds, and answers its kind.
+/// Loads what a name holds, and returns its kind.
 #[tactic(auto, unfolding(crate::specs::Atoms::variable_code))]
 pub fn emit_variable(
     sheet: &mut Sheet,
@@ -46,7 +46,7 @@ pub fn emit_variable(
     Ok(Some(sheet.scope.kinds.get(local)))
 }
 
-/// Loads the unit of a name, which has to be live, and answers its class.
+/// Loads the unit of a name, which has to be live, and returns its class.
 #[tactic(auto, unfolding(crate::specs::Atoms::unit_code))]
 pub fn emit_unit(
     sheet: &mut Sheet,
@@ -69,7 +69,7 @@ pub fn emit_unit(
     Ok(Some(class))
 }
 
-/// The value that a unit has in a slot.
+// The value that a unit has in a slot.
 #[tactic(auto, unfolding(crate::specs::Atoms::slot_code))]
 fn emit_slot(
     schema: &Schema,
@@ -96,7 +96,7 @@ fn emit_slot(
     }
 }
 
-/// Notes a text that is too long.
+// Notes a text that is too long.
 fn check_text(sheet: &mut Sheet, text: &Text)
     ensures { sheet.new ≡ text_noted text.now sheet.old }
 {
@@ -106,7 +106,7 @@ fn check_text(sheet: &mut Sheet, text: &Text)
     sheet.note(Flaw::Limit);
 }
 
-/// A text.
+// A text.
 #[tactic(auto, unfolding(crate::specs::Atoms::text_code))]
 fn emit_text(
     alloc: Global,
@@ -121,7 +121,7 @@ fn emit_text(
     emit_pushed(sheet, Op::PushText(index), Kind::Text, room)
 }
 
-/// A label of a set.
+// A label of a set.
 #[tactic(auto, unfolding(crate::specs::Atoms::label_code))]
 fn emit_label(
     schema: &Schema,
@@ -144,8 +144,7 @@ fn emit_label(
     emit_pushed(sheet, Op::PushLabel(set, label), Kind::Label(set), room)
 }
 
-/// An expression without parts, where the stack has room for so many values. The answer is its kind, as far as it is
-/// known.
+/// An expression without parts, where the stack has room for `room` values. Returns its kind, as far as it is known.
 #[tactic(auto, unfolding(crate::specs::Atoms::atom_code))]
 pub fn emit_atom(
     alloc: Global,

@@ -14,7 +14,7 @@ use bb_code::{Code, CodeParts, Frame, FrameEntry};
 use bb_compile_scope::{CompileFault, Flaw, Kind, LocalKinds, Place};
 use std::alloc::{AllocError, Global};
 
-/// The kinds of so many locals.
+// The kinds of the first `locals` locals.
 fn first_kinds(alloc: Global, kinds: &LocalKinds, locals: u8) -> Result<Vec<Kind>, AllocError>
     ensures { IfOk result (λ v. v.items ≡ map (kind_at kinds.now) (range_with_len 0 locals)) }
 {
@@ -25,7 +25,7 @@ fn first_kinds(alloc: Global, kinds: &LocalKinds, locals: u8) -> Result<Vec<Kind
     Ok(first)
 }
 
-/// The frame of a label.
+// The frame of a label.
 fn frame_of(alloc: Global, label: &Label, locals: u8) -> Result<FrameEntry, AllocError>
     ensures { IfOk result (λ f. f ≡ frame_of locals label.now) }
 {
@@ -39,7 +39,7 @@ fn frame_of(alloc: Global, label: &Label, locals: u8) -> Result<FrameEntry, Allo
     })
 }
 
-/// The frames of labels.
+// The frames of labels.
 fn frames_each(alloc: Global, labels: &[Label], locals: u8) -> Result<Vec<FrameEntry>, AllocError>
     ensures { IfOk result (λ v. v.items ≡ map (frame_of locals) labels.now) }
 {
@@ -50,7 +50,7 @@ fn frames_each(alloc: Global, labels: &[Label], locals: u8) -> Result<Vec<FrameE
     Ok(frames)
 }
 
-/// The frames of labels, and of a last one.
+// The frames of labels, and of a last one.
 fn frames_of(
     alloc: Global,
     labels: &[Label],
@@ -67,7 +67,7 @@ fn frames_of(
     Ok(frames)
 }
 
-/// The code of its parts, if they are within the limits of a code.
+// The code of its parts, if they are within the limits of a code.
 #[tactic(auto, unfolding(crate::specs::Finish::if_within))]
 fn checked(parts: CodeParts, place: Place) -> Result<Code, CompileFault>
     ensures { result ≡ if_within place parts }

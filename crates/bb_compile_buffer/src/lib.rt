@@ -1,6 +1,5 @@
-//! What is laid out so far of the code of a part: ops, texts, queries, loops and labels on a sheet, with the names in
-//! scope and the flaws of a statement; and what lies lowest on it, expressions without parts and operations.
-//! bb_compile_emit lays trees out on it.
+//! The code of a part while it is emitted: ops, texts, queries, loops and labels on a `Sheet`, with the names in scope
+//! and the first flaw. On it stand expressions without parts, and operations.
 #![tactic(auto)]
 
 mod atoms;

@@ -1,4 +1,4 @@
-//! What operands become, laid out and judged behind them. The layout of expressions calls it.
+//! Operations, laid out and judged after their operands. The layout of expressions calls it.
 
 ghost use Rattle.std.specs.Prelude.{◌≡◌};
 ghost use Rattle.bb_basis.specs.Results.{Gives};
@@ -13,7 +13,7 @@ use bb_code::{Bound, Calculation, Comparison, Division as OpDivision, Logic};
 use bb_compile_scope::{CompileFault, Flaw, Kind, Op, equality};
 use bb_lang::{Binary, Division, Operator, Unary};
 
-/// An op on one operand of a kind.
+// An op on one operand of a kind.
 #[tactic(auto, unfolding(crate::specs::Operations::one_due))]
 fn emit_one(
     sheet: &mut Sheet,
@@ -29,7 +29,7 @@ fn emit_one(
     Ok(Some(gives))
 }
 
-/// An op on two operands of a kind.
+// An op on two operands of a kind.
 #[tactic(auto, unfolding(crate::specs::Operations::two_due))]
 fn emit_two(
     sheet: &mut Sheet,
@@ -47,7 +47,7 @@ fn emit_two(
     Ok(Some(gives))
 }
 
-/// What one operand becomes.
+/// An operation on one operand.
 pub fn emit_unary(
     sheet: &mut Sheet,
     operation: Unary,
@@ -68,7 +68,7 @@ pub fn emit_unary(
     }
 }
 
-/// Whether two operands are equal.
+// Whether two operands are equal.
 fn emit_equality(
     sheet: &mut Sheet,
     left: Option<Kind>,
@@ -91,7 +91,7 @@ fn emit_equality(
     }
 }
 
-/// Two numbers become a value of a kind.
+// Two numbers become a value of a kind.
 fn emit_calculation(
     sheet: &mut Sheet,
     calculation: Calculation,
@@ -105,7 +105,7 @@ fn emit_calculation(
     emit_two(sheet, left, right, Kind::Int, op, Kind::Int)
 }
 
-/// Two numbers are compared.
+// Two numbers are compared.
 fn emit_comparison(
     sheet: &mut Sheet,
     comparison: Comparison,
@@ -119,7 +119,7 @@ fn emit_comparison(
     emit_two(sheet, left, right, Kind::Int, op, Kind::Bool)
 }
 
-/// Two truth values are combined.
+// Two truth values are combined.
 fn emit_logic(
     sheet: &mut Sheet,
     logic: Logic,
@@ -133,7 +133,7 @@ fn emit_logic(
     emit_two(sheet, left, right, Kind::Bool, op, Kind::Bool)
 }
 
-/// What two operands become.
+/// An operation on two operands.
 #[tactic(auto, unfolding(crate::specs::Operations::binary_code))]
 pub fn emit_binary(
     sheet: &mut Sheet,
@@ -186,7 +186,7 @@ fn division_op(division: Division) -> OpDivision
     }
 }
 
-/// Notes a divisor that is less than 1.
+// Notes a divisor that is less than 1.
 fn check_divisor(sheet: &mut Sheet, divisor: i64)
     ensures { sheet.new ≡ divisor_noted divisor sheet.old }
 {

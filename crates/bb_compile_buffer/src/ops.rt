@@ -25,7 +25,7 @@ impl Model for Ops {
     ghost invariant = { λ o. length o.ops.items ≤ 4096 };
 }
 
-/// The op that goes to another place than before, where it goes to one.
+// An op with another place to go to, if it goes to one.
 fn aimed(op: Op, place: u16) -> Op
     ensures { result ≡ aimed op place }
 {

@@ -30,7 +30,7 @@ pub struct Sheet {
     pub texts: Texts,
     pub queries: Items<Query>,
     pub loops: Loops,
-    /// The labels, but for the last one, which another may meet.
+    /// The labels but the last one, which another at the same place may replace.
     pub labels: Items<Label>,
     pub last: Option<Label>,
     pub scope: Scope,
@@ -39,7 +39,7 @@ pub struct Sheet {
     pub flaw: Option<Flaw>,
 }
 
-/// Keeps a label that no other at the same place has met.
+// Keeps the last label, unless another at the same place replaces it.
 #[tactic(auto, unfolding(crate::specs::Sheets::kept))]
 fn keep(labels: &mut Items<Label>, last: Option<Label>, place: u16) -> Result<(), AllocError>
     ensures { IfOk result (λ _. labels.new ≡ kept labels.old last place) }
@@ -82,7 +82,7 @@ impl Sheet {
         self.flaw = Some(lowest(self.flaw, flaw));
     }
 
-    /// Notes a value of another kind than is due.
+    /// Notes a value of another kind than `wanted`.
     #[tactic(auto, unfolding(crate::specs::Sheets::due))]
     pub fn due(&mut self, kind: Option<Kind>, wanted: Kind)
         ensures { self.new ≡ due kind wanted self.old }
@@ -96,7 +96,7 @@ impl Sheet {
         self.note(Flaw::Kind);
     }
 
-    /// Notes what a name means, if that is not known.
+    /// Notes that a name is unknown, if it means nothing.
     pub fn known(&mut self, meant: Option<u16>)
         ensures { self.new ≡ known meant self.old }
     {
@@ -134,7 +134,7 @@ impl Sheet {
         Ok(())
     }
 
-    /// Appends an op that pushes a value, where the stack has room for so many.
+    /// Appends an op that pushes a value, where the stack has room for `room` values.
     #[tactic(auto, unfolding(crate::specs::Sheets::put_value))]
     pub fn put_value(&mut self, op: Op, room: usize) -> Result<(), CompileFault>
         ensures { Gives OutOfMemory (λ _. self.new) result (put_value op room self.old) }
@@ -175,7 +175,7 @@ impl Sheet {
         Ok(index)
     }
 
-    /// Appends a query, and answers its index.
+    /// Appends a query, and returns its index.
     #[tactic(auto, unfolding(crate::specs::Sheets::asked_query))]
     pub fn ask(&mut self, query: Query) -> Result<u16, CompileFault>
         ensures { Gives OutOfMemory (λ index. (index, self.new)) result (asked_query query self.old) }
@@ -192,7 +192,7 @@ impl Sheet {
         Ok(index as u16)
     }
 
-    /// Begins a loop here, and answers its index.
+    /// Begins a loop here, and returns its index.
     #[tactic(auto, unfolding(crate::specs::Sheets::begun_loop))]
     pub fn begin_loop(&mut self) -> Result<usize, CompileFault>
         ensures { Gives OutOfMemory (λ index. (index, self.new)) result (begun_loop self.old) }
@@ -212,7 +212,7 @@ impl Sheet {
 
     // ---- labels
 
-    /// Says that ops go to the place of the next op. Of several labels at a place the last one stays.
+    /// Puts a label at the place of the next op. Of several labels at a place the last one stays.
     #[tactic(auto, unfolding(crate::specs::Sheets::labelled))]
     pub fn label(&mut self) -> Result<(), AllocError>
         ensures { IfOk result (λ _. self.new ≡ labelled self.old) }
@@ -252,8 +252,7 @@ impl Sheet {
         self.put(Op::Store(local))
     }
 
-    /// Two ways meet: this one, and another of which it is known what the locals hold. One that has ended does not
-    /// count.
+    /// Merges this branch with another, after which the locals hold `other`. A branch that has ended does not count.
     #[tactic(auto, unfolding(crate::specs::Sheets::met))]
     pub fn meet(&mut self, ended: bool, other: LocalKinds, other_ended: bool)
         ensures { self.new ≡ met ended other other_ended self.old }

@@ -88,7 +88,7 @@ set_code schema unit slot value s = do
   (kind, u) ← expr_code schema (STACK_LIMIT - 1) value t
   set_in schema class slot kind u
 
--- the other unit's class is one that the link does not lead to
+-- a unit of a class that the link does not lead to
 abbrev pub link_noted : Schema → (to : ℕ) → (other : Option ℕ) → Sheet → Sheet
 link_noted schema to None s = s
 link_noted schema to (Some class) s = if descends schema class to then s else noted LinkClass s

@@ -19,7 +19,7 @@ use Rattle.bb_compile_buffer.specs.Sheets.{Step, Change, noted, known, put, aim,
 use Rattle.bb_compile_buffer.specs.Operations.{Made}
 use Rattle.bb_compile_buffer.specs.Atoms.{variable_code, unit_code}
 
--- one op goes on elsewhere where a test fails
+-- one op of a test goes elsewhere where it fails
 abbrev pub one_exit : (first : ℕ) → Exits
 one_exit first = record { first = first; second = None }
 
@@ -27,11 +27,11 @@ abbrev pub second_aimed : Option ℕ → Sheet → Sheet
 second_aimed None s = s
 second_aimed (Some at) s = aim at s
 
--- they go on at the place of the next op
+-- the exits of a test go to the place of the next op
 abbrev pub exits_aimed : Exits → Sheet → Sheet
 exits_aimed exits s = second_aimed exits.second (aim exits.first s)
 
--- a unit of the one class may be tested to be of the other: that descends from it, and is another where the unit is live
+-- a unit of one class may be tested to be of the other: the other descends from it, and differs if the unit is live
 abbrev pub tells_more : Schema → (live : Bool) → (own class : ℕ) → Bool
 tells_more schema live own class = descends schema class own && not (live && (class == own))
 

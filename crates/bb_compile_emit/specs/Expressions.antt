@@ -1,4 +1,4 @@
--- Expressions, sequences and patterns, where the stack has room for so many values.
+-- Expressions, sequences and patterns, where the stack has room for `room` values.
 use Rattle.std.specs.Prelude.{ℕ, ◌-◌, List, [], ◌∷◌, length, Option, Some, None, Result, Ok, Err}
 use Rattle.bb_basis.specs.Results.{◌>>=◌}
 use Rattle.bb_code_ops.specs.Trees.{Tree, Trees, no_more}
@@ -36,7 +36,7 @@ unfoldable mutual
     u ← put Size t
     Ok (Some Int, u)
 
-  -- the steps of a chain behind its first operand
+  -- the steps of a chain, after its first operand
   pub steps_code : Schema → (room : ℕ) → (left : Made) → Steps → Step Made
   steps_code schema room left no_step s = Ok (left, s)
   steps_code schema room left (apply operator e steps) s = do
@@ -55,7 +55,7 @@ unfoldable mutual
         (known (space_named schema space) (known (class_named schema class) s))
     query_code (class_named schema class) (space_named schema space) asked pattern room t
 
-  -- a pattern, behind so many operands of its query
+  -- a pattern, after the operands that its query has so far
   pub pattern_code : Schema → (room : ℕ) → (space : Option ℕ) → PatternTree → Asked → Sheet → Result (Patterned Tree) CompileFault
   pattern_code schema room space all asked s = Ok (nodes.all, node_counted asked, node_noted asked s)
   pattern_code schema room space (and_of ps) asked s = do

@@ -17,11 +17,11 @@ use Rattle.bb_compile_buffer.specs.Finish.{empty_sheet, code_of, if_within}
 use Rattle.bb_compile_emit.specs.declared.part.TheConstants.{LOOP_NESTING}
 use Rattle.bb_compile_emit.specs.Statements.{block_code}
 
--- whether the part has to end by a statement, and has a way past its end
+-- whether the part has to end by a statement, and can run past its end
 abbrev pub has_no_end : Part → BlockTree → Bool
 has_no_end part b = not (is_ok (ends_done part)) && not (block_ends b)
 
--- a `do` ends behind its last statement
+-- a `do` ends after its last statement
 abbrev pub done : Part → Change
 done part s = if is_ok (ends_done part) then put Done s else Ok s
 

@@ -43,7 +43,7 @@ operand_kind _ = operands.Interval
 abbrev pub with_operand : Kind → Asked → Asked
 with_operand kind asked = if nat_le OPERAND_LIMIT (length asked.kinds) then asked else record { kinds = asked.kinds ++ operand_kind kind ∷ []; nodes = asked.nodes }
 
--- its number
+-- the number of one more operand, if there is room for it
 abbrev pub operand_number : Asked → ℕ
 operand_number asked = if nat_le OPERAND_LIMIT (length asked.kinds) then 0 else length asked.kinds
 
@@ -59,7 +59,7 @@ test_tree relations.Less = ordered holding.Less
 test_tree relations.More = ordered holding.More
 test_tree relations.Is = is_label
 
--- a pattern, the query behind it, and the sheet
+-- a pattern, the query after it, and the sheet
 abbrev pub Patterned : Type 0 → Type 0
 Patterned X = X × Asked × Sheet
 
@@ -68,12 +68,12 @@ test_at relation None operand asked s = (all, asked, noted Unknown s)
 test_at relation (Some dim) operand asked s =
     (test_tree relation dim.0 (operand_number asked), with_operand dim.1 asked, operand_noted asked (due operand dim.1 s))
 
--- a test behind its operand
+-- a test, after its operand
 unfoldable pub test_code : Schema → (space : Option ℕ) → (dim : List ℕ) → Relation → Made → Asked → Sheet → Patterned Tree
 test_code schema None dim relation operand asked s = (all, asked, s)
 test_code schema (Some space) dim relation operand asked s = test_at relation (dimension schema space dim relation) operand asked s
 
--- a query behind its operands
+-- a query, after its operands
 unfoldable pub query_code : (class space : Option ℕ) → Asked → Tree → (room : ℕ) → Step (Option ℕ)
 query_code (Some class) (Some space) asked pattern room s = do
   (index, t) ← asked_query (record { class = class; space = space; kinds = asked.kinds; pattern = pattern }) s

@@ -70,19 +70,19 @@ for_code schema sequence place loops s = do
 abbrev pub jumped : Branch → Change
 jumped branch s = if branch.ended then Ok s else put (Jump 0) s
 
--- behind a first block: the block of `else` begins, and the answer is the place of the jump over it
+-- after a first block: the block of `else` begins, and the result is the place of the jump over it
 unfoldable pub else_begun : Branch → Step ℕ
 else_begun branch s = do
   t ← jumped branch s
   Ok (length s.ops, labelled (with_kinds branch.before.kinds (exits_aimed branch.exits t)))
 
--- behind both blocks, of which the first leaves these kinds
+-- after both blocks, of which the first leaves these kinds
 unfoldable pub else_ended : Branch → (jump : ℕ) → List Kind → (ended : Bool) → Sheet → Sheet
 else_ended branch jump kinds ended s =
     if branch.ended then met ended kinds branch.ended s
     else labelled (aim jump (met ended kinds branch.ended s))
 
--- without `else`, behind the block
+-- after the block, without `else`
 unfoldable pub if_ended : Branch → Sheet → Sheet
 if_ended branch s = labelled (met branch.ended branch.before.kinds false (exits_aimed branch.exits s))
 
@@ -96,7 +96,7 @@ loop_begun schema name class local body s = do
   v ← declare name (Ref class) u
   Ok (record { index = index; head = length t.ops; start = mark_of t.scope }, v)
 
--- at the end of its body the locals hold what they do at its start
+-- at the end of a loop's body the locals hold what they hold at its start
 abbrev pub at_back : Begun → (ended : Bool) → Sheet → Sheet
 at_back begun ended s =
     let t = with_kinds begun.start.kinds (leave begun.start s) in
@@ -111,13 +111,13 @@ loop_ended begun ended s = do
   t ← put (Back begun.head) (at_back begun ended s)
   Ok (loop_closed begun t)
 
--- ---- statements and blocks, in which so many loops may be nested; each says whether it always ends
+-- ---- statements and blocks, in which `loops` loops may be nested; each says whether it always ends
 
 -- names are forgotten at the end of a block
 abbrev pub left : Mark → Bool × Sheet → Result (Bool × Sheet) CompileFault
 left mark r = Ok (r.0, leave mark r.1)
 
--- behind a statement that ends there is no other
+-- after a statement that ends there is no other
 abbrev pub after_end : (ended : Bool) → Sheet → Sheet
 after_end ended s = if ended then noted NoEnd s else s
 
@@ -146,7 +146,7 @@ unfoldable mutual
     w ← loop_ended begun ended v
     Ok (false, labelled (leave (mark_of s.scope) w))
 
-  -- behind the first block of an `if` or a `with`
+  -- what comes after the first block of an `if` or a `with`
   pub otherwise_code : Schema → Part → (loops : ℕ) → Branch → OtherwiseTree → Step Bool
   otherwise_code schema part loops branch absent s = Ok (false, if_ended branch s)
   otherwise_code schema part loops branch (otherwise b) s = do
@@ -171,7 +171,7 @@ placed_code schema part loops ended p s = do
 abbrev pub block_code : Schema → Part → (loops : ℕ) → BlockTree → Step Bool
 block_code schema part loops b s = statements_code schema part loops false b s >>= left (mark_of s.scope)
 
--- the blocks of an `if` or a `with`, behind its test
+-- the blocks of an `if` or a `with`, after its test
 abbrev pub branches_code : Schema → Part → (loops : ℕ) → Mark → Exits → BlockTree → OtherwiseTree → Step Bool
 branches_code schema part loops before exits first other s = do
   (ended, u) ← block_code schema part loops first s

@@ -18,7 +18,7 @@ use bb_compile_scope::{
 use bb_lang::{Action, Expr};
 use std::alloc::Global;
 
-/// Notes the flaw of a change in a part that may make none.
+// Notes the flaw of a change in a part that may make none.
 fn check_effect(part: Part, sheet: &mut Sheet)
     ensures { sheet.new ≡ effect_noted part sheet.old }
 {
@@ -28,7 +28,7 @@ fn check_effect(part: Part, sheet: &mut Sheet)
     sheet.note(Flaw::Effect);
 }
 
-/// `let`
+// `let`
 #[tactic(auto, unfolding(crate::specs::Actions::let_code))]
 fn emit_let(
     alloc: Global,
@@ -45,7 +45,7 @@ fn emit_let(
     sheet.declare(alloc, name, kind)
 }
 
-/// An assignment.
+// An assignment.
 #[tactic(auto, unfolding(crate::specs::Actions::assign_code))]
 fn emit_assign(
     alloc: Global,
@@ -76,7 +76,7 @@ fn emit_assign(
     }
 }
 
-/// `new`
+// `new`
 #[tactic(auto, unfolding(crate::specs::Actions::new_code))]
 fn emit_new(
     alloc: Global,
@@ -95,7 +95,7 @@ fn emit_new(
     sheet.declare(alloc, name, Kind::Ref(class))
 }
 
-/// `set`
+// `set`
 #[tactic(auto, unfolding(crate::specs::Actions::set_code))]
 fn emit_set(
     alloc: Global,
@@ -124,7 +124,7 @@ fn emit_set(
     }
 }
 
-/// Notes a unit of a class that the link does not lead to.
+// Notes a unit of a class that the link does not lead to.
 fn check_link(schema: &Schema, sheet: &mut Sheet, to: ClassId, other: Option<ClassId>)
     ensures { sheet.new ≡ link_noted schema.now to other sheet.old }
 {
@@ -137,7 +137,7 @@ fn check_link(schema: &Schema, sheet: &mut Sheet, to: ClassId, other: Option<Cla
     sheet.note(Flaw::LinkClass);
 }
 
-/// The op that links or unlinks two units, which lie on the stack.
+// The op that links or unlinks two units, which lie on the stack.
 fn emit_change_of(
     schema: &Schema,
     sheet: &mut Sheet,
@@ -164,7 +164,7 @@ fn emit_change_of(
     }
 }
 
-/// `link` and `unlink`
+// `link` and `unlink`
 #[tactic(auto, unfolding(crate::specs::Actions::relink_code))]
 fn emit_relink(
     schema: &Schema,
@@ -182,7 +182,7 @@ fn emit_relink(
     emit_change_of(schema, sheet, change, class, slot, of)
 }
 
-/// Notes a space that does not admit units of a class.
+// Notes a space that does not admit units of a class.
 fn check_space(schema: &Schema, sheet: &mut Sheet, space: SpaceId, class: ClassId)
     ensures { sheet.new ≡ space_noted schema.now space class sheet.old }
 {
@@ -192,7 +192,7 @@ fn check_space(schema: &Schema, sheet: &mut Sheet, space: SpaceId, class: ClassI
     sheet.note(Flaw::Space);
 }
 
-/// `enter`
+// `enter`
 #[tactic(auto, unfolding(crate::specs::Actions::enter_code))]
 fn emit_enter(
     schema: &Schema,
@@ -214,7 +214,7 @@ fn emit_enter(
     sheet.put(Op::Enter(space))
 }
 
-/// `leave`
+// `leave`
 #[tactic(auto, unfolding(crate::specs::Actions::leave_code))]
 fn emit_leave(
     schema: &Schema,
@@ -232,7 +232,7 @@ fn emit_leave(
     sheet.put(Op::Leave(space))
 }
 
-/// `delete`
+// `delete`
 #[tactic(auto, unfolding(crate::specs::Actions::delete_code))]
 fn emit_delete(schema: &Schema, sheet: &mut Sheet, unit: &Variable) -> Result<(), CompileFault>
     ensures { Gives OutOfMemory (λ _. sheet.new) result (delete_code schema.now unit.now sheet.old) }
@@ -245,7 +245,7 @@ fn emit_delete(schema: &Schema, sheet: &mut Sheet, unit: &Variable) -> Result<()
     Ok(())
 }
 
-/// Expressions in order.
+// Expressions in order.
 #[tactic(auto, unfolding(crate::specs::Actions::values_code))]
 fn emit_values(
     alloc: Global,
@@ -263,7 +263,7 @@ fn emit_values(
     Ok(())
 }
 
-/// `say`
+// `say`
 #[tactic(auto, unfolding(crate::specs::Actions::say_code))]
 fn emit_say(
     alloc: Global,
@@ -281,7 +281,7 @@ fn emit_say(
     sheet.put(Op::Say(values.len() as u8))
 }
 
-/// An end with a value of a kind.
+// An end with a value of a kind.
 #[tactic(auto, unfolding(crate::specs::Actions::end_code))]
 fn emit_end(
     alloc: Global,
@@ -298,7 +298,7 @@ fn emit_end(
     sheet.put(op)
 }
 
-/// Notes the flaw of an end that the part does not have.
+// Notes the flaw of an end that the part does not have.
 fn check_end(right: bool, sheet: &mut Sheet)
     ensures { sheet.new ≡ end_noted right sheet.old }
 {
@@ -308,7 +308,7 @@ fn check_end(right: bool, sheet: &mut Sheet)
     sheet.note(Flaw::NoEnd);
 }
 
-/// A change of a unit.
+// A change of a unit.
 fn emit_change(
     alloc: Global,
     schema: &Schema,

@@ -1,5 +1,5 @@
-//! A query that is being laid out: its operands so far, and the room for nodes of its pattern. The layout of sequences
-//! keeps one.
+//! A query that is being laid out: its operands so far, and the room for nodes of its pattern. The layout of
+//! sequences keeps one.
 
 ghost use Rattle.std.specs.Prelude.{◌≡◌, IfOk};
 ghost use Rattle.bb_code_ops.specs.View.{tree_of};
@@ -22,7 +22,7 @@ pub struct Asked {
     pub nodes: usize,
 }
 
-/// What an operand of a kind has to be.
+// What an operand of a kind has to be.
 fn operand_kind(kind: Kind) -> OperandKind
     ensures { result ≡ operand_kind kind }
 {

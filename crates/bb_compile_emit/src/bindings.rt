@@ -18,7 +18,7 @@ use bb_compile_scope::{
 use bb_lang::Binding;
 use std::alloc::Global;
 
-/// Whether a unit of a class, live or not, may be tested to be of another.
+// Whether a unit of a class, live or not, may be tested to be of another.
 fn tells_more(schema: &Schema, live: bool, own: ClassId, class: ClassId) -> bool
     ensures { result ≡ tells_more schema.now live own class }
 {
@@ -31,7 +31,7 @@ fn tells_more(schema: &Schema, live: bool, own: ClassId, class: ClassId) -> bool
     class != own
 }
 
-/// Whether what a name holds may be tested to be a unit of a class.
+// Whether what a name holds may be tested to be a unit of a class.
 fn is_test(schema: &Schema, held: Kind, class: ClassId) -> bool
     ensures { result ≡ is_test schema.now held class }
 {
@@ -50,7 +50,7 @@ fn is_class(own: Option<ClassId>, class: ClassId) -> bool
     }
 }
 
-/// The test of a live unit, which lies on the stack.
+// The test of a live unit, which lies on the stack.
 #[tactic(auto, unfolding(crate::specs::Bindings::as_code))]
 fn emit_live(sheet: &mut Sheet, class: ClassId) -> Result<Exits, CompileFault>
     ensures { Gives OutOfMemory (λ exits. (exits, sheet.new)) result (as_code class sheet.old) }
@@ -60,7 +60,7 @@ fn emit_live(sheet: &mut Sheet, class: ClassId) -> Result<Exits, CompileFault>
     Ok(Exits::one(first))
 }
 
-/// The test of a unit that may be deleted: of the class that it is known to have, or of another.
+// The test of a unit that may be deleted: of the class that it is known to have, or of another.
 #[tactic(auto, unfolding(crate::specs::Bindings::alive_code))]
 fn emit_old(sheet: &mut Sheet, same: bool, class: ClassId) -> Result<Exits, CompileFault>
     ensures { Gives OutOfMemory (λ exits. (exits, sheet.new)) result (alive_code same class sheet.old) }
@@ -78,7 +78,7 @@ fn emit_old(sheet: &mut Sheet, same: bool, class: ClassId) -> Result<Exits, Comp
     })
 }
 
-/// The test that a unit, which lies on the stack, is live and of a class.
+// The test that a unit, which lies on the stack, is live and of a class.
 fn emit_test(sheet: &mut Sheet, held: Kind, class: ClassId) -> Result<Exits, CompileFault>
     ensures { Gives OutOfMemory (λ exits. (exits, sheet.new)) result (test_code held class sheet.old) }
 {
@@ -88,7 +88,7 @@ fn emit_test(sheet: &mut Sheet, held: Kind, class: ClassId) -> Result<Exits, Com
     emit_old(sheet, is_class(class_of(held), class), class)
 }
 
-/// A name for a unit, which lies on the stack, if it is live and of a class.
+// A name for a unit, which lies on the stack, if it is live and of a class.
 fn emit_bound(
     alloc: Global,
     schema: &Schema,
@@ -109,7 +109,7 @@ fn emit_bound(
     Ok(Some(exits))
 }
 
-/// `name = unit as class`
+// `name = unit as class`
 #[tactic(auto, unfolding(crate::specs::Bindings::with_as))]
 fn emit_as(
     alloc: Global,
@@ -133,7 +133,7 @@ fn emit_as(
     emit_bound(alloc, schema, sheet, name, held, class)
 }
 
-/// `name = unit.slot`
+// `name = unit.slot`
 #[tactic(auto, unfolding(crate::specs::Bindings::with_partner))]
 fn emit_partner(
     alloc: Global,
@@ -163,7 +163,7 @@ fn emit_partner(
     }
 }
 
-/// What a `with` tests and declares, and the ops that go on where the test fails. Where there are none, it has a flaw.
+/// What a `with` tests and declares. Returns the exits of its test, or `None` where it has a flaw.
 pub(crate) fn emit_binding(
     alloc: Global,
     schema: &Schema,

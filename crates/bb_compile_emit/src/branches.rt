@@ -1,4 +1,4 @@
-//! What stands between the blocks of an `if` or a `with`, and behind them. The layout of statements calls it.
+//! What comes between the blocks of an `if` or a `with`, and after them. The layout of statements calls it.
 
 ghost use Rattle.std.specs.Prelude.{◌≡◌, IfOk};
 ghost use Rattle.bb_basis.specs.Results.{Gives};
@@ -10,8 +10,8 @@ use bb_compile_buffer::Sheet;
 use bb_compile_scope::{CompileFault, LocalKinds, Mark, Op};
 use std::alloc::AllocError;
 
-/// An `if` or a `with` behind its first block: the scope before that, the ops that go on where the test fails, and
-/// whether the block always ends.
+/// An `if` or a `with` after its first block: the scope before the block, the exits of the test, and whether the block
+/// always ends.
 #[derive(Drop)]
 pub struct Branch {
     pub before: Mark,
@@ -20,7 +20,7 @@ pub struct Branch {
 }
 
 impl Branch {
-    /// A jump over the block of `else`, unless the first block has ended.
+    // A jump over the block of `else`, unless the first block has ended.
     fn put_jump(&self, sheet: &mut Sheet) -> Result<(), CompileFault>
         ensures { Gives OutOfMemory (λ _. sheet.new) result (jumped self.now sheet.old) }
     {
@@ -30,7 +30,7 @@ impl Branch {
         sheet.put(Op::Jump(0))
     }
 
-    /// Begins the block of `else`. The answer is the place of the jump over it.
+    /// Begins the block of `else`. Returns the place of the jump over it.
     #[tactic(auto, unfolding(crate::specs::Statements::else_begun))]
     pub fn begin_else(&self, sheet: &mut Sheet) -> Result<u16, CompileFault>
         ensures { Gives OutOfMemory (λ jump. (jump, sheet.new)) result (else_begun self.now sheet.old) }
@@ -43,7 +43,7 @@ impl Branch {
         Ok(jump)
     }
 
-    /// Ends the block of `else`, which may have ended itself. The first block leaves these kinds.
+    /// Ends the block of `else`; `ended` says whether it always ends. The first block leaves `kinds`.
     #[tactic(auto, unfolding(crate::specs::Statements::else_ended))]
     pub fn end_else(
         &self,

@@ -1,12 +1,11 @@
-//! The ops of a test that go on elsewhere where it fails. The layout of `if` and `with` keeps them until that place is
-//! known.
+//! The ops of a test that go elsewhere where it fails. The layout of `if` and `with` keeps them until it knows where.
 
 ghost use Rattle.std.specs.Prelude.{◌≡◌};
 ghost use Rattle.bb_compile_emit.specs.Bindings.{one_exit, exits_aimed};
 
 use bb_compile_buffer::Sheet;
 
-/// The places of the one or two ops of a test that go on elsewhere where it fails.
+/// The places of the one or two ops of a test that go elsewhere where it fails.
 #[derive(Drop)]
 pub struct Exits {
     pub first: u16,
@@ -14,7 +13,7 @@ pub struct Exits {
 }
 
 impl Exits {
-    /// One op.
+    /// The exits of a test with one such op.
     pub fn one(first: u16) -> Exits
         ensures { result ≡ one_exit first }
     {
@@ -24,7 +23,7 @@ impl Exits {
         }
     }
 
-    /// Has them go to the place of the next op.
+    /// Has the ops go to the place of the next op.
     pub fn aim(&self, sheet: &mut Sheet)
         ensures { sheet.new ≡ exits_aimed self.now sheet.old }
     {

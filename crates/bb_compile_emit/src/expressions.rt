@@ -24,7 +24,7 @@ use bb_compile_scope::{
 use bb_lang::{Expr, ExprNode, Pattern, PatternNode, Relation, Sequence, Step};
 use std::alloc::Global;
 
-/// The sequence of the units that a unit is linked to, and their class.
+// The sequence of the units that a unit is linked to, and their class.
 #[tactic(auto, unfolding(crate::specs::Queries::links_code))]
 fn emit_links(
     schema: &Schema,
@@ -51,7 +51,7 @@ fn emit_links(
     }
 }
 
-/// The class of a name. One that is not there is a flaw.
+/// The class of a name. A name without a class is a flaw.
 pub(crate) fn class_named(schema: &Schema, sheet: &mut Sheet, name: &Text) -> Option<ClassId>
     ensures value { result ≡ class_by_name schema.now name.now }
     ensures flaw { sheet.new ≡ known (class_by_name schema.now name.now) sheet.old }
@@ -61,7 +61,7 @@ pub(crate) fn class_named(schema: &Schema, sheet: &mut Sheet, name: &Text) -> Op
     class
 }
 
-/// The space of a name. One that is not there is a flaw.
+/// The space of a name. A name without a space is a flaw.
 pub(crate) fn space_named(schema: &Schema, sheet: &mut Sheet, name: &Text) -> Option<SpaceId>
     ensures value { result ≡ space_by_name schema.now name.now }
     ensures flaw { sheet.new ≡ known (space_by_name schema.now name.now) sheet.old }
@@ -71,7 +71,7 @@ pub(crate) fn space_named(schema: &Schema, sheet: &mut Sheet, name: &Text) -> Op
     space
 }
 
-/// The query of a class in a space behind its operands.
+// The query of a class in a space, after its operands.
 #[tactic(auto, unfolding(crate::specs::Queries::query_code))]
 fn emit_query(
     sheet: &mut Sheet,
@@ -101,7 +101,7 @@ fn emit_query(
     Ok(Some(class))
 }
 
-/// A test behind its operand.
+// A test, after its operand.
 #[tactic(auto, unfolding(crate::specs::Queries::test_code))]
 fn emit_test(
     schema: &Schema,
@@ -127,7 +127,7 @@ fn emit_test(
     Ok(CodePattern::new(test_node(relation, dim, number)))
 }
 
-/// Patterns in order.
+// Patterns in order.
 #[cycle(emitting)]
 #[tactic(auto, unfolding(crate::specs::Expressions::patterns_code))]
 fn emit_patterns(
@@ -149,7 +149,7 @@ fn emit_patterns(
     Ok(made)
 }
 
-/// A pattern, where the stack has room for so many operands.
+// A pattern, where the stack has room for `room` operands.
 #[cycle(emitting)]
 #[tactic(auto, unfolding(crate::specs::Expressions::pattern_code))]
 fn emit_pattern(
@@ -191,8 +191,7 @@ fn emit_pattern(
     }
 }
 
-/// A sequence, where the stack has room for so many values. The answer is the class of its units, as far as it is
-/// known.
+/// A sequence, where the stack has room for `room` values. Returns the class of its units, as far as it is known.
 #[cycle(emitting)]
 #[tactic(auto, unfolding(crate::specs::Expressions::sequence_code))]
 pub(crate) fn emit_sequence(
@@ -221,7 +220,7 @@ pub(crate) fn emit_sequence(
     }
 }
 
-/// One more step of a chain behind its first operands.
+// One more step of a chain, after its first operands.
 #[cycle(emitting)]
 #[tactic(auto, unfolding(crate::specs::Expressions::step_code))]
 fn emit_step(
@@ -243,7 +242,7 @@ fn emit_step(
     }
 }
 
-/// The steps of a chain behind its first operand.
+// The steps of a chain, after its first operand.
 #[cycle(emitting)]
 #[tactic(auto, unfolding(crate::specs::Expressions::steps_code))]
 fn emit_steps(
@@ -264,7 +263,7 @@ fn emit_steps(
     Ok(kind)
 }
 
-/// An expression, where the stack has room for so many values. The answer is its kind, as far as it is known.
+/// An expression, where the stack has room for `room` values. Returns its kind, as far as it is known.
 #[cycle(emitting)]
 #[tactic(auto, unfolding(crate::specs::Expressions::expr_code))]
 pub(crate) fn emit_expr(

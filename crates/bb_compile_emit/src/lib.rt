@@ -1,5 +1,5 @@
-//! The code of a part of a source: its tree is gone over once, in the order of the text, and each statement is judged
-//! and then laid out. bb_compile calls `emit_part` for each part.
+//! The code of a part of a source: its tree is walked once, in the order of the text, and each statement is judged and
+//! then emitted.
 #![tactic(auto)]
 
 mod actions;

@@ -23,7 +23,7 @@ pub struct Begun {
     pub start: Mark,
 }
 
-/// Notes a loop in as many as may be nested.
+// Notes a loop where no more may be nested.
 fn check_nesting(sheet: &mut Sheet, loops: usize)
     ensures { sheet.new ≡ loop_noted loops sheet.old }
 {
@@ -80,7 +80,7 @@ pub(crate) fn begin_loop(
 }
 
 impl Begun {
-    /// At the end of the body the locals hold what they do at its start.
+    // Has the locals hold at the end of the body what they hold at its start.
     fn go_back(&self, sheet: &mut Sheet, ended: bool) -> Result<(), AllocError>
         ensures { IfOk result (λ _. sheet.new ≡ at_back self.now ended sheet.old) }
     {
@@ -92,7 +92,7 @@ impl Begun {
         sheet.label()
     }
 
-    /// The end of the loop, whose body may always end.
+    /// The end of the loop; `ended` says whether the body always ends.
     #[tactic(auto, unfolding(crate::specs::Statements::loop_ended))]
     pub(crate) fn end(&self, sheet: &mut Sheet, ended: bool) -> Result<(), CompileFault>
         ensures { Gives OutOfMemory (λ _. sheet.new) result (loop_ended self.now ended sheet.old) }

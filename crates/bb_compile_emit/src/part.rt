@@ -14,14 +14,14 @@ use std::alloc::Global;
 /// How many loops may be nested.
 pub const LOOP_NESTING: usize = 4;
 
-/// Whether a part has to end by a statement, and has a way past its end.
+// Whether a part has to end by a statement, and can run past its end.
 fn has_no_end(part: Part, block: &Block) -> bool
     ensures { result ≡ has_no_end part block.now }
 {
     !part.ends_done().is_ok() && !block_ends(block)
 }
 
-/// A `do` ends behind its last statement.
+// A `do` ends after its last statement.
 fn put_done(part: Part, sheet: &mut Sheet) -> Result<(), CompileFault>
     ensures { Gives OutOfMemory (λ _. sheet.new) result (done part sheet.old) }
 {
@@ -31,8 +31,8 @@ fn put_done(part: Part, sheet: &mut Sheet) -> Result<(), CompileFault>
     Ok(())
 }
 
-/// The code of a part that begins at a place, or its first flaw: a part other than `do` with a way past its end, and a
-/// code that is too large, at the part's place; all else at a statement.
+/// The code of a part that begins at a place, or its first flaw: at that place if a part other than `do` can run past
+/// its end or the code is too large, otherwise at a statement.
 #[tactic(auto, unfolding(crate::specs::Parts::part_code))]
 pub fn emit_part(
     alloc: Global,

@@ -21,7 +21,7 @@ use bb_compile_scope::{Block, CompileFault, Flaw, Kind, Mark, Op, Part, Place, S
 use bb_lang::{Action, Binding, Expr, Placed, Sequence, Statement};
 use std::alloc::Global;
 
-/// The test of an `if`.
+// The test of an `if`.
 #[tactic(auto, unfolding(crate::specs::Statements::if_code))]
 fn emit_test(
     alloc: Global,
@@ -40,7 +40,7 @@ fn emit_test(
     Ok(Exits::one(first))
 }
 
-/// The test of a `with`.
+// The test of a `with`.
 #[tactic(auto, unfolding(crate::specs::Statements::with_code))]
 fn emit_bound(
     alloc: Global,
@@ -58,7 +58,7 @@ fn emit_bound(
     found.ok_or(CompileFault::At { flaw, place })
 }
 
-/// Notes a statement behind one that always ends.
+// Notes a statement after one that always ends.
 fn check_after_end(sheet: &mut Sheet, ended: bool)
     ensures { sheet.new ≡ after_end ended sheet.old }
 {
@@ -67,7 +67,7 @@ fn check_after_end(sheet: &mut Sheet, ended: bool)
     }
 }
 
-/// A statement without blocks. The answer is whether it ends.
+// A statement without blocks. Returns whether it ends.
 fn emit_plain(
     alloc: Global,
     schema: &Schema,
@@ -84,7 +84,7 @@ fn emit_plain(
     Ok(ends(action))
 }
 
-/// A statement of a block, where one before it may have ended. The answer is whether one has now.
+// A statement of a block, where one before it may have ended. Returns whether one has ended now.
 #[cycle(statements)]
 fn emit_placed(
     alloc: Global,
@@ -104,7 +104,7 @@ fn emit_placed(
     Ok(ended || now)
 }
 
-/// A block, in which so many loops may be nested. The answer is whether it always ends.
+/// A block, in which `loops` loops may be nested. Returns whether it always ends.
 #[cycle(statements)]
 pub(crate) fn emit_block(
     alloc: Global,
@@ -126,7 +126,7 @@ pub(crate) fn emit_block(
     Ok(ended)
 }
 
-/// What stands behind the first block of an `if` or a `with`.
+// What comes after the first block of an `if` or a `with`.
 #[cycle(statements)]
 #[tactic(auto, unfolding(crate::specs::Statements::otherwise_code))]
 fn emit_otherwise(
@@ -152,7 +152,7 @@ fn emit_otherwise(
     Ok(branch.ended && ended)
 }
 
-/// The blocks of an `if` or a `with`, behind its test. The scope was so before.
+// The blocks of an `if` or a `with`, after its test. `before` is the scope to go back to.
 #[cycle(statements)]
 fn emit_branches(
     alloc: Global,
@@ -178,7 +178,7 @@ fn emit_branches(
     emit_otherwise(alloc, schema, part, sheet, branch, otherwise, loops)
 }
 
-/// `for`
+// `for`
 #[cycle(statements)]
 #[tactic(auto, unfolding(crate::specs::Statements::statement_code))]
 fn emit_for(
@@ -205,7 +205,7 @@ fn emit_for(
     Ok(false)
 }
 
-/// A statement at a place. The answer is whether it always ends.
+// A statement at a place. Returns whether it always ends.
 #[cycle(statements)]
 #[tactic(auto, unfolding(crate::specs::Statements::statement_code))]
 fn emit_statement(

@@ -33,7 +33,7 @@ use Rattle.bb_compile_meaning.proofs.OpLemmas.{Pushed}
 use Rattle.bb_compile_meaning.proofs.SceneLemmas.{AreApart, all_known, known_new, taken_more, free_other, apart_more, first_free, held_declared}
 use Rattle.std.proofs.lemmas.List.{append-nil, length-set}
 
--- it is known what the names hold, and each has a local of its own
+-- what the names hold is known, and each name has a local of its own
 pub record IsTidy (scope : Scope) : Type 0 where
   pub taken : AreTaken scope.kinds scope.names
   pub apart : AreApart scope.names
@@ -227,6 +227,6 @@ module _ (code : Code) (start : State) where
         st scene c is;
   }
 
-  -- the same where no flaw was noted before
+  -- what acts from a sheet acts from any that is equal to it where no flaw was noted
   pub acts_as : (was s t : Sheet) (f : Scene → Meaning Scene) → (Clean was → was ≡ s) → Acts was t f → Acts s t f
   acts_as was s t f same a = subst (λ u. Acts u t f) (same a.clean) a

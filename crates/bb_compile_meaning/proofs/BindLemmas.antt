@@ -206,7 +206,7 @@ module _ (schema : Schema) (sf : schemas.Fits schema) (code : Code) (start : Sta
               (subst (λ (x : Scope). Holds code start (length one.0.ops) x.names after (One scene.board.world.units.next) next) (sym scope) held)));
         }
 
-  -- the same meaning, on the blackboards that are met
+  -- a meaning may be replaced by one that is equal on the blackboards that can come
   acts_where : (s t : Sheet) (f g : Scene → Meaning Scene) → ((scene : Scene) → Good schema scene.board → f scene ≡ g scene) → Does s t f → Does s t g
   acts_where s t f g same a = record {
     grown = a.grown;

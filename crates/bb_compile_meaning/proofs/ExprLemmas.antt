@@ -36,7 +36,7 @@ use Rattle.bb_compile_meaning.proofs.SequenceLemmas.{as_sequence, MeansUnits, li
 use Rattle.bb_compile_meaning.proofs.FindLemmas.{Asks, found_by, asks_none, asks_map, asks_on, asks_as, asks_node, node_free, test_asks, find_means}
 
 module _ (schema : Schema) (sf : schemas.Fits schema) (code : Code) (start : State) (good : (n : ℕ) (st : State) → Comes code start n (Ok st) → Good schema st.1) where
-  -- the same meaning, on the blackboards that are met
+  -- a meaning may be replaced by one that is equal on the blackboards that can come
   means_where : (s t : Sheet) (made : Made) (a b : Board → List Name → Meaning Value) → ((board : Board) (names : List Name) → Good schema board → a board names ≡ b board names) → Means code start s t made a → Means code start s t made b
   means_where s t made a b same m = record {
     grown = m.grown;

@@ -184,7 +184,7 @@ module _ (schema : Schema) (code : Code) (start : State) (good : (n : ℕ) (st :
         (record { tree = ap (λ v. f v y.0) r.tree ∙ ap (f one) z.tree; piled = z.piled; count = z.count })));
   }
 
-  -- the same from a sheet on which no flaw was noted
+  -- what asks from a sheet asks from any that is equal to it where no flaw was noted
   pub asks_as : {X : Type 0} (s was t : Sheet) (space : Option ℕ) (asked after : Asked) (made : X) (pattern : Pattern₁ X) → (Clean was → was ≡ s) → Asks was t space asked after made pattern → Asks s t space asked after made pattern
   asks_as s was t space asked after made pattern same m = subst (λ u. Asks u t space asked after made pattern) (same m.clean) m
 

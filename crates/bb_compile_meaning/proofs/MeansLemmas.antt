@@ -43,7 +43,7 @@ abbrev pub OneOp : Code → Op → (Board → Value → Meaning Value) → Type 
 OneOp code op f = (n : ℕ) (base : State) (m : Machine) (b : Board) (v : Value) (rest : List Value) → m.stack ≡ v ∷ rest → Like n base (with_stack rest m) b
     → Leaves (Pushed n base) (f b v) (done_on b (step code op (m, b)))
 
--- the same where something is known of the blackboard
+-- an op on the newest entry, where something is known of the blackboard
 abbrev pub OneOpOn : (Board → Type 0) → Code → Op → (Board → Value → Meaning Value) → Type 0
 OneOpOn P code op f = (n : ℕ) (base : State) (m : Machine) (b : Board) (v : Value) (rest : List Value) → P b → m.stack ≡ v ∷ rest → Like n base (with_stack rest m) b
     → Leaves (Pushed n base) (f b v) (done_on b (step code op (m, b)))
@@ -63,7 +63,7 @@ module _ (code : Code) (start : State) where
     pub gets : (st : State) (names : List Name) → Comes code start (length s.ops) (Ok st) → AreHeld st.0.locals s.scope.names names
         → Gets code start (Pushed (length t.ops) st) (value st.1 names) (length t.ops)
 
-  -- the same of what it makes of the newest entry
+  -- what is laid out from one sheet to another makes of the newest entry the value that a meaning says
   pub record Turns (s t : Sheet) (made : Option Kind) (turn : Value₁) : Type 0 where
     pub grown : Grown s t
     pub clean : Clean s
@@ -164,7 +164,7 @@ module _ (code : Code) (start : State) where
     gets = λ st names c held. op_gets s t op (λ n. Pushed n st) (value st.1 names) st is has c (λ n x next q. q.place) (does st names c held);
   }
 
-  -- the same by another name
+  -- a meaning may be replaced by an equal one, and its kind by an equal one
   pub means_as : (s t : Sheet) (made kind : Option Kind) (a b : Value₀) → made ≡ kind → ((board : Board) (names : List Name) → a board names ≡ b board names) → Means s t made a → Means s t kind b
   means_as s t made kind a b is same m = record {
     grown = m.grown;

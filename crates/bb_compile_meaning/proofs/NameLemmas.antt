@@ -19,7 +19,7 @@ AreHeld locals _ _ = ⊥
 abbrev pub local_among : List ℕ → List NamedLocal → Option ℕ
 local_among name ns = option_map (λ n. n.local) (find (λ n. bytes_eq n.name name) ns)
 
--- it is known what the locals of the names hold
+-- what the locals of the names hold is known
 abbrev pub AreTaken : List Kind → List NamedLocal → Type 0
 AreTaken kinds [] = Unit {0}
 AreTaken kinds (n ∷ ns) = (is_free (kind_at kinds n.local) ≡ false) × AreTaken kinds ns

@@ -147,7 +147,7 @@ module _ (part : Part) (frames : List Frame) (code : Code) (entry : Entry) (b : 
   abbrev start : State
   start = (entry_state code entry, b)
 
-  -- it is not stuck, whatever the limit is from its budget on
+  -- the execution is not stuck, whatever the limit is from its budget on
   not_stuck : (limit : ℕ) (reason : Stuck) (steps found : ℕ) (left : Board) → budget code FOUND_LIMIT ≤ limit → activation limit code entry b ≡ (Err (stops.Stuck reason steps found), left) → ⊥
   not_stuck limit reason steps found left le is_stuck = subst (λ (e : Execution). NeverStuck e.0) is_stuck (activation_never_stuck part frames code entry b limit is sf fits begins le)
 

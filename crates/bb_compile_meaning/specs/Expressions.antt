@@ -94,7 +94,7 @@ unfoldable mutual
     operands ← try_map operand values
     Ok (found_units b c s pattern operands)
 
-  -- a pattern whose operands stand behind the values of others, by their numbers
+  -- a pattern whose operands come after the values of others, by their numbers
   pub pattern_of : Board → List Name → (space : ℕ) → PatternTree → List Value → Meaning (Tree × List Value)
   pattern_of b names space all before = Ok (patterns.all, before)
   pattern_of b names space (and_of ps) before = do

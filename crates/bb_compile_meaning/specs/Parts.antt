@@ -19,7 +19,7 @@ first_names entry =
 abbrev pub first_scene : Entry → Board → Scene
 first_scene entry b = record { names = first_names entry; board = b }
 
--- behind its last statement a `do` has done its work; another part has to end before
+-- after its last statement a `do` has done its work; another part has to end before
 abbrev pub ended : Part → Meaning Scene → End
 ended (Do class) (Ok s) = answered Done s.board
 ended part (Ok s) = meaningless

@@ -51,7 +51,7 @@ abbrev pub IsAcceptedAct : Schema → (class : ℕ) → ActDraft Code → Type 0
 IsAcceptedAct s class drafts.Native = Unit {0}
 IsAcceptedAct s class (drafts.Do code) = IsAccepted s (Do class) code
 
--- those of a source, for units of its class
+-- the codes of a source are accepted for their parts, for units of its class
 pub record AreAccepted (s : Schema) (draft : SourceDraft Code) : Type 0 where
   pub class : ℕ
   pub named : class_named s draft.class ≡ Some class

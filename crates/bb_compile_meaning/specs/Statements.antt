@@ -32,7 +32,7 @@ pub record Scene : Type 0 where
   pub names : List Name
   pub board : Board
 
--- the same names, and the blackboard in another state
+-- the names as they are, and the blackboard in another state
 abbrev pub in_world : Scene → World → Scene
 in_world s w = record { names = s.names; board = with_world s.board w }
 

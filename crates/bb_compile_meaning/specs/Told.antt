@@ -4,8 +4,8 @@ use Rattle.bb_machine_step.specs.Activation.{Execution}
 use Rattle.bb_machine_step.specs.Stop.TheVariants.{Full, Stuck, Memory}
 use Rattle.bb_compile_meaning.specs.Meaning.{End, answered, full}
 
--- it ends with the answer that the text gives and leaves the text's blackboard, notes included, or it finds no room for
--- one more unit where the text finds none; it is never stuck
+-- an execution ends with the answer that the text gives and leaves the text's blackboard, notes included, or it finds
+-- no room for one more unit where the text finds none; it is never stuck
 abbrev pub IsTold : End → Execution → Type 0
 IsTold end (Ok outcome, b) = end ≡ answered outcome.answer b
 IsTold end (Err (Full steps found), b) = end ≡ full b

@@ -16,7 +16,7 @@ use Rattle.bb_machine_step.specs.Values.{Value}
 use Rattle.bb_machine_step.specs.Values.TheVariants.{Int, Text, Bool as Truth, Label, Interval, Unit as One}
 use Rattle.bb_compile_meaning.specs.Meaning.{Meaning, nothing}
 
--- ---- values of the kind that is due
+-- ---- values of the kind that is wanted
 
 abbrev pub number : Value → Meaning ℤ
 number (Int n) = Ok n

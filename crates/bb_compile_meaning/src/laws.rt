@@ -24,9 +24,8 @@ use bb_schema::Schema;
 
 /// The codes of a source of which no part has an `if`, a `with` or a `for` are accepted.
 ///
-/// - `accepted`: whatever `compile` gives for the tree of such a source, its class and those of its reactions are of the
-///   schema, and the verifier takes each of its codes for its part and these classes. So no such text is refused by the
-///   verifier.
+/// - `accepted`: what `compile` gives for the tree of such a source has its class and those of its reactions in the
+///   schema, and the verifier takes each of its codes for its part and these classes. So it refuses no such text.
 pub fn compiled_source_is_accepted(schema: &Schema)
     ensures accepted { (text : SourceText) (draft : SourceDraft AnyCode) →
         is_plain_source text ≡ true → compiled schema.now text ≡ Ok draft → AreAccepted schema.now draft }
@@ -38,11 +37,11 @@ pub fn compiled_source_is_accepted(schema: &Schema)
 /// What the code of a part means, if the part has no `if`, no `with` and no `for`, whatever its expressions are.
 ///
 /// - `means`: where the execution begins with units that fit the part, it gives the answer of the text and leaves the
-///   blackboard of the text, with its notes; it finds no room for one more unit exactly where the text finds none; it is
-///   never stuck; and as many steps as the code has ops are enough for that.
+///   blackboard of the text, with its notes; it finds no room for one more unit exactly where the text finds none; it
+///   is never stuck; and as many steps as the code has ops are enough for that.
 ///
-/// That the verifier accepts the code is no premise: it does (`compiled_code_is_accepted` of bb_compile_accepted). It says nothing
-/// of texts with `if`, `with` or `for`.
+/// That the verifier accepts the code is no premise: it does (`compiled_code_is_accepted` of bb_compile_accepted). This
+/// says nothing of texts with `if`, `with` or `for`.
 pub fn compiled_code_means_its_text(code: &Code, board: &Board)
     ensures means { (part : Part) (place : Place) (block : BlockTree) (entry : Entry) (limit : ℕ) →
         is_plain block ≡ true → part_code board.now.schema part place block ≡ Ok code.now →

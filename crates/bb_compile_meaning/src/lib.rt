@@ -1,5 +1,5 @@
-//! What texts of the source language mean, on their trees: names with values and a blackboard, and what statements make
-//! of them. No code calls it. It says of compiled code that it does what its text means.
+//! What texts of the source language mean, on their trees, without ops or frames: names with values, a blackboard, and
+//! what statements make of them. And theorems: compiled code does what its text means. No code calls it.
 #![tactic(auto)]
 
 mod laws;

@@ -55,7 +55,7 @@ module _ (f : Kind → Kind → Kind) (d : Kind) where
   pair_begin [] ys = refl
   pair_begin (x ∷ xs) ys = refl
 
-  -- the same number of kinds
+  -- a list that is paired so far keeps its length
   pub length-so_far : (xs ys : List Kind) (i : ℕ) → length xs ≡ length ys → length (so_far xs ys i) ≡ length ys
   unfolding paired
   length-so_far [] [] zero same = refl

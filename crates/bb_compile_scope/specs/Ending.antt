@@ -11,7 +11,7 @@ ends Decline = true
 ends (Answer value) = true
 ends _ = false
 
--- each way through ends
+-- each path through ends
 unfoldable mutual
   pub always_ends : StatementTree → Bool
   always_ends (action a) = ends a

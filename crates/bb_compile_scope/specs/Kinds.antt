@@ -30,7 +30,7 @@ plain_equality Text = Some EqText
 plain_equality (Label set) = Some EqLabel
 plain_equality _ = None
 
--- the op that tells whether two values are equal: numbers, texts, labels of a set, or units
+-- the op that tests whether two values are equal: numbers, texts, labels of a set, or units
 unfoldable pub equality : Kind → Kind → Option Op
 equality left right =
     if is_some (class_of left) && is_some (class_of right) then Some EqUnit
@@ -41,8 +41,8 @@ equality left right =
 unfoldable pub assigned_unit : Schema → (class other : ℕ) → (live : Bool) → Option Kind
 assigned_unit s class other live = if descends s other class then Some (unit_of live class) else None
 
--- what a name holds once a value is assigned to it: both are of one kind, or units, the value's class descending from the
--- name's
+-- what a name holds once a value is assigned to it: both are of one kind, or are units, and the value's class descends
+-- from the name's
 unfoldable pub assigned : Schema → (held value : Kind) → Option Kind
 assigned s held value =
     if is_same_plain held value then Some held

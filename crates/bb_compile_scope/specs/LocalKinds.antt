@@ -23,14 +23,14 @@ unfoldable pub paired : (Kind → Kind → Kind) → List Kind → List Kind →
 paired f (k ∷ ks) (l ∷ ls) = f k l ∷ paired f ks ls
 paired f _ _ = []
 
--- at the end of a block a local is free that was so before it
+-- after a block a local is free again if it was free before the block
 abbrev pub left_kind : (before now : Kind) → Kind
 left_kind before now = if is_free before then Any else now
 
 abbrev pub kinds_left : (before now : List Kind) → List Kind
 kinds_left before now = paired left_kind before now
 
--- where two ways meet, a unit is live that is so on both
+-- where two branches meet, a unit is live if it is live after both
 abbrev pub met_kind : (other one : Kind) → Kind
 met_kind other one = if is_live one then other else one
 

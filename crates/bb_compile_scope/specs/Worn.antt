@@ -1,5 +1,5 @@
--- What the body of a loop leaves of the names that are live: one is not live at the loop's start if the body assigns to it,
--- or may delete a unit of its class.
+-- What the body of a loop leaves of the names that are live: a name is not live at the loop's start if the body assigns
+-- to it, or may delete a unit of its class.
 use Rattle.std.specs.Prelude.{ℕ, List, map, set, position, Option, Some, None, option_map, option_and_then, Result, Ok, Err}
 use Rattle.std.specs.Option.{option_map_or}
 use Rattle.bb_schema.specs.Schema.{Schema, class_named}
@@ -72,7 +72,7 @@ unfoldable pub worn_name : (name : List ℕ) → Scope → Scope
 worn_name name scope =
     option_map_or (λ local. with_old local (class_of (kind_at scope.kinds local)) scope) (local_of scope name) scope
 
--- the units that may be deleted once one of a class is
+-- the units that may be deleted once a unit of a class is
 abbrev pub struck_units : Schema → Option ℕ → Scope → Scope
 struck_units s None scope = scope
 struck_units s (Some class) scope = record scope { kinds = map (struck s class) scope.kinds }
@@ -89,7 +89,7 @@ worn_action s scope _ = scope
 abbrev pub after_block : (before after : Scope) → Scope
 after_block before after = back_to (mark_of before) after
 
--- statements, each once: all ways are gone
+-- statements, each once: all paths are taken
 unfoldable mutual
   pub worn_statement : Schema → Scope → StatementTree → Scope
   worn_statement s scope (action a) = worn_action s scope a
@@ -113,6 +113,6 @@ unfoldable mutual
 abbrev pub worn_block : Schema → Scope → BlockTree → Scope
 worn_block s scope b = after_block scope (worn_statements s scope b)
 
--- a block behind the declaration of a name for a unit
+-- a block after the declaration of a name for a unit
 abbrev pub worn_under : Schema → Scope → (name : List ℕ) → (class : Option ℕ) → BlockTree → Scope
 worn_under s scope name class b = after_block scope (worn_block s (declared name class scope) b)

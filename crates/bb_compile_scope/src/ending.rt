@@ -1,4 +1,4 @@
-//! Which statements always end. A part whose act is not `do` has to.
+//! Which statements always end. A part other than `do` has to.
 
 ghost use Rattle.std.specs.Prelude.{◌≡◌};
 ghost use Rattle.bb_lang.specs.BlockView.{statement_of, otherwise_of};
@@ -18,7 +18,7 @@ pub fn ends(action: &Action) -> bool
     }
 }
 
-/// Whether each way through an `else` ends.
+// Whether each path through an `else` ends.
 #[cycle(ends)]
 #[tactic(auto, unfolding(crate::specs::Ending::otherwise_ends))]
 fn otherwise_ends(otherwise: &Option<Block>) -> bool
@@ -30,7 +30,7 @@ fn otherwise_ends(otherwise: &Option<Block>) -> bool
     }
 }
 
-/// Whether each way through a statement ends.
+// Whether each path through a statement ends.
 #[cycle(ends)]
 #[tactic(auto, unfolding(crate::specs::Ending::always_ends))]
 fn always_ends(statement: &Statement) -> bool
@@ -52,7 +52,7 @@ fn always_ends(statement: &Statement) -> bool
     }
 }
 
-/// Whether each way through a block ends.
+/// Whether each path through a block ends.
 #[cycle(ends)]
 #[tactic(auto, unfolding(crate::specs::Ending::block_ends))]
 pub fn block_ends(block: &Block) -> bool

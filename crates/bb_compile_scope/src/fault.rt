@@ -17,7 +17,7 @@ pub enum Flaw {
     /// A value or a slot of a wrong kind.
     #[error("a value or a slot of a wrong kind")]
     Kind,
-    /// A unit that may be deleted, where a live one is due.
+    /// A unit that may be deleted, where a live one is needed.
     #[error("a unit that may be deleted")]
     DeadName,
     /// The unit's class can't be linked by the slot.
@@ -29,7 +29,7 @@ pub enum Flaw {
     /// A change outside `do`.
     #[error("a change outside `do`")]
     Effect,
-    /// A statement that ends another part, a statement behind one that always ends, or a part with a way past its end.
+    /// A statement that ends another part, a statement after one that always ends, or a part that can run past its end.
     #[error("an end that does not belong there, or none")]
     NoEnd,
     /// The code would pass one of its limits.

@@ -28,7 +28,7 @@ pub fn is_live(kind: Kind) -> bool
     }
 }
 
-/// A unit of a class: live, or perhaps deleted.
+// A unit of a class: live, or perhaps deleted.
 fn unit_of(live: bool, class: ClassId) -> Kind
     ensures { result ≡ unit_of live class }
 {
@@ -39,7 +39,7 @@ fn unit_of(live: bool, class: ClassId) -> Kind
     }
 }
 
-/// The op that tells whether two values are equal: numbers, texts, labels of a set, or units.
+/// The op that tests whether two values are equal: numbers, texts, labels of a set, or units.
 #[tactic(auto, unfolding(crate::specs::Kinds::equality))]
 pub fn equality(left: Kind, right: Kind) -> Option<Op>
     ensures { result ≡ equality left right }

@@ -1,5 +1,5 @@
-//! What is known where a statement stands, and what may be wrong with it: the names in scope with what their locals
-//! hold, which values and slots fit, and which statements always end. bb_compile_emit lays code out by it.
+//! What is known where a statement of a text stands, and what may be wrong with it: the names in scope and the kinds
+//! that their locals hold, which values and slots fit, and which statements always end.
 #![tactic(auto)]
 
 mod ending;

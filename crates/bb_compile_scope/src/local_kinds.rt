@@ -36,14 +36,14 @@ fn is_free(kind: Kind) -> bool
     }
 }
 
-/// What is left of a local at the end of a block: it is free where it was so before the block.
+// What a local holds after a block: it is free again if it was free before the block.
 fn left_kind(before: Kind, now: Kind) -> Kind
     ensures { result ≡ left_kind before now }
 {
     if is_free(before) { Kind::Any } else { now }
 }
 
-/// What is known of a local where two ways meet: a unit is live if it is so on both.
+// What is known of a local where two branches meet: a unit is live if it is live after both.
 fn met_kind(other: Kind, one: Kind) -> Kind
     ensures { result ≡ met_kind other one }
 {
@@ -68,7 +68,7 @@ fn struck(schema: &Schema, deleted: ClassId, kind: Kind) -> Kind
     }
 }
 
-/// The index of the first free local.
+// The index of the first free local.
 fn first_free(kinds: &[Kind]) -> Option<usize>
     ensures value { result ≡ position is_free kinds.now }
     ensures below { IfSome result (λ i. i < length kinds.now) }
@@ -103,7 +103,7 @@ fn meet_each(other: &[Kind], kinds: &mut [Kind])
 }
 
 impl LocalKinds {
-    /// All locals are free.
+    /// The kinds where all locals are free.
     pub fn new() -> LocalKinds
         ensures { result ≡ all_free }
     {
@@ -112,7 +112,7 @@ impl LocalKinds {
         }
     }
 
-    /// The same once more.
+    /// A copy of the kinds.
     pub fn copied(&self) -> LocalKinds
         ensures { result ≡ self.now }
     {
@@ -137,7 +137,7 @@ impl LocalKinds {
         }
     }
 
-    /// Says what a local holds.
+    /// Sets what a local holds.
     pub fn put(&mut self, local: LocalId, kind: Kind)
         ensures { self.new ≡ set self.old local kind }
     {
@@ -154,7 +154,7 @@ impl LocalKinds {
         Some(first_free(&self.kinds)? as LocalId)
     }
 
-    /// Marks the units that may be deleted once one of a class is.
+    /// Marks the units that may be deleted once a unit of a class is.
     pub fn strike(&mut self, schema: &Schema, deleted: ClassId)
         ensures { self.new ≡ map (struck schema.now deleted) self.old }
     {
@@ -168,7 +168,7 @@ impl LocalKinds {
         leave_each(&before.kinds, &mut self.kinds);
     }
 
-    /// Keeps what is known on another way too.
+    /// Keeps what is known after another branch too.
     pub fn meet(&mut self, other: &LocalKinds)
         ensures { self.new ≡ kinds_met other.now self.old }
     {

@@ -43,7 +43,7 @@ pub fn name_of(variable: &Variable) -> &str
 }
 
 impl Scope {
-    /// The names that a part for an activation's unit begins with.
+    // The names that a part for an activation's unit begins with.
     fn of_unit(alloc: Global, class: ClassId) -> Result<Scope, AllocError>
         ensures { IfOk result (λ scope. scope ≡ of_unit class) }
     {
@@ -55,7 +55,7 @@ impl Scope {
         Ok(scope)
     }
 
-    /// The names that a part for an activation's unit and an event's begins with.
+    // The names that a part for an activation's unit and an event's begins with.
     fn of_event(alloc: Global, class: ClassId, of: ClassId) -> Result<Scope, AllocError>
         ensures { IfOk result (λ scope. scope ≡ of_event class of) }
     {

@@ -8,7 +8,7 @@ use bb_lang::Relation;
 use bb_schema::{Dim, Kind as SlotKind, LabelSetId, Link};
 use bb_verify_frame::{ClassId, Kind, Schema, SlotId, SpaceId};
 
-/// The slot of a name in a class, with what it can hold.
+// The slot of a name in a class, with what it can hold.
 #[tactic(auto, unfolding(crate::specs::Slots::slot_of))]
 fn slot_of(schema: &Schema, class: ClassId, name: &str) -> Result<(SlotId, SlotKind), Flaw>
     ensures { result ≡ slot_of schema.now class name.now }
@@ -20,8 +20,7 @@ fn slot_of(schema: &Schema, class: ClassId, name: &str) -> Result<(SlotId, SlotK
     Ok((slot, schema.kind(slot)))
 }
 
-/// The ordinary slot of a name in a class, with the kind of its values. `Unknown` is a slot that is not there, `Kind` a
-/// link slot.
+/// The ordinary slot of a name in a class, with the kind of its values. `Unknown`: no such slot; `Kind`: a link slot.
 #[tactic(auto, unfolding(crate::specs::Slots::value_slot))]
 pub fn value_slot(schema: &Schema, class: ClassId, name: &str) -> Result<(SlotId, Kind), Flaw>
     ensures { result ≡ value_slot schema.now class name.now }
@@ -37,7 +36,7 @@ pub fn value_slot(schema: &Schema, class: ClassId, name: &str) -> Result<(SlotId
     }
 }
 
-/// The link slot of a name in a class, with its link. `Unknown` is a slot that is not there, `Kind` an ordinary one.
+/// The link slot of a name in a class, with its link. `Unknown`: no such slot; `Kind`: an ordinary slot.
 #[tactic(auto, unfolding(crate::specs::Slots::link_slot))]
 pub fn link_slot(schema: &Schema, class: ClassId, name: &str) -> Result<(SlotId, Link), Flaw>
     ensures { result ≡ link_slot schema.now class name.now }
@@ -49,8 +48,7 @@ pub fn link_slot(schema: &Schema, class: ClassId, name: &str) -> Result<(SlotId,
     }
 }
 
-/// The singular link slot of a name in a class, with the class of the partner. `Unknown` is a slot that is not there,
-/// `Kind` another.
+/// The singular link slot of a name in a class, with the partner's class. `Unknown`: no such slot; `Kind`: another.
 #[tactic(auto, unfolding(crate::specs::Slots::partner_slot))]
 pub fn partner_slot(schema: &Schema, class: ClassId, name: &str) -> Result<(SlotId, ClassId), Flaw>
     ensures { result ≡ partner_slot schema.now class name.now }
@@ -62,14 +60,14 @@ pub fn partner_slot(schema: &Schema, class: ClassId, name: &str) -> Result<(Slot
     Ok((slot, link.to))
 }
 
-/// The index of the dimension of a name.
+// The index of the dimension of a name.
 fn index_of(dims: &[Dim], name: &str) -> Option<usize>
     ensures { result ≡ index_of dims.now name.now }
 {
     dims.iter().position(|dim| dim.name.as_str() == name)
 }
 
-/// What the operand of a relation has to be, on a dimension with this label set, or with none.
+// What the operand of a relation has to be, on a dimension with this label set, or with none.
 fn operand_due(relation: Relation, set: Option<LabelSetId>) -> Option<Kind>
     ensures { result ≡ operand_due relation set }
 {

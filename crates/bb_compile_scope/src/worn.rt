@@ -15,7 +15,7 @@ use bb_lang::{Action, Atom, Binding, Block, Expr, ExprNode, Sequence, Statement,
 use bb_verify_frame::{ClassId, Kind, Schema};
 use std::alloc::{AllocError, Global};
 
-/// What a name is declared to hold, as far as it is a unit.
+// What a name is declared to hold, as far as it is a unit.
 fn unit_kind(class: Option<ClassId>) -> Kind
     ensures { result ≡ unit_kind class }
 {
@@ -25,7 +25,7 @@ fn unit_kind(class: Option<ClassId>) -> Kind
     }
 }
 
-/// Declares a name for the lowest free local, if there is one.
+// Declares a name for the lowest free local, if there is one.
 #[tactic(auto, unfolding(crate::specs::Worn::declared))]
 fn declare(
     alloc: Global,
@@ -41,7 +41,7 @@ fn declare(
     scope.name_local(alloc, name.as_str(), local, unit_kind(class))
 }
 
-/// The class of the unit of a name.
+// The class of the unit of a name.
 #[tactic(auto, unfolding(crate::specs::Worn::unit_class))]
 fn unit_class(scope: &Scope, unit: &Variable) -> Option<ClassId>
     ensures { result ≡ unit_class scope.now unit.now }
@@ -49,7 +49,7 @@ fn unit_class(scope: &Scope, unit: &Variable) -> Option<ClassId>
     class_of(scope.kind_of(name_of(unit))?)
 }
 
-/// The class of the unit that an expression is.
+// The class of the unit that an expression is.
 fn value_class(scope: &Scope, value: &Expr) -> Option<ClassId>
     ensures { result ≡ value_class scope.now value.now }
 {
@@ -59,7 +59,7 @@ fn value_class(scope: &Scope, value: &Expr) -> Option<ClassId>
     }
 }
 
-/// The class of the units of a sequence.
+// The class of the units of a sequence.
 fn sequence_class(schema: &Schema, scope: &Scope, sequence: &Sequence) -> Option<ClassId>
     ensures { result ≡ sequence_class schema.now scope.now sequence.now }
 {
@@ -73,7 +73,7 @@ fn sequence_class(schema: &Schema, scope: &Scope, sequence: &Sequence) -> Option
     }
 }
 
-/// The name that a `with` declares.
+// The name that a `with` declares.
 fn bound_name(binding: &Binding) -> &Text
     ensures { result.now ≡ bound_name binding.now }
 {
@@ -83,7 +83,7 @@ fn bound_name(binding: &Binding) -> &Text
     }
 }
 
-/// The class of the unit that a `with` declares a name for.
+// The class of the unit that a `with` declares a name for.
 fn bound_class(schema: &Schema, scope: &Scope, binding: &Binding) -> Option<ClassId>
     ensures { result ≡ bound_class schema.now scope.now binding.now }
 {
@@ -97,7 +97,7 @@ fn bound_class(schema: &Schema, scope: &Scope, binding: &Binding) -> Option<Clas
     }
 }
 
-/// After an assignment a unit may be deleted.
+// Marks the unit of a name that is assigned to, which may be deleted from then on.
 #[tactic(auto, unfolding(crate::specs::Worn::worn_name))]
 fn wear_name(scope: &mut Scope, name: &Text)
     ensures { scope.new ≡ worn_name name.now scope.old }
@@ -158,8 +158,8 @@ fn wear_otherwise(
     }
 }
 
-/// Goes over a block in which a name is declared for a unit: the names that are not live behind it, whichever ways were
-/// gone, are marked so.
+/// Goes over a block in which a name is declared for a unit, and marks the names that are not live after some path
+/// through it.
 #[cycle(wear)]
 pub fn wear_under(
     alloc: Global,
@@ -218,7 +218,7 @@ fn wear_statement(
     }
 }
 
-/// Goes over a block.
+// Goes over a block.
 #[cycle(wear)]
 #[tactic(auto, unfolding(crate::specs::Worn::worn_statements))]
 fn wear(alloc: Global, schema: &Schema, scope: &mut Scope, block: &Block) -> Result<(), AllocError>

@@ -7,7 +7,7 @@ use bb_schema::Schema;
 use std::alloc::Global;
 use std::test::Fail;
 
-/// Whether a name is that of a local of that kind.
+// Whether a name is that of a local of that kind.
 fn knows(scope: &Scope, name: &str, local: LocalId, kind: Kind) -> bool {
     scope.local_of(name) == Some(local) && scope.kind_of(name) == Some(kind)
 }
@@ -29,7 +29,7 @@ const SCHEMA: &str = r#"{"classes":[{"name":"note"},{"name":"word"}]}"#;
 const BODY: &str =
     "source s on note { when create note; rate 1; do { one = each; delete other; } }";
 
-/// Two notes and a word.
+// Two notes and a word.
 fn three_names(alloc: Global) -> Result<Scope, Fail> {
     let mut scope = Scope::of_part(alloc, Part::Do { class: 1 })?;
     scope.name_local(alloc, "one", 1, Kind::Ref(1))?;
@@ -38,7 +38,7 @@ fn three_names(alloc: Global) -> Result<Scope, Fail> {
     Ok(scope)
 }
 
-/// What is known of them behind a body.
+// What is known of the three names after a body.
 fn behind(alloc: Global, schema: &Schema, body: &Block) -> Result<Scope, Fail> {
     let each = Text::from_str(alloc, "each")?;
     let mut scope = three_names(alloc)?;
@@ -46,7 +46,7 @@ fn behind(alloc: Global, schema: &Schema, body: &Block) -> Result<Scope, Fail> {
     Ok(scope)
 }
 
-/// Whether a note that is assigned and a word of which one is deleted may be gone, and another note not.
+// Whether a note that is assigned and a word of which one is deleted may be gone, and another note not.
 fn is_worn(scope: &Scope) -> bool {
     knows(scope, "one", 1, Kind::Old(1))
         && knows(scope, "other", 2, Kind::Old(2))
@@ -54,7 +54,7 @@ fn is_worn(scope: &Scope) -> bool {
         && scope.kind_of("each").is_none()
 }
 
-/// Whether that is known behind the body of each source of a text.
+// Whether `is_worn` holds after the body of each source of a text.
 fn all_worn(alloc: Global, text: &str) -> Result<bool, Fail> {
     let schema = Schema::read(alloc, SCHEMA)?;
     let mut all = true;

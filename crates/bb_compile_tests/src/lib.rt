@@ -1,4 +1,5 @@
-//! Tests of the crates that judge texts and emit their code: each public call that can want memory is called with memory.
+//! Tests of the crates that judge texts and emit their code: each public call that can want memory is called with
+//! memory.
 #![tactic(auto)]
 
 #[cfg(test)]

@@ -105,7 +105,7 @@ fn query(alloc: Global) -> Query {
     }
 }
 
-// The first query, a loop at the first op and the local behind that of the unit.
+// The first query, a loop at the first op and the local after that of the unit.
 fn first_numbers(alloc: Global) -> Result<bool, Fail> {
     let mut sheet = empty(alloc)?;
     let query = sheet.ask(query(alloc))?;
@@ -114,7 +114,7 @@ fn first_numbers(alloc: Global) -> Result<bool, Fail> {
     Ok(query == 0 && head == 0 && local == 1)
 }
 
-// A label behind the only op but `Done`, where local 1 has been taken.
+// A label after the only op but `Done`, where local 1 has been taken.
 fn laid_out(alloc: Global) -> Result<Code, Fail> {
     let mut sheet = empty(alloc)?;
     sheet.ask(query(alloc))?;

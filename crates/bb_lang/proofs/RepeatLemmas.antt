@@ -49,14 +49,14 @@ pub one_before : {X : Type 0} (x : X) (r : Result (List X × State) LangFault) �
 one_before x (Ok q) = refl
 one_before x (Err e) = refl
 
--- the first of a list, and those behind it
+-- the first of a list, and those after it
 pub items_by_loop : {X : Type 0} (close : List ℕ) (item : Reader X) (s t : State) (x : X) → at close s ≡ false → item s ≡ Ok (x, t)
     → items close item s ≡ with_front (x ∷ []) (repeated (left t) (next_item item) t)
 unfolding items as_many
 items_by_loop close item s t x shut got =
     no (at close s) _ _ shut ∙ ap (λ r. r >>= λ p. as_many (next_item item) p.1 >>= λ q. Ok (p.0 ∷ q.0, q.1)) got ∙ one_before x (repeated (left t) (next_item item) t)
 
--- the same, as a loop begins with what it has
+-- the first of a list and those after it, as a loop begins with what it has
 pub items_begin : {X : Type 0} (close : List ℕ) (item : Reader X) (s t : State) (x : X) (old new : List X) (end : ℕ) → at close s ≡ false → item s ≡ Ok (x, t) → old ≡ [] → new ≡ old ++ x ∷ [] → end ≡ left t
     → items close item s ≡ with_front new (repeated end (next_item item) t)
 items_begin close item s t x old new end shut got empty made all =

@@ -349,12 +349,12 @@ pattern_in inside s =
 
 -- ---- brackets
 
--- what stands in one more bracket, where so many may still be opened
+-- what stands in one more bracket, where `nesting` brackets may still be opened
 unfoldable pub inside : (nesting : ℕ) → Option Inner
 inside zero = None
 inside (suc nesting) = Some (record { expr = expr_in (inside nesting); pattern = pattern_in (inside nesting) })
 
--- an expression, a pattern and a sequence where so many brackets may still be opened
+-- an expression, a pattern and a sequence where `nesting` brackets may still be opened
 abbrev pub expr : (nesting : ℕ) → Reader ExprTree
 expr nesting = expr_in (inside nesting)
 

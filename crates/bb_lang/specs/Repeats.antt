@@ -4,7 +4,7 @@ use Rattle.bb_basis.specs.Results.{◌>>=◌}
 use Rattle.bb_lang_token.specs.declared.fault.LangFault.{LangFault}
 use Rattle.bb_lang_token.specs.State.{State, Reader, next, at, left}
 
--- one more, with those behind it, or none
+-- one more item with those after it, or none
 unfoldable pub more_after : {X : Type 0} → Reader (List X) → Option X → State → Result (List X × State) LangFault
 more_after others None s = Ok ([], s)
 more_after others (Some x) s = do

@@ -26,14 +26,14 @@ use Rattle.bb_lang.specs.Statements.{block}
 
 -- ---- clauses
 
--- ( "create" | "delete" ) NAME, behind the word
+-- ( "create" | "delete" ) NAME, after the word
 unfoldable pub unit_event : ChangeText → Reader ClauseText
 unit_event kind s = do
   t ← next s
   (class, u) ← name t
   Ok (Change kind class, u)
 
--- NAME "." NAME, behind a word
+-- NAME "." NAME, after a word
 unfoldable pub slot_event : Reader (List ℕ × List ℕ)
 slot_event s = do
   t ← next s
@@ -42,7 +42,7 @@ slot_event s = do
   (slot, w) ← member v
   Ok ((class, slot), w)
 
--- NAME NAME, behind a word
+-- NAME NAME, after a word
 unfoldable pub space_event : Reader (List ℕ × List ℕ)
 space_event s = do
   t ← next s
@@ -164,7 +164,7 @@ act s =
 
 -- ---- sources
 
--- "source", of which there are so many at most
+-- "source", of which there are at most `SOURCE_LIMIT`
 unfoldable pub source_word : State → Result State LangFault
 source_word s =
     if at (codes "source") s

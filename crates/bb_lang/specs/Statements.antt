@@ -244,7 +244,7 @@ next_statement nesting block s =
 
 -- ---- blocks
 
--- block = "{" { stmt } "}", where so many brackets may still be opened
+-- block = "{" { stmt } "}", where `nesting` brackets may still be opened
 unfoldable pub block : (nesting : ℕ) → Reader BlockTree
 block zero s = if at (codes "{") s then Err (Nesting s.place) else Err (Token s.place)
 block (suc nesting) s = do

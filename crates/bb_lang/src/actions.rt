@@ -15,7 +15,7 @@ use bb_lang_token::{LangFault, Parser};
 use bb_lang_tree::{Action, Expr, Variable};
 use std::alloc::Global;
 
-/// A unit and one of its slots.
+// A unit and one of its slots.
 #[tactic(auto, unfolding(crate::specs::Statements::slot_of))]
 fn read_slot(alloc: Global, parser: &mut Parser<'_>) -> Result<(Variable, Text), LangFault>
     ensures { Gives OutOfMemory (λ p. (p, parser.new)) result (slot_of parser.old) }
@@ -26,7 +26,7 @@ fn read_slot(alloc: Global, parser: &mut Parser<'_>) -> Result<(Variable, Text),
     Ok((unit, slot))
 }
 
-/// A unit and a space.
+// A unit and a space.
 #[tactic(auto, unfolding(crate::specs::Statements::space_of))]
 fn read_space(alloc: Global, parser: &mut Parser<'_>) -> Result<(Variable, Text), LangFault>
     ensures { Gives OutOfMemory (λ p. (p, parser.new)) result (space_of parser.old) }
@@ -36,7 +36,7 @@ fn read_space(alloc: Global, parser: &mut Parser<'_>) -> Result<(Variable, Text)
     Ok((unit, space))
 }
 
-/// `let`
+// `let`
 #[tactic(auto, unfolding(crate::specs::Statements::let_of))]
 fn read_let(alloc: Global, parser: &mut Parser<'_>, nesting: usize) -> Result<Action, LangFault>
     ensures { Gives OutOfMemory (λ a. (a, parser.new)) result (let_of nesting parser.old) }
@@ -48,7 +48,7 @@ fn read_let(alloc: Global, parser: &mut Parser<'_>, nesting: usize) -> Result<Ac
     Ok(Action::Let { name, value })
 }
 
-/// An assignment.
+// An assignment.
 #[tactic(auto, unfolding(crate::specs::Statements::assign_of))]
 fn read_assign(alloc: Global, parser: &mut Parser<'_>, nesting: usize) -> Result<Action, LangFault>
     ensures { Gives OutOfMemory (λ a. (a, parser.new)) result (assign_of nesting parser.old) }
@@ -59,7 +59,7 @@ fn read_assign(alloc: Global, parser: &mut Parser<'_>, nesting: usize) -> Result
     Ok(Action::Assign { name, value })
 }
 
-/// `new`
+// `new`
 #[tactic(auto, unfolding(crate::specs::Statements::new_of))]
 fn read_new(alloc: Global, parser: &mut Parser<'_>) -> Result<Action, LangFault>
     ensures { Gives OutOfMemory (λ a. (a, parser.new)) result (new_of parser.old) }
@@ -71,7 +71,7 @@ fn read_new(alloc: Global, parser: &mut Parser<'_>) -> Result<Action, LangFault>
     Ok(Action::New { name, class })
 }
 
-/// `set`
+// `set`
 #[tactic(auto, unfolding(crate::specs::Statements::set_of))]
 fn read_set(alloc: Global, parser: &mut Parser<'_>, nesting: usize) -> Result<Action, LangFault>
     ensures { Gives OutOfMemory (λ a. (a, parser.new)) result (set_of nesting parser.old) }
@@ -83,7 +83,7 @@ fn read_set(alloc: Global, parser: &mut Parser<'_>, nesting: usize) -> Result<Ac
     Ok(Action::Set { unit, slot, value })
 }
 
-/// `link`
+// `link`
 #[tactic(auto, unfolding(crate::specs::Statements::link_of))]
 fn read_link(alloc: Global, parser: &mut Parser<'_>) -> Result<Action, LangFault>
     ensures { Gives OutOfMemory (λ a. (a, parser.new)) result (link_of parser.old) }
@@ -94,7 +94,7 @@ fn read_link(alloc: Global, parser: &mut Parser<'_>) -> Result<Action, LangFault
     Ok(Action::Link { unit, slot, other })
 }
 
-/// `unlink`
+// `unlink`
 #[tactic(auto, unfolding(crate::specs::Statements::unlink_of))]
 fn read_unlink(alloc: Global, parser: &mut Parser<'_>) -> Result<Action, LangFault>
     ensures { Gives OutOfMemory (λ a. (a, parser.new)) result (unlink_of parser.old) }
@@ -105,7 +105,7 @@ fn read_unlink(alloc: Global, parser: &mut Parser<'_>) -> Result<Action, LangFau
     Ok(Action::Unlink { unit, slot, other })
 }
 
-/// One more expression behind a comma, if one comes.
+// One more expression after a comma, if one comes.
 #[tactic(auto, unfolding(crate::specs::Repeats::next_item))]
 fn read_next_expr(
     alloc: Global,
@@ -121,7 +121,7 @@ fn read_next_expr(
     Ok(Some(read_expr(alloc, parser, nesting)?))
 }
 
-/// Expressions with commas between them, up to `;`.
+// Expressions with commas between them, up to `;`.
 #[tactic(auto, unfolding(crate::specs::Repeats::items))]
 fn read_exprs(
     alloc: Global,
@@ -144,7 +144,7 @@ fn read_exprs(
     Ok(exprs)
 }
 
-/// What changes a unit, or a name.
+// What changes a unit, or a name.
 #[tactic(auto, unfolding(crate::specs::Statements::change_of, crate::specs::Statements::enter_of, crate::specs::Statements::leave_of, crate::specs::Statements::delete_of))]
 fn read_change(alloc: Global, parser: &mut Parser<'_>, nesting: usize) -> Result<Action, LangFault>
     ensures { Gives OutOfMemory (λ a. (a, parser.new)) result (change_of nesting parser.old) }

@@ -8,7 +8,7 @@ use bb_lang_token::{LangFault, Parser};
 use bb_lang_tree::{Atom, Variable};
 use std::alloc::Global;
 
-/// `it`, `ev`, or the name that the token is.
+// `it`, `ev`, or the name that the token is.
 #[tactic(auto, unfolding(crate::specs::Expressions::variable_at))]
 fn variable_at(alloc: Global, parser: &Parser<'_>) -> Result<Variable, LangFault>
     ensures { Gives OutOfMemory (λ v. v) result (variable_at parser.now) }
@@ -32,7 +32,7 @@ pub(crate) fn read_variable(alloc: Global, parser: &mut Parser<'_>) -> Result<Va
     Ok(variable)
 }
 
-/// Behind a variable: the label of a set, or the variable alone.
+// After a variable: the label of a set, or the variable alone.
 #[tactic(auto, unfolding(crate::specs::Expressions::label_or_variable))]
 fn read_label(alloc: Global, parser: &mut Parser<'_>, variable: Variable) -> Result<Atom, LangFault>
     ensures { Gives OutOfMemory (λ a. (a, parser.new)) result (label_or_variable variable parser.old) }
@@ -48,7 +48,7 @@ fn read_label(alloc: Global, parser: &mut Parser<'_>, variable: Variable) -> Res
     Ok(Atom::Label { set, label })
 }
 
-/// What begins with a name.
+// What begins with a name.
 #[tactic(auto, unfolding(crate::specs::Expressions::named))]
 fn read_named(alloc: Global, parser: &mut Parser<'_>) -> Result<Atom, LangFault>
     ensures { Gives OutOfMemory (λ a. (a, parser.new)) result (named parser.old) }

@@ -11,7 +11,7 @@ use bb_lang_token::{LangFault, Parser};
 use bb_lang_tree::{ChangeText, ClauseText};
 use std::alloc::Global;
 
-/// A change of units, at its word.
+// A change of units, at its word.
 #[tactic(auto, unfolding(crate::specs::Sources::unit_event))]
 fn read_unit_event(
     alloc: Global,
@@ -25,7 +25,7 @@ fn read_unit_event(
     Ok(ClauseText::Change { kind, class })
 }
 
-/// A class and a slot, behind a word.
+// A class and a slot, after a word.
 #[tactic(auto, unfolding(crate::specs::Sources::slot_event))]
 fn read_slot_event(alloc: Global, parser: &mut Parser<'_>) -> Result<(Text, Text), LangFault>
     ensures { Gives OutOfMemory (λ p. (p, parser.new)) result (slot_event parser.old) }
@@ -37,7 +37,7 @@ fn read_slot_event(alloc: Global, parser: &mut Parser<'_>) -> Result<(Text, Text
     Ok((class, slot))
 }
 
-/// A class and a space, behind a word.
+// A class and a space, after a word.
 #[tactic(auto, unfolding(crate::specs::Sources::space_event))]
 fn read_space_event(alloc: Global, parser: &mut Parser<'_>) -> Result<(Text, Text), LangFault>
     ensures { Gives OutOfMemory (λ p. (p, parser.new)) result (space_event parser.old) }
@@ -48,7 +48,7 @@ fn read_space_event(alloc: Global, parser: &mut Parser<'_>) -> Result<(Text, Tex
     Ok((class, space))
 }
 
-/// A change of slots, links or spaces, at its word.
+// A change of slots, links or spaces, at its word.
 #[tactic(auto, unfolding(crate::specs::Sources::change_event))]
 fn read_change_event(alloc: Global, parser: &mut Parser<'_>) -> Result<ClauseText, LangFault>
     ensures { Gives OutOfMemory (λ c. (c, parser.new)) result (change_event parser.old) }
@@ -83,7 +83,7 @@ fn read_change_event(alloc: Global, parser: &mut Parser<'_>) -> Result<ClauseTex
     })
 }
 
-/// An event.
+// An event.
 #[tactic(auto, unfolding(crate::specs::Sources::event))]
 fn read_event(alloc: Global, parser: &mut Parser<'_>) -> Result<ClauseText, LangFault>
     ensures { Gives OutOfMemory (λ c. (c, parser.new)) result (event parser.old) }
@@ -101,7 +101,7 @@ fn read_event(alloc: Global, parser: &mut Parser<'_>) -> Result<ClauseText, Lang
     read_change_event(alloc, parser)
 }
 
-/// A clause.
+// A clause.
 #[tactic(auto, unfolding(crate::specs::Sources::clause))]
 fn read_clause(alloc: Global, parser: &mut Parser<'_>) -> Result<ClauseText, LangFault>
     ensures { Gives OutOfMemory (λ c. (c, parser.new)) result (clause parser.old) }
@@ -112,7 +112,7 @@ fn read_clause(alloc: Global, parser: &mut Parser<'_>) -> Result<ClauseText, Lan
     Ok(event)
 }
 
-/// One more clause, if one comes.
+// One more clause, if one comes.
 #[tactic(auto, unfolding(crate::specs::Sources::next_clause))]
 fn read_next_clause(alloc: Global, parser: &mut Parser<'_>) -> Result<Option<ClauseText>, LangFault>
     ensures { Gives OutOfMemory (λ o. (o, parser.new)) result (next_clause parser.old) }

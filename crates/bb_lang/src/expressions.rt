@@ -1,5 +1,5 @@
-//! Expressions, sequences and patterns, as they are read: a function for each production. The reader of statements calls
-//! `read_expr` and `read_sequence`.
+//! Expressions, sequences and patterns, as they are read: a function for each production. The reader of statements
+//! calls `read_expr` and `read_sequence`.
 
 ghost use Rattle.std.specs.Prelude.{◌≡◌, ◌+◌, IfOk, codes};
 ghost use Rattle.bb_basis.specs.Results.{Gives};
@@ -17,7 +17,7 @@ use bb_lang_token::{LangFault, Parser};
 use bb_lang_tree::{Binary, Expr, ExprNode, Pattern, PatternNode, Sequence, Step};
 use std::alloc::{AllocError, Global};
 
-/// An operand with the steps behind it, which stands for itself where there are none.
+// An operand with the steps after it, or the operand alone where there are none.
 fn chained(alloc: Global, first: Expr, steps: Vec<Step>) -> Result<Expr, AllocError>
     ensures { IfOk result (λ e. e ≡ chained first steps.items) }
 {
@@ -28,7 +28,7 @@ fn chained(alloc: Global, first: Expr, steps: Vec<Step>) -> Result<Expr, AllocEr
     Ok(Expr::new(ExprNode::Chain { first, steps }))
 }
 
-/// What two operands become.
+// An operation on two operands.
 fn binary(alloc: Global, operation: Binary, left: Expr, right: Expr) -> Result<Expr, AllocError>
     ensures { IfOk result (λ e. e ≡ tree_binary operation left right) }
 {
@@ -41,7 +41,7 @@ fn binary(alloc: Global, operation: Binary, left: Expr, right: Expr) -> Result<E
     }))
 }
 
-/// An opening bracket: how many more may be opened in it.
+/// An opening bracket. Returns how many more may be opened in it.
 #[tactic(auto, unfolding(crate::specs::Expressions::opened))]
 pub(crate) fn open(
     parser: &mut Parser<'_>,
@@ -63,7 +63,7 @@ pub(crate) fn open(
     Ok(nesting - 1)
 }
 
-/// The units that a unit is linked to.
+// The units that a unit is linked to.
 #[tactic(auto, unfolding(crate::specs::Expressions::linked_to))]
 fn read_links(alloc: Global, parser: &mut Parser<'_>) -> Result<Sequence, LangFault>
     ensures { Gives OutOfMemory (λ q. (q, parser.new)) result (linked_to parser.old) }
@@ -74,7 +74,7 @@ fn read_links(alloc: Global, parser: &mut Parser<'_>) -> Result<Sequence, LangFa
     Ok(Sequence::Links { unit, slot })
 }
 
-/// An operand of a level.
+// An operand of a level.
 #[cycle(reading)]
 fn read_operand(
     alloc: Global,
@@ -92,7 +92,7 @@ fn read_operand(
     }
 }
 
-/// One more operator of a level with its operand, if one comes.
+// One more operator of a level with its operand, if one comes.
 #[cycle(reading)]
 #[tactic(auto, unfolding(crate::specs::Expressions::step, crate::specs::Expressions::step_by))]
 fn read_step(
@@ -117,7 +117,7 @@ fn read_step(
     Ok(Some(Step::Apply { operator, operand }))
 }
 
-/// As many steps of a level as come.
+// As many steps of a level as come.
 #[cycle(reading)]
 #[tactic(auto, unfolding(crate::specs::Repeats::as_many))]
 fn read_steps(
@@ -139,7 +139,7 @@ fn read_steps(
     Ok(steps)
 }
 
-/// Operands with the operators of a level between them.
+// Operands with the operators of a level between them.
 #[cycle(reading)]
 fn read_chain(
     alloc: Global,
@@ -154,7 +154,7 @@ fn read_chain(
     Ok(chained(alloc, first, steps)?)
 }
 
-/// A sum, or a comparison of two.
+// A sum, or a comparison of two.
 #[cycle(reading)]
 #[tactic(auto, unfolding(crate::specs::Expressions::comparison, crate::specs::Expressions::compared))]
 fn read_comparison(
@@ -173,7 +173,7 @@ fn read_comparison(
     Ok(binary(alloc, operation, left, right)?)
 }
 
-/// An expression in parentheses.
+// An expression in parentheses.
 #[cycle(reading)]
 #[tactic(auto, unfolding(crate::specs::Expressions::grouped))]
 fn read_group(alloc: Global, parser: &mut Parser<'_>, nesting: usize) -> Result<Expr, LangFault>
@@ -185,7 +185,7 @@ fn read_group(alloc: Global, parser: &mut Parser<'_>, nesting: usize) -> Result<
     Ok(expr)
 }
 
-/// Two expressions with a comma between them, and a closing bracket.
+// Two expressions with a comma between them, and a closing bracket.
 #[cycle(reading)]
 #[tactic(auto, unfolding(crate::specs::Expressions::pair_of))]
 fn read_pair(
@@ -204,7 +204,7 @@ fn read_pair(
     Ok(binary(alloc, operation, left, right)?)
 }
 
-/// An operand of `*`: what is in brackets, an operation, or an expression without parts.
+// An operand of `*`: what is in brackets, an operation, or an expression without parts.
 #[cycle(reading)]
 #[tactic(auto, unfolding(crate::specs::Expressions::factor, crate::specs::Expressions::interval, crate::specs::Expressions::sized, crate::specs::Expressions::applied))]
 fn read_factor(alloc: Global, parser: &mut Parser<'_>, nesting: usize) -> Result<Expr, LangFault>
@@ -273,7 +273,7 @@ pub(crate) fn read_sequence(
     })
 }
 
-/// One more pattern behind a comma, if one comes.
+// One more pattern after a comma, if one comes.
 #[cycle(reading)]
 #[tactic(auto, unfolding(crate::specs::Repeats::next_item))]
 fn read_next_pattern(
@@ -290,7 +290,7 @@ fn read_next_pattern(
     Ok(Some(read_pattern(alloc, parser, nesting)?))
 }
 
-/// Patterns with commas between them, up to `)`.
+// Patterns with commas between them, up to `)`.
 #[cycle(reading)]
 #[tactic(auto, unfolding(crate::specs::Repeats::items, crate::specs::Repeats::as_many))]
 fn read_patterns(
@@ -314,7 +314,7 @@ fn read_patterns(
     Ok(patterns)
 }
 
-/// A pattern.
+// A pattern.
 #[cycle(reading)]
 #[tactic(auto, unfolding(crate::specs::Expressions::pattern_in, crate::specs::Expressions::parts, crate::specs::Expressions::part, crate::specs::Expressions::tested))]
 fn read_pattern(
@@ -361,7 +361,7 @@ fn read_pattern(
     }))
 }
 
-/// An expression, where so many brackets may still be opened.
+/// An expression, where `nesting` brackets may still be opened.
 pub(crate) fn read_expr(
     alloc: Global,
     parser: &mut Parser<'_>,

@@ -1,4 +1,10 @@
-//! The source language: from a text to trees of its sources. Whoever compiles sources (bb_shell) calls `parse`.
+//! The source language: from a text to the trees of its sources.
+//!
+//! - In: the text of sources.
+//! - Out: `parse`, a tree for each source, or the first `LangFault` with its line and column.
+//! - Callers rely on: trees are no deeper than `NESTING_LIMIT`, and there are at most `SOURCE_LIMIT`.
+//! - Family: bb_lang_token has the tokens, bb_lang_tree the trees.
+//! - Cases: `limits_of_texts`, `refused_sources`, `model-bent_texts`; tests in bb_rules_tests.
 #![tactic(auto)]
 
 mod actions;

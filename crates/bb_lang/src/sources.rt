@@ -23,7 +23,7 @@ pub const NESTING_LIMIT: usize = 64;
 /// How many may still be opened in the bracket of a source.
 pub(crate) const BLOCK_NESTING: usize = NESTING_LIMIT - 1;
 
-/// A part that is a block, at its word.
+// A part that is a block, at its word.
 #[tactic(auto, unfolding(crate::specs::Sources::part))]
 fn read_part(alloc: Global, parser: &mut Parser<'_>) -> Result<PartText, LangFault>
     ensures { Gives OutOfMemory (λ p. (p, parser.new)) result (part parser.old) }
@@ -34,7 +34,7 @@ fn read_part(alloc: Global, parser: &mut Parser<'_>) -> Result<PartText, LangFau
     Ok(PartText { place, block })
 }
 
-/// A part that is a block, if it comes.
+// A part that is a block, if it comes.
 #[tactic(auto, unfolding(crate::specs::Sources::part_if))]
 fn read_part_if(
     alloc: Global,
@@ -49,7 +49,7 @@ fn read_part_if(
     Ok(Some(read_part(alloc, parser)?))
 }
 
-/// A reaction, at its word.
+// A reaction, at its word.
 #[tactic(auto, unfolding(crate::specs::Sources::reaction))]
 fn read_reaction(alloc: Global, parser: &mut Parser<'_>) -> Result<ReactionText, LangFault>
     ensures { Gives OutOfMemory (λ r. (r, parser.new)) result (reaction parser.old) }
@@ -70,7 +70,7 @@ fn read_reaction(alloc: Global, parser: &mut Parser<'_>) -> Result<ReactionText,
     })
 }
 
-/// A reaction, if it comes.
+// A reaction, if it comes.
 #[tactic(auto, unfolding(crate::specs::Sources::reaction_if))]
 fn read_reaction_if(
     alloc: Global,
@@ -85,7 +85,7 @@ fn read_reaction_if(
     Ok(Some(read_reaction(alloc, parser)?))
 }
 
-/// The parts besides the act.
+// The parts besides the act.
 #[tactic(auto, unfolding(crate::specs::Sources::parts))]
 fn read_parts(alloc: Global, parser: &mut Parser<'_>) -> Result<PartTexts, LangFault>
     ensures { Gives OutOfMemory (λ p. (p, parser.new)) result (parts parser.old) }
@@ -102,7 +102,7 @@ fn read_parts(alloc: Global, parser: &mut Parser<'_>) -> Result<PartTexts, LangF
     })
 }
 
-/// What an activation does.
+// What an activation does.
 #[tactic(auto, unfolding(crate::specs::Sources::act))]
 fn read_act(alloc: Global, parser: &mut Parser<'_>) -> Result<ActText, LangFault>
     ensures { Gives OutOfMemory (λ a. (a, parser.new)) result (act parser.old) }
@@ -115,7 +115,7 @@ fn read_act(alloc: Global, parser: &mut Parser<'_>) -> Result<ActText, LangFault
     Ok(ActText::Native)
 }
 
-/// The word `source`.
+// The word `source`.
 #[tactic(auto, unfolding(crate::specs::Sources::source_word))]
 fn read_source_word(parser: &mut Parser<'_>) -> Result<(), LangFault>
     ensures { Gives OutOfMemory (λ _. parser.new) result (source_word parser.old) }
@@ -130,7 +130,7 @@ fn read_source_word(parser: &mut Parser<'_>) -> Result<(), LangFault>
     parser.advance()
 }
 
-/// The name of a source.
+// The name of a source.
 #[tactic(auto, unfolding(crate::specs::Sources::source_name))]
 fn read_source_name(alloc: Global, parser: &mut Parser<'_>) -> Result<Text, LangFault>
     ensures { Gives OutOfMemory (λ t. (t, parser.new)) result (source_name parser.old) }
@@ -146,7 +146,7 @@ fn read_source_name(alloc: Global, parser: &mut Parser<'_>) -> Result<Text, Lang
     Ok(name)
 }
 
-/// The name and the class of a source.
+// The name and the class of a source.
 #[tactic(auto, unfolding(crate::specs::Sources::header))]
 fn read_header(alloc: Global, parser: &mut Parser<'_>) -> Result<HeaderText, LangFault>
     ensures { Gives OutOfMemory (λ h. (h, parser.new)) result (header parser.old) }
@@ -159,7 +159,7 @@ fn read_header(alloc: Global, parser: &mut Parser<'_>) -> Result<HeaderText, Lan
     Ok(HeaderText { name, on, class })
 }
 
-/// The base rating.
+// The base rating.
 #[tactic(auto, unfolding(crate::specs::Sources::rating))]
 fn read_rating(parser: &mut Parser<'_>) -> Result<i64, LangFault>
     ensures { Gives OutOfMemory (λ n. (n, parser.new)) result (rating parser.old) }
@@ -170,7 +170,7 @@ fn read_rating(parser: &mut Parser<'_>) -> Result<i64, LangFault>
     Ok(rate)
 }
 
-/// A source.
+// A source.
 #[tactic(auto, unfolding(crate::specs::Sources::source))]
 fn read_source(alloc: Global, parser: &mut Parser<'_>) -> Result<SourceText, LangFault>
     ensures { Gives OutOfMemory (λ s. (s, parser.new)) result (source parser.old) }
@@ -191,7 +191,7 @@ fn read_source(alloc: Global, parser: &mut Parser<'_>) -> Result<SourceText, Lan
     })
 }
 
-/// One more source, if the text does not end.
+// One more source, if the text does not end.
 #[tactic(auto, unfolding(crate::specs::Sources::next_source))]
 fn read_next_source(alloc: Global, parser: &mut Parser<'_>) -> Result<Option<SourceText>, LangFault>
     ensures { Gives OutOfMemory (λ o. (o, parser.new)) result (next_source parser.old) }
@@ -202,7 +202,7 @@ fn read_next_source(alloc: Global, parser: &mut Parser<'_>) -> Result<Option<Sou
     Ok(Some(read_source(alloc, parser)?))
 }
 
-/// As many sources as come.
+// As many sources as come.
 #[tactic(auto, unfolding(crate::specs::Repeats::as_many))]
 fn read_sources(alloc: Global, parser: &mut Parser<'_>) -> Result<Vec<SourceText>, LangFault>
     ensures { Gives OutOfMemory (λ v. (v.items, parser.new)) result (as_many next_source parser.old) }

@@ -15,7 +15,7 @@ use bb_lang_token::{LangFault, Parser};
 use bb_lang_tree::{Binding, Block, Placed, Statement, Variable};
 use std::alloc::Global;
 
-/// A statement without blocks.
+// A statement without blocks.
 #[tactic(auto, unfolding(crate::specs::Statements::plain))]
 fn read_plain(
     alloc: Global,
@@ -29,7 +29,7 @@ fn read_plain(
     Ok(Statement::Action(action))
 }
 
-/// The test of a `with`.
+// The test of a `with`.
 #[tactic(auto, unfolding(crate::specs::Statements::bound))]
 fn read_bound(
     alloc: Global,
@@ -49,7 +49,7 @@ fn read_bound(
     Ok(Binding::Linked { name, unit, slot })
 }
 
-/// What a `with` declares.
+// What a `with` declares.
 #[tactic(auto, unfolding(crate::specs::Statements::binding))]
 fn read_binding(alloc: Global, parser: &mut Parser<'_>) -> Result<Binding, LangFault>
     ensures { Gives OutOfMemory (λ b. (b, parser.new)) result (binding parser.old) }
@@ -60,7 +60,7 @@ fn read_binding(alloc: Global, parser: &mut Parser<'_>) -> Result<Binding, LangF
     read_bound(alloc, parser, name, unit)
 }
 
-/// The block of an `else`, if one comes.
+// The block of an `else`, if one comes.
 #[cycle(statements)]
 #[tactic(auto, unfolding(crate::specs::Statements::otherwise_in))]
 fn read_otherwise(
@@ -77,7 +77,7 @@ fn read_otherwise(
     Ok(Some(read_block(alloc, parser, nesting)?))
 }
 
-/// `if`
+// `if`
 #[cycle(statements)]
 #[tactic(auto, unfolding(crate::specs::Statements::if_in))]
 fn read_if(alloc: Global, parser: &mut Parser<'_>, nesting: usize) -> Result<Statement, LangFault>
@@ -94,7 +94,7 @@ fn read_if(alloc: Global, parser: &mut Parser<'_>, nesting: usize) -> Result<Sta
     })
 }
 
-/// `with`
+// `with`
 #[cycle(statements)]
 #[tactic(auto, unfolding(crate::specs::Statements::with_in))]
 fn read_with(alloc: Global, parser: &mut Parser<'_>, nesting: usize) -> Result<Statement, LangFault>
@@ -113,7 +113,7 @@ fn read_with(alloc: Global, parser: &mut Parser<'_>, nesting: usize) -> Result<S
     })
 }
 
-/// `for`
+// `for`
 #[cycle(statements)]
 #[tactic(auto, unfolding(crate::specs::Statements::for_in))]
 fn read_for(alloc: Global, parser: &mut Parser<'_>, nesting: usize) -> Result<Statement, LangFault>
@@ -133,7 +133,7 @@ fn read_for(alloc: Global, parser: &mut Parser<'_>, nesting: usize) -> Result<St
     })
 }
 
-/// A statement.
+// A statement.
 #[cycle(statements)]
 #[tactic(auto, unfolding(crate::specs::Statements::statement_in))]
 fn read_statement(
@@ -155,7 +155,7 @@ fn read_statement(
     read_plain(alloc, parser, nesting)
 }
 
-/// One more statement of a block, if one comes.
+// One more statement of a block, if one comes.
 #[cycle(statements)]
 #[tactic(auto, unfolding(crate::specs::Statements::next_statement))]
 fn read_next_statement(
@@ -174,7 +174,7 @@ fn read_next_statement(
     Ok(Some(Placed { place, statement }))
 }
 
-/// As many statements as come.
+// As many statements as come.
 #[cycle(statements)]
 #[tactic(auto, unfolding(crate::specs::Repeats::as_many))]
 fn read_statements(

@@ -86,7 +86,7 @@ take_take (suc n) zero xs le = absurd (omega arith)
 take_take (suc n) (suc m) [] le = refl
 take_take (suc n) (suc m) (x ∷ xs) le = ap (λ l. x ∷ l) (take_take n m xs (omega arith))
 
--- the same, of the strings that the code keeps
+-- with one more name, of the strings that the code keeps
 pub declared_strings : {Y : Type 0} (items new_items : List (String Y)) (listed key : String Y) (name : List ℕ) (found new : BTreeSet (String Y)) → IsScope (map string_bytes items) found → list_any (bytes_eq name) (map string_bytes items) ≡ false
     → string_bytes listed ≡ name → string_bytes key ≡ name → new_items ≡ items ++ listed ∷ [] → UpdatesBy string_cmp (λ k. slice_cmp nat_cmp (string_bytes key) (string_bytes k)) found new true → IsScope (map string_bytes new_items) new
 declared_strings items new_items listed key name found new scope fresh said keyed more updates =

@@ -38,7 +38,7 @@ int s =
       (n, t) ← number (2 ^ 63 - 1) s
       Ok (pos n, t))
 
--- INT by which is divided: it is not 0
+-- INT as a divisor: it is not 0
 unfoldable pub divisor : Reader ℤ
 divisor s = do
   n ← number_at (2 ^ 63 - 1) s
@@ -49,7 +49,7 @@ divisor s = do
 abbrev pub escape_of : ℕ → ℕ
 escape_of b = if b == 110 then 10 else if b == 116 then 9 else b
 
--- what the bytes behind an opening quote stand for, up to the closing one
+-- what the bytes after an opening quote stand for, up to the closing one
 unfoldable pub text_bytes : (escaped : Bool) → List ℕ → List ℕ
 text_bytes escaped [] = []
 text_bytes true (b ∷ bs) = escape_of b ∷ text_bytes false bs

@@ -10,14 +10,14 @@ start = record { line = 1; column = 1 }
 abbrev pub continues : ℕ → Bool
 continues b = nat_le 128 b && nat_lt b 192
 
--- the place behind a byte: a line feed ends the line, and each character counts once
+-- the place after a byte: a line feed ends the line, and each character counts once
 abbrev pub after_byte : Place → ℕ → Place
 after_byte p b =
     if b == 10 then record { line = p.line + 1; column = 1 }
     else if continues b then p
     else record { line = p.line; column = p.column + 1 }
 
--- the place behind bytes
+-- the place after bytes
 abbrev pub place_after : Place → List ℕ → Place
 place_after p [] = p
 place_after p (b ∷ bs) = place_after (after_byte p b) bs

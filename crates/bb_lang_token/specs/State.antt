@@ -1,4 +1,4 @@
--- What a reader of a text goes by: the token that comes next, and what is left behind it.
+-- What a reader of a text goes by: the token that comes next, and what is left after it.
 use Rattle.std.specs.Prelude.{ℕ, ◌+◌, Bool, List, [], length, take, drop, Result, Ok, Err, false, if◌then◌else◌}
 use Rattle.std.specs.Str.{bytes_eq}
 use Rattle.bb_basis.specs.Results.{◌>>=◌, ok_or}
@@ -15,14 +15,14 @@ pub record State : Type 0 where
   pub kind : TokenKind
   pub token : List ℕ
   pub place : Place
-  -- the bytes behind it
+  -- the bytes after the token
   pub rest : List ℕ
   -- the names in scope, in the order in which they were declared
   pub scope : List (List ℕ)
   -- the names of the sources so far
   pub sources : List (List ℕ)
 
--- what a reader gives: what it read, and the state behind it; or a fault
+-- what a reader gives: what it read, and the state after it; or a fault
 abbrev pub Reader : Type 0 → Type 0
 Reader X = State → Result (X × State) LangFault
 
@@ -43,7 +43,7 @@ at_token s place bytes = do
     sources = s.sources;
   })
 
--- the state at the next token: blanks and comments are passed over
+-- the state at the next token: blanks and comments are skipped
 unfoldable pub next : State → Result State LangFault
 next s =
     let blanks = blank_len false s.rest in
@@ -53,10 +53,10 @@ next s =
 abbrev pub at : List ℕ → State → Bool
 at word s = bytes_eq s.token word
 
--- the state behind a token that has to be this symbol or word
+-- the state after a token that has to be this symbol or word
 unfoldable pub skip : List ℕ → State → Result State LangFault
 skip word s = if at word s then next s else Err (Token s.place)
 
--- how many bytes are left, those of the token too
+-- how many bytes are left, with those of the token
 abbrev pub left : State → ℕ
 left s = length s.token + length s.rest

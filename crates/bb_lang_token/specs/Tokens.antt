@@ -53,11 +53,11 @@ blank_len false (b ∷ bs) =
     else if begins_comment (b ∷ bs) then suc (blank_len true bs)
     else 0
 
--- what may stand behind a `\`: a quote, another `\`, `n` or `t`
+-- what may come after a `\`: a quote, another `\`, `n` or `t`
 abbrev pub is_escape : ℕ → Bool
 is_escape b = (b == 34) || (b == 92) || (b == 110) || (b == 116)
 
--- how many bytes a text constant has behind its opening quote, with the closing one: none where it does not end, has
+-- how many bytes a text constant has after its opening quote, with the closing one: none where it does not end, has
 -- another escape, or has a control character
 unfoldable pub text_len : (escaped : Bool) → List ℕ → Option ℕ
 text_len escaped [] = None

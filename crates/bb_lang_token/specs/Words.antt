@@ -16,7 +16,7 @@ reserved_words = codes "source on when create delete update link unlink enter le
 unfoldable pub is_reserved : List ℕ → Bool
 is_reserved word = list_any (bytes_eq word) (slice_split (λ b. b == 32) reserved_words)
 
--- behind a `.` each word is a name; one that is too long is over the limit
+-- after a `.` each word is a name; one that is too long is over the limit
 unfoldable pub member_at : State → Result (List ℕ) LangFault
 member_at s =
     if is_word s.kind then (if is_name s.token then Ok s.token else Err (Limit s.place)) else Err (Token s.place)

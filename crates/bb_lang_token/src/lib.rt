@@ -1,5 +1,5 @@
-//! The tokens of the source language, and the names that a text declares. The readers of the grammar (bb_lang) go by a
-//! `Parser`: they look at the token that comes next, and take it.
+//! The tokens of a text of the source language, each with its line and column, and the names that the text declares.
+//! The grammar (bb_lang) reads them by a `Parser`.
 #![tactic(auto)]
 
 mod fault;

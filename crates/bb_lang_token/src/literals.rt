@@ -15,7 +15,7 @@ use std::alloc::{AllocError, Global};
 /// The greatest length of a text constant, in bytes of what it stands for.
 pub const TEXT_LIMIT: usize = 65_535;
 
-/// The number that digits write, if it is within a limit.
+// The number that digits write, if it is within a limit.
 fn number_of(digits: &[u8], limit: u64) -> Option<u64>
     ensures number { result ≡ if nat_le (with_digits 0 digits.now) limit then Some (with_digits 0 digits.now) else None }
     ensures within { IfSome result (λ n. n ≤ limit) }
@@ -31,7 +31,7 @@ fn number_of(digits: &[u8], limit: u64) -> Option<u64>
     Some(number as u64)
 }
 
-/// The number with a minus.
+// The number with a minus.
 fn negated(number: u64) -> i64
     requires { number ≤ 2 ^ 63 }
     ensures { result ≡ neg_ℤ (pos number) }
@@ -39,7 +39,7 @@ fn negated(number: u64) -> i64
     (-i128::from(number)) as i64
 }
 
-/// The number without a minus.
+// The number without a minus.
 fn signed(number: u64) -> i64
     requires { number < 2 ^ 63 }
     ensures { result ≡ pos number }
@@ -47,7 +47,7 @@ fn signed(number: u64) -> i64
     number as i64
 }
 
-/// All bytes but the first.
+// All bytes but the first.
 fn behind_first(bytes: &[u8]) -> &[u8]
     ensures { result.now ≡ drop 1 bytes.now }
 {
@@ -67,7 +67,7 @@ fn escape_of(byte: u8) -> u8
     }
 }
 
-/// What the bytes behind an opening quote stand for, up to the closing one.
+// What the bytes after an opening quote stand for, up to the closing one.
 fn text_bytes(alloc: Global, bytes: &[u8]) -> Result<Vec<u8>, AllocError>
     ensures { IfOk result (λ v. v.items ≡ text_bytes false bytes.now) }
 {
@@ -92,7 +92,7 @@ fn text_bytes(alloc: Global, bytes: &[u8]) -> Result<Vec<u8>, AllocError>
 }
 
 impl<'a> Parser<'a> {
-    /// INT, of a number up to a limit.
+    // INT, of a number up to a limit.
     #[tactic(auto, unfolding(crate::specs::Literals::number_at))]
     fn number_at(&self, limit: u64) -> Result<u64, LangFault>
         ensures number { Gives OutOfMemory (λ n. n) result (number_at limit self.now) }
@@ -105,7 +105,7 @@ impl<'a> Parser<'a> {
         number_of(self.token(), limit).ok_or(LangFault::Limit { place })
     }
 
-    /// INT, of a number up to a limit.
+    // INT, of a number up to a limit.
     #[tactic(auto, unfolding(crate::specs::Literals::number))]
     fn read_number(&mut self, limit: u64) -> Result<u64, LangFault>
         ensures number { Gives OutOfMemory (λ n. (n, self.new)) result (number limit self.old) }
@@ -130,7 +130,7 @@ impl<'a> Parser<'a> {
         Ok(signed(number))
     }
 
-    /// INT by which is divided.
+    /// INT as a divisor.
     #[tactic(auto, unfolding(crate::specs::Literals::divisor))]
     pub fn read_divisor(&mut self) -> Result<i64, LangFault>
         ensures { Gives OutOfMemory (λ n. (n, self.new)) result (divisor self.old) }
@@ -145,7 +145,7 @@ impl<'a> Parser<'a> {
         Ok(signed(number))
     }
 
-    /// What a text constant stands for.
+    // What a text constant stands for.
     #[tactic(auto, unfolding(crate::specs::Literals::text_at))]
     fn text_at(&self, alloc: Global) -> Result<Text, LangFault>
         ensures { Gives OutOfMemory (λ t. t) result (text_at self.now) }

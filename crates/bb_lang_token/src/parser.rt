@@ -16,7 +16,7 @@ use bb_basis::{Memory, Names};
 use std::alloc::Global;
 use std::marker::Model;
 
-/// The token that comes next, what is left behind it, and the names that were declared. Tokens are made one at a time.
+/// The token that comes next, what is left after it, and the names that were declared. Tokens are made one at a time.
 #[derive(Drop)]
 pub struct Parser<'a> {
     kind: TokenKind,
@@ -47,7 +47,7 @@ impl<'a> Model for Parser<'a> {
 }
 
 impl<'a> Parser<'a> {
-    /// Before the first token of a text.
+    /// A parser before the first token of a text.
     pub fn new(alloc: Global, text: &'a [u8]) -> Parser<'a>
         ensures { result ≡ before text.now }
     {
@@ -93,7 +93,7 @@ impl<'a> Parser<'a> {
         self.token == word.as_bytes()
     }
 
-    /// Goes on behind a token that has to be this symbol or word.
+    /// Goes on past a token that has to be this symbol or word.
     #[tactic(auto, unfolding(crate::specs::State::skip))]
     pub fn skip(&mut self, word: &str) -> Result<(), LangFault>
         ensures { Gives OutOfMemory (λ _. self.new) result (skip word.now self.old) }
@@ -106,7 +106,7 @@ impl<'a> Parser<'a> {
         self.advance()
     }
 
-    /// How many bytes are left, those of the token too.
+    /// How many bytes are left, with those of the token.
     pub fn left(&self) -> usize
         ensures { result ≡ left self.now }
     {

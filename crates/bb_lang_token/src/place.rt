@@ -18,7 +18,7 @@ impl Place {
         Place { line: 1, column: 1 }
     }
 
-    /// The place behind one more byte.
+    // The place after one more byte.
     fn after_byte(self, byte: u8) -> Place
         requires line { self.line + 1 < 2 ^ 64 }
         requires column { self.column + 1 < 2 ^ 64 }
@@ -30,7 +30,7 @@ impl Place {
                 column: 1,
             };
         }
-        // The bytes behind the first of a character.
+        // The bytes after the first of a character.
         if byte >= 0x80 && byte < 0xc0 {
             return self;
         }
@@ -40,7 +40,7 @@ impl Place {
         }
     }
 
-    /// The place behind more bytes.
+    /// The place after more bytes.
     pub(crate) fn after(self, bytes: &[u8]) -> Place
         requires line { self.line + length bytes.now < 2 ^ 64 }
         requires column { self.column + length bytes.now < 2 ^ 64 }

@@ -22,28 +22,28 @@ pub enum TokenKind {
 }
 
 impl TokenKind {
-    /// Whether it is a name or a reserved word.
+    /// Whether the token is a name or a reserved word.
     pub fn is_word(self) -> bool
         ensures { result ≡ is_word self }
     {
         matches!(self, TokenKind::Word)
     }
 
-    /// Whether it is digits.
+    /// Whether the token is digits.
     pub fn is_int(self) -> bool
         ensures { result ≡ is_int self }
     {
         matches!(self, TokenKind::Int)
     }
 
-    /// Whether it is a text constant.
+    /// Whether the token is a text constant.
     pub fn is_text(self) -> bool
         ensures { result ≡ is_text self }
     {
         matches!(self, TokenKind::Text)
     }
 
-    /// Whether it is the end of the text.
+    /// Whether the token is the end of the text.
     pub fn is_end(self) -> bool
         ensures { result ≡ is_end self }
     {
@@ -110,7 +110,7 @@ fn is_escape(byte: u8) -> bool
     byte == b'"' || byte == b'\\' || byte == b'n' || byte == b't'
 }
 
-/// How many bytes a text constant has behind its opening quote.
+// How many bytes a text constant has after its opening quote.
 fn text_len(bytes: &[u8]) -> Option<usize>
     ensures len { result ≡ text_len false bytes.now }
     ensures within { IfSome result (λ n. n ≤ length bytes.now) }

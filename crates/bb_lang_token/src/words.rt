@@ -39,7 +39,7 @@ fn starts_with_letter(bytes: &[u8]) -> bool
     }
 }
 
-/// Whether bytes are those of a name.
+// Whether bytes are those of a name.
 #[tactic(auto, unfolding(bb_basis::specs::Names::is_name))]
 fn is_name(bytes: &[u8]) -> bool
     ensures { result ≡ is_name bytes.now }
@@ -47,7 +47,7 @@ fn is_name(bytes: &[u8]) -> bool
     starts_with_letter(bytes) && are_name_bytes(bytes) && bytes.len() <= NAME_LIMIT
 }
 
-/// The text of a name.
+// The text of a name.
 fn name_text(alloc: Global, bytes: &[u8]) -> Result<Text, AllocError>
     requires { is_name bytes.now ≡ true }
     ensures { IfOk result (λ t. t ≡ bytes.now) }
@@ -56,7 +56,7 @@ fn name_text(alloc: Global, bytes: &[u8]) -> Result<Text, AllocError>
 }
 
 impl<'a> Parser<'a> {
-    /// The name that the token is behind a `.`, where each word is one.
+    // The name that the token is after a `.`, where each word is a name.
     #[tactic(auto, unfolding(crate::specs::Words::member_at))]
     fn member_at(&self, alloc: Global) -> Result<Text, LangFault>
         ensures { Gives OutOfMemory (λ t. t) result (member_at self.now) }
@@ -85,7 +85,7 @@ impl<'a> Parser<'a> {
         self.member_at(alloc)
     }
 
-    /// A name behind a `.`.
+    /// A name after a `.`.
     #[tactic(auto, unfolding(crate::specs::Words::member))]
     pub fn read_member(&mut self, alloc: Global) -> Result<Text, LangFault>
         ensures { Gives OutOfMemory (λ t. (t, self.new)) result (member self.old) }

@@ -13,7 +13,7 @@ mutual
     before_others : Place → StatementTree → BlockTree → BlockTree
 
   pub data StatementTree : Type 0 where
-    -- it has no blocks
+    -- a statement without blocks
     action : Action → StatementTree
     if_of : (test : ExprTree) → BlockTree → OtherwiseTree → StatementTree
     with_of : Binding → BlockTree → OtherwiseTree → StatementTree

@@ -10,9 +10,9 @@ use Rattle.bb_lang_tree.specs.declared.atom.Variable.{Variable}
 
 mutual
   pub data ExprTree : Type 0 where
-    -- it has no parts
+    -- an expression without parts
     atom : Atom → ExprTree
-    -- what one operand becomes, or two
+    -- an operation on one operand, or on two
     unary : Unary → ExprTree → ExprTree
     binary : Binary → ExprTree → ExprTree → ExprTree
     -- operands with operators of one rank between them, from the left

@@ -30,7 +30,7 @@ pub enum Atom {
     Slot { unit: Variable, slot: Text },
 }
 
-/// What one operand becomes.
+/// An operation on one operand.
 #[derive(Clone, Copy, Debug, PartialEq, Eq)]
 pub enum Unary {
     /// `not(..)`
@@ -41,7 +41,7 @@ pub enum Unary {
     High,
 }
 
-/// What two operands become.
+/// An operation on two operands.
 #[derive(Clone, Copy, Debug, PartialEq, Eq)]
 pub enum Binary {
     /// `.. < ..`

@@ -102,7 +102,7 @@ pub struct Placed {
 #[cycle(block)]
 #[derive(Debug, Drop)]
 pub enum Statement {
-    /// It has no blocks.
+    /// A statement without blocks.
     Action(Action),
     /// `if test { .. } else { .. }`
     If {

@@ -1,4 +1,4 @@
-//! The trees of source texts: what a parsed source is made of. The readers of the grammar (bb_lang) make them.
+//! The trees of source texts: what a parsed source is made of. The grammar (bb_lang) makes them.
 #![tactic(auto)]
 
 mod atom;

@@ -74,8 +74,8 @@ pub struct PartText {
     pub block: Block,
 }
 
-/// What a source does about its pending activations when certain events happen, with the places of its first token and
-/// of `on`.
+/// What a source does about its pending activations when certain events happen, with the places of its first token
+/// and of `on`.
 #[derive(Debug, Drop)]
 pub struct ReactionText {
     pub place: Place,
@@ -88,13 +88,13 @@ pub struct ReactionText {
 /// What an activation does.
 #[derive(Debug, Drop)]
 pub enum ActText {
-    /// It executes this block.
+    /// The activation executes this block.
     Do(PartText),
-    /// It calls the native of the source's name.
+    /// The activation calls the native of the source's name.
     Native,
 }
 
-/// Who a source is: its name, and the class of the units that it works on, with the place of `on`.
+/// The name of a source, and the class of the units that it works on, with the place of `on`.
 #[derive(Debug, Drop)]
 pub struct HeaderText {
     pub name: Text,
@@ -102,14 +102,14 @@ pub struct HeaderText {
     pub class: Text,
 }
 
-/// What a source does besides its act, where the text has it.
+/// The parts of a source besides its act, where the text has them.
 #[derive(Debug, Drop)]
 pub struct PartTexts {
     /// Whether an event that triggers it makes an activation, and with which base rating.
     pub require: Option<PartText>,
     /// Which pending activations end without acting.
     pub obviate: Option<ReactionText>,
-    /// Which pending activations are rated anew.
+    /// Which pending activations are rated again.
     pub retrigger: Option<ReactionText>,
     /// Whether an activation that was chosen may still act.
     pub revalidate: Option<PartText>,
@@ -118,13 +118,13 @@ pub struct PartTexts {
 /// A source.
 #[derive(Debug, Drop)]
 pub struct SourceText {
-    /// Its name and class.
+    /// The source's name and class.
     pub header: HeaderText,
-    /// Which events trigger it. There is one at least.
+    /// Which events trigger it. There is at least one.
     pub clauses: Items<ClauseText>,
     /// The base rating of its activations.
     pub rate: i64,
-    /// Its parts.
+    /// The parts besides the act.
     pub parts: PartTexts,
     /// What an activation does.
     pub act: ActText,

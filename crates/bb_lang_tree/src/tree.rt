@@ -15,21 +15,21 @@ pub struct Expr {
 #[cycle(tree)]
 #[derive(Debug, Drop)]
 pub enum ExprNode {
-    /// It has no parts.
+    /// An expression without parts.
     Atom(Atom),
-    /// What one operand becomes.
+    /// An operation on one operand.
     Unary {
         operation: Unary,
         operand: Box<Expr>,
     },
-    /// What two operands become.
+    /// An operation on two operands.
     Binary {
         operation: Binary,
         left: Box<Expr>,
         right: Box<Expr>,
     },
-    /// Operands with operators of one rank between them, of which each takes all that stands before it. There is one
-    /// step at least.
+    /// Operands with operators of one rank between them, each of which takes all that comes before it. There is at
+    /// least one step.
     Chain {
         first: Box<Expr>,
         steps: Vec<Step>,

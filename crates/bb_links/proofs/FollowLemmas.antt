@@ -17,7 +17,7 @@ use Rattle.bb_links.proofs.RowLemmas.{under_last, equal}
 
 -- ---- the pair under a stamp
 
--- that of a pair
+-- the pair under the stamp of a pair is that pair
 pub under_found : (p : ℕ × ℕ) (k : ℕ) (es : Entries) → Rising es → stamp_in p es ≡ Some k → pair_under es k ≡ Some p
 under_found p k [] rising is = absurd cc
 under_found p k (e ∷ es) rising is = at (has p e) refl is (under_found p k es rising.1)
@@ -48,7 +48,7 @@ module _ (es : Entries) (p : Partners) (follow : Follow es p) where
   none_under next below side n = follow side (n, next) ∙ ap (option_and_then (partner_in side n)) (under_last next next es below (omega arith))
 
   module _ (pair : ℕ × ℕ) (stamp : ℕ) where
-    -- the other unit of the pair has nothing under its stamp
+    -- a unit other than the pair's at a side has no partner in the pair
     other : (side : Side) (key : ℕ × ℕ) → same_pair (near side pair, stamp) key ≡ false → key.1 ≡ stamp → partner_in side key.0 pair ≡ None
     other side key h same = at (near side pair == key.0) refl
       where

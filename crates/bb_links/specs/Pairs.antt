@@ -12,7 +12,7 @@ abbrev pub near : Side → ℕ × ℕ → ℕ
 near A p = p.0
 near B p = p.1
 
--- its partner, at the other side
+-- the partner of the unit of a pair at a side
 abbrev pub far : Side → ℕ × ℕ → ℕ
 far A p = p.1
 far B p = p.0

@@ -64,7 +64,7 @@ impl Couple {
         self.pairs.first(side, unit)
     }
 
-    /// Whether a side is singular.
+    // Whether a side is singular.
     fn is_singular(&self, side: Side) -> bool
         ensures { result ≡ is_singular self.now.singular side }
     {
@@ -74,7 +74,7 @@ impl Couple {
         }
     }
 
-    /// The pair of a unit at a singular side.
+    // The pair of a unit at a singular side.
     fn old_pair(&self, side: Side, unit: UnitId) -> Option<(UnitId, UnitId)>
         ensures { result ≡ old_pair self.now.singular side unit self.now.pairs }
     {
@@ -85,7 +85,7 @@ impl Couple {
         Some(side.pair(unit, partner))
     }
 
-    /// Adds a pair that is not there, as the last. An error changes nothing.
+    // Adds a pair that is not there, as the last. An error changes nothing.
     fn add(&mut self, a: UnitId, b: UnitId) -> Result<(), AllocError>
         requires { has_pair (a, b) self.old.pairs ≡ false }
         ensures ok { OnOk result (self.new ≡ with_pairs self.old (self.old.pairs ++ (a, b) ∷ [])) }
@@ -94,14 +94,14 @@ impl Couple {
         self.pairs.push((a, b))
     }
 
-    /// Takes a pair away.
+    // Takes a pair away.
     fn cut(&mut self, pair: (UnitId, UnitId))
         ensures { self.new ≡ with_pairs self.old (without_pair pair self.old.pairs) }
     {
         self.pairs.remove(pair);
     }
 
-    /// Takes an old pair away, if there is one.
+    // Takes an old pair away, if there is one.
     fn cut_old(&mut self, pair: Option<(UnitId, UnitId)>)
         ensures { self.new ≡ with_pairs self.old (without_old pair self.old.pairs) }
     {

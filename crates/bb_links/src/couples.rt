@@ -41,14 +41,14 @@ impl Model for Couples {
     ghost invariant = { λ c. AreKnown c.couples.items c.ends.items c.standing };
 }
 
-/// The couple and the side of the slot of a number, if it is a link slot.
+// The couple and the side of the slot of a number, if it is a link slot.
 fn end_at(ends: &[Option<(CoupleId, Side)>], slot: SlotId) -> Option<(CoupleId, Side)>
     ensures { result ≡ end_among ends.now slot }
 {
     *ends.get(slot as usize)?
 }
 
-/// Notes that a unit may have a pair in a couple. An error changes nothing.
+// Notes that a unit may have a pair in a couple. An error changes nothing.
 fn note(standing: &mut Lists, unit: UnitId, couple: CoupleId) -> Result<(), Memory>
     ensures noted { OnOk result (is_in (listed standing.new.lists unit) couple ≡ true) }
     ensures kept { (n : ℕ) (i : ℕ) →
@@ -61,14 +61,14 @@ fn note(standing: &mut Lists, unit: UnitId, couple: CoupleId) -> Result<(), Memo
     standing.add(unit, number)
 }
 
-/// Whether a number is in a list.
+// Whether a number is in a list.
 fn is_in(list: &[u64], number: u64) -> bool
     ensures { result ≡ is_in list.now number }
 {
     list.iter().any(|other| *other == number)
 }
 
-/// Takes away each pair of a unit, in couples that a list has: all in which it has a pair.
+// Takes away each pair of a unit, in couples that a list has: all in which it has a pair.
 fn forget_each(couples: &mut Vec<Couple>, unit: UnitId, list: &[u64])
     requires { HasEach unit couples.old.items list.now }
     ensures { couples.new.items ≡ map (forgotten unit) couples.old.items }
@@ -119,9 +119,9 @@ impl Couples {
         self.couples[couple as usize].taken(a, b)
     }
 
-    /// Links two units through a couple, the first at side A, and says what changed. Nothing does if they are linked.
-    /// Otherwise the old pair of each goes where its side is singular, and the new pair comes last. An error changes
-    /// nothing.
+    /// Links two units through a couple, the first at side A, and says what changed. Nothing changes if they are
+    /// linked. Otherwise the old pair of each goes where its side is singular, and the new pair comes last. An error
+    /// changes nothing.
     pub fn link(&mut self, couple: CoupleId, a: UnitId, b: UnitId) -> Result<Taken, Memory>
         requires { couple < length self.old.couples }
         ensures taken { IfOk result (λ t. taken self.old couple a b ≡ Some t) }

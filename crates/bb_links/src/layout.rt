@@ -11,7 +11,7 @@ use bb_basis::Memory;
 use bb_schema::{CoupleId, Schema, Side, SlotId};
 use std::alloc::Global;
 
-/// Whether a slot is a link slot that holds one unit at most.
+// Whether a slot is a link slot that holds one unit at most.
 fn is_single(schema: &Schema, slot: SlotId) -> bool
     ensures { result ≡ is_single schema.now.slots slot }
 {
@@ -21,7 +21,7 @@ fn is_single(schema: &Schema, slot: SlotId) -> bool
     }
 }
 
-/// Whether a slot is a link slot that comes before its inverse.
+// Whether a slot is a link slot that comes before its inverse.
 fn comes_first(schema: &Schema, slot: SlotId) -> bool
     ensures { result ≡ option_map_or (comes_first slot) (slice_get schema.now.slots slot) false }
 {
@@ -31,7 +31,7 @@ fn comes_first(schema: &Schema, slot: SlotId) -> bool
     }
 }
 
-/// The couple and the side of a slot, if it is a link slot.
+// The couple and the side of a slot, if it is a link slot.
 fn end_of(schema: &Schema, slot: SlotId) -> Option<(CoupleId, Side)>
     ensures value { result ≡ couple_of schema.now slot }
     ensures there { IfSome result (λ e. e.0 < length (couples schema.now)) }

@@ -1,4 +1,4 @@
-//! A list of numbers for each unit. `couples.rt` keeps the couples in which a unit may have a pair so.
+//! A list of numbers for each unit. `couples.rt` keeps in it the couples in which each unit may have a pair.
 
 ghost use Rattle.std.specs.Prelude.{◌≡◌, ℕ, [], OnOk, OnErr, IsSome};
 ghost use Rattle.std.specs.Ordering.{nat_cmp};
@@ -63,7 +63,7 @@ impl Lists {
     }
 }
 
-/// Appends a number to the list of a unit that has one.
+// Appends a number to the list of a unit that has one.
 fn push_at(
     lists: &mut BTreeMap<UnitId, Vec<u64>>,
     unit: UnitId,

@@ -1,5 +1,5 @@
-//! Maps from two numbers to one, in the order of the first and then of the second. `pairs.rt` keeps the stamps of its
-//! pairs so, and the partners of each unit under the stamps of their pairs.
+//! Maps from two numbers to one, in the order of the first and then of the second. `pairs.rt` keeps in them the stamps
+//! of its pairs, and the partners of each unit under the stamps of their pairs.
 
 ghost use Rattle.std.specs.Prelude.{◌≡◌, ℕ, Some, None, if◌then◌else◌, OnOk, OnErr, IfOk, slice_get};
 ghost use Rattle.std.specs.BTreeMap.{IsOrdered};

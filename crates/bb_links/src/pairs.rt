@@ -16,8 +16,8 @@ use std::alloc::{AllocError, Global};
 use std::collections::BTreeMap;
 use std::marker::Model;
 
-/// Pairs of units in order of addition, the one at side A first. Each has a stamp, which rises, so that no change
-/// walks them.
+/// Pairs of units in order of addition, the one at side A first. Each has a stamp, and the stamps rise, so that no
+/// change walks over all pairs.
 #[derive(Drop)]
 pub(crate) struct Pairs {
     // The stamp that the next pair gets.
@@ -39,14 +39,14 @@ impl Model for Pairs {
     ghost invariant = { λ p. AreKept p.next p.by_stamp.entries p.stamps p.partners };
 }
 
-/// The stamp after one. There is none after 2^64 - 1.
+// The stamp after one. There is none after 2^64 - 1.
 fn next_stamp(stamp: u64) -> Option<u64>
     ensures { SomeIff result (stamp + 1 < 2 ^ 64) (stamp + 1) }
 {
     stamp.checked_add(1)
 }
 
-/// Puts a pair under a stamp above all, and the stamp under the pair. An error changes nothing.
+// Puts a pair under a stamp above all, and the stamp under the pair. An error changes nothing.
 fn stamp(
     by_stamp: &mut BTreeMap<u64, (UnitId, UnitId)>,
     stamps: &mut BTreeMap<(UnitId, UnitId), u64>,
@@ -109,8 +109,8 @@ impl Pairs {
         self.partners.list(alloc, side, unit, self.next)
     }
 
-    /// Appends a pair that is not there. An error changes nothing; one comes too once all stamps are used, after
-    /// 2^64 - 1 pairs, as `next_stamp` says.
+    /// Appends a pair that is not there. An error changes nothing; it also comes once all stamps are used, as
+    /// `next_stamp` says, after 2^64 - 1 pairs.
     pub(crate) fn push(&mut self, pair: (UnitId, UnitId)) -> Result<(), AllocError>
         requires { has_pair pair self.old ≡ false }
         ensures ok { OnOk result (self.new ≡ self.old ++ pair ∷ []) }

@@ -1,4 +1,4 @@
-//! What a link takes away and adds. `Couples::link` answers it.
+//! What a link takes away and adds. `Couples::link` returns it.
 
 ghost use Rattle.std.specs.Prelude.{◌≡◌, None, false};
 

@@ -20,7 +20,7 @@ module _ {Y : Type 0} (f : ℕ → Option Y) (made before : List Y) (n : ℕ) wh
   one_more : filter_map f (range_with_len 0 (n + 1)) ≡ filter_map f (range_with_len 0 n) ++ cons_option (f n) []
   one_more = ap (filter_map f) (range_more n) ∙ filter_map-append f (range_with_len 0 n) (n ∷ [])
 
-  -- where the number gives something, that is put on
+  -- where the number gives something, that is appended
   pub put_told : (y : Y) → f n ≡ Some y → made ≡ before ++ filter_map f (range_with_len 0 n)
       → made ++ y ∷ [] ≡ before ++ filter_map f (range_with_len 0 (n + 1))
   put_told y is so_far =
@@ -28,7 +28,7 @@ module _ {Y : Type 0} (f : ℕ → Option Y) (made before : List Y) (n : ℕ) wh
       ∙ (append_assoc before (filter_map f (range_with_len 0 n)) (y ∷ [])
       ∙ ap (λ xs. before ++ xs) (sym (one_more ∙ ap (λ o. filter_map f (range_with_len 0 n) ++ cons_option o []) is)))
 
-  -- and where it gives nothing, all is as it was
+  -- where the number gives nothing, the list is as it was
   pub left_told : f n ≡ None → made ≡ before ++ filter_map f (range_with_len 0 n)
       → made ≡ before ++ filter_map f (range_with_len 0 (n + 1))
   left_told is so_far =
@@ -41,7 +41,7 @@ module _ {Y : Type 0} (g : ℕ → Y) (p : ℕ → Bool) (made before : List Y) 
       ap (λ xs. map g (filter p xs)) (range_more n)
       ∙ (ap (map g) (filter-append p (range_with_len 0 n) (n ∷ [])) ∙ map-append g (filter p (range_with_len 0 n)) (filter p (n ∷ [])))
 
-  -- where the number passes, what is made of it is put on
+  -- where the number passes, what is made of it is appended
   pub put_passed : p n ≡ true → made ≡ before ++ map g (filter p (range_with_len 0 n))
       → made ++ g n ∷ [] ≡ before ++ map g (filter p (range_with_len 0 (n + 1)))
   put_passed is so_far =

@@ -10,7 +10,7 @@ abbrev pub act_code : Act → Option Checked
 act_code (acts.Code c) = Some c
 act_code acts.Native = None
 
--- those of require, obviate, retrigger, revalidate and do
+-- the codes of require, obviate, retrigger, revalidate and do
 abbrev pub codes_of : Source → List (Option Checked)
 codes_of s =
     s.require ∷ option_map (λ r. r.code) s.obviate ∷ option_map (λ r. r.code) s.retrigger ∷ s.revalidate

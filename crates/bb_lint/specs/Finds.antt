@@ -9,11 +9,11 @@ use Rattle.bb_code.specs.Query.{Query}
 use Rattle.bb_code.specs.Op.{Op}
 use Rattle.bb_code.specs.Op.TheVariants as ops
 
--- the classes that a space admits, rising
+-- the classes that a space admits, in ascending order
 abbrev pub admitted_classes : Schema → (space : ℕ) → List ℕ
 admitted_classes s space = filter (allowed s space) (range_with_len 0 (length s.classes))
 
--- none of those of the query's space is its class or below it
+-- no class that the query's space admits is the query's class or below it
 abbrev pub is_barren : Schema → Query → Bool
 is_barren s q = not (list_any (λ c. descends s c q.class) (admitted_classes s q.space))
 

@@ -13,7 +13,7 @@ abbrev pub makes_focus : Schema → Op → Bool
 makes_focus s (ops.New class) = descends s class 0
 makes_focus s _ = false
 
--- what an activation does may create a focus; what a source asks creates nothing
+-- the act of a source may create a focus; what a source asks creates nothing
 abbrev pub may_make_focus : Schema → Act → Bool
 may_make_focus s (acts.Code c) = list_any (makes_focus s) c.code.ops
 may_make_focus s acts.Native = true
@@ -26,6 +26,6 @@ any_makes_focus s sources = list_any (λ source. may_make_focus s source.act) so
 abbrev pub starts_below : ℤ → Source → Bool
 starts_below floor source = not (is_some source.require) && not (is_some source.retrigger) && int_lt source.rate floor
 
--- and they stay there, if no source makes a focus
+-- each activation of the source stays below the floor, if no source makes a focus
 abbrev pub stays_below : Bool → ℤ → Source → Bool
 stays_below raised floor source = not raised && starts_below floor source

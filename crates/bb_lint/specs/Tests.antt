@@ -15,7 +15,7 @@ use Rattle.bb_verify.specs.Accepted.{Checked}
 abbrev pub related : Schema → ℕ → ℕ → Bool
 related s c d = descends s c d || descends s d c
 
--- the class of a unit
+-- the class of an entry that is a unit
 abbrev pub unit_class : Kind → Option ℕ
 unit_class (kinds.Ref class) = Some class
 unit_class (kinds.Old class) = Some class
@@ -30,12 +30,12 @@ class_popped (Err flaw) = None
 abbrev pub held_class : Frame → Option ℕ
 held_class f = class_popped (pop f)
 
--- the op tests a unit for a class to which its own is not related
+-- the op tests a unit for a class to which the unit's own is not related
 abbrev pub is_vain_test : Schema → Frame → Op → Bool
 is_vain_test s f (ops.As class target) = option_map_or (λ held. not (related s held class)) (held_class f) false
 is_vain_test s f _ = false
 
--- the same of the op of a place, by the frame that is there
+-- the op of a place tests a unit for a class to which its own is not related, by the frame of the place
 abbrev pub is_vain_at : Schema → Checked → ℕ → Op → Bool
 is_vain_at s c place (ops.As class target) =
     option_map_or (λ f. is_vain_test s f (ops.As class target)) (slice_get c.frames place) false

@@ -11,11 +11,11 @@ abbrev pub names : ℕ → Op → Bool
 names number (ops.Find query) = query == number
 names number _ = false
 
--- one of the ops names it
+-- one of the ops names the query of this index
 abbrev pub is_named : List Op → ℕ → Bool
 is_named ops number = list_any (names number) ops
 
--- no op of the code names it
+-- no op of the code names the query of this index
 abbrev pub is_unused : Code → ℕ → Bool
 is_unused code number = not (is_named code.ops number)
 
@@ -24,12 +24,12 @@ pub record IsTold (ops : List Op) (count : ℕ) (table : List Bool) : Type 0 whe
   pub size : length table ≡ count
   pub each : (number : ℕ) → number < count → slice_get table number ≡ Some (is_named ops number)
 
--- the table once the query that an op names is marked
+-- a table once the query that an op names is marked
 abbrev pub with_named : List Bool → Op → List Bool
 with_named table (ops.Find query) = slice_set table query true
 with_named table _ = table
 
--- once those of all ops are
+-- a table once the queries that ops name are marked
 abbrev pub all_named : List Bool → List Op → List Bool
 all_named table [] = table
 all_named table (op ∷ ops) = all_named (with_named table op) ops

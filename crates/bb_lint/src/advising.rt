@@ -1,4 +1,4 @@
-//! What is said of sources: their warnings, then what their parts cost.
+//! The advice on sources: their warnings, then what their parts cost.
 
 use crate::costs::write_costs;
 use crate::finds::Admitted;
@@ -9,10 +9,10 @@ use bb_code::Schema;
 use bb_rules::Source;
 use std::alloc::Global;
 
-/// What people are told of sources that are accepted, each line ended by a line feed: warnings about what is certainly
-/// a slip, source by source and part by part, and then, where there are sources, a table of what their parts cost. A
-/// source whose activations stay below the floor is warned of, where no source makes a focus; first units are not
-/// looked at. The error is out of memory.
+/// What is written for people about sources that are accepted, each line ended by a line feed: warnings about what is
+/// certainly a slip, source by source and part by part, and then, if there are sources, a table of what their parts
+/// cost. There is a warning of a source whose activations stay below the floor if no source makes a focus; first units
+/// are not looked at. The error is out of memory.
 pub fn advice(
     alloc: Global,
     schema: &Schema,

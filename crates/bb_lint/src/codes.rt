@@ -1,4 +1,4 @@
-//! The codes of a source, part by part. What is said of a source and the table of costs go through them.
+//! The codes of a source, part by part. The warnings and the table of costs go through them.
 
 ghost use Rattle.std.specs.Prelude.{◌≡◌, map, option_map};
 ghost use Rattle.bb_lint.specs.Codes.{act_code, codes_of};
@@ -26,7 +26,7 @@ fn reacting(reaction: &Option<Reaction>) -> Option<&Checked>
     }
 }
 
-// The code of what an activation does, if it has one.
+// The code of an act, if it has one.
 fn acting(act: &Act) -> Option<&Checked>
     ensures { option_map (λ c. c.now) result ≡ act_code act.now }
 {

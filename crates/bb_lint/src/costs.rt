@@ -9,7 +9,7 @@ use bb_verify::{Checked, FOUND_LIMIT};
 // The heads of the columns of numbers.
 const HEADS: [&str; NUMBERS] = ["ops", "loops", "budget of 0 found", "1", "100", "65,536"];
 
-// As wide as the longest word of a part.
+// The width of the longest word of a part.
 const PART_WIDTH: usize = 10;
 
 // The numbers of a code: of its ops and loops, and its budgets by how many units are found.

@@ -1,4 +1,4 @@
-//! Searches that find nothing. The warnings of a code ask.
+//! Searches that find nothing. The warnings of a code (warning.rt) ask for them.
 
 ghost use Rattle.std.specs.Prelude.{◌≡◌, IfOk, filter, length, map};
 ghost use Rattle.std.specs.List.{list_any, range_with_len};
@@ -10,8 +10,8 @@ use bb_basis::Memory;
 use bb_code::{ClassId, Code, Op, Query, Schema, SpaceId};
 use std::alloc::Global;
 
-/// For each space of a schema the classes that it admits, rising. They are listed once, as a stranger's codes may have
-/// many queries.
+/// For each space of a schema the classes that it admits, in ascending order. They are listed once, as untrusted codes
+/// may have many queries.
 #[derive(Drop)]
 pub(crate) struct Admitted {
     lists: Vec<Vec<ClassId>>,
@@ -27,7 +27,7 @@ fn admitted_classes(alloc: Global, schema: &Schema, space: SpaceId) -> Result<Ve
         .collect(alloc)
 }
 
-// The same of each space, in order.
+// The classes that each space admits, space by space in order.
 fn admitted_by_space(alloc: Global, schema: &Schema) -> Result<Vec<Vec<ClassId>>, Memory>
     ensures { IfOk result (λ lists. AreAdmitted schema.now lists.items) }
 {
@@ -38,7 +38,7 @@ fn admitted_by_space(alloc: Global, schema: &Schema) -> Result<Vec<Vec<ClassId>>
     Ok(lists)
 }
 
-// Whether one of these classes is another one or below it.
+// Whether one of the classes is `class` or below it.
 fn has_below(schema: &Schema, classes: &[ClassId], class: ClassId) -> bool
     ensures { result ≡ list_any (λ c. descends schema.now c class) classes.now }
 {
@@ -46,7 +46,7 @@ fn has_below(schema: &Schema, classes: &[ClassId], class: ClassId) -> bool
 }
 
 impl Admitted {
-    /// Those of a schema.
+    /// The classes that the spaces of a schema admit.
     pub(crate) fn of(alloc: Global, schema: &Schema) -> Result<Admitted, Memory>
         ensures { IfOk result (λ admitted. AreAdmitted schema.now admitted.lists.items) }
     {
@@ -54,7 +54,7 @@ impl Admitted {
         Ok(Admitted { lists })
     }
 
-    // Whether a query finds nothing: its space admits no class that is its own or below it.
+    // Whether a query finds nothing: its space admits neither its class nor one below it.
     fn is_barren(&self, alloc: Global, schema: &Schema, query: &Query) -> Result<bool, Memory>
         requires { AreAdmitted schema.now self.now.lists.items }
         ensures { IfOk result (λ barren. barren ≡ is_barren schema.now query.now) }

@@ -1,5 +1,5 @@
 //! What people are told of sources that are accepted: warnings about what is certainly a slip, and a table of what
-//! their parts cost. Nothing is refused by it. bb_main writes it.
+//! their parts cost. Nothing is refused by it.
 #![tactic(auto)]
 
 mod advising;

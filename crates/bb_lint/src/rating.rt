@@ -1,4 +1,4 @@
-//! Sources whose activations are never chosen, as long as no unit is a focus. What is said of sources asks.
+//! Sources whose activations are never chosen, as long as no unit is a focus. The advice on sources asks for them.
 
 ghost use Rattle.std.specs.Prelude.{◌≡◌};
 ghost use Rattle.std.specs.List.{list_any};
@@ -20,14 +20,14 @@ fn makes_focus(schema: &Schema, op: Op) -> bool
     }
 }
 
-// Whether one of the ops does.
+// Whether one of the ops creates a focus.
 fn any_op_makes_focus(schema: &Schema, ops: &[Op]) -> bool
     ensures { result ≡ list_any (makes_focus schema.now) ops.now }
 {
     ops.iter().any(|op| makes_focus(schema, *op))
 }
 
-// Whether what an activation does may create one.
+// Whether the act of a source may create a focus.
 fn may_make_focus(schema: &Schema, act: &Act) -> bool
     ensures { result ≡ may_make_focus schema.now act.now }
 {
@@ -54,7 +54,7 @@ fn starts_below(floor: i64, source: &Source) -> bool
     parts.require.is_none() && parts.retrigger.is_none() && parts.rate < floor
 }
 
-/// The same, and that they stay there: `raised` says whether a source may create a focus.
+/// Whether each activation of a source stays below the floor: `raised` says whether a source may create a focus.
 pub(crate) fn stays_below(raised: bool, floor: i64, source: &Source) -> bool
     ensures { result ≡ stays_below raised floor source.now }
 {

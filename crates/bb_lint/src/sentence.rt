@@ -27,7 +27,7 @@ fn write_place(text: &mut String, place: Place, op: Op) -> Result<(), Memory> {
     text.push_str("\": ")
 }
 
-// Appends that no unit of the class that is known is of the one that is tested.
+// Appends that no unit of the known class is one of the class that is tested for.
 fn write_test(
     text: &mut String,
     schema: &Schema,
@@ -62,7 +62,7 @@ fn write_find(text: &mut String, schema: &Schema, code: &Code, place: Place) -> 
     text.push_str("so nothing is found\n")
 }
 
-// Appends a warning of a code, behind the names of its source and its part.
+// Appends a warning of a code, after the names of its source and its part.
 fn write_slip(
     text: &mut String,
     schema: &Schema,

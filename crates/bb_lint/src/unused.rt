@@ -1,4 +1,4 @@
-//! Queries of a code that no op names. The warnings of a code ask.
+//! Queries of a code that no op names. The warnings of a code (warning.rt) ask for them.
 
 ghost use Rattle.std.specs.Prelude.{◌≡◌, IfOk, false, length, replicate, true};
 ghost use Rattle.std.specs.Prelude.{slice_set};

@@ -1,4 +1,4 @@
-//! Tests for a class that never hold. The warnings of a code ask.
+//! Tests for a class that never hold. The warnings of a code (warning.rt) ask for them.
 
 ghost use Rattle.std.specs.Prelude.{◌≡◌, ◌<◌, length};
 ghost use Rattle.bb_lint.specs.Tests.{held_class, is_vain_at, is_vain_test, related, unit_class};
@@ -13,7 +13,7 @@ fn related(schema: &Schema, class: ClassId, other: ClassId) -> bool
     schema.descends(class, other) || schema.descends(other, class)
 }
 
-// The class of a unit.
+// The class of an entry that is a unit.
 fn unit_class(kind: Kind) -> Option<ClassId>
     ensures { result ≡ unit_class kind }
 {
@@ -35,7 +35,7 @@ pub(crate) fn held_class(frame: Frame) -> Option<ClassId>
     }
 }
 
-/// Whether an op tests a unit for a class to which its own is not related.
+// Whether an op tests a unit for a class to which the unit's own is not related.
 fn is_vain_test(schema: &Schema, frame: Frame, op: Op) -> bool
     ensures { result ≡ is_vain_test schema.now frame op }
 {
@@ -48,7 +48,7 @@ fn is_vain_test(schema: &Schema, frame: Frame, op: Op) -> bool
     }
 }
 
-/// The same of the op of a place, by the frame that is there.
+/// Whether the op of a place tests a unit for a class to which its own is not related, by the frame of the place.
 pub(crate) fn is_vain_at(schema: &Schema, checked: &Checked, place: Place, op: Op) -> bool
     requires { place < length checked.now.code.ops }
     ensures { result ≡ is_vain_at schema.now checked.now place op }

@@ -1,4 +1,4 @@
-//! What is certainly a slip in a code that is accepted. What is said of a source (`sentence`) goes through the list.
+//! What is certainly a slip in a code that is accepted. The sentences on a source (sentence.rt) go through the list.
 
 ghost use Rattle.std.specs.Prelude.{◌≡◌, ◌++◌, IfOk, OnOk, length, map};
 ghost use Rattle.bb_lint.specs.Finds.{is_barren};
@@ -25,7 +25,7 @@ pub(crate) enum Warning {
     Unused(u16),
 }
 
-// The warning of a place, by what is known of each query.
+// The warning of a place, if there is one: `barren` says of each query whether it finds nothing.
 fn warning_at(schema: &Schema, checked: &Checked, barren: &[bool], place: Place) -> Option<Warning>
     requires { barren.now ≡ map (is_barren schema.now) checked.now.code.queries }
     ensures { result ≡ warning_at schema.now checked.now place }
@@ -41,7 +41,7 @@ fn warning_at(schema: &Schema, checked: &Checked, barren: &[bool], place: Place)
     None
 }
 
-// Appends the warnings of the ops.
+// Appends the warnings of the ops, place by place.
 fn warn_of_ops(
     warnings: &mut Vec<Warning>,
     schema: &Schema,
@@ -61,7 +61,7 @@ fn warn_of_ops(
     Ok(())
 }
 
-// Appends those of the queries, by what is known of each.
+// Appends the warnings of the queries: `named` says of each whether an op names it.
 fn warn_of_queries(warnings: &mut Vec<Warning>, code: &Code, named: &[bool]) -> Result<(), Memory>
     requires { IsTold code.now.ops (length code.now.queries) named.now }
     ensures { OnOk result (warnings.new.items ≡ warnings.old.items ++ query_warnings code.now) }

@@ -50,7 +50,7 @@ impl Widths {
     }
 }
 
-// Appends blanks up to a width, where so many bytes are there.
+// Appends blanks up to a width, of which `used` bytes are filled.
 fn write_blanks(text: &mut String, used: usize, width: usize) -> Result<(), Memory> {
     for _ in used..width {
         text.push_str(" ")?;
@@ -58,7 +58,7 @@ fn write_blanks(text: &mut String, used: usize, width: usize) -> Result<(), Memo
     Ok(())
 }
 
-/// Appends a word, and blanks behind it.
+/// Appends a word, and blanks after it up to the width of its column.
 pub(crate) fn write_left(text: &mut String, word: &str, width: usize) -> Result<(), Memory> {
     text.push_str(word)?;
     write_blanks(text, word.len(), width)

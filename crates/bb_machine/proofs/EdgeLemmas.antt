@@ -30,7 +30,7 @@ module _ (b : Board) (fits : Fits b.schema b.world) (m : Machine) (op : Op) wher
       subst (λ (x : Option Frame × Option Frame). IsSafe b.schema m.place op x (keeps b r)) is
       (kept_at (Some g, None) r made.next made.is (record { schema = refl; fits = fits; edge = inl (made.place, made.suits) }))
 
-  -- the same of an op that has no other edge
+  -- the next op follows an op that has no other edge
   pub leads_by : (e : Option Frame × Option Frame) (effect : Result Frame Flaw) (r : Result Machine Halt) → (effects.on effect >>= λ x. Ok (x.on, x.target)) ≡ Ok e
       → ((g : Frame) → effect ≡ Ok g → Makes b.schema b.world m g r) → IsSafe b.schema m.place op e (keeps b r)
   leads_by e effect r h makes = let one = on_edges effect e h in leads_on e one.0 r one.2 (makes one.0 one.1)

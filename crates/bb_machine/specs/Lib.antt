@@ -14,7 +14,7 @@ pub use Rattle.bb_machine_step.specs.Step
 pub use Rattle.bb_machine_step.specs.Activation
 pub use Rattle.bb_machine_step.specs.Kept
 pub use Rattle.bb_machine_step.specs.Writes
--- of bb_machine_state: its state, and how it comes out
+-- of bb_machine_state: the state of an execution, and how an execution comes out
 pub use Rattle.bb_machine_step.specs.Reasons
 pub use Rattle.bb_machine_step.specs.Machine
 pub use Rattle.bb_machine_step.specs.Answer
@@ -22,8 +22,8 @@ pub use Rattle.bb_machine_step.specs.Entry
 pub use Rattle.bb_machine_step.specs.Outcome
 pub use Rattle.bb_machine_step.specs.Stop
 pub use Rattle.bb_machine_step.specs.Stuck
--- of the blackboard: what holds of it at any time, what changes leave of a unit that none of their notes names, and when
--- no unit can be created
+-- of the blackboard: what holds of it at any time, what changes leave of a unit that none of their notes names, and
+-- when no unit can be created
 pub use Rattle.bb_board.specs.Fits
 pub use Rattle.bb_board.specs.Named
 pub use Rattle.bb_units.specs.Units

@@ -25,16 +25,16 @@ use bb_machine_step::{Entry, Outcome, Stop, execute};
 use std::alloc::Global;
 
 /// Executes a code from its first place for an entry, at most `limit` steps, on a blackboard, and returns how it came
-/// out. What it changes is noted there. Each op is tested as it is met, so any code can be executed, and what it
-/// declares of frames and loops is not read. `Memory` may come at any op, and then the blackboard is that after the ops
-/// before it. A code without an op that writes leaves the blackboard as it was, however it comes out. A unit that no new
-/// note names keeps its class and its values, the schema stays, and no number that was given out is given to another
-/// unit. `Full` comes only where no unit can be created.
+/// out. What it changes is noted there. Each op is tested before it is done, so any code can be executed, and what the
+/// code declares of frames and loops is not read. `Memory` may come at any op, and then the blackboard is that after
+/// the ops before it. A code without an op that writes leaves the blackboard as it was, however it comes out. A unit
+/// that no new note names keeps its class and its values, the schema stays, and no number that was given out is given
+/// to another unit. `Full` comes only where no unit can be created.
 ///
 /// A code that was accepted for a part never goes wrong, where the entry is one of the part (`Begins`): each state that
 /// it passes through suits the frame of its place, its answer is one of the part, and the blackboard stays as it was
 /// unless the part is `do`. It makes no more steps than its budget for the longest sequence that it found, which has no
-/// more elements than there can be units. So it is stuck for a limit of steps below its budget alone, and never where
+/// more elements than there can be units. So it is stuck only for a limit of steps below its budget, and never where
 /// the limit is at least its budget for sequences of that many elements.
 pub fn trial(
     alloc: Global,

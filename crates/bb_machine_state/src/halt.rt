@@ -1,4 +1,4 @@
-//! What an op comes to where the execution does not go on. The ops answer it, and the execution makes its outcome of it.
+//! Why an op ends an execution. The ops return it, and the execution makes its outcome of it.
 
 ghost use Rattle.std.specs.Prelude.{◌≡◌};
 ghost use Rattle.bb_machine_state.specs.declared.halt.Halt.TheVariants.{Memory};

@@ -1,4 +1,4 @@
-//! The state of an execution: its place, its locals, its stack and the values there. And how an execution comes out.
+//! The state of an execution: its place, its locals, its stack and the values there; and how an execution comes out.
 #![tactic(auto)]
 
 mod halt;

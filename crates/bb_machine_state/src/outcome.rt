@@ -36,7 +36,7 @@ pub enum Stuck {
     Missing,
     /// An operand is of another sort.
     Kind,
-    /// A deleted unit where a live one is due.
+    /// A deleted unit where a live one is needed.
     Deleted,
     /// A link between classes that the slot does not join.
     LinkClass,
@@ -44,7 +44,7 @@ pub enum Stuck {
     Outside,
     /// A slot, a query or a space that does not fit.
     Slot,
-    /// The limit of steps was met.
+    /// The limit of steps was reached.
     Turns,
 }
 
@@ -83,7 +83,7 @@ pub enum Stop {
         steps: u128,
         found: u32,
     },
-    /// It could not go on.
+    /// The execution could not go on.
     Stuck {
         reason: Stuck,
         steps: u128,

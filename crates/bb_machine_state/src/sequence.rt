@@ -24,7 +24,7 @@ impl Model for Sequence {
 }
 
 impl Sequence {
-    /// A sequence of which all is still to come.
+    /// A sequence with all its units still to come.
     pub fn new(units: Vec<UnitId>) -> Sequence
         ensures { result ≡ whole units.items }
     {
@@ -38,7 +38,7 @@ impl Sequence {
         self.units.len()
     }
 
-    /// The first unit from here on that is live, which is gone through with those before it.
+    /// The next unit that is live, if there is one. The sequence goes on after it.
     pub fn next(&mut self, board: &Board) -> Option<UnitId>
         ensures { (result, self.new) ≡ next_live board.now self.old }
     {

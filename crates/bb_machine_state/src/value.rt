@@ -30,11 +30,11 @@ pub enum Value<'a> {
     Seq(Sequence),
 }
 
-// An operand of another sort than is due.
+// An operand of another sort than the op needs.
 const KIND: Halt = Halt::Stuck(Stuck::Kind);
 
 impl<'a> Value<'a> {
-    /// The number that is due.
+    /// The number, if the value is one.
     pub fn int(&self) -> Result<i64, Halt>
         ensures { result ≡ int_of self.now }
     {
@@ -44,7 +44,7 @@ impl<'a> Value<'a> {
         }
     }
 
-    /// The text that is due.
+    /// The text, if the value is one.
     pub fn text(&self) -> Result<&str, Halt>
         ensures { map_ok (λ t. t.now) result ≡ text_of self.now }
     {
@@ -54,7 +54,7 @@ impl<'a> Value<'a> {
         }
     }
 
-    /// The truth value that is due.
+    /// The truth value, if the value is one.
     pub fn truth(&self) -> Result<bool, Halt>
         ensures { result ≡ bool_of self.now }
     {
@@ -64,7 +64,7 @@ impl<'a> Value<'a> {
         }
     }
 
-    /// The label that is due, with its set.
+    /// The set and the label, if the value is a label.
     pub fn label(&self) -> Result<(LabelSetId, LabelId), Halt>
         ensures { result ≡ label_of self.now }
     {
@@ -74,7 +74,7 @@ impl<'a> Value<'a> {
         }
     }
 
-    /// The interval that is due, by its ends.
+    /// The ends of the interval, if the value is one.
     pub fn interval(&self) -> Result<(i64, i64), Halt>
         ensures { result ≡ interval_of self.now }
     {
@@ -84,7 +84,7 @@ impl<'a> Value<'a> {
         }
     }
 
-    /// The unit that is due, which may be deleted.
+    /// The unit, which may be deleted, if the value is one.
     pub fn unit(&self) -> Result<UnitId, Halt>
         ensures { result ≡ unit_of self.now }
     {
@@ -94,7 +94,7 @@ impl<'a> Value<'a> {
         }
     }
 
-    /// The sequence that is due.
+    /// The sequence, if the value is one.
     pub fn sequence(&self) -> Result<&Sequence, Halt>
         ensures { map_ok (λ q. q.now) result ≡ sequence_of self.now }
     {
@@ -104,7 +104,7 @@ impl<'a> Value<'a> {
         }
     }
 
-    /// The sequence that is due, taken out of the value.
+    /// The sequence, taken out of the value, if the value is one.
     pub fn into_sequence(self) -> Result<Sequence, Halt>
         ensures { result ≡ sequence_of self.entry }
     {

@@ -5,12 +5,12 @@ ghost use Rattle.std.specs.Prelude.{◌≡◌, IfOk};
 use bb_basis::{Memory, Text};
 use std::marker::Model;
 
-/// Where a text lies.
+// Where a text lies.
 #[derive(Debug, Drop)]
 enum Place<'a> {
-    /// In the code.
+    // In the code.
     Lent(&'a Text),
-    /// Owned beside the slot that it was read from, since that may change.
+    // Owned beside the slot that it was read from, since that may change.
     Shared(Text),
 }
 
@@ -48,7 +48,7 @@ impl<'a> Words<'a> {
         })
     }
 
-    /// The same text once more.
+    /// A copy that shares the text.
     pub fn share(&self) -> Result<Words<'a>, Memory>
         ensures { IfOk result (λ words. words ≡ self.now) }
     {

@@ -44,7 +44,7 @@ HaltsFor b halts.Full = is_full b.world.units ≡ true
 HaltsFor b (halts.Stuck reason) = Unit {0}
 HaltsFor b halts.Memory = ⊥
 
--- the same of an op, or of a part of it
+-- an op, or a part of it, ends as full only where no unit can be created, and never for want of memory
 abbrev pub EndsFor : {A : Type 0} → Board → Result A Halt → Type 0
 EndsFor b (Ok x) = Unit {0}
 EndsFor b (Err halt) = HaltsFor b halt

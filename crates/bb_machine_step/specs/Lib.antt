@@ -1,4 +1,4 @@
--- what numbers, truth values, texts, labels and intervals are made into
+-- the results of ops on numbers, truth values, texts, labels and intervals
 pub mod Arithmetic
 -- the ops that only read the blackboard
 pub mod Reading

@@ -8,7 +8,7 @@ ghost use Rattle.bb_machine_step.specs.Arithmetic as def;
 use bb_code::{Bound, Calculation, Comparison, Division, Logic};
 use bb_machine_state::{Halt, Machine, Stuck, Value};
 
-// What two numbers are made into.
+// The result of a calculation with two numbers.
 fn calculated(calculation: Calculation, a: i64, b: i64) -> i64
     ensures { result ≡ def.calculated calculation a b }
 {
@@ -21,7 +21,7 @@ fn calculated(calculation: Calculation, a: i64, b: i64) -> i64
     }
 }
 
-// What a positive divisor makes of a number.
+// The quotient or the remainder of a number by a positive divisor.
 fn divided(division: Division, a: i64, divisor: i64) -> i64
     requires { pos 1 ≤ℤ divisor }
     ensures { result ≡ def.divided division a divisor }
@@ -32,7 +32,7 @@ fn divided(division: Division, a: i64, divisor: i64) -> i64
     }
 }
 
-// Whether two numbers compare so.
+// Whether a comparison of two numbers holds.
 fn compared(comparison: Comparison, a: i64, b: i64) -> bool
     ensures { result ≡ def.compared comparison a b }
 {
@@ -43,7 +43,7 @@ fn compared(comparison: Comparison, a: i64, b: i64) -> bool
     }
 }
 
-// What two truth values are combined to.
+// The combination of two truth values.
 fn combined(logic: Logic, a: bool, b: bool) -> bool
     ensures { result ≡ def.combined logic a b }
 {
@@ -53,7 +53,7 @@ fn combined(logic: Logic, a: bool, b: bool) -> bool
     }
 }
 
-/// Pops two numbers and pushes what they are made into.
+/// Pops two numbers and pushes the result of a calculation.
 #[tactic(auto, unfolding(crate::specs::Arithmetic::calculate))]
 pub(crate) fn calculate(machine: &mut Machine<'_>, calculation: Calculation) -> Result<(), Halt>
     ensures { Gives OutOfMemory (λ _. machine.new) result (def.calculate calculation machine.old) }
@@ -64,7 +64,7 @@ pub(crate) fn calculate(machine: &mut Machine<'_>, calculation: Calculation) -> 
     machine.push(Value::Int(calculated(calculation, a, b)))
 }
 
-/// Pops a number and pushes what a divisor makes of it.
+/// Pops a number and pushes its quotient or remainder by a divisor.
 #[tactic(auto, unfolding(crate::specs::Arithmetic::divide))]
 pub(crate) fn divide(
     machine: &mut Machine<'_>,
@@ -79,7 +79,7 @@ pub(crate) fn divide(
     machine.push(Value::Int(divided(division, a, divisor)))
 }
 
-/// Pops two numbers and pushes whether they compare so.
+/// Pops two numbers and pushes whether a comparison of them holds.
 #[tactic(auto, unfolding(crate::specs::Arithmetic::compare))]
 pub(crate) fn compare(machine: &mut Machine<'_>, comparison: Comparison) -> Result<(), Halt>
     ensures { Gives OutOfMemory (λ _. machine.new) result (def.compare comparison machine.old) }
@@ -137,7 +137,7 @@ pub(crate) fn negate(machine: &mut Machine<'_>) -> Result<(), Halt>
     machine.push(Value::Bool(!truth))
 }
 
-/// Pops two truth values and pushes what they are combined to.
+/// Pops two truth values and pushes their combination.
 #[tactic(auto, unfolding(crate::specs::Arithmetic::combine))]
 pub(crate) fn combine(machine: &mut Machine<'_>, logic: Logic) -> Result<(), Halt>
     ensures { Gives OutOfMemory (λ _. machine.new) result (def.combine logic machine.old) }

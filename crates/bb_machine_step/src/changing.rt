@@ -44,7 +44,7 @@ pub(crate) fn new_unit(
         return Err(Halt::Stuck(Stuck::Missing));
     }
     machine.room()?;
-    // Its number is added before it is created, so that where memory runs out nothing was created.
+    // The unit's number is added before the unit is created, so that nothing was created where memory runs out.
     machine.add(Value::Unit(board.next()))?;
     match board.create(class) {
         Ok(_) => Ok(()),
@@ -209,7 +209,7 @@ fn all_said(alloc: Global, board: &Board, values: &[Value<'_>]) -> Result<Vec<Sa
     Ok(said)
 }
 
-/// Pops so many values and says them, the deepest first.
+/// Pops `count` values and says them, the deepest first.
 #[tactic(auto, unfolding(crate::specs::Changing::say))]
 pub(crate) fn say(
     machine: &mut Machine<'_>,

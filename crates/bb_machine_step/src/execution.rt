@@ -17,10 +17,10 @@ use bb_machine_state::{Board, Entry, Halt, Machine, Outcome, Stop, Stuck};
 use std::alloc::Global;
 
 /// Executes a code from its first place for an entry, at most `limit` steps, on a blackboard, and returns how it came
-/// out. What it changes is noted there. Each op is tested as it is met, so any code can be executed, and what it
-/// declares of frames and loops is not read. `Memory` may come at any op, and then the blackboard is that after the ops
-/// before it. A code without an op that writes leaves the blackboard as it was, however it comes out. A unit that no new
-/// note names keeps its class and its values. `Full` comes only where no unit can be created.
+/// out. What it changes is noted there. Each op is tested before it is done, so any code can be executed, and what the
+/// code declares of frames and loops is not read. `Memory` may come at any op, and then the blackboard is that after
+/// the ops before it. A code without an op that writes leaves the blackboard as it was, however it comes out. A unit
+/// that no new note names keeps its class and its values. `Full` comes only where no unit can be created.
 pub fn execute(
     alloc: Global,
     code: &Code,
@@ -54,7 +54,7 @@ pub fn execute(
     halted(Halt::Stuck(Stuck::Turns), limit, machine.found())
 }
 
-// How an execution came out where an op was the last of so many steps.
+// How an execution came out that ended for this reason after `steps` steps.
 fn halted(halt: Halt, steps: u128, found: u32) -> Result<Outcome, Stop>
     ensures gives { result ≡ halted halt steps found }
     ensures found { IfOk result (λ o. o.found ≡ found) }

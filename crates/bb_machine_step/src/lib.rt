@@ -1,4 +1,5 @@
-//! The defensive machine: it executes a code on a blackboard, and tests all that could go wrong.
+//! The defensive machine, for every code: what each op does to the state of an execution and to the blackboard. It
+//! tests all that could go wrong.
 #![tactic(auto)]
 
 mod arithmetic;

@@ -171,8 +171,7 @@ fn one_link(board: &Board, unit: UnitId, slot: SlotId) -> Result<(), Halt>
     }
 }
 
-/// Pops a unit that is live and pushes its partner by a singular link slot. Where it has none, the op at the place comes
-/// next.
+/// Pops a live unit and pushes its partner by a singular link slot. Where it has none, the op at the place comes next.
 #[tactic(auto, unfolding(crate::specs::Reading::one))]
 pub(crate) fn one(
     machine: &mut Machine<'_>,
@@ -218,7 +217,7 @@ pub(crate) fn alive(machine: &mut Machine<'_>, board: &Board, place: Place) -> R
     }
 }
 
-/// Pops a unit that is live and pushes it again where its class descends from this one. Where it does not, the op at the
+/// Pops a unit that is live and pushes it again where its class descends from `class`. Where it does not, the op at the
 /// place comes next.
 #[tactic(auto, unfolding(crate::specs::Reading::as_class))]
 pub(crate) fn as_class(
@@ -243,7 +242,7 @@ pub(crate) fn as_class(
     }
 }
 
-// An operand of the kind that is due.
+// A value as an operand of a kind, if it is one.
 fn operand_due(kind: OperandKind, value: &Value<'_>) -> Result<DimValue, Halt>
     ensures { result ≡ def.operand_due kind value.now }
 {

@@ -141,7 +141,7 @@ served_check (Err fault) done status old new is wrote = absurd wrote
 served_check (Ok sources) Written status old new is wrote = rw is (inl (wrote_whole (check_text sources) 0 old new wrote))
 served_check (Ok sources) Write status old new is wrote = rw is (inl (wrote_front (check_text sources) 0 wrote.0 old new wrote.1))
 
--- the answer to an input that is compiled, likewise
+-- the answer to an input that is compiled, by what of its bundle is known to have been written
 pub served_compile : (given : Result (List (SourceDraft Code)) InputFault) (done : Done) (status : ℕ) (old new : Option (List ℕ)) → status ≡ done_status done
     → WritesBundle given done old new → Delivers (answer_to_compile given) old new status ⊎ CutShort (answer_to_compile given) old new status
 served_compile (Err fault) done status old new is wrote = absurd wrote

@@ -1,4 +1,4 @@
--- The natives of the program. Each holds the number of its executions, and says it at its close.
+-- The natives of the program. Each holds the number of its executions, and says it when it is closed.
 use Rattle.std.specs.Prelude.{ℕ, ℤ, pos, ◌+ℤ◌, Bool, true, List, [], ◌∷◌, codes, slice_index_or}
 use Rattle.std.specs.Int.{saturate_signed, w64}
 use Rattle.bb_shell.specs.Ask.{Ask}
@@ -12,7 +12,7 @@ abbrev pub name_of : Trade → List ℕ
 name_of Tally = codes "tally"
 name_of Reaper = codes "reaper"
 
--- what is asked for a unit at the execution of this number: `tally` sets its `count` to that, `reaper` deletes it
+-- what a native asks for a unit at the execution of this number: `tally` sets its `count` to that, `reaper` deletes it
 abbrev pub asks_by : Trade → (unit : ℕ) → (count : ℤ) → List Ask
 asks_by Tally unit count = Set unit (codes "count") (values.Int count) ∷ []
 asks_by Reaper unit count = Delete unit ∷ []
@@ -35,6 +35,6 @@ meant trade count is_open = record {
   closing = count_in;
 }
 
--- in the order in which the program hands them in
+-- the natives, in the order in which the program hands them in
 abbrev pub program_natives : List Native
 program_natives = meant Tally (pos 0) true ∷ meant Reaper (pos 0) true ∷ []

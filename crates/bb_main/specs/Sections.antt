@@ -12,7 +12,7 @@ use Rattle.bb_main.specs.Lines.{lines}
 unfoldable pub is_alone : List ℕ → List ℕ → Bool
 is_alone word line = bytes_eq line word || bytes_eq line (word ++ 10 ∷ []) || bytes_eq line (word ++ 13 ∷ 10 ∷ [])
 
--- what a line begins
+-- the section that a line begins, if it is a header
 unfoldable pub header_of : List ℕ → Option Header
 header_of line =
     if is_alone (codes "%schema") line then Some Schema
@@ -21,11 +21,11 @@ header_of line =
     else if is_alone (codes "%bundle") line then Some Bundle
     else None
 
--- a header with the text after it, up to the next
+-- a header with the text after it, up to the next header
 pub data Part : Type 0 where
   part : Header → List ℕ → Part
 
--- a line before the rest, unless it is a header
+-- a line in front of the rest, unless it is a header
 abbrev pub line_before : Option Header → List ℕ → List ℕ → List ℕ
 line_before (Some header) line rest = []
 line_before None line rest = line ++ rest
@@ -35,7 +35,7 @@ abbrev pub before : List (List ℕ) → List ℕ
 before [] = []
 before (line ∷ others) = line_before (header_of line) line (before others)
 
--- a header's part before the others
+-- a header's part in front of the others
 abbrev pub with_part : Option Header → List ℕ → List Part → List Part
 with_part (Some header) text others = part header text ∷ others
 with_part None text others = others
@@ -52,27 +52,27 @@ pub record Texts : Type 0 where
   pub sources : List ℕ
   pub bundle : List ℕ
 
--- the first units, where they come next, or what stands for none, and the parts behind them
+-- the text of the first units, if they come next, or `{}`, and the parts after them
 abbrev pub units_first : List Part → List ℕ × List Part
 units_first (part Units text ∷ others) = (text, others)
 units_first others = (codes "{}", others)
 
--- the same of the sources that are text
+-- the text of the sources, if it comes next, or an empty one, and the parts after it
 abbrev pub sources_first : List Part → List ℕ × List Part
 sources_first (part Sources text ∷ others) = (text, others)
 sources_first others = ([], others)
 
--- the same of the bundle
+-- the text of the bundle, if it comes next, or an empty one, and the parts after it
 abbrev pub bundle_first : List Part → List ℕ × List Part
 bundle_first (part Bundle text ∷ others) = (text, others)
 bundle_first others = ([], others)
 
--- these texts, where no part is left
+-- the texts of the sections, if no part is left
 abbrev pub alone : Texts → List Part → Result Texts SectionFault
 alone texts [] = Ok texts
 alone texts (p ∷ others) = Err NotInOrder
 
--- the schema first, then units or none, then sources or none, then a bundle or none, and nothing more
+-- the texts of parts: the schema first, then units or none, then sources or none, then a bundle or none, and no more
 abbrev pub in_order : List Part → Result Texts SectionFault
 in_order (part Schema schema ∷ others) =
     let units = units_first others in

@@ -50,47 +50,47 @@ end_status ends.Limit = 3
 end_status ends.Full = 4
 end_status (ends.Stuck reason) = 7
 
--- the status of a finish: those of memory and of writing where there is no end
+-- the status of a finish: that of its end, or, if it has none, that of memory or of writing
 abbrev pub status_of : Finish → ℕ
 status_of finish = option_map_or end_status (end_of finish) (if is_write finish then WRITE else MEMORY)
 
--- the status where a text was written so far
+-- the status of a text that was written this far
 abbrev pub done_status : Done → ℕ
 done_status Written = 0
 done_status Write = WRITE
 
--- words that choose nothing are answered by their text
+-- the answer to words that choose nothing: their text
 abbrev pub fault_answer : OptionsFault → Answer
 fault_answer (Help text) = record { pieces = string_bytes text ∷ []; status = 0 }
 fault_answer (Words text) = record { pieces = string_bytes text ∷ []; status = REFUSED }
 fault_answer Memory = record { pieces = []; status = MEMORY }
 
--- a run is answered by its trace and the status of its end, which every run has
+-- the answer to a run: its trace and the status of its end, which every run has
 abbrev pub answer_to_run : List Native → (limit : ℕ) → Meaning → Answer
 answer_to_run natives limit m =
     let r = run m.plan m.board natives limit in
     record { pieces = map (segment_text m.plan) r.told; status = option_map_or end_status r.end 0 }
 
--- a refused input is answered by its line, ended by a line feed
+-- the answer to a refused input: its line, ended by a line feed
 abbrev pub refusal : List ℕ → Answer
 refusal line = record { pieces = (line ++ 10 ∷ []) ∷ []; status = REFUSED }
 
--- what the sections mean is run, or refused
+-- the answer to what the sections mean: its run, or a refusal
 abbrev pub answer_to_meaning : List Native → (limit : ℕ) → Result Meaning InputFault → Answer
 answer_to_meaning natives limit (Ok m) = answer_to_run natives limit m
 answer_to_meaning natives limit (Err fault) = refusal (refusal_text fault)
 
--- a check is answered by the lines on all sources, or refused
+-- the answer to a check: the lines on all sources, or a refusal
 abbrev pub answer_to_check : Result (List Source) InputFault → Answer
 answer_to_check (Ok sources) = record { pieces = check_text sources ∷ []; status = 0 }
 answer_to_check (Err fault) = refusal (refusal_text fault)
 
--- an input that is compiled is answered by the bundle of its sources that are text, or refused
+-- the answer to an input that is compiled: the bundle of its sources that are text, or a refusal
 abbrev pub answer_to_compile : Result (List (SourceDraft Code)) InputFault → Answer
 answer_to_compile (Ok compiled) = record { pieces = bundle_text compiled ∷ []; status = 0 }
 answer_to_compile (Err fault) = refusal (refusal_text fault)
 
--- what the texts of the sections are answered in a mode, with the natives that were handed in
+-- the answer to the texts of the sections in a mode, with the natives that were handed in
 abbrev pub answer_in : List Native → Mode → (limit : ℕ) → (floor : ℤ) → (schema units sources bundle : List ℕ) → Answer
 answer_in natives Run limit floor schema units sources bundle =
     answer_to_meaning natives limit (meaning (native_names natives) schema units sources bundle floor)
@@ -98,7 +98,7 @@ answer_in natives Check limit floor schema units sources bundle =
     answer_to_check (sources_in (native_names natives) schema sources bundle)
 answer_in natives Compile limit floor schema units sources bundle = answer_to_compile (bundle_in schema sources)
 
--- the sections are answered, or there are none, which is refused
+-- the answer to the sections, or the refusal of an input that has none
 abbrev pub answer_to_sections : List Native → Mode → (limit : ℕ) → (floor : ℤ) → Result Texts SectionFault → Answer
 answer_to_sections natives mode limit floor (Ok t) =
     answer_in natives mode limit floor t.schema t.units t.sources t.bundle
@@ -108,11 +108,11 @@ answer_to_sections natives mode limit floor (Err fault) = refusal (section_line 
 unfoldable pub answer : List Native → (bytes : List ℕ) → Mode → (limit : ℕ) → (floor : ℤ) → Answer
 answer natives bytes mode limit floor = answer_to_sections natives mode limit floor (input_of bytes)
 
--- the answer where the reader fails, whatever its bytes are
+-- the answer if the reader fails, whatever its bytes are
 abbrev pub read_refusal : Answer
 read_refusal = refusal read_line
 
--- the answer where there are too many bytes, whatever they are
+-- the answer if there are too many bytes, whatever they are
 abbrev pub limit_refusal : Answer
 limit_refusal = refusal (section_line faults.Limit)
 
@@ -128,7 +128,7 @@ CutShort a taken given status =
     (status ≡ MEMORY)
     × ((count : ℕ) × (a.status ≡ REFUSED → count ≡ 0) × Appends taken given (text_of (take count a.pieces)))
 
--- the answer to some bytes is delivered, or cut short; they are all of the reader's where it tells them
+-- the answer to some bytes is delivered, or cut short; they are all bytes of the reader, if these are known
 abbrev pub Serves : List Native → Mode → (limit : ℕ) → (floor : ℤ) → (read taken given : Option (List ℕ)) → (status : ℕ) → Type 0
 Serves natives mode limit floor read taken given status =
     (bytes : List ℕ) × IfSome read (λ xs. bytes ≡ xs)

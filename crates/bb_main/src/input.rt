@@ -6,18 +6,18 @@ ghost use Rattle.std.specs.Io.KnownBytes.{Consumes, IsAtEnd, Keeps};
 
 use std::io::{ErrorKind, Read};
 
-/// The most tries of one read that is interrupted.
+// The most tries of one read that is interrupted.
 const TRY_LIMIT: usize = 64;
 
-/// Where an input is read from. It tells the bytes that are left to read, and whether it has failed.
+/// Where an input is read from: it gives bytes until the end, or until it fails.
 pub trait In {
-    /// The bytes that are left to read, where it tells them.
+    /// The bytes that are left to read, where they are known.
     ghost remaining: { Self → Option (List ℕ) };
 
-    /// Whether it has failed.
+    /// Whether the reader has failed.
     ghost has_failed: { Self → Bool };
 
-    /// Reads bytes into the front of the buffer, and answers how many: none at the end alone. Or takes none, answers
+    /// Reads bytes into the front of the buffer, and returns how many: none only at the end. Or takes none, returns
     /// `None` and has failed.
     fn read(&mut self, buffer: &mut [u8]) -> Option<usize>
         requires room { 0 < length buffer.old }
@@ -28,7 +28,7 @@ pub trait In {
         ensures none { IfNone result (Keeps (remaining self.old) (remaining self.new)) }
         ensures failed { has_failed self.new ≡ is_none result };
 
-    /// Whether it has failed.
+    /// Whether the reader has failed.
     fn failed(&self) -> bool
         ensures { result ≡ has_failed self.now };
 }

@@ -1,4 +1,12 @@
-//! The program of the shell: what its input is, and what it writes for it.
+//! The program of the shell, from the bytes of its input to the bytes of its answer.
+//!
+//! - In: options, a reader, a writer, and a writer for messages.
+//! - Out: `program` and `serve`, the exit status, after a trace, a check, a bundle or a refusal was written.
+//! - Callers rely on: the answer is that of bb_shell on the sections of the input; an input past `INPUT_LIMIT` is
+//!   refused; and whatever happens, each native is closed.
+//! - Family: bb_main_options has the command line; `bb` is the program, bb_c the library for C, and bb_main_refused the
+//!   program for the gate's test of a refusal.
+//! - Cases: `program`, `outputs`, `sentences`, `advice`, `limits`; tests here and in bb_shell_tests.
 #![tactic(auto)]
 
 mod input;

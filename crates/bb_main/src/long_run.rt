@@ -2,7 +2,7 @@
 
 use std::alloc::{AllocError, Global};
 
-/// Appends a text so many times.
+// Appends a text `times` times.
 fn repeat(text: &mut String, part: &str, times: usize) -> Result<(), AllocError> {
     for _ in 0..times {
         text.push_str(part)?;
@@ -10,7 +10,7 @@ fn repeat(text: &mut String, part: &str, times: usize) -> Result<(), AllocError>
     Ok(())
 }
 
-/// The ops of the long run: sixteen times `PushText 0`, then `Say 16`.
+// The ops of the long run: sixteen times `PushText 0`, then `Say 16`.
 const PUSH: &str = "020000";
 
 const SAY: &str = "2910";
@@ -32,7 +32,7 @@ pub(crate) fn long_run(alloc: Global) -> Result<String, AllocError> {
     Ok(input)
 }
 
-/// Its trace. The segment of its execution, from the first `say` to `end`, has 1.28 MB.
+/// The trace of the long run. The segment of its execution, from the first `say` to `end`, has 1.28 MB.
 pub(crate) fn long_trace(alloc: Global) -> Result<String, AllocError> {
     let mut trace = String::from_str(
         alloc,

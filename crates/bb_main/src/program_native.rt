@@ -6,7 +6,7 @@ ghost use Rattle.bb_main.specs.Natives.{asks_by, name_of, program_natives};
 use bb_shell::{Ask, Memory, NativeSource, Text, UnitId, Value, View};
 use std::alloc::Global;
 
-/// Which of the natives of the program it is.
+/// Which of the natives of the program a native is.
 #[derive(Clone, Copy, Debug, PartialEq, Eq)]
 pub enum Trade {
     /// `tally` sets the slot `count` of its unit to the number of its executions, this one included.
@@ -15,7 +15,7 @@ pub enum Trade {
     Reaper,
 }
 
-/// A native of the program. It counts its executions, and says their number at its close.
+/// A native of the program. It counts its executions, and says their number when it is closed.
 #[derive(Debug, Drop)]
 pub struct ProgramNative {
     trade: Trade,

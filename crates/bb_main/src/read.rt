@@ -11,7 +11,7 @@ use thiserror::Error;
 /// The most bytes that an input may have.
 pub const INPUT_LIMIT: usize = 16_777_216;
 
-/// The most bytes that one read asks for.
+// The most bytes that one read asks for.
 const CHUNK_LIMIT: usize = 8_192;
 
 /// Why the bytes of an input were not all read.
@@ -36,8 +36,8 @@ impl From<AllocError> for ReadFault {
     }
 }
 
-/// All bytes of an input, which are at most `INPUT_LIMIT`. `Limit`: one byte more was there, and was taken. No other
-/// answer has taken it.
+/// All bytes of an input, which are at most `INPUT_LIMIT`. `Limit`: one byte more was there, and was taken, as at no
+/// other result.
 pub(crate) fn read_input<R: In>(alloc: Global, reader: &mut R) -> Result<Vec<u8>, ReadFault>
     requires { R.has_failed reader.old ≡ false }
     ensures read { Reads (R.remaining reader.old) (R.remaining reader.new) result }

@@ -9,8 +9,8 @@ use std::io;
 use std::io::{Error, ErrorKind, Read, Write};
 use std::test::Fail;
 
-/// Whether the program refuses an input of this reader by that line, and says that beside it, as far as there is room
-/// for it on standard error.
+// Whether the program refuses an input of this reader by that line, and writes that report to standard error, as far
+// as there is room for it.
 fn refuses<R: Read + Drop>(
     rt: &HostRuntime,
     reader: R,
@@ -34,7 +34,7 @@ fn refuses<R: Read + Drop>(
     status == 2 && told.as_slice() == line.as_bytes() && errors.taken.as_slice() == report
 }
 
-/// Keeps what it takes, and fails where there is no room.
+// A writer that keeps what it takes, and fails once there is no room.
 #[derive(Drop)]
 struct Errors {
     taken: Vec<u8>,
@@ -57,7 +57,7 @@ impl Write for Errors {
     }
 }
 
-/// Can't be read.
+// A reader that can't be read.
 #[derive(Drop)]
 struct Unreadable;
 

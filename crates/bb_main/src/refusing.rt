@@ -1,5 +1,5 @@
-//! The refusal of an input: the line that tells it is written, and what there is to say of it is answered. What serves
-//! an input (`serving`) ends with these.
+//! The refusal of an input: its line is written, and the report on it is returned. What serves an input (serving.rt)
+//! ends with these.
 
 ghost use Rattle.std.specs.Prelude.{◌≡◌, ◌≢◌, ◌==◌, ◌⊎◌, true, false, map, IsNone};
 ghost use Rattle.bb_shell.specs.Roster.{all_open};
@@ -15,8 +15,8 @@ use bb_shell::{InputFault, NativeSource, Out, close_each, put_all};
 use std::alloc::Global;
 use std::fmt::Display;
 
-/// Writes the line by which the sections of an input are refused, and then makes a text of the reason. Where memory for
-/// the notes runs out it is the sentence alone.
+/// Writes the line by which the sections of an input are refused, and then makes a text of the reason. If memory for
+/// the notes runs out, the text is the sentence alone.
 pub(crate) fn refuse<O: Out>(
     alloc: Global,
     fault: &InputFault,
@@ -44,7 +44,7 @@ pub(crate) fn refuse<O: Out>(
     }
 }
 
-// The sentence and the notes, or the sentence alone, or nothing, as memory allows.
+// The reason of a refusal: the sentence and the notes, or the sentence alone, or nothing, as memory allows.
 fn reason(alloc: Global, fault: &InputFault, sections: Sections<'_>) -> Option<String> {
     let Sections {
         schema,
@@ -64,7 +64,7 @@ fn reason(alloc: Global, fault: &InputFault, sections: Sections<'_>) -> Option<S
     }
 }
 
-/// Closes the natives, in order, and writes the line of a refusal. That wants no memory.
+/// Closes the natives, in order, and writes the line of a refusal. Neither needs memory.
 pub(crate) fn refuse_input<D: Display + Drop, N: NativeSource, O: Out>(
     alloc: Global,
     line: &str,
@@ -83,7 +83,7 @@ pub(crate) fn refuse_input<D: Display + Drop, N: NativeSource, O: Out>(
     answer(alloc, line, reason, writer)
 }
 
-/// Writes the line of a refusal, and then makes a text of the reason. Only that text wants memory.
+// Writes the line of a refusal, and then makes a text of the reason. Only that text needs memory.
 fn answer<D: Display + Drop, O: Out>(alloc: Global, line: &str, reason: D, writer: &mut O) -> Served
     requires { O.has_failed writer.old ≡ false }
     ensures answer { Delivers (refusal line.now) (O.taken writer.old) (O.taken writer.new) result.status }
@@ -102,7 +102,7 @@ fn answer<D: Display + Drop, O: Out>(alloc: Global, line: &str, reason: D, write
     }
 }
 
-/// Writes the line of a refusal. It wants no memory.
+// Writes the line of a refusal, for which it needs no memory.
 fn write_refusal<O: Out>(line: &str, writer: &mut O) -> u8
     requires { O.has_failed writer.old ≡ false }
     ensures answer { Delivers (refusal line.now) (O.taken writer.old) (O.taken writer.new) result }

@@ -1,15 +1,15 @@
-//! Why the bytes of an input have no sections, the line that refuses it then, and the sentence that says why.
-//! `Sections::of_bytes` answers it.
+//! Why the bytes of an input have no sections, the line by which the input is then refused, and the sentence that says
+//! why. `Sections::of_bytes` returns it.
 
 ghost use Rattle.std.specs.Prelude.{◌≡◌};
 ghost use Rattle.bb_main.specs.Refusals.{section_line};
 
 use thiserror::Error;
 
-/// Why the bytes of an input have no sections: the first of these, in their order.
+/// Why the bytes of an input have no sections: the first of these faults that they have.
 #[derive(Clone, Copy, Debug, PartialEq, Eq, Error)]
 pub(crate) enum SectionFault {
-    /// The bytes are more than are taken.
+    /// There are more bytes than an input may have.
     #[error("input: it has more than 16,777,216 bytes")]
     Limit,
     /// The bytes are not UTF-8.
@@ -21,7 +21,7 @@ pub(crate) enum SectionFault {
 }
 
 impl SectionFault {
-    /// The line by which the input is refused, without its end.
+    /// The line by which the input is refused, without its line feed.
     pub(crate) fn line(self) -> &'static str
         ensures { result.now ≡ section_line self }
     {

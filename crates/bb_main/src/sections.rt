@@ -1,4 +1,4 @@
-//! An input is cut into its sections, each the text after its header line. `serve` cuts it.
+//! The cutting of an input into its sections, each the text after its header line. `serve` cuts an input.
 
 ghost use Rattle.std.specs.Prelude.{◌≡◌, ◌++◌, ◌∷◌, [], ◌<◌, MatchOption, length};
 ghost use Rattle.bb_main.specs.Lines.{lines};
@@ -10,7 +10,7 @@ use crate::read::INPUT_LIMIT;
 use crate::section_fault::SectionFault;
 use std::str;
 
-/// What a header line begins.
+/// The section that a header line begins.
 #[derive(Clone, Copy, Debug, PartialEq, Eq)]
 pub(crate) enum Header {
     Schema,
@@ -62,7 +62,7 @@ impl<'a> Sections<'a> {
     }
 }
 
-/// The section that a text begins with, where its first line is that header, and the text from the next header on.
+// The section that a text begins with, if its first line is that header, and the text from the next header on.
 fn section<'a>(header: Header, text: &'a str) -> Option<(&'a str, &'a str)>
     ensures { Takes header text.now result }
 {
@@ -73,7 +73,7 @@ fn section<'a>(header: Header, text: &'a str) -> Option<(&'a str, &'a str)>
     Some(to_header(after))
 }
 
-/// The text before its first header line, and the text from that line on.
+// The text before its first header line, and the text from that line on.
 fn to_header(text: &str) -> (&str, &str)
     ensures before { result.0.now ≡ before (lines text.now) }
     ensures parts { parts (lines text.now) ≡ parts (lines result.1.now) }
@@ -90,7 +90,7 @@ fn to_header(text: &str) -> (&str, &str)
     (&text[..text.len() - rest.len()], rest)
 }
 
-/// What a line begins, if it is a header.
+// The section that a line begins, if it is a header.
 #[tactic(auto, unfolding(crate::specs::Sections::header_of))]
 fn header_of(line: &str) -> Option<Header>
     ensures { result ≡ header_of line.now }
@@ -108,7 +108,7 @@ fn header_of(line: &str) -> Option<Header>
     }
 }
 
-/// Whether a line is the word alone, ended by LF, by CR LF or, without a CR, by the end of the input.
+// Whether a line is the word alone, ended by LF, by CR LF or, without a CR, by the end of the input.
 fn is_alone(word: &str, line: &str) -> bool
     ensures { result ≡ is_alone word.now line.now }
 {
@@ -118,14 +118,14 @@ fn is_alone(word: &str, line: &str) -> bool
     }
 }
 
-/// Whether a text is nothing, LF or CR LF.
+// Whether a text is nothing, LF or CR LF.
 fn is_end(text: &str) -> bool
     ensures { result ≡ is_end text.now }
 {
     text.is_empty() || text == "\n" || text == "\r\n"
 }
 
-/// The first line with its end, and the text after it.
+// The first line of a text with its end, and the text after it.
 fn first_line(text: &str) -> (&str, &str)
     ensures joined { text.now ≡ result.0.now ++ result.1.now }
     ensures first { 0 < length text.now → lines text.now ≡ result.0.now ∷ lines result.1.now }

@@ -1,5 +1,5 @@
 //! The program: an input is read, cut into sections, and run, checked or compiled; its trace, the lines of its check,
-//! its bundle, or the line that refuses it, is written, and what there is to say of it is said beside that.
+//! its bundle, or the line by which it is refused, is written, and its report or advice is written besides.
 
 ghost use Rattle.std.specs.Prelude.{◌≡◌, ◌≢◌, ◌==◌, ◌+◌, ◌⊎◌, true, false, map};
 ghost use Rattle.std.specs.Prelude.{IfErr, IsNone};
@@ -37,15 +37,15 @@ use std::io::Write;
 /// The status of a refused input, and of refused words.
 pub(crate) const REFUSED: u8 = 2;
 
-/// The status where memory ran out.
+/// The status if memory ran out.
 pub(crate) const MEMORY: u8 = 5;
 
-/// The status where the output failed.
+/// The status if the output failed.
 pub(crate) const WRITE: u8 = 6;
 
 /// What the program does: `serve`, as the words of its command line choose, with its natives `tally` and `reaper`.
-/// After the line of a refusal it says on `errors` why, and after the lines of a check what there is to say of its
-/// sources. Answers the status of the program, whatever `errors` does.
+/// After the line of a refusal it writes the reason to `errors`, and after the lines of a check the advice on its
+/// sources. Returns the status of the program, whatever `errors` does.
 pub fn program<R: In, O: Out, E: Write>(
     alloc: Global,
     options: Options,
@@ -64,7 +64,7 @@ pub fn program<R: In, O: Out, E: Write>(
         → Delivers limit_refusal (O.taken writer.old) (O.taken writer.new) result }
     ensures failed { O.has_failed writer.new ≡ (result == WRITE) }
     ensures unstuck { result ≢ 7 }
-    // Nothing is said but of a refused input, and of one that is checked.
+    // Nothing is written to `errors` but on a refused input, and on one that is checked.
     ensures silent { result ≢ REFUSED → options.mode ≢ Mode.Check → errors.new ≡ errors.old }
 {
     let Ok(natives) = program_natives(alloc) else {
@@ -80,7 +80,7 @@ pub fn program<R: In, O: Out, E: Write>(
     status
 }
 
-/// Says why an input is refused, if there is something to say. What cannot be written is left out.
+// Writes the report on a refused input, if there is one. What cannot be written is left out.
 fn say<E: Write>(report: Option<String>, errors: &mut E)
     ensures { IsNone report → errors.new ≡ errors.old }
 {
@@ -90,7 +90,7 @@ fn say<E: Write>(report: Option<String>, errors: &mut E)
     let _ = writeln!(errors, "bb: {report}");
 }
 
-/// Says what there is to say of an input that was checked, if there is something. What cannot be written is left out.
+// Writes the advice on an input that was checked, if there is any. What cannot be written is left out.
 fn say_advice<E: Write>(advice: Option<String>, errors: &mut E)
     ensures { IsNone advice → errors.new ≡ errors.old }
 {
@@ -101,9 +101,9 @@ fn say_advice<E: Write>(advice: Option<String>, errors: &mut E)
 
 /// Reads an input and does with it what the mode says: `Run` runs it, with at most `limit` cycles and no activation
 /// rated below `floor`, and writes its trace; `Check` verifies its sources and writes what their parts cost; `Compile`
-/// writes the bundle of its sources that are text. Or it writes the line by which the input is refused. Answers the
+/// writes the bundle of its sources that are text. Or it writes the line by which the input is refused. Returns the
 /// status of the program: 0 quiescence, a check or a bundle written, 2 a refused input, 3 the limit, 4 full, 5 no
-/// memory, 6 the output failed, 7 stuck. Each native is closed once, in order, at each of these answers.
+/// memory, 6 the output failed, 7 stuck. Each native is closed once, in order, whatever the status.
 pub fn serve<N: NativeSource, R: In, O: Out>(
     alloc: Global,
     mode: Mode,
@@ -125,7 +125,7 @@ pub fn serve<N: NativeSource, R: In, O: Out>(
     ensures unread { OnTrue (R.has_failed reader.new)
         (Delivers read_refusal (O.taken writer.old) (O.taken writer.new) result) }
 
-    // One byte more than an input may have is the last that is taken. It refuses the input, and wants no memory.
+    // At most one byte more than an input may have is taken. The input is then refused, which needs no memory.
     ensures taken { TakesAtMost (INPUT_LIMIT + 1) (R.remaining reader.old) (R.remaining reader.new) }
     ensures too_long { HasTaken (INPUT_LIMIT + 1) (R.remaining reader.old) (R.remaining reader.new)
         → Delivers limit_refusal (O.taken writer.old) (O.taken writer.new) result }
@@ -138,7 +138,7 @@ pub fn serve<N: NativeSource, R: In, O: Out>(
     serve_with(alloc, options, natives, reader, writer).status
 }
 
-/// `serve` as the words of a command line choose, with what there is to say of a refused input.
+/// `serve` as the words of a command line choose, with the report on a refused input and the advice on a checked one.
 pub fn serve_with<N: NativeSource, R: In, O: Out>(
     alloc: Global,
     options: Options,
@@ -184,7 +184,7 @@ pub fn serve_with<N: NativeSource, R: In, O: Out>(
     }
 }
 
-/// Serves an input of these bytes. Where they have no sections, the answer wants no memory.
+// Serves an input of these bytes. If they have no sections, the answer needs no memory.
 fn serve_bytes<N: NativeSource, O: Out>(
     alloc: Global,
     options: Options,
@@ -210,7 +210,7 @@ fn serve_bytes<N: NativeSource, O: Out>(
     }
 }
 
-/// Serves an input of these sections.
+// Serves an input of these sections.
 fn serve_sections<N: NativeSource, O: Out>(
     alloc: Global,
     options: Options,
@@ -237,7 +237,7 @@ fn serve_sections<N: NativeSource, O: Out>(
     }
 }
 
-/// Runs these sections.
+// Runs an input of these sections.
 fn run_sections<N: NativeSource, O: Out>(
     alloc: Global,
     options: Options,
@@ -274,7 +274,7 @@ fn run_sections<N: NativeSource, O: Out>(
     }
 }
 
-/// Checks these sections. The units are not looked at.
+// Checks an input of these sections. The units are not looked at.
 fn check_sections<N: NativeSource, O: Out>(
     alloc: Global,
     floor: i64,
@@ -306,7 +306,7 @@ fn check_sections<N: NativeSource, O: Out>(
     }
 }
 
-/// The status of an input that was checked, and what there is to say of it.
+// The status of an input that was checked, and the advice on it.
 fn advise(alloc: Global, checked: &Check, floor: i64) -> Served
     ensures status { result.status ≡ done_status checked.now.done }
     ensures silent { IsNone result.report }
@@ -319,7 +319,7 @@ fn advise(alloc: Global, checked: &Check, floor: i64) -> Served
     }
 }
 
-/// Compiles these sections. The units and the bundle are not looked at.
+// Compiles an input of these sections. The units and the bundle are not looked at.
 fn compile_sections<N: NativeSource, O: Out>(
     alloc: Global,
     natives: Vec<N>,
@@ -350,7 +350,7 @@ fn compile_sections<N: NativeSource, O: Out>(
     }
 }
 
-/// The status where a text was written so far.
+// The status of a text that was written this far.
 fn done_status(done: Done) -> u8
     ensures { result ≡ done_status done }
 {
@@ -360,7 +360,7 @@ fn done_status(done: Done) -> u8
     }
 }
 
-/// The status of a finish.
+// The status of a finish.
 fn status(finish: Finish) -> u8
     ensures { result ≡ status_of finish }
 {

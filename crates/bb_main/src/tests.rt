@@ -1,5 +1,5 @@
-//! Tests of the program with readers that give pieces, fail, are interrupted or never end, and with writers that fail;
-//! also with such as fail once and would go on, and with a segment that is long.
+//! Tests of the program with readers that give pieces, fail, are interrupted or never end, with writers that fail, also
+//! with readers and writers that fail once and would go on, and with a segment that is long.
 
 ghost use Rattle.std.specs.Prelude.{◌≡◌, true, map};
 ghost use Rattle.bb_shell.specs.Roster.{all_open};
@@ -17,7 +17,7 @@ use std::io;
 use std::io::{Error, ErrorKind, Read, Write};
 use std::test::Fail;
 
-/// Gives its bytes a piece at a time, and then the end or an error.
+// A reader that gives its bytes a piece at a time, and then the end or an error.
 #[derive(Drop)]
 struct Pieces<'a> {
     bytes: &'a [u8],
@@ -39,7 +39,7 @@ impl Read for Pieces<'_> {
     }
 }
 
-/// Never ends, and counts what it gives.
+// A reader that never ends, and counts what it gives.
 #[derive(Drop)]
 struct Endless {
     byte: u8,
@@ -54,7 +54,7 @@ impl Read for Endless {
     }
 }
 
-/// So many reads are interrupted before one is not.
+// A reader of which `times` reads are interrupted before one is not.
 #[derive(Drop)]
 struct Interrupted<'a> {
     inner: Pieces<'a>,
@@ -88,7 +88,7 @@ fn whole_readings(rt: HostRuntime) -> Result<(), Fail> {
     Ok(())
 }
 
-/// The input of a run of one source, which says a word.
+// The input of a run of one source, which says a word.
 const FIRST_RUN: &str = "%schema
 {\"classes\":[{\"name\":\"note\"}]}
 %units
@@ -99,7 +99,7 @@ when create note
 do 42424301010001000568656c6c6f000000000000000302000029012e
 ";
 
-/// Its trace.
+// The trace of the first run.
 const FIRST_TRACE: &str = "create 1 note
 trigger 1 hail unit 1 rating 100
 cycle 1 act 1 hail unit 1 rating 100
@@ -109,7 +109,7 @@ quiescence
 finish quiescence
 ";
 
-/// Takes no more than so many bytes.
+// A writer that takes no more than `room` bytes.
 #[derive(Drop)]
 struct Full {
     room: usize,
@@ -127,14 +127,14 @@ impl Write for Full {
     }
 }
 
-/// No natives.
+// No natives.
 fn none(alloc: Global) -> Vec<ProgramNative>
     ensures { all_open (map ⟦<ProgramNative as NativeSource>⟧.meaning result.items) ≡ true }
 {
     Vec::new(alloc)
 }
 
-/// Whether an input, read from this reader, ends with that status and exactly that text.
+// Whether an input, read from this reader, ends with that status and exactly that text.
 fn serves<R: Read + Drop>(rt: &HostRuntime, reader: R, limit: u32, status: u8, text: &str) -> bool {
     let mut reader = Intake::new(reader);
     let mut writer = Pipe::new(Vec::new(rt.alloc()));
@@ -189,7 +189,7 @@ fn program_run(rt: HostRuntime) {
     assert!(rt; told && writer.into_inner().as_slice() == expected.as_bytes());
 }
 
-/// What there is to say of a checked input: its one part has three ops, in no loop.
+// The advice on the first run when it is checked: its one part has three ops, in no loop.
 const FIRST_COSTS: &str = "\
 source  part        ops  loops  budget of 0 found  1  100  65,536
 hail    do            3      0                  3  3    3       3
@@ -247,7 +247,7 @@ fn failing_readers(rt: HostRuntime) {
     }
 }
 
-/// Its first read fails, and each after it gives bytes.
+// A reader whose first read fails, and each after it gives bytes.
 #[derive(Drop)]
 struct FailsAtFirst<'a> {
     inner: Pieces<'a>,
@@ -327,7 +327,7 @@ fn failing_writers(rt: HostRuntime) {
     }
 }
 
-/// Takes some bytes, fails once, by an error or by taking none, and counts what it is given after that.
+// A writer that takes some bytes, fails once, by an error or by taking none, and counts what it is given after that.
 #[derive(Drop)]
 struct FailsOnce {
     room: usize,
@@ -359,7 +359,7 @@ impl Write for FailsOnce {
     }
 }
 
-/// Whether the program stops at the writer's first failure.
+// Whether the program stops at the writer's first failure.
 fn stops_at(rt: &HostRuntime, input: &str, room: usize, end: Option<ErrorKind>) -> bool {
     let mut reader = Intake::new(input.as_bytes());
     let mut writer = Pipe::new(FailsOnce {

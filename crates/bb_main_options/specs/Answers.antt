@@ -17,19 +17,19 @@ use Rattle.bb_main_options.specs.declared.fault.OptionsFault.{OptionsFault}
 use Rattle.bb_main_options.specs.declared.fault.OptionsFault.TheVariants.{Help, Words, Memory}
 use Rattle.bb_main_options.specs.CommandLine.{command_with, mode_names, names_in, options_in}
 
--- help or the version is asked for
+-- the words ask for help or the version
 abbrev pub is_request : ErrorKind → Bool
 is_request DisplayHelp = true
 is_request DisplayVersion = true
 is_request _ = false
 
--- the fault is one of that kind
+-- the fault is one of this kind of error
 abbrev pub Tells : OptionsFault → ErrorKind → Type 0
 Tells (Help text) kind = is_request kind ≡ true
 Tells (Words text) kind = is_request kind ≡ false
 Tells Memory kind = ⊥
 
--- what is made of an error of clap
+-- the fault that an error of clap becomes
 abbrev pub IsRefusal : Error → OptionsFault → Type 0
 IsRefusal error fault = (fault ≡ Memory) ⊎ ((kind_of error ≢ OutOfMemory) × Tells fault (kind_of error))
 
@@ -38,11 +38,11 @@ pub record AnswersBy (command : App) (words : List Text) (result : Result Option
   -- the options are those of clap's matches, and clap finds no fault in the words
   pub given : IfOk result (λ o. o ≡ options_in (matches_of command words))
   pub faultless : IfOk result (λ o. fault_of command words ≡ [])
-  -- words that clap takes are refused for want of memory alone, others by the kind of fault that clap finds
+  -- words that clap takes are refused only if memory runs out, others by the kind of fault that clap finds
   pub taken : takes command words ≡ true → IfErr result (λ e. e ≡ Memory)
   pub refused : IfErr result (λ e. (e ≡ Memory) ⊎ ((k : ErrorKind) × IsAmong k (fault_of command words) × Tells e k))
 
--- the same, by the command of the modes
+-- what is answered to words, by the command with the modes
 abbrev pub Answers : List Text → Result Options OptionsFault → Type 0
 Answers words result =
     (modes : Bor (List PossibleValue)) × (names_in modes.now ≡ mode_names)

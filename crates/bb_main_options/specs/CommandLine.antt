@@ -14,7 +14,7 @@ use Rattle.bb_main_options.specs.declared.choice.Mode.TheVariants.{Run, Check, C
 use Rattle.bb_main_options.specs.declared.choice.Options.{Options}
 use Rattle.bb_main_options.specs.declared.choice.TheConstants.{CYCLE_LIMIT, FLOOR}
 
--- the least and the most of a floor, and the most of a limit
+-- the least and the greatest floor, and the greatest limit
 abbrev pub least_floor : ℤ
 least_floor = negsuc 9223372036854775807
 
@@ -24,11 +24,11 @@ most_floor = pos 9223372036854775807
 abbrev pub most_limit : ℕ
 most_limit = 4294967295
 
--- a word that is a mode, as the parser says
+-- a word that is one of the modes of the parser
 abbrev pub mode_rule : ValueParser → Rule
 mode_rule modes = record (new_rule (codes "mode")) { value_names = 1; parser = Some modes }
 
--- `--NAME` with a number from one to another
+-- `--NAME` with a number from the least to the most
 abbrev pub number_rule : Text → (least most : ℤ) → Rule
 number_rule name least most =
     record (new_rule name) { long = Some name; value_names = 1; parser = Some (Signed least most) }
@@ -37,14 +37,14 @@ number_rule name least most =
 abbrev pub named_app : App
 named_app = on_top (λ s. record s { has_version = true; no_binary_name = true }) (new_app (codes "bb"))
 
--- a mode, a limit and a floor, in any order
+-- the command with a mode, a limit and a floor, in any order
 abbrev pub command_with : (modes : ValueParser) → App
 command_with modes =
     let moded = with_rule named_app (mode_rule modes) in
     let limited = with_rule moded (number_rule (codes "limit") (pos 0) (pos most_limit)) in
     with_rule limited (number_rule (codes "floor") least_floor most_floor)
 
--- the mode, `run` where the words give none
+-- the mode of a name; `run` if the words give none
 abbrev pub mode_of : Text → Mode
 mode_of name = if bytes_eq name (codes "check") then Check else if bytes_eq name (codes "compile") then Compile else Run
 
@@ -58,7 +58,7 @@ limit_of text = if is_unsigned_in 0 most_limit text then Some (digits_value 10 (
 abbrev pub floor_of : Text → Option ℤ
 floor_of text = if is_signed_in least_floor most_floor text then Some (signed_digits_value 10 text) else None
 
--- the limit and the floor, their defaults where the words give none
+-- the limit and the floor; their defaults if the words give none
 abbrev pub limit_in : List Row → ℕ
 limit_in rows = unwrap_or (option_and_then limit_of (one_of (codes "limit") rows)) CYCLE_LIMIT
 

@@ -1,19 +1,19 @@
 //! What a command line chooses. `options` makes it, and programs (bb_main) go by it.
 
-/// The most cycles of a run, where the words give no limit.
+/// The most cycles of a run if the words give no limit.
 pub const CYCLE_LIMIT: u32 = 1_000_000;
 
-/// The least rating at which a run chooses an activation, where the words give no floor.
+/// The least rating at which a run chooses an activation if the words give no floor.
 pub const FLOOR: i64 = 0;
 
 /// What is done with an input.
 #[derive(Clone, Copy, Debug, PartialEq, Eq)]
 pub enum Mode {
-    /// It is run, and its trace is written.
+    /// The input is run, and its trace is written.
     Run,
-    /// Its sources are verified, and what their parts cost is written.
+    /// The sources are verified, and what their parts cost is written.
     Check,
-    /// Its sources are compiled, and their bundle is written.
+    /// The sources that are text are compiled, and their bundle is written.
     Compile,
 }
 

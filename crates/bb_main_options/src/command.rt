@@ -1,5 +1,5 @@
-//! The command line as `clap` is told of it: its words, what their values are, and what help shows. `options` parses by
-//! it.
+//! The command line as it is declared to `clap`: its words, what their values are, and what help shows. `options`
+//! parses by it.
 
 ghost use Rattle.std.specs.Prelude.{◌≡◌, IfOk, List};
 ghost use Rattle.clap.specs.Words.{app_of};
@@ -11,10 +11,10 @@ use clap::builder::PossibleValue;
 use clap::{Arg, Command, value_parser};
 use std::alloc::{AllocError, Global};
 
-/// The version that the program tells.
+/// The version of the program.
 pub const VERSION: &str = "0.9.0";
 
-/// The end of help: what the program's statuses mean.
+// The end of help: what the program's statuses mean.
 const STATUSES: &str = "Exit status:
   0  The run came to quiescence, or the check or the bundle was written
   2  The input is refused, or these words are
@@ -34,7 +34,7 @@ pub(crate) fn mode_values() -> [PossibleValue<'static>; 3]
     ]
 }
 
-/// The command, whose mode is one of these values.
+/// The command, whose mode is one of the values of `modes`.
 pub(crate) fn command<'a>(
     alloc: Global,
     modes: &'a [PossibleValue<'a>],

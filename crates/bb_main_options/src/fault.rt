@@ -1,4 +1,4 @@
-//! Why words give no options. `options` answers it, and programs print its text.
+//! Why words give no options. `options` returns it, and programs print its text.
 
 ghost use Rattle.std.specs.Prelude.{◌≡◌};
 ghost use Rattle.bb_main_options.specs.declared.fault.OptionsFault.TheVariants.{Memory as OutOfMemory};
@@ -10,10 +10,10 @@ use thiserror::Error;
 /// Why the words of a command line give no options.
 #[derive(Debug, Drop, Error)]
 pub enum OptionsFault {
-    /// They ask for help or the version, which is this text.
+    /// The words ask for help or the version, which is this text.
     #[error("{0}")]
     Help(String),
-    /// They are not those of the command, as this text explains.
+    /// The words are not those of the command, as this text explains.
     #[error("{0}")]
     Words(String),
     /// Memory ran out.

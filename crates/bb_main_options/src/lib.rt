@@ -1,5 +1,4 @@
-//! What the words of the command line ask for: a mode, a limit of cycles and a floor. The program reads its words by
-//! `options`.
+//! What the words of the command line ask for: a mode, a limit of cycles and a floor.
 #![tactic(auto)]
 
 mod choice;

@@ -1,4 +1,4 @@
-//! The words of a command line are read. The program (bb) reads its own.
+//! The reading of the words of a command line. The program (bb) reads its own.
 
 ghost use Rattle.std.specs.Prelude.{◌≡◌, map};
 ghost use Rattle.clap.specs.Words.{found_of, rows_of};
@@ -13,7 +13,7 @@ use clap::{ArgMatches, Error};
 use std::alloc::Global;
 use std::convert::AsStr;
 
-/// What the words behind the program's name choose: `[MODE] [--limit N] [--floor N]`, in any order. A mode is `run`,
+/// What the words after the program's name choose: `[MODE] [--limit N] [--floor N]`, in any order. A mode is `run`,
 /// which is the default, `check` or `compile`; a limit is a u32, by default 1000000; a floor is an i64, by default 0.
 /// `Help`: help or the version is asked for; `Words`: `clap` does not take the words.
 pub fn options<S: AsStr>(alloc: Global, words: &[S]) -> Result<Options, OptionsFault>
@@ -27,7 +27,7 @@ pub fn options<S: AsStr>(alloc: Global, words: &[S]) -> Result<Options, OptionsF
     }
 }
 
-/// The options that were matched.
+// The options that were matched.
 fn chosen(matches: &ArgMatches<'_>) -> Options
     ensures { result ≡ options_in (rows_of (found_of matches.now)) }
 {
@@ -68,7 +68,7 @@ fn floor(matches: &ArgMatches<'_>) -> i64
     matches.get_one::<i64>("floor").unwrap_or(FLOOR)
 }
 
-/// Why `clap` gave no matches, with its text.
+// Why `clap` gave no matches, with its text.
 fn refusal(alloc: Global, error: &Error) -> OptionsFault
     ensures { IsRefusal error.now result }
 {

@@ -4,7 +4,7 @@ use crate::{OptionsFault, VERSION, options};
 use std::alloc::Global;
 use std::test::Fail;
 
-/// What words choose, or the number of their fault.
+// What words choose, or the number of their fault.
 const ROWS: &str = " = Run 1000000 0
 check --limit=7 --floor=-5 = Check 7 -5
 --floor=-5 --limit=7 check = Check 7 -5
@@ -62,7 +62,7 @@ fn chosen(alloc: Global, words: &str) -> Result<String, Fail> {
     })
 }
 
-/// The end of help, which says what each status of the program means.
+// The end of help, which says what each status of the program means.
 const STATUSES: &str = "
 
 Exit status:

@@ -161,7 +161,7 @@ module _ (b : Board) (P : Board → Type 0) (cases : Cases b P) where
 
 -- ---- where it is not
 
--- it is denied as full on a full blackboard alone, and never for want of memory
+-- an ask is denied as full on a full blackboard alone, and never for want of memory
 abbrev DeniedFor : {A : Type 0} → Board → Result A Denial → Type 0
 DeniedFor b (Ok a) = Unit {0}
 DeniedFor b (Err (Refused refusal)) = Unit {0}
@@ -266,10 +266,10 @@ module _ (b : Board) where
   denied (asks.Delete n) = delete_denied n
   denied (asks.Say text) = say_denied text
 
--- where it is denied as full, no unit can be created
+-- where an ask is denied as full, no unit can be created
 pub applied_full : (ask : Ask) (b : Board) → applied ask b ≡ Err Full → is_full b.world.units ≡ true
 applied_full ask b is = subst (DeniedFor b) is (denied b ask)
 
--- its definition asks for no memory
+-- the definition of an ask asks for no memory
 pub applied_no_memory : (ask : Ask) (b : Board) → applied ask b ≡ Err Memory → ⊥
 applied_no_memory ask b is = subst (DeniedFor b) is (denied b ask)

@@ -75,7 +75,7 @@ named_next m xs i x before after total one lt at is pushed so_far =
     let more : before ++ one ∷ rest ≡ total = ap (λ c. before ++ c ∷ rest) is ∙ (ap (λ ys. before ++ map unclosed ys) (sym (next_seen m xs i x lt at)) ∙ so_far) in
     ap (λ front. front ++ rest) pushed ∙ (append_assoc before (one ∷ []) rest ∙ more)
 
--- so many natives were closed, and their numbers stand; these are left, and their names stand
+-- count natives were closed, and their numbers stand; left has the others, and their names stand
 pub record Closes {A : Type 0} (m : A → Native) (closings : List Closing) (count : ℕ) (left : List A) (total : List Closing) : Type 0 where
   pub opened : all_open (map m left) ≡ true
   pub made : take count closings ++ map closing (map m left) ≡ total
@@ -104,7 +104,7 @@ close_next m closings count items rest a total old number is at says h =
 
 -- ---- the sum of what natives said
 
--- those that are left are open, and the sum with what they will say is that of all
+-- the natives that are left are open, and the sum with what they will say is that of all
 pub record Sums {A : Type 0} (m : A → Native) (sum : ℤ) (left all : List A) : Type 0 where
   pub opened : all_open (map m left) ≡ true
   pub so_far : sum_said sum (map m left) ≡ sum_said (pos 0) (map m all)

@@ -102,8 +102,8 @@ applied (asks.New class) b = create b class
 applied (asks.Delete n) b = delete b n
 applied (asks.Say text) b = say b text
 
--- what an ask that was not applied leaves: the blackboard as it was, which takes no more changes once memory was refused
--- to this one
+-- what an ask that was not applied leaves: the blackboard as it was, which takes no more changes once memory was
+-- refused to this one
 abbrev pub Leaves : Denial → (old new : Board) → Type 0
 Leaves (Refused refusal) old new = new ≡ old
 Leaves Full old new = new ≡ old

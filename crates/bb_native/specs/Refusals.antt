@@ -26,7 +26,7 @@ refusal_of reasons.Kind = Kind
 refusal_of reasons.LinkClass = LinkClass
 refusal_of reasons.Space = Space
 
--- the same as a denial
+-- why a change may not be made, as the denial of the ask for it
 abbrev pub denial_of : Reason → Denial
 denial_of reason = Refused (refusal_of reason)
 

@@ -34,7 +34,7 @@ unclosed n = record { name = n.name; number = pos 0 }
 abbrev pub closing : Native → Closing
 closing n = record { name = n.name; number = closing_of n }
 
--- a sum, and the numbers that natives say when they are closed now, added around 64 bits
+-- a sum, and the numbers that natives say when they are closed now, wrapping around at 64 bits
 abbrev pub sum_said : ℤ → List Native → ℤ
 sum_said sum natives = fold (λ sum n. int_wrapping_add w64 sum (closing_of n)) sum natives
 

@@ -1,4 +1,4 @@
-//! What becomes of an ask. Whoever called the native (bb_run) applies its asks one by one, each to the blackboard as it
+//! What becomes of an ask. The caller of the native (bb_run) applies its asks one by one, each to the blackboard as it
 //! then stands.
 
 ghost use Rattle.std.specs.Prelude.{◌≡◌, ◌<◌, Ok, IfErr, IfOk, IsTrue, length};
@@ -17,8 +17,8 @@ use bb_board::{Board, Said};
 use bb_schema::{ClassId, SlotId, SpaceId, TEXT_LIMIT, UnitId, Value};
 use std::alloc::Global;
 
-/// Applies an ask to a blackboard, or answers the first reason why not: `Refused` and `Full` leave the blackboard as it
-/// was. After `Memory` it may take no more changes, else it is as it was too.
+/// Applies an ask to a blackboard, or returns the first reason why not: `Refused` and `Full` leave the blackboard as it
+/// was. After `Memory` it may take no more changes, or else it is as it was too.
 pub fn apply(alloc: Global, ask: Ask, board: &mut Board) -> Result<(), Denial>
     ensures gives { Gives OutOfMemory (λ _. board.new) result (applied ask board.old) }
     ensures err { IfErr result (λ denial. Leaves denial board.old board.new) }

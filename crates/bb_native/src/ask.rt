@@ -1,4 +1,4 @@
-//! What a native asks of the blackboard. Natives answer lists of asks; whoever calls them checks each and applies it.
+//! What a native asks of the blackboard. Natives return lists of asks; their caller checks each and applies it.
 
 use bb_basis::Text;
 use bb_schema::{UnitId, Value};
@@ -19,7 +19,7 @@ pub enum Ask {
         slot: Text,
         other: UnitId,
     },
-    /// Takes such a link away.
+    /// Takes a link of a unit to another away.
     Unlink {
         unit: UnitId,
         slot: Text,

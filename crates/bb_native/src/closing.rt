@@ -1,4 +1,4 @@
-//! What a native says at its close. `Roster::close_all` answers a list of these.
+//! What a native says at its close. `Roster::close_all` returns a list of these.
 
 use bb_basis::Text;
 

@@ -1,4 +1,4 @@
-//! Why an ask of a native was not applied. `apply` answers it.
+//! Why an ask of a native was not applied. `apply` returns it.
 
 ghost use Rattle.std.specs.Prelude.{◌≡◌};
 ghost use Rattle.bb_native.specs.declared.denial.Denial.TheVariants.{Memory as OutOfMemory};
@@ -12,9 +12,9 @@ use std::alloc::{AllocError, AllocFailed};
 /// Why an ask was not applied.
 #[derive(Clone, Copy, Debug, PartialEq, Eq)]
 pub enum Denial {
-    /// It is refused.
+    /// The ask is refused.
     Refused(Refusal),
-    /// It asks for a unit, and no more can be created.
+    /// The ask is for a unit, and no more can be created.
     Full,
     /// Memory ran out.
     Memory,

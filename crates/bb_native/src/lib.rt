@@ -1,5 +1,9 @@
-//! Natives: code of a host that runs in place of a `do`. Here stand what a native is, what it sees of the blackboard,
-//! what it asks and what becomes of that, and the roster of those that a host hands in.
+//! Natives: code of the host that runs in place of a source's `do`.
+//!
+//! - In: what a host implements `NativeSource` for, handed in as a `Roster`.
+//! - Out: a `View` of the blackboard that a native sees, what it may `Ask`, and what becomes of an ask.
+//! - Callers rely on: a roster closes each of its natives exactly once, and an ask that is refused changes nothing.
+//! - Cases: `natives`; tests here and in bb_shell_tests.
 #![tactic(auto)]
 
 mod applying;

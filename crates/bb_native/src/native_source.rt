@@ -15,19 +15,19 @@ pub trait NativeSource: Drop {
 
     ghost meaning: { Self → Native };
 
-    /// Its name, that of the source that it runs for.
+    /// The name of the source that the native runs for.
     fn name(&self) -> &str
         ensures { result.now ≡ (meaning self.now).name };
 
-    /// What it asks for a unit, with what it sees of the blackboard, in order. Then it holds its next list; an error
-    /// changes nothing.
+    /// What the native asks for a unit, with what it sees of the blackboard, in order. Then it holds its next list; an
+    /// error changes nothing.
     fn act(&mut self, alloc: Global, unit: UnitId, view: &View<'_>) -> Result<Vec<Ask>, Memory>
         requires { (meaning self.old).is_open ≡ true }
         ensures asks { IfOk result (λ asks. asks.items ≡ asks_of (meaning self.old) unit view.now) }
         ensures ok { OnOk result (meaning self.new ≡ after_act (meaning self.old) unit view.now) }
         ensures err { OnErr result (meaning self.new ≡ meaning self.old) };
 
-    /// Closes it, and answers the number that it says at its close.
+    /// Closes the native, and returns the number that it says at its close.
     fn close(&mut self) -> i64
         requires { (meaning self.old).is_open ≡ true }
         ensures closing { result ≡ closing_of (meaning self.old) }

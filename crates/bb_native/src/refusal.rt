@@ -1,4 +1,4 @@
-//! Why an ask of a native is refused. Whoever applies asks (applying.rt) tells it, and a trace names its number.
+//! Why an ask of a native is refused. applying.rt returns it, and a trace names its number.
 
 ghost use Rattle.std.specs.Prelude.{◌≡◌};
 ghost use Rattle.bb_native.specs.Refusals.{refusal_number, refusal_of};
@@ -8,13 +8,13 @@ use bb_board_state::Reason;
 /// Why an ask is refused: the first reason, in this order.
 #[derive(Clone, Copy, Debug, PartialEq, Eq)]
 pub enum Refusal {
-    /// A unit that it names is not live.
+    /// A unit that the ask names is not live.
     Deleted,
     /// The unit's class has no such slot.
     Slot,
     /// The slot can't hold the value, or a text to be said is too long.
     Kind,
-    /// The other unit is not of the class that the link slot leads to.
+    /// The unit to link to is not of the class that the link slot leads to.
     LinkClass,
     /// The space isn't there, or does not allow units of the class.
     Space,

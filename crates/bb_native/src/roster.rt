@@ -16,9 +16,9 @@ use std::alloc::Global;
 /// What the natives of a roster said at their close, in the order in which they were handed in.
 pub type Closed = Items<Closing>;
 
-/// Natives in the order in which they were handed in, all open. Contracts see them as the list of what they mean,
-/// `map N.meaning roster.natives.items`. A roster can't be dropped: `close_all` alone spends it, so no native is dropped
-/// open, or called after its close.
+/// Natives in the order in which they were handed in, all open. Contracts see them as the list of their meanings,
+/// `map N.meaning roster.natives.items`. A roster can't be dropped: `close_all` alone spends it, so no native is
+/// dropped open, or called after its close.
 pub struct Roster<N: NativeSource> {
     natives: Vec<N>,
     closings: Vec<Closing>,
@@ -56,8 +56,8 @@ impl<N: NativeSource> Roster<N> {
         &self.closings
     }
 
-    /// What the native at a place asks for a unit, with what it sees of the blackboard, in order. It then holds its next
-    /// list. An error changes nothing.
+    /// What the native at a place asks for a unit, with what it sees of the blackboard, in order. It then holds its
+    /// next list. An error changes nothing.
     pub fn act(
         &mut self,
         alloc: Global,
@@ -75,7 +75,7 @@ impl<N: NativeSource> Roster<N> {
         self.natives[place].act(alloc, unit, view)
     }
 
-    /// Closes each native once, in order, drops it, and answers what each said. It takes no memory.
+    /// Closes each native once, in order, drops it, and returns what each said. It takes no memory.
     pub fn close_all(self) -> Closed
         ensures { result ≡ closings_of (map N.meaning self.natives.items) }
     {
@@ -84,7 +84,7 @@ impl<N: NativeSource> Roster<N> {
     }
 }
 
-/// The place of the first closing of a name.
+// The place of the first closing of a name.
 fn place_of(closings: &[Closing], name: &str) -> Option<usize>
     ensures { result ≡ position (λ (c : Closing). bytes_eq c.name name.now) closings.now }
 {
@@ -93,7 +93,7 @@ fn place_of(closings: &[Closing], name: &str) -> Option<usize>
         .position(|closing| closing.name.as_str() == name)
 }
 
-/// The name of a native, with no number yet.
+// The name of a native, with no number yet.
 fn unclosed<N: NativeSource>(alloc: Global, native: &N) -> Result<Closing, Memory>
     ensures { IfOk result (λ closing. closing ≡ unclosed (N.meaning native.now)) }
 {
@@ -103,7 +103,7 @@ fn unclosed<N: NativeSource>(alloc: Global, native: &N) -> Result<Closing, Memor
     })
 }
 
-/// The name of each native, with no number yet.
+// The name of each native, with no number yet.
 fn unclosed_all<N: NativeSource>(alloc: Global, natives: &[N]) -> Result<Vec<Closing>, Memory>
     ensures { IfOk result (λ closings. closings.items ≡ map unclosed (map N.meaning natives.now)) }
 {
@@ -114,7 +114,7 @@ fn unclosed_all<N: NativeSource>(alloc: Global, natives: &[N]) -> Result<Vec<Clo
     Ok(closings)
 }
 
-/// Closes a native, drops it, and answers the number that it said.
+// Closes a native, drops it, and returns the number that it said.
 fn close<N: NativeSource>(native: N) -> i64
     requires { (N.meaning native).is_open ≡ true }
     ensures { result ≡ closing_of (N.meaning native) }
@@ -123,8 +123,8 @@ fn close<N: NativeSource>(native: N) -> i64
     native.close()
 }
 
-/// Closes each of some open natives once, in order, drops it, and answers the sum of what they said, around 64 bits: no
-/// number is known but by a close. It takes no memory.
+/// Closes each of some open natives once, in order, drops it, and returns the sum of what they said, wrapping around at
+/// 64 bits: a number can be had only by a close. It takes no memory.
 pub fn close_each<N: NativeSource>(natives: Vec<N>) -> i64
     requires { all_open (map N.meaning natives.items) ≡ true }
     ensures { result ≡ sum_said (pos 0) (map N.meaning natives.items) }
@@ -136,7 +136,7 @@ pub fn close_each<N: NativeSource>(natives: Vec<N>) -> i64
     sum
 }
 
-/// Closes natives and drops them, in order, and puts the number of each beside its name.
+// Closes natives and drops them, in order, and puts the number of each beside its name.
 fn close_into<N: NativeSource>(natives: Vec<N>, closings: Vec<Closing>) -> Vec<Closing>
     requires opened { all_open (map N.meaning natives.items) ≡ true }
     requires named { closings.items ≡ map unclosed (map N.meaning natives.items) }

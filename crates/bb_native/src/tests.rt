@@ -1,4 +1,4 @@
-//! Tests of rosters: natives of several types and of one name, each with memory, and natives that tell their close.
+//! Tests of rosters: natives of several types and of one name, each with memory, and natives that record their close.
 
 ghost use Rattle.std.specs.Prelude.{◌≡◌, true, map, IfOk};
 ghost use Rattle.bb_native.specs.Roster.{all_open};
@@ -13,7 +13,7 @@ use std::fmt::Write;
 use std::rc::Rc;
 use std::test::Fail;
 
-/// Counts its executions, and says how many there were at its close.
+// Counts its executions, and says how many there were at its close.
 #[derive(Drop)]
 struct Counter {
     count: i64,
@@ -48,7 +48,7 @@ impl NativeSource for Counter {
     }
 }
 
-/// Asks that its unit be deleted.
+// Asks that its unit be deleted.
 #[derive(Drop)]
 struct Reaper {
     is_open: bool,
@@ -83,7 +83,7 @@ impl NativeSource for Reaper {
     }
 }
 
-/// Has a number, and puts it behind those that were told before at its close.
+// Has a number, and at its close puts it after those that were put before.
 #[derive(Drop)]
 struct Teller {
     number: u64,
@@ -132,13 +132,13 @@ impl Teller {
     }
 }
 
-/// A blackboard of one class, before anything was created.
+// A blackboard of one class, before anything was created.
 fn board(alloc: Global) -> Result<Board, Fail> {
     let schema = Schema::read(alloc, r#"{"classes":[{"name":"note"}]}"#)?;
     Ok(Board::new(alloc, schema)?)
 }
 
-/// What the first native of a name asks.
+// What the first native of a name asks.
 fn asks<N: NativeSource>(
     alloc: Global,
     roster: &mut Roster<N>,
@@ -152,7 +152,7 @@ fn asks<N: NativeSource>(
     }
 }
 
-/// Has natives act one after another, and answers the number of their asks and what they said at their close.
+// Has natives act one after another, and returns the number of their asks and what they said at their close.
 fn acted<N: NativeSource>(
     alloc: Global,
     natives: Vec<N>,
@@ -175,7 +175,7 @@ fn acted<N: NativeSource>(
     Ok((made, roster.close_all()))
 }
 
-/// What natives said at their close, with their names.
+// What natives said at their close, with their names.
 fn said(alloc: Global, closed: &Closed) -> Result<String, Fail> {
     let mut text = String::new(alloc);
     for closing in closed.as_slice() {
@@ -241,7 +241,7 @@ fn each_is_closed_once_in_order(rt: HostRuntime) -> Result<(), Fail> {
     Ok(())
 }
 
-/// Asks for a unit of a class.
+// Asks for a unit of a class.
 fn asks_for(alloc: Global, class: &str, board: &mut Board) -> Result<Result<(), Denial>, Memory> {
     let class = Text::from_str(alloc, class)?;
     Ok(apply(alloc, Ask::New { class }, board))

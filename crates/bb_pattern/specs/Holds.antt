@@ -14,7 +14,7 @@ relates Overlaps low high first last = int_le low last && int_le first high
 relates Less low high first last = int_lt high first
 relates More low high first last = int_lt last low
 
--- the same of what the unit has on a dimension and of an operand, if they are there and intervals
+-- whether what a unit has on a dimension is in the relation to an operand, if both are there and intervals
 abbrev pub ordered_holds : Relation → Option DimValue → Option DimValue → Bool
 ordered_holds relation (Some (Interval low high)) (Some (Interval first last)) = relates relation low high first last
 ordered_holds relation _ _ = false

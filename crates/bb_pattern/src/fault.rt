@@ -1,4 +1,4 @@
-//! Why a pattern does not fit a schema. `Pattern::fits` answers it.
+//! Why a pattern does not fit a schema. `Pattern::fits` returns it.
 
 ghost use Rattle.std.specs.Prelude.{◌≡◌};
 ghost use Rattle.bb_pattern.specs.Faults.{fault_number};

@@ -15,7 +15,7 @@ pub const NODE_LIMIT: usize = 64;
 /// The greatest number of operands of a query.
 pub const OPERAND_LIMIT: usize = 16;
 
-/// Whether a test of an ordered dimension fits.
+// Whether a test of an ordered dimension fits.
 #[tactic(auto, unfolding(crate::specs::Fits::ordered_fits))]
 fn ordered_fits(
     dims: &[Dim],
@@ -37,7 +37,7 @@ fn ordered_fits(
     }
 }
 
-/// Whether a test of an enumerated dimension fits.
+// Whether a test of an enumerated dimension fits.
 #[tactic(auto, unfolding(crate::specs::Fits::is_fits))]
 fn is_fits(dims: &[Dim], kinds: &[OperandKind], dim: u8, operand: u8) -> Result<(), PatternFault>
     ensures { result ≡ is_fits dims.now kinds.now dim operand }
@@ -60,7 +60,7 @@ fn is_fits(dims: &[Dim], kinds: &[OperandKind], dim: u8, operand: u8) -> Result<
     }
 }
 
-/// Whether each test of some patterns fits, from the front.
+// Whether each test of some patterns fits, from the front.
 #[cycle(tests)]
 #[tactic(auto, unfolding(crate::specs::Fits::tests_fit))]
 fn all_tests_fit(
@@ -76,7 +76,7 @@ fn all_tests_fit(
     Ok(())
 }
 
-/// How many nodes are left of a number, once those of some patterns are taken away.
+// How many nodes are left of a number, once those of some patterns are taken away.
 #[cycle(room)]
 fn rooms_after(patterns: &[Pattern], room: usize) -> Option<usize>
     ensures { result ≡ rooms_after room (trees_of patterns.now) }
@@ -89,8 +89,8 @@ fn rooms_after(patterns: &[Pattern], room: usize) -> Option<usize>
 }
 
 impl Pattern {
-    /// How many nodes are left of a number, once those of the pattern are taken away, or `None` where it has more. It
-    /// goes no deeper than that number.
+    // How many nodes are left of a number, once those of the pattern are taken away, or `None` where it has more. It
+    // goes no deeper than that number.
     #[cycle(room)]
     fn room_after(&self, room: usize) -> Option<usize>
         ensures { result ≡ room_after room self.now }
@@ -106,7 +106,7 @@ impl Pattern {
         }
     }
 
-    /// Whether each test fits, from the front.
+    // Whether each test fits, from the front.
     #[cycle(tests)]
     #[tactic(auto, unfolding(crate::specs::Fits::tests_fit))]
     fn tests_fit(&self, dims: &[Dim], kinds: &[OperandKind]) -> Result<(), PatternFault>

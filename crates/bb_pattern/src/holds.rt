@@ -35,15 +35,15 @@ impl Relation {
     }
 }
 
-/// The value of a number, if there is one.
+// The value of a number, if there is one.
 fn value_at(values: &[DimValue], number: u8) -> Option<DimValue>
     ensures { result ≡ slice_get values.now number }
 {
     values.get(number as usize).copied()
 }
 
-/// Whether what a unit has on a dimension is the label that an operand is. It is not where one of them is not there, or is
-/// an interval.
+/// Whether what a unit has on a dimension is the label that an operand is. It is not where one of them is not there, or
+/// is an interval.
 pub fn is_holds(value: Option<DimValue>, operand: Option<DimValue>) -> bool
     ensures { result ≡ is_holds value operand }
 {
@@ -55,7 +55,7 @@ pub fn is_holds(value: Option<DimValue>, operand: Option<DimValue>) -> bool
     }
 }
 
-/// Whether each of some patterns holds.
+// Whether each of some patterns holds.
 #[cycle(holding)]
 #[tactic(auto, unfolding(crate::specs::Holds::holds))]
 fn holds_each(patterns: &[Pattern], operands: &[DimValue], values: &[DimValue]) -> bool
@@ -69,7 +69,7 @@ fn holds_each(patterns: &[Pattern], operands: &[DimValue], values: &[DimValue]) 
     true
 }
 
-/// Whether one of some patterns holds.
+// Whether one of some patterns holds.
 #[cycle(holding)]
 #[tactic(auto, unfolding(crate::specs::Holds::holds))]
 fn holds_some(patterns: &[Pattern], operands: &[DimValue], values: &[DimValue]) -> bool

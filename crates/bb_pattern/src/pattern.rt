@@ -31,11 +31,11 @@ pub struct Pattern {
 pub enum Node {
     /// Holds of each unit.
     All,
-    /// Each of these holds. Without any it holds of each unit.
+    /// Each of the patterns holds. Without patterns it holds of each unit.
     And(Vec<Pattern>),
-    /// One of these holds. Without any it holds of no unit.
+    /// One of the patterns holds. Without patterns it holds of no unit.
     Or(Vec<Pattern>),
-    /// This does not hold.
+    /// The pattern does not hold.
     Not(Box<Pattern>),
     /// The value on an ordered dimension is in this relation to an operand.
     Ordered {

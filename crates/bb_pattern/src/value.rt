@@ -9,7 +9,7 @@ use bb_schema::{LabelId, LabelSetId, Value};
 /// What a unit has on a dimension, and what an operand is.
 #[derive(Clone, Copy, Debug, PartialEq)]
 pub enum DimValue {
-    /// From the first number to the second. A number `v` counts as `[v, v]`.
+    /// An interval from the first number to the second. A number `v` counts as `[v, v]`.
     Interval(i64, i64),
     /// A label of a set.
     Label(LabelSetId, LabelId),
@@ -37,7 +37,7 @@ impl DimValue {
         }
     }
 
-    /// The kind of the operands that it can be.
+    /// The kind of the operands that the value can be.
     pub fn kind(self) -> OperandKind
         ensures { result ≡ kind_of_operand self }
     {

@@ -19,6 +19,6 @@ space_there : (s : Schema) (class space : ℕ) (kinds : List OperandKind) (p : T
 unfolding pattern_fits
 space_there s class space kinds p fits = not_refused (length s.spaces) space (nat_le (length s.spaces) space) _ _ refl fits
 
--- its space is there
+-- the space of a query that fits is there
 pub fitting_space : (s : Schema) (t : Spaces) (q : Query) → length t.spaces ≡ length s.spaces → query_fits s q ≡ Ok tt → q.space < length t.spaces
 fitting_space s t q same fits = subst (λ n. q.space < n) (sym same) (space_there s q.class q.space q.kinds q.pattern fits)

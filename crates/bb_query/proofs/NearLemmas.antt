@@ -21,7 +21,7 @@ use Rattle.bb_space.specs.Spaces.{Spaces, membership, values_in, members, AreCan
 use Rattle.bb_query.specs.proving.Enough.{AreEnough, HasAlso, among}
 use Rattle.bb_space.proofs.Laws.{keys_rise, any_filter}
 
--- a test that tells more
+-- a list that is enough for a test is enough for one that asks more
 pub enough_of : (t : Spaces) (space : ℕ) (test other : List DimValue → Bool) (list : List ℕ) → ((values : List DimValue) → other values ≡ true → test values ≡ true) → AreEnough t space test list → AreEnough t space other list
 enough_of t space test other list tells e = record { rises = e.rises; enough = λ n values there h. e.enough n values there (tells values h) }
 

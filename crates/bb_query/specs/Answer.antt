@@ -19,6 +19,6 @@ abbrev pub answers : Schema → Units → Spaces → Query → List DimValue →
 answers s u t q operands n =
     is_member t q.space n && is_of_class s u q n && holds operands (present_values s u n q.space) q.pattern
 
--- of all live numbers in rising order, those of such units
+-- the live numbers of the units that a query answers, rising
 abbrev pub answer : Schema → Units → Spaces → Query → List DimValue → List ℕ
 answer s u t q operands = filter (answers s u t q operands) (map.keys u.units)

@@ -15,15 +15,15 @@ pub record KnowsValues (s : Schema) (u : Units) (t : Spaces) : Type 0 where
   pub told : (space n : ℕ) (values : List DimValue) → values_in t space n ≡ Some values
       → values ≡ present_values s u n space
 
--- the same, and members are of classes that the space admits
+-- members are live, of classes that the space admits, and the spaces were told their present values
 pub record Knows (s : Schema) (u : Units) (t : Spaces) : Type 0 where
   -- the spaces are those of the schema
   pub spaces : length t.spaces ≡ length s.spaces
   -- members are live
   pub live : (space n : ℕ) (values : List DimValue) → values_in t space n ≡ Some values → is_live u n ≡ true
-  -- and of a class that the space admits
+  -- members are of classes that the space admits
   pub admitted : (space n : ℕ) (values : List DimValue) → values_in t space n ≡ Some values
       → IfSome (class_of u n) (λ class. IsTrue (allowed s space class))
-  -- and the space was told their present values
+  -- the space was told the present values of its members
   pub told : (space n : ℕ) (values : List DimValue) → values_in t space n ≡ Some values
       → values ≡ present_values s u n space

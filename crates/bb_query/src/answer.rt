@@ -13,15 +13,15 @@ use bb_space::Spaces;
 use bb_units::Units;
 use std::alloc::Global;
 
-/// Whether a unit is live, and of a query's class or of one below it.
+// Whether a unit is live, and of a query's class or of one below it.
 fn is_of_class(schema: &Schema, units: &Units, query: &Query, unit: UnitId) -> bool
     ensures { result ≡ is_of_class schema.now units.now query.now unit }
 {
     units.live(unit) && schema.descends(units.class_of(unit), query.class)
 }
 
-/// Whether a query answers a unit, by the values that the space was told. These come first: most candidates of a test
-/// fail by another.
+// Whether a query answers a unit, by the values that the space was told. The values come first: most candidates for a
+// test fail another one.
 fn answers(
     schema: &Schema,
     units: &Units,
@@ -40,7 +40,7 @@ fn answers(
     query.pattern.holds(operands, values) && is_of_class(schema, units, query, unit)
 }
 
-/// Those of some units that a query answers, in their order.
+// The units of a list that a query answers, in their order.
 fn answered(
     alloc: Global,
     schema: &Schema,
@@ -65,8 +65,8 @@ fn answered(
 }
 
 /// The answer of a query: the units in its space, of its class or one below it, of which its pattern holds, rising
-/// (GBBopen Reference Manual, find-instances). The query fits the schema, and the spaces were told the present values of
-/// their members. A test whose operand is of another sort holds of none.
+/// (GBBopen Reference Manual, find-instances). The query fits the schema, and the spaces were told the present values
+/// of their members. A test whose operand is of another sort holds of none.
 pub fn find(
     alloc: Global,
     schema: &Schema,

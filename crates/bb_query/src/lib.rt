@@ -1,5 +1,9 @@
-//! What a query answers: the units of a space, of a class or one below it, of which a pattern holds. The board answers
-//! queries by it, and tells the spaces the present values of units.
+//! What a query answers: the units of a space, of a class or one below it, of which a pattern holds.
+//!
+//! - In: a `Query` that fits the schema, units and spaces.
+//! - Out: `find`, the units in rising order, as a scan of all of them would answer.
+//! - Callers rely on: the answer does not depend on the index; that only makes it quick.
+//! - Cases: `spaces_and_queries`, `model-spaces`.
 #![tactic(auto)]
 
 mod answer;

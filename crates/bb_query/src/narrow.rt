@@ -17,7 +17,7 @@ pub(crate) fn operand_at(operands: &[DimValue], number: u8) -> Option<DimValue>
     Some(*operands.get(number as usize)?)
 }
 
-/// The test of an ordered dimension, if its operand is an interval.
+// The test of an ordered dimension, if its operand is an interval.
 fn interval_test(relation: Relation, dim: u8, operand: Option<DimValue>) -> Option<Leaf>
     ensures { IfSome result (Asks (λ values. ordered_holds relation (slice_get values dim) operand)) }
 {
@@ -32,7 +32,7 @@ fn interval_test(relation: Relation, dim: u8, operand: Option<DimValue>) -> Opti
     }
 }
 
-/// The test of an enumerated dimension, if its operand is a label.
+// The test of an enumerated dimension, if its operand is a label.
 fn label_test(dim: u8, operand: Option<DimValue>) -> Option<Leaf>
     ensures { IfSome result (Asks (λ values. is_holds (slice_get values dim) operand)) }
 {
@@ -42,7 +42,7 @@ fn label_test(dim: u8, operand: Option<DimValue>) -> Option<Leaf>
     }
 }
 
-/// The test that a pattern is, if it is one and has an operand of its sort.
+// The test that a pattern is, if it is one and has an operand of its sort.
 fn test_of(pattern: &Pattern, operands: &[DimValue]) -> Option<Leaf>
     ensures { IfSome result (Asks (λ values. holds operands.now values pattern.now)) }
 {
@@ -57,7 +57,7 @@ fn test_of(pattern: &Pattern, operands: &[DimValue]) -> Option<Leaf>
     }
 }
 
-/// The tests among some patterns.
+// The tests among some patterns.
 fn tests_among(
     alloc: Global,
     patterns: &[Pattern],
@@ -76,7 +76,7 @@ fn tests_among(
     Ok(tests)
 }
 
-/// The tests that a pattern is an `and` of, beside whatever else.
+/// The tests among the parts of a pattern that is an `and`.
 pub(crate) fn tests_of(
     alloc: Global,
     pattern: &Pattern,

@@ -16,8 +16,8 @@ use bb_space::{Leaf, Spaces};
 use std::alloc::Global;
 use std::collections::BTreeSet;
 
-/// How many candidates a test of an ordered dimension may have. Those of one low end alone are found in rising order;
-/// others have to be sorted, and count fourfold.
+// How many candidates a test of an ordered dimension may have. Those of one low end alone are found in rising order;
+// others have to be sorted, and count fourfold.
 fn at_most(relation: Relation, low: i64, high: i64, most: usize) -> usize {
     if relation == Relation::Within && low == high {
         most
@@ -26,8 +26,8 @@ fn at_most(relation: Relation, low: i64, high: i64, most: usize) -> usize {
     }
 }
 
-/// The candidates for a test of an ordered dimension, or `None` where they are more than so many, or its operand is no
-/// interval.
+// The candidates for a test of an ordered dimension, or `None` where they are too many for `most`, or its operand is
+// no interval.
 fn near_interval(
     spaces: &Spaces,
     space: SpaceId,
@@ -54,8 +54,8 @@ fn near_interval(
     }
 }
 
-/// The candidates for a test of an enumerated dimension, or `None` where they are more than so many, or its operand is no
-/// label.
+// The candidates for a test of an enumerated dimension, or `None` where they are more than `most`, or its operand is
+// no label.
 fn near_label(
     spaces: &Spaces,
     space: SpaceId,
@@ -76,7 +76,7 @@ fn near_label(
     }
 }
 
-/// Adds units.
+// Adds units.
 fn add_all(found: &mut BTreeSet<UnitId>, list: &[UnitId]) -> Result<(), Memory>
     ensures { OnOk result (HasAlso found.old list.now found.new) }
 {
@@ -86,7 +86,7 @@ fn add_all(found: &mut BTreeSet<UnitId>, list: &[UnitId]) -> Result<(), Memory>
     Ok(())
 }
 
-/// The units, rising.
+// The units, rising.
 fn list_of(alloc: Global, found: &BTreeSet<UnitId>) -> Result<Vec<UnitId>, Memory>
     ensures list { IfOk result (λ list. list.items ≡ found.now.keys) }
     ensures rising { IsOrdered nat_cmp found.now }
@@ -98,8 +98,8 @@ fn list_of(alloc: Global, found: &BTreeSet<UnitId>) -> Result<Vec<UnitId>, Memor
     Ok(list)
 }
 
-/// Members, rising, among them all of which each of some patterns holds: those of the first that bounds them by no more
-/// candidates than so many.
+// Members, rising, among them all of which each of some patterns holds: those of the first pattern that bounds them by
+// no more than `most` candidates.
 #[cycle(near)]
 fn near_each(
     alloc: Global,
@@ -122,8 +122,8 @@ fn near_each(
     Ok(None)
 }
 
-/// Members, rising, among them all of which one of some patterns holds: those of all patterns, if each bounds them by no
-/// more candidates than so many.
+// Members, rising, among them all of which one of some patterns holds: those of all patterns, if each bounds them by
+// no more than `most` candidates.
 #[cycle(near)]
 fn near_some(
     alloc: Global,
@@ -147,8 +147,8 @@ fn near_some(
     Ok(Some(list_of(alloc, &found)?))
 }
 
-/// Members of a space, rising, among them all of which a pattern holds, or `None` where it does not bound them, or a test
-/// by which it does has more candidates than so many.
+// Members of a space, rising, among them all of which a pattern holds, or `None` where it does not bound them, or a
+// test by which it does has more than `most` candidates.
 #[cycle(near)]
 fn near_pattern(
     alloc: Global,
@@ -182,7 +182,8 @@ fn near_pattern(
     }
 }
 
-/// The same by two of the tests that the pattern is an `and` of, or else by one test.
+// Members of a space, rising, among them all of which a pattern holds: by two of the tests that the pattern is an
+// `and` of, or else by one test.
 fn near_within(
     alloc: Global,
     spaces: &Spaces,
@@ -204,10 +205,10 @@ fn near_within(
     near_pattern(alloc, spaces, space, pattern, operands, most)
 }
 
-/// Members of a space, rising, among them all of which a pattern holds, or `None` where it does not bound them. The
-/// number of candidates that a test may have begins at 64 and grows fourfold: so an `and` goes by a part with 64, or
-/// with at most sixteen times as many as the one with the fewest, and costs no more where that one stands last. Two
-/// tests that are asked together count as one.
+// Members of a space, rising, among them all of which a pattern holds, or `None` where it does not bound them. The
+// number of candidates that a test may have begins at 64 and grows fourfold: so an `and` goes by a part with 64, or
+// with at most sixteen times as many as the one with the fewest, and costs no more where that one stands last. Two
+// tests that are asked together count as one.
 fn near_few(
     alloc: Global,
     spaces: &Spaces,
@@ -232,8 +233,8 @@ fn near_few(
     near_within(alloc, spaces, space, pattern, operands, tests, usize::MAX)
 }
 
-/// Members of a space, rising, among them all of which a pattern holds. Those are left out that fail a test which the
-/// pattern is an `and` of.
+/// Members of a space, rising, among them all of which a pattern holds. Members that fail a test which the pattern is
+/// an `and` of are left out.
 pub(crate) fn near(
     alloc: Global,
     spaces: &Spaces,

@@ -1,5 +1,5 @@
-//! The values that a unit has on the dimensions of a space. The board tells these to the spaces, and what they were told
-//! is what queries read.
+//! The values that a unit has on the dimensions of a space. The board tells these to the spaces, and what they were
+//! told is what queries read.
 
 ghost use Rattle.std.specs.Prelude.{◌≡◌, ◌<◌, IfOk, IsTrue, length, map};
 ghost use Rattle.bb_query.specs.PresentValues.{value_on, values_on, present_values};
@@ -14,7 +14,7 @@ use bb_schema::{ClassId, Dim, Schema, SpaceId, UnitId};
 use bb_units::Units;
 use std::alloc::Global;
 
-/// What a unit of a class has on a dimension: the value of the slot that has the dimension's name.
+// What a unit of a class has on a dimension: the value of the slot that has the dimension's name.
 fn value_on(
     schema: &Schema,
     units: &Units,
@@ -31,7 +31,7 @@ fn value_on(
     DimValue::of(units.get(unit, slot))
 }
 
-/// What a unit of a class has on each of some dimensions, in order.
+// What a unit of a class has on each of some dimensions, in order.
 fn values_on(
     alloc: Global,
     schema: &Schema,

@@ -1,4 +1,4 @@
--- The number of each refusal, and the line that tells it.
+-- The number of each refusal, and its line.
 use Rattle.std.specs.Prelude.{ℕ, List, [], ◌++◌, Option, Some, None, codes}
 use Rattle.std.specs.Fmt.{decimal}
 use Rattle.std.specs.Option.{option_map_or}
@@ -31,7 +31,7 @@ fault_number (inputs.Verify name part fault) = 6
 fault_number (inputs.Rule name fault) = 7
 fault_number inputs.Memory = 8
 
--- where the fault of a text is; nowhere where memory ran out
+-- where the fault of a text is; nowhere if memory ran out
 abbrev pub lang_place : LangFault → Option Place
 lang_place (langs.Character place) = Some place
 lang_place (langs.Token place) = Some place
@@ -40,12 +40,12 @@ lang_place (langs.Twice place) = Some place
 lang_place (langs.Limit place) = Some place
 lang_place langs.Memory = None
 
--- where the fault of a source of a text is; nowhere where memory ran out
+-- where the fault of a source of a text is; nowhere if memory ran out
 abbrev pub compile_place : CompileFault → Option Place
 compile_place (compiles.At flaw place) = Some place
 compile_place compiles.Memory = None
 
--- where in the text of sources an input is at fault, where it is there
+-- where in the text of sources the fault of an input is, if it is one of that text
 abbrev pub source_place : InputFault → Option Place
 source_place (inputs.Schema fault) = None
 source_place (inputs.Units fault) = None
@@ -60,18 +60,18 @@ source_place inputs.Memory = None
 abbrev pub place_text : Place → (number : ℕ) → List ℕ
 place_text place number = decimal place.line ++ codes ":" ++ decimal place.column ++ codes " " ++ decimal number
 
--- a fault of a text, with its place; empty where memory ran out
+-- the line of a fault of a text, with its place; empty if memory ran out
 abbrev pub lang_text : LangFault → List ℕ
 lang_text fault =
     option_map_or (λ place. codes "refused lang " ++ place_text place (lang_number fault)) (lang_place fault) []
 
--- a fault of a source of a text, with its place; empty where memory ran out
+-- the line of a fault of a source of a text, with its place; empty if memory ran out
 abbrev pub compile_text : (name : List ℕ) → CompileFault → List ℕ
 compile_text name (compiles.At flaw place) =
     codes "refused compile " ++ name ++ codes " " ++ place_text place (text_flaw_number flaw)
 compile_text name compiles.Memory = []
 
--- a bundle's fault, with its line; empty where memory ran out
+-- the line of a bundle's fault, with the number of the bundle's line; empty if memory ran out
 abbrev pub bundle_text : BundleFault → List ℕ
 bundle_text (bundles.Line line) = codes "refused bundle " ++ decimal line ++ codes " 1"
 bundle_text (bundles.Hex line) = codes "refused bundle " ++ decimal line ++ codes " 2"
@@ -79,7 +79,7 @@ bundle_text (bundles.Code line fault) =
     codes "refused bundle " ++ decimal line ++ codes " code " ++ decimal (code_number fault)
 bundle_text bundles.Memory = []
 
--- the line without its line feed; empty where memory ran out
+-- the line of a refusal without its line feed; empty if memory ran out
 abbrev pub refusal_text : InputFault → List ℕ
 refusal_text (inputs.Schema fault) = codes "refused schema " ++ decimal (schema_number fault)
 refusal_text (inputs.Units fault) = codes "refused units " ++ decimal (units_number fault)

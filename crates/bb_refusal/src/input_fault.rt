@@ -1,5 +1,5 @@
-//! Why an input is refused, and the line that tells it. `run_texts` returns it, and programs (bb_main) write its line.
-//! The sentence that says it to people is in `sentence`.
+//! Why an input is refused, and the line of a refusal. `run_texts` returns it, and programs (bb_main) write its line.
+//! The sentence for people is in `sentence`.
 
 ghost use Rattle.std.specs.Prelude.{◌≡◌, IfOk, string_bytes};
 ghost use Rattle.bb_refusal.specs.declared.input_fault.InputFault.TheVariants.{Memory as OutOfMemory};
@@ -19,7 +19,7 @@ use std::alloc::{AllocError, AllocFailed, Global};
 /// Why an input is refused: the first step that refuses it, and its fault.
 #[derive(Debug, Drop)]
 pub enum InputFault {
-    /// The schema's document means none.
+    /// The document of the schema is not one of a schema.
     Schema(SchemaFault),
     /// The first units can't be created.
     Units(UnitsFault),
@@ -83,7 +83,7 @@ impl InputFault {
         }
     }
 
-    /// Where in the text of sources the fault is, where it is one of that text.
+    /// Where in the text of sources the fault is, if it is one of that text.
     pub fn place(&self) -> Option<Place>
         ensures { result ≡ source_place self.now }
     {
@@ -94,7 +94,7 @@ impl InputFault {
         }
     }
 
-    /// The line that tells the refusal, without its line feed; empty for `Memory`.
+    /// The line of the refusal, without its line feed; empty for `Memory`.
     pub fn line(&self, alloc: Global) -> Result<String, AllocError>
         ensures { IfOk result (λ line. string_bytes line ≡ refusal_text self.now) }
     {

@@ -1,5 +1,12 @@
 //! Why an input is refused: the fault of the first step that refuses it, the line that programs write for it, and the
-//! sentence that they say to people. bb_shell returns it, and bb_refusal_report shows it with the text at its place.
+//! sentence for people.
+//!
+//! - In: the faults of all crates below.
+//! - Out: `InputFault`, its numbers and its sentence.
+//! - Callers rely on: each refusal has a line of numbers, which names the step, the place and the fault
+//!   (docs/REFUSALS.md).
+//! - Family: bb_refusal_report shows the text at the place of a fault, by the pieces of bb_refusal_excerpt.
+//! - Cases: `refusals`, `sentences`; tests in bb_shell_tests.
 #![tactic(auto)]
 
 mod input_fault;

@@ -14,7 +14,7 @@ use std::error::Error;
 use std::fmt;
 use std::fmt::{Display, Formatter, Write};
 
-/// What all faults say that mean no more than that memory ran out.
+// What each fault says that means only that memory ran out.
 const NO_MEMORY: &str = "memory ran out";
 
 impl Error for InputFault {}
@@ -45,7 +45,7 @@ impl Display for InputFault {
     }
 }
 
-/// A place in `%sources`, where there is one, and what is wrong there.
+// Writes a place in `%sources`, if there is one, and what is wrong there.
 fn write_placed<W: Write>(f: &mut Formatter<W>, place: Option<Place>, reason: &str) -> fmt::Result {
     if let Some(place) = place {
         write!(f, ", line {}, column {}", place.line, place.column)?;
@@ -53,7 +53,7 @@ fn write_placed<W: Write>(f: &mut Formatter<W>, place: Option<Place>, reason: &s
     write!(f, ": {reason}")
 }
 
-/// The entry of the schema's document, where there is one, and what is wrong there.
+// Writes the entry of the schema's document, if there is one, and what is wrong there.
 fn write_schema<W: Write>(f: &mut Formatter<W>, fault: SchemaFault) -> fmt::Result {
     match fault {
         SchemaFault::At { flaw, place } => write_entry(f, "schema", place, schema_reason(flaw)),
@@ -61,7 +61,7 @@ fn write_schema<W: Write>(f: &mut Formatter<W>, fault: SchemaFault) -> fmt::Resu
     }
 }
 
-/// The entry of the document of first units, where there is one, and what is wrong there.
+// Writes the entry of the document of first units, if there is one, and what is wrong there.
 fn write_units<W: Write>(f: &mut Formatter<W>, fault: UnitsFault) -> fmt::Result {
     match fault {
         UnitsFault::At { flaw, place } => write_entry(f, "units", place, units_reason(flaw)),
@@ -69,7 +69,7 @@ fn write_units<W: Write>(f: &mut Formatter<W>, fault: UnitsFault) -> fmt::Result
     }
 }
 
-/// A document, the entry of it at which a fault stands, where there is one, and what is wrong there.
+// Writes a document, the entry of it at which a fault stands, if there is one, and what is wrong there.
 fn write_entry<W: Write>(
     f: &mut Formatter<W>,
     document: &str,

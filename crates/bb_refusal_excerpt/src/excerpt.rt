@@ -4,10 +4,10 @@ use crate::words::{MORE, begin_line};
 use bb_basis::Memory;
 use std::fmt::Write;
 
-/// The most characters of a line that are shown.
+// The most characters of a line that are shown.
 const WIDTH: usize = 160;
 
-/// How many of them stand before the fault, where the line goes on at both ends.
+// How many of the shown characters stand before the fault, where the line goes on at both ends.
 const BEFORE: usize = 80;
 
 /// Appends a line of a text and, below it, a caret under a column, both from 1; columns count characters.
@@ -32,13 +32,13 @@ pub fn write_whole_line(text: &mut String, source: &str, line: u64) -> Result<()
     write_line(text, line_at(source, line), 0)
 }
 
-/// The line of a number, from 1, without its end. Behind the last line feed of a text is an empty one.
+/// The line of a number, from 1, without its end. After the last line feed of a text comes an empty line.
 pub fn line_at(source: &str, line: u64) -> &str {
     let index = usize::try_from(line.saturating_sub(1)).unwrap_or(usize::MAX);
     source.lines().nth(index).unwrap_or("")
 }
 
-// The first character that is shown, so that the column is.
+// The first character to show, so that the column is among those that are shown.
 fn start_of(line: &str, column: usize) -> usize {
     let length = line.chars().count();
     column
@@ -46,8 +46,8 @@ fn start_of(line: &str, column: usize) -> usize {
         .min(length.saturating_sub(WIDTH))
 }
 
-// What is shown of a line. A tab or another control character is a blank, so that the columns stay in place, and a text
-// of a stranger does nothing to a terminal.
+// Writes what is shown of a line. A tab or another control character becomes a blank, so that the columns stay in place
+// and an untrusted text does nothing to a terminal.
 fn write_line(text: &mut String, line: &str, start: usize) -> Result<(), Memory> {
     begin_line(text)?;
     if start > 0 {

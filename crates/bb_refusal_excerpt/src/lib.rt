@@ -1,5 +1,5 @@
 //! How pieces of an input are shown to people: a line of a text with a caret, a name in quotes, and where a document
-//! stops being JSON. The notes of refusals (bb_refusal_report) are made of these.
+//! stops being JSON.
 #![tactic(auto)]
 
 mod excerpt;

@@ -1,9 +1,9 @@
-//! A scan over the tokens of JSON for the first byte that can't stand where it does. The notes on documents ask for it.
+//! A scan over the tokens of JSON for the first byte that can't stand where it does. The notes on documents use it.
 
 use bb_basis::Memory;
 use std::alloc::Global;
 
-/// As deep as `serde_json` reads.
+// The depth to which `serde_json` reads.
 const DEPTH_LIMIT: usize = 127;
 
 // What may come next.
@@ -21,20 +21,20 @@ enum Wants {
 // The token in which a byte stands.
 #[derive(Clone, Copy, Debug, PartialEq, Eq)]
 enum Token {
-    /// Between two tokens.
+    // Between two tokens.
     None,
-    /// A text, or a key.
+    // A text, or a key.
     Text { is_key: bool },
-    /// Behind a backslash in one.
+    // After a backslash in a text or a key.
     Escape { is_key: bool },
-    /// Of an escape by number so many digits are due.
+    // In an escape by number, of which `due` digits are missing.
     Digits { is_key: bool, due: u8 },
-    /// `true`, `false` or `null`: these bytes are due.
+    // In `true`, `false` or `null`, of which these bytes are missing.
     Word(&'static [u8]),
     Number(Number),
 }
 
-// How far a number has come.
+// How far the reading of a number has come.
 #[derive(Clone, Copy, Debug, PartialEq, Eq)]
 enum Number {
     Sign,
@@ -51,12 +51,12 @@ enum Number {
 struct Scan {
     wants: Wants,
     token: Token,
-    // Of each open bracket whether it is that of an object.
+    // For each open bracket whether it is that of an object.
     open: Vec<bool>,
 }
 
-/// The first byte of a text that can't stand where it does, from 0, or the place behind the last token where the text
-/// ends too early, or `None` where it has the tokens of JSON in a right order.
+/// The first byte of a text that can't stand where it does, from 0, or the place after the last token if the text ends
+/// too early, or `None` if it has the tokens of JSON in a right order.
 pub fn fault_at(alloc: Global, text: &str) -> Result<Option<usize>, Memory> {
     let mut scan = Scan {
         wants: Wants::Value,
@@ -218,7 +218,7 @@ impl Scan {
         Ok(true)
     }
 
-    // What may come behind a value.
+    // What may come after a value.
     fn behind_value(&self) -> Wants {
         if self.open.is_empty() {
             Wants::Nothing
@@ -247,7 +247,7 @@ impl Scan {
         is_right
     }
 
-    // A byte behind a value in brackets.
+    // A byte after a value in brackets.
     fn go_on(&mut self, byte: u8) -> bool {
         match byte {
             b',' => {
@@ -265,7 +265,7 @@ impl Scan {
     }
 }
 
-// How far a number is with one more byte, if it goes on with it.
+// How far a number is read with one more byte, if the number goes on with that.
 fn next_of(number: Number, byte: u8) -> Option<Number> {
     let next = match (number, byte) {
         (Number::Sign, b'0') => Number::Zero,

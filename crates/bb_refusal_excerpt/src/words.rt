@@ -2,10 +2,10 @@
 
 use bb_basis::Memory;
 
-/// The margin before each line that stands below a sentence.
+// The margin before each line that stands below a sentence.
 const MARGIN: &str = "\n  | ";
 
-/// The most characters of a name that are shown.
+// The most characters of a name that are shown.
 const SHOWN: usize = 64;
 
 /// What marks that a text goes on.
@@ -16,7 +16,7 @@ pub fn begin_line(text: &mut String) -> Result<(), Memory> {
     text.push_str(MARGIN)
 }
 
-/// Appends a name in quotes, cut where it is long. A control character is a blank, so that a text of a stranger does
+/// Appends a name in quotes, cut where it is long. A control character becomes a blank, so that an untrusted text does
 /// nothing to a terminal.
 pub fn write_quoted(text: &mut String, name: &str) -> Result<(), Memory> {
     text.push_str("\"")?;
@@ -36,8 +36,8 @@ pub fn write_phrase(text: &mut String, phrase: &str, name: &str) -> Result<(), M
     write_quoted(text, name)
 }
 
-/// Appends a note: what something is called and what is wrong with it, with a colon between the two where both are
-/// there. Where neither is, there is no note.
+/// Appends a note: what something is called and what is wrong with it, with a colon between the two if both are there.
+/// If neither is, there is no note.
 pub fn write_note(text: &mut String, called: &str, flaw: &str) -> Result<(), Memory> {
     if called.is_empty() && flaw.is_empty() {
         return Ok(());

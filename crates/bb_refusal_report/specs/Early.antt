@@ -1,11 +1,11 @@
--- How far the bytes of a code show no fault: reading them meets none but their end.
+-- How far the bytes of a code show no fault: reading them meets none but a missing end.
 use Rattle.std.specs.Prelude.{ℕ, Bool, true, false, List, Result, Ok, Err}
 use Rattle.bb_code.specs.Reading.{code_of}
 use Rattle.bb_code.specs.declared.fault.CodeFault.{CodeFault}
 use Rattle.bb_code.specs.declared.fault.CodeFault.TheVariants.{Short}
 use Rattle.bb_code.specs.Code.{Code}
 
--- more bytes are due, or they are a code, behind which one more would be a fault
+-- bytes are missing, or they are a code, after which one more would be a fault
 abbrev pub goes_on : Result Code CodeFault → Bool
 goes_on (Ok code) = true
 goes_on (Err Short) = true

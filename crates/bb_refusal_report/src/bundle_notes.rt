@@ -1,4 +1,4 @@
-//! The line of a bundle at which it is refused, and of a code the byte. The bytes are read once more.
+//! The line of a bundle at which it is refused, and the byte of a code. The bytes are read once more.
 
 ghost use Rattle.std.specs.Prelude.{◌≡◌, ◌+◌, ◌⊎◌, true, false, length, take, IfOk};
 ghost use Rattle.bb_refusal_report.specs.Early.{is_early};
@@ -39,9 +39,9 @@ fn note_byte(alloc: Global, text: &mut String, line: &str) -> Result<(), Memory>
     write!(text, "byte {byte} of the code, which has {}", bytes.len())
 }
 
-/// The byte at which bytes that are no code have their fault, from 0: a front of so many bytes shows no fault yet, and
-/// one byte more shows it. Where all of them are too few it is their number. Each try reads a front, and there are as
-/// many tries as the number of bytes has binary digits.
+// The byte at which bytes that are no code have their fault, from 0: the bytes before it show no fault yet, and with
+// that byte they do. If the bytes only end too early, it is their number. The search reads fronts of the bytes, as
+// many as the number of bytes has binary digits.
 fn fault_byte(alloc: Global, bytes: &[u8]) -> Result<usize, Memory>
     ensures front { IfOk result (λ n. is_early (take n bytes.now) ≡ true) }
     ensures behind { IfOk result (λ n.
@@ -63,7 +63,7 @@ fn fault_byte(alloc: Global, bytes: &[u8]) -> Result<usize, Memory>
     Ok(low)
 }
 
-// Whether a front of the bytes of a code shows no fault: they end too early, or are a code, behind which more would be
+// Whether a front of the bytes of a code shows no fault: they end too early, or are a code, after which more would be
 // a fault.
 fn is_early(alloc: Global, bytes: &[u8]) -> Result<bool, Memory>
     ensures { IfOk result (λ early. early ≡ is_early bytes.now) }

@@ -1,5 +1,5 @@
 //! What stands at the place of a code's fault: the op, what it takes, and what is on the stack there. The code is read
-//! from the bundle once more, since the verifier gave it up. Codes of texts have no faults.
+//! from the bundle once more, since the verifier dropped it. Codes of texts have no faults.
 
 use crate::due::write_due;
 use crate::kinds::write_kind;
@@ -15,7 +15,7 @@ use bb_verify_effect::{Frame, Kind, Locals, Op, Place, Stack, effect};
 use std::alloc::Global;
 use std::fmt::Write;
 
-/// The most entries of a stack that are shown.
+// The most entries of a stack that are shown.
 const SHOWN: usize = 16;
 
 /// A code's fault, with the source and the part that it is in.
@@ -26,7 +26,7 @@ pub(crate) struct Found<'a> {
     pub(crate) fault: VerifyFault,
 }
 
-/// Appends what there is to show of a code's fault: nothing where not just one source has the name.
+/// Appends what there is to show of a code's fault: nothing unless exactly one source has the name.
 pub(crate) fn note_code(
     alloc: Global,
     text: &mut String,
@@ -45,7 +45,7 @@ pub(crate) fn note_code(
     }
 }
 
-// The source of a name, if just one has it.
+// The source of a name, if exactly one has it.
 fn only_one<'a>(sources: &'a [SourceCode], name: &str) -> Option<&'a SourceDraft<Code>> {
     let mut named = sources
         .iter()
@@ -119,7 +119,7 @@ fn is_of_operands(flaw: Flaw) -> bool {
     }
 }
 
-// Appends the newest kinds on the stack, the deepest of them first.
+// Appends the newest kinds on the stack, at most `SHOWN`, the deepest first.
 fn write_stack(text: &mut String, schema: &Schema, frame: &Frame) -> Result<(), Memory> {
     let count = frame.stack.len();
     if count == 0 {
@@ -166,7 +166,7 @@ fn left_by(
     }
 }
 
-// The declared frame of a place, or else this one.
+// The declared frame of a place, or, if none is declared, the one from before.
 fn declared_or(code: &Code, place: Place, before: Option<Frame>) -> Option<Frame> {
     match code.frames().iter().find(|entry| entry.place == place) {
         Some(entry) => Some(Frame::of(&entry.frame)),

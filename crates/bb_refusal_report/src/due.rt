@@ -1,4 +1,4 @@
-//! What an op takes from the stack, in words, with the names of the schema. The notes on codes say it beside what the
+//! What an op takes from the stack, in words, with the names of the schema. The notes on codes show it next to what the
 //! stack has.
 
 use crate::kinds::write_kind;
@@ -7,7 +7,7 @@ use bb_code::{Code, Kind, Op, OperandKind};
 use bb_schema::{Kind as SlotKind, Schema, SlotId, SpaceId};
 use std::fmt::Write;
 
-/// Appends what an op takes from the stack, the deepest first: nothing where it takes nothing.
+/// Appends what an op takes from the stack, the deepest first: nothing if it takes nothing.
 pub(crate) fn write_due(
     text: &mut String,
     schema: &Schema,
@@ -35,7 +35,7 @@ pub(crate) fn write_due(
     }
 }
 
-// What the other ops take.
+// What an op takes that is described without the schema and the code.
 fn plain_due(op: Op) -> &'static str {
     match op {
         Op::Store(_) | Op::Pop => "anything",

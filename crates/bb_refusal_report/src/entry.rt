@@ -24,7 +24,7 @@ pub(crate) fn text_at<'a>(value: &'a Value, key: &str) -> Option<&'a str> {
     value.get(key)?.as_str()
 }
 
-/// The name that an entry declares: that of its key `name`, or itself where it is a text.
+/// The name that an entry declares: that of its key `name`, or the entry itself if it is a text.
 pub(crate) fn name_of(entry: &Value) -> Option<&str> {
     match entry.as_str() {
         Some(name) => Some(name),
@@ -41,8 +41,8 @@ pub(crate) fn list_of(place: DocumentPlace) -> Option<ListKey> {
     }
 }
 
-/// Appends what the entry at a place of a schema is called, as `link "parts" of class "thing"`: nothing where the
-/// document has no name there.
+/// Appends what the entry at a place of a schema is called, as `link "parts" of class "thing"`: nothing if the document
+/// has no name there.
 pub(crate) fn write_called(
     text: &mut String,
     document: &Value,
@@ -60,7 +60,7 @@ pub(crate) fn write_called(
     }
 }
 
-// Appends the word of an entry and its name, behind this front.
+// Appends a front, and after it the word of an entry and its name.
 fn write_item(text: &mut String, front: &str, value: &Value, item: ListItem) -> Result<(), Memory> {
     match item_of(value, item).and_then(name_of) {
         None => Ok(()),

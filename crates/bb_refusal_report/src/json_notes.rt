@@ -1,4 +1,4 @@
-//! Where a document stops being JSON. `serde_json` says that it is none, and nothing certain of the place, so the place
+//! Where a document stops being JSON. `serde_json` says that it is not JSON, and nothing certain about the place, which
 //! is looked for here. Both documents have these notes.
 
 use bb_basis::Memory;
@@ -7,7 +7,7 @@ use serde_json::Value;
 use std::alloc::{AllocError, Global};
 use std::fmt::Write;
 
-/// The JSON of a document, or `None` where it is none.
+/// The JSON of a document, or `None` if it is not JSON.
 pub(crate) fn json_of(alloc: Global, document: &str) -> Result<Option<Value>, Memory> {
     match Value::from_str(alloc, document) {
         Ok(value) => Ok(Some(value)),
@@ -16,8 +16,8 @@ pub(crate) fn json_of(alloc: Global, document: &str) -> Result<Option<Value>, Me
     }
 }
 
-/// Appends the line and column at which a document stops being JSON, and that line with a caret. Where nothing is wrong
-/// with its tokens, it is a number too large or half a surrogate pair, and there is no note.
+/// Appends the line and column at which a document stops being JSON, and that line with a caret. If its tokens are in
+/// order, the fault is a number too large or half a surrogate pair, and there is no note.
 pub(crate) fn note_json(alloc: Global, text: &mut String, document: &str) -> Result<(), Memory> {
     let Some(byte) = fault_at(alloc, document)? else {
         return Ok(());

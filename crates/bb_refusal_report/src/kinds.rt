@@ -27,7 +27,7 @@ pub(crate) fn write_slot_kind(
     }
 }
 
-/// Appends the kind of an entry of a frame, by names: `Old(box)`. What the schema has not stays a number.
+/// Appends the kind of an entry of a frame, by names: `Old(box)`. What the schema does not have stays a number.
 pub(crate) fn write_kind(
     text: &mut String,
     schema: &Schema,
@@ -69,7 +69,7 @@ pub(crate) fn write_class(
     }
 }
 
-// Appends that a value is one of the labels of a set, with the first of them.
+// Appends that a value is a label of a set, with the first label of the set as an example.
 fn write_labels(text: &mut String, schema: &Schema, set: LabelSetId) -> Result<(), Memory> {
     text.push_str("a label of its set")?;
     match schema.label_name(set, 0) {

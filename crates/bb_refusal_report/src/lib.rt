@@ -1,5 +1,5 @@
-//! What programs tell people of a refused input (bb_main): the sentence of the fault, and below it notes with the names
-//! and the text at that place. A fault has numbers only, so the notes are looked up in the input once more.
+//! What programs say to people of a refused input: the sentence of the fault, and below it notes with the names and the
+//! text at that place. A fault has numbers only, so notes are looked up in the input once more.
 #![tactic(auto)]
 
 mod bundle_notes;

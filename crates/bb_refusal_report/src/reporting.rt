@@ -20,9 +20,9 @@ pub struct Input<'a> {
     pub bundle: &'a str,
 }
 
-/// Why an input is refused, as programs tell people: the sentence of the fault and, each in a line of its own, what
-/// there is to show of the place: names, the line of a text with a caret under the column, or what an op found and what
-/// it takes. There is no line feed at its end. `Memory`: memory ran out.
+/// Why an input is refused, in words for people: the sentence of the fault and, each in a line of its own, what there
+/// is to show of the place: names, the line of a text with a caret under the column, or what an op found and what it
+/// takes. There is no line feed at the end. `Memory`: memory ran out.
 pub fn report(alloc: Global, fault: &InputFault, input: Input<'_>) -> Result<String, Memory> {
     let mut text = String::new(alloc);
     write!(text, "{fault}")?;
@@ -30,7 +30,7 @@ pub fn report(alloc: Global, fault: &InputFault, input: Input<'_>) -> Result<Str
     Ok(text)
 }
 
-// Appends the notes.
+// Appends the notes on a fault.
 fn note(
     alloc: Global,
     text: &mut String,

@@ -1,13 +1,13 @@
-//! The line of a bundle that has the clause, or the class, by which a source is refused. Texts of sources have their
-//! faults when they are compiled.
+//! The line of a bundle that has the clause, or the class, by which a source is refused. A text of sources has such
+//! faults when it is compiled.
 
 use bb_basis::Memory;
 use bb_refusal_excerpt::{begin_line, write_whole_line};
 use bb_rules::{ClassPlace, ClauseList, ClausePlace, RuleFault};
 use std::fmt::Write;
 
-/// Appends the line of the bundle with the clause, or the class, of a source's fault, where it has one: nothing where
-/// not just one source has the name.
+/// Appends the line of the bundle with the clause, or the class, of a source's fault, if it has one: nothing unless
+/// exactly one source has the name.
 pub(crate) fn note_rule(
     text: &mut String,
     name: &str,
@@ -44,17 +44,17 @@ fn is_header(line: &str, name: &str) -> bool {
     words.next() == Some("source") && words.next() == Some(name)
 }
 
-// How far the lines of a source have come.
+// How far a walk over the lines of a bundle has come.
 #[derive(Drop)]
 struct Walk {
-    // It is the source of the name.
+    // Whether the walk is in the source of the name.
     is_there: bool,
     list: Option<ClauseList>,
     index: usize,
 }
 
 impl Walk {
-    // Goes over a line, and answers the place that it has.
+    // Goes over a line, and returns the place that it has.
     fn step(&mut self, line: &str, name: &str) -> Option<ClassPlace> {
         match line.split(' ').next() {
             Some("source") => {

@@ -99,7 +99,7 @@ fn write_unknown(
     }
 }
 
-// Appends that nothing of a name is declared, where there is a name.
+// Appends that nothing of a name is declared, if there is a name.
 fn write_undeclared(text: &mut String, what: &str, name: Option<&str>) -> Result<(), Memory> {
     match name {
         None => Ok(()),
@@ -120,7 +120,7 @@ fn write_unknown_parent(text: &mut String, entry: &Value) -> Result<(), Memory> 
     }
 }
 
-// Appends that a label set is not declared, or else that it has not the label of a default.
+// Appends that a label set is not declared, or else that it does not have the label of a default.
 fn write_unknown_label(text: &mut String, document: &Value, entry: &Value) -> Result<(), Memory> {
     let Some(set) = text_at(entry, "of") else {
         return Ok(());

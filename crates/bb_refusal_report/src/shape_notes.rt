@@ -93,7 +93,7 @@ const UNIT: [Key; 3] = [
     ("slots", false, Form::Object),
 ];
 
-/// Appends why an entry has not the form that is due.
+/// Appends why an entry does not have the form that it has to have.
 pub(crate) fn write_shape(text: &mut String, entry: &Value, shape: Shape) -> Result<(), Memory> {
     match shape {
         Shape::Schema => write_keys(text, entry, &SCHEMA),
@@ -113,8 +113,8 @@ pub(crate) fn write_shape(text: &mut String, entry: &Value, shape: Shape) -> Res
     }
 }
 
-// Appends the first of these that there is: that the entry is no object, a key that is unknown, one that is missing,
-// one whose value has another form. If there is none, it is `of` or the default that does not go with the kind.
+// Appends the first of these faults: the entry is no object, a key is unknown, one is missing, the value of one has
+// another form. If there is none of them, it is `of` or the default that does not go with the kind.
 fn write_keys(text: &mut String, entry: &Value, keys: &[Key]) -> Result<(), Memory> {
     let Some(members) = entry.as_object() else {
         return text.push_str("due is an object");

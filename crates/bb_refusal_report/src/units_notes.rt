@@ -90,7 +90,7 @@ fn write_flaw(
 
 // ---- a unit
 
-// Appends that the class of a unit is not there, or else the first slot that it has not.
+// Appends that the class of a unit is not there, or else the first slot that the class does not have.
 fn write_unknown(text: &mut String, context: Context<'_>) -> Result<(), Memory> {
     let Some(name) = text_at(context.entry, "class") else {
         return Ok(());
@@ -151,7 +151,7 @@ fn write_misfit(text: &mut String, context: Context<'_>) -> Result<(), Memory> {
     Ok(())
 }
 
-// Whether JSON has a value for a slot.
+// Whether JSON is a value for a slot.
 fn fits(schema: &Schema, slot: SlotId, value: &Value) -> bool {
     if slot as usize >= schema.slot_count() {
         return false;
@@ -172,7 +172,7 @@ fn fits(schema: &Schema, slot: SlotId, value: &Value) -> bool {
     }
 }
 
-// Whether JSON is two whole numbers of which the second is no less.
+// Whether JSON is a list of two whole numbers, the second no less than the first.
 fn is_interval(value: &Value) -> bool {
     let Some(ends) = value.as_array() else {
         return false;
@@ -205,13 +205,13 @@ fn class_of(context: Context<'_>, unit: &str) -> Option<ClassId> {
     context.schema.class(text_at(found, "class")?)
 }
 
-// Appends that a name is none of a first unit.
+// Appends that there is no first unit of a name.
 fn write_no_unit(text: &mut String, unit: &str) -> Result<(), Memory> {
     write_phrase(text, "no unit", unit)?;
     text.push_str(" stands in `units`")
 }
 
-// Appends what a unit is.
+// Appends the class of a unit.
 fn write_is(
     text: &mut String,
     context: Context<'_>,
@@ -256,7 +256,8 @@ fn write_link(text: &mut String, context: Context<'_>) -> Result<(), Memory> {
     }
 }
 
-// Appends what is wrong with an entry of `spaces`: a unit or a space that is not there, or a class that it admits not.
+// Appends what is wrong with an entry of `spaces`: a unit or a space is not there, or the space does not admit the
+// class of the unit.
 fn write_member(text: &mut String, context: Context<'_>) -> Result<(), Memory> {
     let (unit, space) = (word_at(context.entry, 0), word_at(context.entry, 1));
     let Some(class) = class_of(context, unit) else {

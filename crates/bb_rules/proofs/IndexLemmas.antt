@@ -58,7 +58,7 @@ quiescence_indexed list index quiescence old = record {
   quiet = or_true (list_any is_quiescence list) ∙ sym (any_more is_quiescence list clauses.Quiescence);
 }
 
--- ---- a clause names an event exactly where the index tells it
+-- ---- a clause names an event exactly where the index says so
 
 same_truth : (b c : Bool) → (b ≡ true → c ≡ true) → (c ≡ true → b ≡ true) → b ≡ c
 same_truth true c on back = sym (on refl)

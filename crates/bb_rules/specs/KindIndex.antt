@@ -8,15 +8,15 @@ use Rattle.bb_board.specs.ChangeKind.{ChangeKind}
 use Rattle.bb_board.specs.ChangeKind.TheVariants.{Create, Delete, Update, Link, Unlink, Enter, Leave}
 use Rattle.bb_rules.specs.declared.kind_index.KindIndex.{KindIndex}
 
--- the number is among these
+-- the number is in the list
 abbrev pub has : List ℕ → ℕ → Bool
 has ns n = list_any (λ d. d == n) ns
 
--- these and the number, the last, unless it is there
+-- the numbers and one more, the last, unless it is there
 abbrev pub put : List ℕ → ℕ → List ℕ
 put ns n = if has ns n then ns else ns ++ n ∷ []
 
--- the same where the number is to be added
+-- the numbers and one more, the last, where it is to be added and is not there
 abbrev pub put_if : Bool → List ℕ → ℕ → List ℕ
 put_if added ns n = if added then put ns n else ns
 

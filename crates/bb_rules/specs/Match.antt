@@ -21,13 +21,14 @@ is_same_kind (Enter space) (Enter other) = space == other
 is_same_kind (Leave space) (Leave other) = space == other
 is_same_kind _ _ = false
 
--- both are quiescence, or the event is a change of the clause's kind and its class descends from the clause's
+-- the clause names the event: both are quiescence, or the event is a change of the clause's kind and its class descends
+-- from the clause's
 abbrev pub matches : Schema → Clause → Event → Bool
 matches s clauses.Quiescence events.Quiescence = true
 matches s (clauses.Change kind class) (events.Change unit of change) =
     is_same_kind kind (kind_of change) && descends s of class
 matches s _ _ = false
 
--- one of the clauses or more names the event
+-- one or more of the clauses name the event
 abbrev pub any_match : Schema → List Clause → Event → Bool
 any_match s clauses event = list_any (λ c. matches s c event) clauses

@@ -16,11 +16,11 @@ use std::alloc::Global;
 /// The events that a source answers, each kind of answer apart.
 #[derive(Drop)]
 pub(crate) struct Answered {
-    /// Those that trigger it.
+    /// The events that trigger the source.
     pub triggers: Clauses,
-    /// Those that make its pending activations needless, if it has a part for them.
+    /// The events that make pending activations needless, if the source has a part for them.
     pub obviating: Option<Clauses>,
-    /// Those that give its pending activations another base rating, if it has a part for them.
+    /// The events that give pending activations another base rating, if the source has a part for them.
     pub retriggering: Option<Clauses>,
 }
 

@@ -1,4 +1,5 @@
-//! The clauses of a source, found by the kind of an event. A source has its triggers so, and a reaction its clauses.
+//! The clauses of a source, found by the kind of an event. A source has its triggers in `Clauses`, and a reaction its
+//! clauses.
 
 ghost use Rattle.std.specs.Prelude.{◌≡◌, ◌∷◌, ◌++◌, [], IfOk};
 ghost use Rattle.std.specs.List.{list_any};
@@ -14,14 +15,14 @@ use bb_schema::{ClassId, Schema};
 use std::alloc::{AllocError, Global};
 use std::marker::Model;
 
-/// Clauses in order. Whether one of them names an event is found by the event's kind, and by the classes that clauses of
-/// that kind name, however many clauses there are.
+/// Clauses in order. Whether one of them names an event is found by the event's kind, and by the classes that clauses
+/// of that kind name, however many clauses there are.
 #[derive(Drop)]
 pub struct Clauses {
     list: Items<Clause>,
-    // Of the classes that they name.
+    // An index of the classes that the clauses name.
     index: KindIndex,
-    // One of them is `Quiescence`.
+    // Whether one of the clauses is `Quiescence`.
     quiescence: bool,
 }
 
@@ -56,7 +57,7 @@ impl Clauses {
         self.list.as_slice()
     }
 
-    /// The same clauses and one more, the last.
+    /// The clauses and one more, the last.
     pub(crate) fn and(self, clause: Clause) -> Result<Clauses, AllocError>
         ensures { IfOk result (λ clauses. clauses ≡ self ++ clause ∷ []) }
     {

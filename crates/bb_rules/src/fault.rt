@@ -76,11 +76,11 @@ impl<T: Drop> From<AllocFailed<T>> for RuleFault {
 /// What is wrong with a clause, wherever it stands.
 #[derive(Clone, Copy, Debug, PartialEq, Eq)]
 pub(crate) enum ClauseFlaw {
-    /// Its class has no slot of that name and sort.
+    /// The class of the clause has no slot of that name and sort.
     Slot,
     /// No space has the name.
     Space,
-    /// No class has the name, or the class does not descend from the one that is due.
+    /// No class has the name, or the class does not descend from that of the source or reaction.
     Class,
 }
 

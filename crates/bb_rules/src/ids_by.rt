@@ -50,7 +50,7 @@ impl IdsBy {
     }
 }
 
-/// Adds a number to the set of a slot or space that has one.
+// Adds a number to the set of a slot or space that has one.
 fn add_at(sets: &mut BTreeMap<u16, IdSet>, key: u16, id: u16) -> Result<(), AllocError>
     requires { IsSome (get nat_cmp sets.old key) }
     ensures { OnOk result ((n : ℕ) → ids_at sets.new n ≡ put_if (key == n) (ids_at sets.old n) id) }

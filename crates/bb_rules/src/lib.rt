@@ -1,5 +1,10 @@
-//! Sources with their names looked up, and which events they answer. bb_shell makes them of a bundle's sources, and
-//! bb_run asks at each event which of those that it concerns answer it.
+//! Sources with their names looked up and their codes accepted, and which events they answer.
+//!
+//! - In: a source of a bundle, with `Checked` codes, and a schema.
+//! - Out: `Source::new`, or the first `RuleFault` with the clause or class that it is at.
+//! - Callers rely on: each code is for its part, the parts that a source is asked by can only read, and which clauses
+//!   match an event is found by its kind and class.
+//! - Cases: `triggers`, `bundles`; tests in bb_rules_tests.
 #![tactic(auto)]
 
 mod answered;

@@ -3,11 +3,11 @@
 /// A list of clauses of a source.
 #[derive(Clone, Copy, Debug, PartialEq, Eq)]
 pub enum ClauseList {
-    /// The clauses that trigger it.
+    /// The clauses that trigger the source.
     Triggers,
-    /// Those of `obviate`.
+    /// The clauses of `obviate`.
     Obviate,
-    /// Those of `retrigger`.
+    /// The clauses of `retrigger`.
     Retrigger,
 }
 
@@ -21,12 +21,12 @@ pub struct ClausePlace {
 /// Where a source names a class.
 #[derive(Clone, Copy, Debug, PartialEq, Eq)]
 pub enum ClassPlace {
-    /// As that of the units that it works on.
+    /// The class of the units that the source works on.
     Source,
-    /// Behind `obviate`.
+    /// The class after `obviate`.
     Obviate,
-    /// Behind `retrigger`.
+    /// The class after `retrigger`.
     Retrigger,
-    /// In a clause.
+    /// The class in a clause.
     Clause(ClausePlace),
 }

@@ -1,5 +1,4 @@
-//! A source. bb_shell makes it of what a bundle spells, and the run (bb_run) asks which events it answers and executes
-//! its codes.
+//! A source. bb_shell makes it from a bundle, and the run (bb_run) asks which events it answers and executes its codes.
 
 ghost use Rattle.std.specs.Prelude.{◌≡◌, Err, IfOk, IfSome, Ok, Some};
 ghost use Rattle.bb_basis.specs.Results.{Gives};
@@ -25,20 +24,20 @@ use std::marker::Model;
 /// What an activation of a source does.
 #[derive(Drop)]
 pub enum Act {
-    /// It executes a code.
+    /// The source executes a code.
     Code(Checked),
-    /// It runs a native source of the host.
+    /// The source runs a native source of the host.
     Native,
 }
 
 /// What a source does about each of its pending activations at certain events.
 #[derive(Drop)]
 pub struct Reaction {
-    /// The class of the units of these events.
+    /// The class of the units of the events.
     pub class: ClassId,
-    /// Which events these are.
+    /// Which events cause the reaction.
     pub clauses: Clauses,
-    /// What it asks about each.
+    /// What the source asks about each activation.
     pub code: Question,
 }
 
@@ -85,8 +84,8 @@ impl Model for Source {
 impl Source {
     /// A source from its draft. The fault is the first of these: `Class` where its class, or that of a reaction, is
     /// unknown; `Part` where a code was accepted for another part or other classes; and, clause by clause, `Class`
-    /// where the class is unknown or does not descend from that of the source, or of the reaction, `Slot`, `Space`.
-    /// It tells which of the three classes, or which clause of which list.
+    /// where the class is unknown or does not descend from that of the source, or of the reaction, `Slot`, `Space`. The
+    /// fault has its place: which of the three classes, or which clause of which list.
     pub fn new(
         alloc: Global,
         schema: &Schema,
@@ -102,14 +101,14 @@ impl Source {
         })
     }
 
-    /// What it is made of.
+    /// What the source is made of.
     pub fn parts(&self) -> &SourceParts
         ensures { result.now ≡ self.now }
     {
         &self.parts
     }
 
-    /// The same, taken out.
+    /// What the source is made of, taken out of it.
     pub fn into_parts(self) -> SourceParts
         ensures { result ≡ self }
     {

@@ -1,4 +1,4 @@
-//! Tests of the agenda with memory: each call that can want it, what becomes of each activation, and an agenda against
+//! Tests of the agenda with memory: each call that can need it, what becomes of each activation, and an agenda against
 //! plain lists.
 
 use bb_agenda::{Activation, Agenda, Focus, RatedSource, Status};
@@ -7,7 +7,7 @@ use bb_schema::{ClassId, Schema, SharedSchema, UnitId};
 use std::alloc::Global;
 use std::test::Fail;
 
-// Class 0 is `focus`, so these are 1 and 2.
+// Class 0 is `focus`, so `thing` and `word` are 1 and 2.
 const SCHEMA: &str = r#"{"classes":[{"name":"thing"},{"name":"word","parent":"thing"}]}"#;
 
 fn source(alloc: Global, name: &str, class: ClassId) -> Result<RatedSource, Fail> {
@@ -70,7 +70,7 @@ fn foci_on_the_agenda(rt: HostRuntime) -> Result<(), Fail> {
     Ok(())
 }
 
-/// An agenda as plain lists, which are walked for each answer.
+// An agenda as plain lists, which are walked for each answer.
 #[derive(Drop)]
 struct Plain {
     pending: Vec<Activation>,
@@ -126,7 +126,7 @@ impl Plain {
         self.foci.retain(|focus| focus.0 != unit);
     }
 
-    /// Whether an agenda answers the same.
+    // Whether an agenda has the same activations, ratings and choice.
     fn agrees(&self, agenda: &Agenda) -> bool {
         let numbers = agenda.pending();
         if numbers.len() != self.pending.len() {
@@ -143,7 +143,7 @@ impl Plain {
     }
 }
 
-/// A focus on `hail`, on `echo` or on all sources, with the source's index.
+// A focus on `hail`, on `echo` or on all sources, with the source's index.
 fn some_focus(alloc: Global, pick: u64, weight: i64) -> Result<(Focus, Option<u16>), Fail> {
     let (name, source) = match pick {
         0 => ("hail", Some(0)),
@@ -159,7 +159,7 @@ fn some_focus(alloc: Global, pick: u64, weight: i64) -> Result<(Focus, Option<u1
     Ok((focus, source))
 }
 
-/// One change of both, by a number.
+// Makes one change, chosen by a number, to an agenda and to plain lists.
 fn change(alloc: Global, agenda: &mut Agenda, plain: &mut Plain, seed: u64) -> Result<(), Fail> {
     let (source, base) = (((seed >> 40) % 2) as u16, ((seed >> 42) % 8) as i64);
     let unit = (seed >> 46) % 3;
@@ -207,7 +207,7 @@ fn change(alloc: Global, agenda: &mut Agenda, plain: &mut Plain, seed: u64) -> R
     Ok(())
 }
 
-/// Whether an agenda and plain lists choose the same after each of so many changes, and now and then agree in all.
+// Whether an agenda and plain lists choose the same after each of `times` changes, and now and then agree in all.
 fn agree(alloc: Global, times: u64) -> Result<bool, Fail> {
     let mut agenda = agenda(alloc)?;
     let mut plain = Plain {

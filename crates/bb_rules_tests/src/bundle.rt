@@ -68,8 +68,8 @@ when create note
 do 42424301010001000568656c6c6f000000000000000302000029012e
 ";
 
-// The same sources, with what a reader takes and a writer does not write: empty lines, a carriage return before a line
-// feed, leading zeros, digits in upper case, and no line feed at the end.
+// The sources of `WRITTEN`, with what a reader takes and a writer does not write: empty lines, a carriage return before
+// a line feed, leading zeros, digits in upper case, and no line feed at the end.
 const LOOSE: &str = "
 source echo word -05\r
 when update thing.score

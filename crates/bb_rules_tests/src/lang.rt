@@ -4,7 +4,7 @@ use bb_lang::{ActText, LangFault, Place, parse};
 use std::alloc::{AllocError, Global};
 use std::test::Fail;
 
-// What `parse` says of a text: how many sources it has, or the fault with its place.
+// What `parse` returns for a text: how many sources it has, or the fault with its place.
 fn said(alloc: Global, text: &str) -> Result<String, AllocError> {
     let (place, number) = match parse(alloc, text) {
         Ok(sources) => return format!(in alloc; "ok {}", sources.len()),
@@ -23,7 +23,7 @@ fn with_body(alloc: Global, body: &str) -> Result<String, AllocError> {
     format!(in alloc; "source a on c {{ when quiescence; rate 1; do {{\n{body}\n}} }}")
 }
 
-// A text so many times.
+// A text `count` times.
 fn times(alloc: Global, text: &str, count: usize) -> Result<String, AllocError> {
     let mut all = String::new(alloc);
     for _turn in 0..count {
@@ -32,7 +32,7 @@ fn times(alloc: Global, text: &str, count: usize) -> Result<String, AllocError> 
     Ok(all)
 }
 
-// Bodies, each behind what is said of it. A source and a body have two brackets open.
+// Bodies, each after what is said of it. A source and a body have two brackets open.
 const BODIES: &str = "ok 1 |
 ok 1 | let x = 1; x = x + 2 * 3 - 4 / 5 % 6; say x, \"\\\"\\\\\\n\\t\", true or false and not(1 < 2); // ~ \"
 ok 1 | if it = ev { let x = 1; } else { let x = 2; } let x = [low(it.at), max(1, 2)];
@@ -79,7 +79,7 @@ fn bodies(rt: HostRuntime) -> Result<(), Fail> {
     Ok(())
 }
 
-// Whole texts, each behind what is said of it; a `^` begins a new line.
+// Whole texts, each after what is said of it; a `^` begins a new line.
 const TEXTS: &str = "ok 0 |
 ok 0 |// none
 2 1:1 |when
@@ -110,8 +110,8 @@ fn texts(rt: HostRuntime) -> Result<(), Fail> {
     Ok(())
 }
 
-// The first brackets of a body that make 64 open, and 65; a text constant of 65,535 bytes, and of one more; 256 sources,
-// and one more.
+// The first brackets of a body that make 64 open, and 65; a text constant of 65,535 bytes, and of one more; 256
+// sources, and one more.
 #[test]
 fn limits(rt: HostRuntime) -> Result<(), Fail> {
     for (count, wanted) in [(62, "ok 1"), (63, "3 2:67")] {

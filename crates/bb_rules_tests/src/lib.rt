@@ -1,5 +1,5 @@
-//! Tests of the crates that read and compile sources, and of rules and agenda, which stand here so that the gate proves
-//! those crates once: calls with memory, and answers that no case shows.
+//! Tests of the crates that read and compile sources, and of rules and agenda: calls with memory, and answers that no
+//! case shows. They stand here so that the gate proves those crates once.
 #![tactic(auto)]
 
 #[cfg(test)]

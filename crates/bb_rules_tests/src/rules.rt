@@ -9,7 +9,7 @@ use bb_verify::{Checked, Part, verify};
 use std::alloc::Global;
 use std::test::Fail;
 
-// Class 0 is `focus`, so these are 1 to 3.
+// Class 0 is `focus`, so `note`, `memo` and `word` are 1 to 3.
 const SCHEMA: &str =
     r#"{"classes":[{"name":"note"},{"name":"memo","parent":"note"},{"name":"word"}]}"#;
 

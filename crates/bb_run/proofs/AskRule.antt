@@ -15,7 +15,7 @@ use Rattle.bb_run.specs.Told.{Response, telling, idle, over, and_then_unless}
 use Rattle.bb_run.specs.Run.{each_applied, noted, upon_ask}
 
 module _ (asks : List Ask) (Holds : State → Response → Type 0) where
-  -- it holds of what comes of an ask, and of one after another
+  -- a property holds of what comes of each ask, and of responses one after another
   pub record HoldsOfAsks : Type 0 where
     pub nothing : (s : State) → Holds s (idle s)
     pub changed : (s : State) (ask : Ask) (board : Blackboard) → applied ask s.board ≡ Ok board → Holds s (noted (with_board s board) [] None)

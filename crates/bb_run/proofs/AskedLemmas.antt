@@ -174,7 +174,7 @@ module _ (plan : Plan) where
 
   -- ---- the call of a native
 
-  -- it tells no choice, answers nothing, and does not end between two cycles
+  -- a response tells no choice, answers nothing, and does not end between two cycles
   abbrev Mute : State → Response → Type 0
   Mute s r = IsMute r.told × IsEarly r.end
 

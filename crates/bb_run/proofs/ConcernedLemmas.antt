@@ -1,4 +1,4 @@
--- A source that an event does not concern by its kind answers nothing to it, so the others bring about all of the response.
+-- A source that an event does not concern by its kind answers nothing to it, so the others bring about the response.
 use Rattle.std.proofs.Common.{◌≡◌, ℕ, zero, suc, ◌+◌, Bool, true, false, cond, ◌&&◌, ◌||◌, List, [], ◌∷◌, drop, Option, Some, None, refl, sym, ap, ◌∙◌, add-one}
 use Rattle.std.specs.Prelude.{slice_get}
 use Rattle.std.specs.Option.{option_map_or}
@@ -66,7 +66,7 @@ unless_same None p f g same = ap (after_told p.told) (same p.state)
 then_same : (p : Response) (f g : State → Response) → ((t : State) → f t ≡ g t) → and_then p f ≡ and_then p g
 then_same p f g same = unless_same p.end p f g same
 
--- the source at a place, where all behind it are those from there on
+-- the source at a place, where all after it are those from there on
 source_at : (all : List Source) (n : ℕ) (source : Source) (rest : List Source) → drop n all ≡ source ∷ rest → (slice_get all n ≡ Some source) × (drop (suc n) all ≡ rest)
 source_at all zero source rest h = (ap (λ xs. slice_get xs 0) h, ap (drop 1) h)
 source_at [] (suc n) source rest h = absurd cc

@@ -1,5 +1,5 @@
--- What an execution begins with fits its part: an activation's unit is one of its source's class, and an event's is one of
--- the class of the clause that names it.
+-- What an execution begins with fits its part: an activation's unit is one of its source's class, and an event's is one
+-- of the class of the clause that names it.
 use Rattle.std.proofs.Common.{◌≡◌, ◌≤◌, ◌<◌, inl, inr, ℕ, Bool, true, false, List, [], ◌∷◌, ◌++◌, length, map, Option, Some, None, option_map, refl, sym, ap, subst, ◌∙◌, arith}
 use Rattle.std.specs.Prelude.{All, ◌&&◌, ◌||◌, ◌==◌, nat_lt}
 use Rattle.std.specs.List.{list_all}

@@ -37,7 +37,7 @@ item_at xs i lt = elim (slice_get_cases xs i).1 [
 ]
 
 module _ (plan : Plan) where
-  -- what is reported is told first, and the finish where the run ends in it
+  -- what is reported is told first, and the finish if the run ends in it
   reported_first : (r : Response) (end : Option End) → r.end ≡ end
       → (rest : List Note) × (let p = and_then_unless end (segment r) (processing_all plan (events_in r.told)) in all_of (p.told ++ finish_segments p.end p.state.natives) ≡ (r.told ++ finish_by r.end r.state.natives) ++ rest)
   reported_first r (Some e) is = ([], ap (λ l. r.told ++ l) (finish_is r.end r.state.natives) ∙ sym (append-nil (r.told ++ finish_by r.end r.state.natives)))
@@ -46,7 +46,7 @@ module _ (plan : Plan) where
       let rest = all_of (q.told ++ finish_segments q.end q.state.natives) in
       (rest, ap (λ l. l ++ rest) (sym (append-nil r.told) ∙ ap (λ e. r.told ++ finish_by e r.state.natives) (sym is)))
 
-  -- the same of a cycle, by its verdict
+  -- a cycle tells the choice and what comes upon it first, by its verdict
   by_verdict : (source : Source) (v : Verdict) (number : ℕ) (a : Activation) (r : ℤ) (t : State)
       → (rest : List Note) × (let p = and_then (segment (chosen_with number a r v t)) (acting plan (if_valid v (Some source)) a) in let told = upon_verdict v source a t in
       all_of (p.told ++ finish_segments p.end p.state.natives) ≡ Chosen number a r ∷ ((told.told ++ finish_by told.end told.state.natives) ++ rest))
@@ -57,7 +57,7 @@ module _ (plan : Plan) where
   by_verdict source verdicts.Invalid number a r t = ([], refl)
   by_verdict source (verdicts.Over end) number a r t = ([], refl)
 
-  -- a cycle tells the choice, and then this
+  -- a cycle tells the choice, and then what comes upon it
   cycle_first : (source : Source) (number : ℕ) (a : Activation) (s : State) → slice_get plan.sources a.source ≡ Some source
       → (rest : List Note) × (let p = cycle plan number a s in let told = upon_choice source a s in
       all_of (p.told ++ finish_segments p.end p.state.natives) ≡ Chosen number a (rating plan s a) ∷ ((told.told ++ finish_by told.end told.state.natives) ++ rest))

@@ -23,14 +23,14 @@ first_tells None p next is =
     (r.told ++ finish_segments r.end r.state.natives, append_assoc p.told r.told (finish_segments r.end r.state.natives) ∙ ap (λ l. l ++ (r.told ++ finish_segments r.end r.state.natives)) first)
 
 module _ (plan : Plan) where
-  -- these segments begin with the cycle of what can be chosen in a state, and the finish where the run ends in it
+  -- the segments begin with the cycle of what can be chosen in a state, and the finish if the run ends in it
   pub record BeginsByCycle (number : ℕ) (s : State) (segments : List (List Note)) : Type 0 where
     pub chosen : Activation
     pub choice_is : choice plan s ≡ Some chosen
     pub more : List (List Note)
     pub begins : let p = cycle plan number chosen s in segments ≡ (p.told ++ finish_segments p.end p.state.natives) ++ more
 
-  -- a stretch is this one, or goes on by a cycle of this number where this one is over by the limit
+  -- the second stretch is the first, or goes on by a cycle of this number where the first is over by the limit
   abbrev GoesOn : (number : ℕ) → Stretch → Stretch → Type 0
   GoesOn number p q =
       (q ≡ p) ⊎ ((p.end ≡ Some finishes.Limit) × ((rest : List (List Note)) × ((q.told ≡ p.told ++ rest) × BeginsByCycle number p.state (rest ++ finish_segments q.end q.state.natives))))
@@ -48,7 +48,7 @@ module _ (plan : Plan) where
   goes_if number s None next later on = inl refl
   goes_if number s (Some a) next later on = on a refl
 
-  -- what a chosen activation leads to, where so many cycles are left after it
+  -- what a chosen activation leads to, where `left` cycles are left after it
   abbrev cycle_then : (made left : ℕ) → State → Activation → Stretch
   cycle_then made left t a = and_then (cycle plan (made + 1) a t) (cycles plan (made + 1) left)
 
@@ -92,7 +92,7 @@ module _ (plan : Plan) where
       (longer ≡ run) ⊎ ((run.end ≡ Some finishes.Limit) × ((front : List (List Note)) × ((rest : List (List Note)) ×
       ((run.told ≡ front ++ finish finishes.Limit run.state.natives ∷ []) × ((longer.told ≡ front ++ rest) × BeginsByCycle number run.state rest)))))
 
-  -- the same with the finish told last
+  -- a stretch that goes on from another goes further, with the finish of each told last
   finishes_on : (number : ℕ) (p q : Stretch) → GoesOn number p q → GoesFurther number (with_finish p) (with_finish q)
   finishes_on number p q (inl same) = inl (ap with_finish same)
   finishes_on number p q (inr more) =

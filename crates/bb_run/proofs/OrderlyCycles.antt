@@ -89,7 +89,7 @@ module _ (plan : Plan) (board : Blackboard) (natives : List Native) where
         responds_then plan board natives past (made + 1) made r next r.end refl (first past made stands) (λ later. rest (past ++ r.told) made later);
   }
 
-  -- then the end of the native's execution is told
+  -- after its asks the end of the native's execution is told
   native_ends : (asks : ℕ) (r : Response) (past : List Note) (made : ℕ) (end : Option End) → r.end ≡ end → Responds plan board natives past (made + 1) made r
       → Responds plan board natives past (made + 1) (made + 1) (and_then_unless end r (λ t. telling (NativeEnded asks ∷ []) t None))
   native_ends asks r past made (Some e) is told = keeps_over past r.told (made + 1) made (made + 1) r.state r.end e is told

@@ -107,14 +107,14 @@ module _ (plan : Plan) (board : Blackboard) (natives : List Native) where
   abbrev pub Agrees : (past : List Note) (made executed : ℕ) → Agenda → Type 0
   Agrees = Stands (length plan.sources)
 
-  -- notes after these, with what they leave
+  -- notes after those in the past may come there, and leave this
   pub record Keeps (past notes : List Note) (made executed : ℕ) (s : State) (end : Option End) : Type 0 where
     pub comes : Comes May past notes
     pub cycles : made ≡ length (chosen_in (past ++ notes))
     pub stands : end ≡ None → Agrees (past ++ notes) made executed s.agenda
     pub early : IsEarly end
 
-  -- the same of a stretch
+  -- the notes of a stretch may come after those in the past
   abbrev pub Tells : (past : List Note) (made executed : ℕ) → Stretch → Type 0
   Tells past made executed p = Keeps past (notes_of p) made executed p.state p.end
 
@@ -149,7 +149,7 @@ module _ (plan : Plan) (board : Blackboard) (natives : List Native) where
 
   -- ---- the response to an event
 
-  -- the same of a response
+  -- the notes of a response may come after those in the past
   abbrev pub Responds : (past : List Note) (made executed : ℕ) → Response → Type 0
   Responds past made executed r = Keeps past r.told made executed r.state r.end
 

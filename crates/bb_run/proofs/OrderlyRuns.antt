@@ -36,7 +36,7 @@ closed_unchosen (c ∷ cs) = closed_unchosen cs
 module _ (plan : Plan) (board : Blackboard) (natives : List Native) where
   -- ---- the run so far
 
-  -- whatever the limit, a run that makes so many cycles begins with these segments
+  -- whatever the limit, a run that makes `made` cycles begins with these segments
   abbrev pub Begins : (told : List (List Note)) (made : ℕ) → State → Type 0
   Begins told made s = (left limit : ℕ) → limit ≡ made + left → unfinished plan board natives limit ≡ after_told told (cycles plan made left s)
 
@@ -114,7 +114,7 @@ module _ (plan : Plan) (board : Blackboard) (natives : List Native) where
 
   -- ---- cycles up to the end
 
-  -- notes after these that end a run, with the state that they leave
+  -- notes after those in the past that end a run, with the state that they leave
   record Ends (past notes : List Note) (limit : ℕ) (s : State) (end : Option End) : Type 0 where
     comes : Comes (May plan board natives) past notes
     ends : (e : End) × (end ≡ Some e)
@@ -123,7 +123,7 @@ module _ (plan : Plan) (board : Blackboard) (natives : List Native) where
     left : end ≡ Some finishes.Limit → (a : Activation) × (choice plan s ≡ Some a)
     exhausted : end ≡ Some finishes.Quiescence → choice plan s ≡ None
 
-  -- the same of a stretch
+  -- the notes of a stretch may come after those in the past, and end the run
   abbrev TellsLast : (past : List Note) (limit : ℕ) → Stretch → Type 0
   TellsLast past limit p = Ends past (notes_of p) limit p.state p.end
 
@@ -241,7 +241,7 @@ module _ (plan : Plan) (board : Blackboard) (natives : List Native) where
   abbrev closings : (limit : ℕ) → List Closing
   closings limit = closings_of (unfinished plan board natives limit).state.natives
 
-  -- its notes, the finish and the closings last
+  -- the notes of a run, the finish and the closings last
   notes_of_run : (limit : ℕ) → notes_of (run plan board natives limit) ≡ notes_of (unfinished plan board natives limit) ++ Finished (end_of_run limit).0 ∷ map Closed (closings limit)
   notes_of_run limit =
       let p = unfinished plan board natives limit in
@@ -300,7 +300,7 @@ module _ (plan : Plan) (board : Blackboard) (natives : List Native) where
     once = λ before e after is. (finish_at limit before e after is).1.1;
   }
 
-  -- neither the finish is a choice nor a closing
+  -- a run has as many choices as without its finish: neither the finish nor a closing is one
   choices_of_run : (limit : ℕ) → length (chosen_in (notes_of (run plan board natives limit))) ≡ length (chosen_in (notes_of (unfinished plan board natives limit)))
   choices_of_run limit =
       let notes = notes_of (unfinished plan board natives limit) in

@@ -73,12 +73,12 @@ pending_then xs ys = fold-append after_note [] xs ys
 
 -- ---- the agenda and the notes
 
--- the activation's number was given, and it is one of so many sources
+-- the activation's number was given, and its source is one of `sources`
 pub record IsKnown (next sources : ℕ) (a : Activation) : Type 0 where
   pub number : a.number < next
   pub source : a.source < sources
 
--- after these notes, with so many cycles made and so many of them over, the agenda is what is pending
+-- after these notes, with `made` cycles made and `executed` of them over, the agenda is what is pending
 pub record Stands (sources : ℕ) (past : List Note) (made executed : ℕ) (agenda : Agenda) : Type 0 where
   pub numbers : next_number agenda ≡ length (triggered_in past) + 1
   pub cycles : made ≡ length (chosen_in past)
@@ -99,7 +99,7 @@ stands_first sources setting foci = record {
   apart = All-nil (IsApart []);
 }
 
--- foci change nothing of that
+-- foci change nothing of what is pending
 pub stands_told : (sources : ℕ) (past : List Note) (made executed : ℕ) (agenda : Agenda) (foci : Foci) → Stands sources past made executed agenda → Stands sources past made executed (with_foci agenda foci)
 stands_told sources past made executed agenda foci s = record {
   numbers = s.numbers;
@@ -128,7 +128,7 @@ module _ (sources : ℕ) (past : List Note) (made executed : ℕ) (agenda : Agen
   same_gone : (notes : List Note) → gone_in notes ≡ [] → gone_in past ≡ gone_in (past ++ notes)
   same_gone notes none = sym (gone_then past notes ∙ ap (λ l. gone_in past ++ l) none ∙ append-nil (gone_in past))
 
-  -- after notes that tell of no activation, but that so many cycles are over
+  -- after notes that tell of no activation, but that `more` cycles are over
   pub stands_silent : (notes : List Note) (more : ℕ) → IsSilent notes → ends_in notes ≡ more → Stands sources (past ++ notes) made (executed + more) agenda
   stands_silent notes more silent ended =
       let gone = same_gone notes silent.none_gone in

@@ -319,7 +319,7 @@ module _ (plan : Plan) (board : Blackboard) (natives : List Native) where
 
   -- ---- a run so far
 
-  -- the notes of these segments are what had been noted, and then these notes, which tell so many cycles
+  -- the notes of the segments are what had been noted, and then those in the past, which tell `made` cycles
   pub record SoFar (told : List (List Note)) (made : ℕ) (past : List Note) : Type 0 where
     pub notes : all_of told ≡ map Board board.world.notes ++ past
     pub count : length (chosen_in past) ≡ made

@@ -32,15 +32,15 @@ module _ (plan : Plan) (board : Blackboard) (natives : List Native) (limit : ℕ
   abbrev first : Response
   first = noted (first_state plan board natives) [] None
 
-  -- its events
+  -- the processing of the events that are told first
   abbrev processed : Stretch
   processed = processing_all plan (events_in first.told) first.state
 
-  -- the run after it, up to its finish
+  -- the run after what is told first, up to its finish
   abbrev later : Stretch
   later = and_then_unless processed.end processed (cycles plan 0 limit)
 
-  -- whatever the limit, it begins so
+  -- whatever the limit, the run begins with what is told first and the processing of that
   begins : processed.end ≡ None → Begins plan board natives (first.told ∷ processed.told) 0 processed.state
   begins goes = λ left any is.
       let same : any ≡ left = omega (arith, is) in
@@ -51,7 +51,7 @@ module _ (plan : Plan) (board : Blackboard) (natives : List Native) (limit : ℕ
   begun : unfinished plan board natives limit ≡ after_told (first.told ∷ []) later
   begun = after_first first.told processed (cycles plan 0 limit) processed.end
 
-  -- it made no cycle
+  -- the run has made no cycle so far
   so_far : SoFar plan board natives (first.told ∷ processed.told) 0 (notes_of processed)
   so_far = record {
     notes = ap (λ l. l ++ notes_of processed) (append-nil (map Board board.world.notes));

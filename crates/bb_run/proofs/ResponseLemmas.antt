@@ -61,13 +61,13 @@ module _ (old mid new : List Note) (whole p : Response) (next : State → Respon
 
 -- ---- the source at a place
 
--- there is none
+-- where there is no source, nothing is told
 pub none_responds : (schema : Schema) (event : Event) (sources read : List Source) (place : ℕ) (s : State) (notes : List Note) → None ≡ slice_get read place → read ≡ sources → IsResponse (response_at schema event sources place s) notes notes s None
 none_responds schema event sources read place s notes none are =
     let same = ap (λ o. option_map_or (λ source. source_response schema event place source s) o (idle s)) (none ∙ ap (λ xs. slice_get xs place) are) in
     subst (λ p. IsResponse p notes notes s None) same (nothing_told notes s)
 
--- it responds, asked under the schema as it was read
+-- a source that is there responds, asked under the schema as it was read
 pub one_responds : {E : Type 0} (r : Result (Option End) E) (old new : List Note) (t : State) (schema asked : Schema) (event : Event) (sources read : List Source) (place : ℕ) (source : Source) (s : State)
     → Some source ≡ slice_get read place → read ≡ sources → asked ≡ schema → IfOk r (IsResponse (source_response asked event place source s) old new t) → IfOk r (IsResponse (response_at schema event sources place s) old new t)
 one_responds r old new t schema asked event sources read place source s found are same h =

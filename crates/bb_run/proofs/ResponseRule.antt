@@ -30,7 +30,7 @@ module _ (plan : Plan) (Holds : State → Response → Type 0) where
   abbrev pub OfPlan : Checked → Type 0
   OfPlan code = (source : Source) × Contains plan.sources source × IsAsked source code
 
-  -- it holds of what a response is made of
+  -- a property holds of each part that a response is made of
   pub record HoldsOfParts : Type 0 where
     pub nothing : (s : State) → Holds s (idle s)
     pub full : (s : State) → is_full s.agenda ≡ true → Holds s (over finishes.Full s)

@@ -74,7 +74,7 @@ begun : (start (plan (pos 0)) one_note []).told ≡ (Board (noted.Event (happens
 unfolding plan hail hello note_schema one_note waiting climbs response_by processing_all
 begun = refl
 
--- its cycle, with the rating that the activation has then
+-- the cycle of that run, with the rating that the activation has then
 first_cycle : let s = (start (plan (pos 0)) one_note []).state in
     (cycle (plan (pos 0)) 1 waiting s).told ≡
     (Chosen 1 waiting (rating (plan (pos 0)) s waiting) ∷ [])
@@ -111,7 +111,7 @@ declined_first = refl
 
 -- ---- what is asked about activations
 
--- a code of so many locals without tables, accepted for a part
+-- a code with `locals` locals and without tables, accepted for a part
 asked : ℕ → List Op → Part → Checked
 asked locals ops part = record {
   code = record { locals = locals; texts = []; queries = []; frames = []; loops = []; ops = ops };

@@ -51,17 +51,17 @@ stops p next s end left = ap (λ e. and_then_unless e p next) (sym left.end)
 grouped : (xs ys : List (List Note)) (p : Stretch) → after_told xs (after_told ys p) ≡ after_told (xs ++ ys) p
 grouped xs ys p = let with_segments : List (List Note) → Stretch = λ t. telling t p.state p.end in ap with_segments (sym (append_assoc xs ys p.told))
 
--- all that is left of it was told
+-- all that is left of a stretch was told, and so the whole
 pub last_told : (plan : Plan) (a b c : Place) (whole rest : Stretch) (s : State) (end : Option End) → HasTold plan a b whole rest → IsTold plan b c rest.told → Leaves rest s end
     → IsTold plan a c whole.told × Leaves whole s end
 last_told plan a b c whole rest s end h t left =
     subst (λ w. IsTold plan a c w.told × Leaves w s end) (sym h.same) (told_then plan a b c h.segments rest.told h.told t, record { state = left.state; end = left.end })
 
--- it was cut short in what is left of it
+-- a stretch was cut short in what is left of it
 pub last_cut : (plan : Plan) (a b c : Place) (whole rest : Stretch) (halt : Halt) → HasTold plan a b whole rest → CutIn plan b c rest.told halt → CutIn plan a c whole.told halt
 last_cut plan a b c whole rest halt h t = subst (λ w. CutIn plan a c w.told halt) (sym h.same) (cut_then plan a b c h.segments rest.told halt h.told t)
 
--- what is left of it is made, or it is cut short in that
+-- what is left of a stretch is made, or it is cut short in that
 pub makes_last : {X : Type 0} (ends : X → Option End) (plan : Plan) (a b c : Place) (whole rest : Stretch) (s : State) (r : Result X Halt) → HasTold plan a b whole rest → MakesBy ends plan b c rest s r → MakesBy ends plan a c whole s r
 makes_last ends plan a b c whole rest s (Ok x) h m = last_told plan a b c whole rest s (ends x) h m.0 m.1
 makes_last ends plan a b c whole rest s (Err halt) h m = last_cut plan a b c whole rest halt h m
@@ -76,12 +76,12 @@ unfolding later
 segments-and_then None p next = refl
 segments-and_then (Some end) p next = sym (append-nil p.told)
 
--- it was cut short in a part of it
+-- a stretch was cut short in a part of it
 pub part_cut : (plan : Plan) (a b c : Place) (whole p : Stretch) (next : State → Stretch) (halt : Halt) → HasTold plan a b whole (and_then p next) → CutIn plan b c p.told halt → CutIn plan a c whole.told halt
 part_cut plan a b c whole p next halt h t =
     last_cut plan a b c whole (and_then p next) halt h (subst (λ x. CutIn plan b c x halt) (sym (segments-and_then p.end p next)) (cut_before plan b c p.told (later p.end p next) halt t))
 
--- a part of it was told, and the run goes on
+-- a part of a stretch was told, and the run goes on
 pub part_told : (plan : Plan) (a b c : Place) (whole p : Stretch) (next : State → Stretch) (s : State) → HasTold plan a b whole (and_then p next) → IsTold plan b c p.told → Leaves p s None → HasTold plan a c whole (next s)
 part_told plan a b c whole p next s h t left = record {
   segments = h.segments ++ p.told;
@@ -94,11 +94,11 @@ pub part_ends : (plan : Plan) (a b c : Place) (whole p : Stretch) (next : State 
     → IsTold plan a c whole.told × Leaves whole s (Some end)
 part_ends plan a b c whole p next s end h t left = last_told plan a b c whole p s (Some end) (record { segments = h.segments; told = h.told; same = h.same ∙ ap (after_told h.segments) (stops p next s end left) }) t left
 
--- a part of it is made, and the run goes on
+-- a part of a stretch is made, and the run goes on
 pub part_made : (plan : Plan) (a b c : Place) (whole p : Stretch) (next : State → Stretch) (s : State) (o : Option End) → HasTold plan a b whole (and_then p next) → Makes plan b c p s (Ok o) → o ≡ None → HasTold plan a c whole (next s)
 part_made plan a b c whole p next s o h m none = part_told plan a b c whole p next s h m.0 (record { state = m.1.state; end = sym none ∙ m.1.end })
 
--- a part of it is made, and the run ends there
+-- a part of a stretch is made, and the run ends there
 pub part_over : (plan : Plan) (a b c : Place) (whole p : Stretch) (next : State → Stretch) (s : State) (o : Option End) (end : End) → HasTold plan a b whole (and_then p next) → Makes plan b c p s (Ok o) → o ≡ Some end → Makes plan a c whole s (Ok (Some end))
 part_over plan a b c whole p next s o end h m some = part_ends plan a b c whole p next s end h m.0 (record { state = m.1.state; end = sym some ∙ m.1.end })
 
@@ -181,7 +181,7 @@ module _ (plan : Plan) (a b : Place) (notes : List Note) (s : State) (end : Opti
       (part_made plan a a b whole (telling (notes ∷ []) s end) next s end (nothing_told plan a whole) (told, record { state = refl; end = refl }) none)
       m
 
--- the same of the response that was noted
+-- the report of the notes is the report of the response that was noted
 pub reported_as : (plan : Plan) (a b : Place) (r : Response) (old new told : List Note) (s t : State) (end : Option End) (result : Result (Option End) Halt) → told ≡ new → old ≡ [] → IsResponse r old new s end
     → Makes plan a b (reported plan (telling told s end)) t result → Makes plan a b (reported plan r) t result
 reported_as plan a b r old new told s t end result is none i m =
@@ -281,7 +281,7 @@ module _ (plan : Plan) (a b c : Place) (whole : Stretch) (s t : State) (next : S
 
 -- ---- cycles
 
--- what a chosen activation leads to, where so many cycles are left
+-- what a chosen activation leads to, where `left` cycles are left
 abbrev pub cycle_then : Plan → (made left : ℕ) → State → Activation → Stretch
 cycle_then plan made left s a = and_then (cycle plan (made + 1) a s) (cycles plan (made + 1) left)
 

@@ -228,7 +228,7 @@ module _ (plan : Plan) (sound : IsWellMade plan) (natives : List Native) where
   goes_if_valid number a r verdicts.Invalid t source at suits ready = well_idle Given (All KeepsBudget) Ready (chosen_with number a r verdicts.Invalid t).state ready
   goes_if_valid number a r (verdicts.Over end) t source at suits ready = well_idle Given (All KeepsBudget) Ready (chosen_with number a r (verdicts.Over end) t).state ready
 
-  -- the same state, on an equal blackboard
+  -- a state that is ready stays so on an equal blackboard
   pub ready_on : (s : State) (b : Blackboard) → b ≡ s.board → Ready s → Ready (with_board s b)
   ready_on s b same ready = record {
     board = subst (FitsPlan plan) (sym same) ready.board;

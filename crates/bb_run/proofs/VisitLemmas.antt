@@ -77,7 +77,7 @@ module _ (plan : Plan) where
 
   -- ---- events are processed
 
-  -- so many of them, and the others are left
+  -- the events of the visits are processed first, and the others are left
   record Front (events : List Event) (visits : Visits) (end : Option End) : Type 0 where
     left : List Event
     all : events_of visits ++ left ≡ events

@@ -77,11 +77,11 @@ module _ (s : Schema) (u : Units) where
   by_key foci n q true is right = ap (focus_of s u) (sym (nat_cmp-IsAntisymmetric q n ((Equal-is (nat_cmp q n)).0 is)))
   by_key foci n q false is right = right
 
-  -- it stays so
+  -- what the foci have of a unit stays right when another unit is told
   still_right : (foci : Foci) (n q : ℕ) → Right q foci → Right q (told_unit s u foci n)
   still_right foci n q right = told_get foci n q (focus_of s u n) ∙ by_key foci n q (eq_by_cmp nat_cmp q n) refl right
 
-  -- it becomes so for the unit itself
+  -- what the foci have of a unit becomes right when it is told
   now_right : (foci : Foci) (n : ℕ) → Right n (told_unit s u foci n)
   now_right foci n = told_get foci n n (focus_of s u n) ∙ ap (λ b. cond b (focus_of s u n) (get foci n)) (same_key n)
 
@@ -115,7 +115,7 @@ module _ (s : Schema) (u : Units) where
       stays_right q ns (told_unit s u foci n) (subst (λ k. Right k (told_unit s u foci n)) (sym same) (now_right foci n))
   right_by q n ns foci false is there later = later there
 
-  -- it becomes so of each that is among them
+  -- what the foci have becomes right of each unit among those that are told
   becomes_right : (q : ℕ) (ns : List ℕ) (foci : Foci) → list_any (eq_by_cmp nat_cmp q) ns ≡ true → Right q (fold (told_unit s u) foci ns)
   becomes_right q [] foci there = absurd cc
   becomes_right q (n ∷ ns) foci there = right_by q n ns foci (eq_by_cmp nat_cmp q n) refl there (becomes_right q ns (told_unit s u foci n))

@@ -15,7 +15,7 @@ use Rattle.bb_trace.specs.Plan.{Plan}
 use Rattle.bb_run.specs.Order.{At}
 use Rattle.bb_run.specs.Processing.{events_in}
 
--- the places of those of these sources that an event triggers, in order, each with the event's unit
+-- the places of the sources that an event triggers, in order from this place on, each with the event's unit
 abbrev pub triggered_from : Schema → Event → (place : ℕ) → List Source → List (ℕ × ℕ)
 triggered_from schema event place [] = []
 triggered_from schema event place (source ∷ more) =
@@ -39,7 +39,7 @@ answered_by _ = []
 abbrev pub answered_in : List Note → List (ℕ × ℕ)
 answered_in notes = flat_map answered_by notes
 
--- of what the events before it ask for, a finish like this may leave something over
+-- a run with this end may leave this unanswered of what its events ask for
 abbrev pub MayOwe : End → List (ℕ × ℕ) → Type 0
 MayOwe ends.Quiescence owed = owed ≡ []
 MayOwe ends.Limit owed = owed ≡ []
@@ -47,9 +47,9 @@ MayOwe _ owed = Unit {0}
 
 -- sources are triggered as the events ask for it, in their order, source by source
 pub record IsAnswered (plan : Plan) (notes : List Note) : Type 0 where
-  -- at a choice all that the events before it ask for has come
+  -- at a choice all that the events before it ask for is answered
   pub choices : (before : List Note) (cycle : ℕ) (a : Activation) (r : ℤ) → At notes before (Chosen cycle a r)
       → answered_in before ≡ asked_for plan (events_in before)
-  -- at a finish too, or, where the run is full or stuck, the first of it
+  -- at a finish all that the events before it ask for is answered, or, where the run is full or stuck, the first of it
   pub finish : (before : List Note) (end : End) → At notes before (Finished end)
       → (owed : List (ℕ × ℕ)) × (answered_in before ++ owed ≡ asked_for plan (events_in before)) × MayOwe end owed

@@ -31,7 +31,7 @@ end_by (stops.Full steps found) = ends.Full
 end_by (stops.Stuck reason steps found) = ends.Stuck reason
 end_by stops.Memory = ends.Full
 
--- how a code replies: by its answer, or not, and then the run is over
+-- how a code replies: by its answer, or, if it comes to none, by the end of the run
 abbrev pub reply_by : Result Outcome Stop → Reply
 reply_by (Ok o) = Answer o.answer
 reply_by (Err stop) = Over (end_by stop)

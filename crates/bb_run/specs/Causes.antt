@@ -39,7 +39,7 @@ IsAsked source code =
 abbrev pub IsPart : Source → Checked → Type 0
 IsPart source code = (source.act ≡ acts.Code code) ⊎ IsAsked source code
 
--- an execution was stopped so, and left this blackboard: it was one of a code of a source
+-- an execution of a code of a source stopped like this, and left this blackboard
 pub record WasStopped (plan : Plan) (board : Blackboard) (stop : Stop) : Type 0 where
   pub source : Source
   pub one : Contains plan.sources source
@@ -48,7 +48,7 @@ pub record WasStopped (plan : Plan) (board : Blackboard) (stop : Stop) : Type 0 
   pub entry : Entry
   pub before : Blackboard
   pub came : (attempt code.code entry before).0 ≡ Err stop
-  -- where it was an act what it had noted is taken
+  -- where the code is an act, what it noted is taken
   pub left : let after = (attempt code.code entry before).1 in
       (board ≡ after) ⊎ (board ≡ with_world after (after_take after.world))
 
@@ -57,7 +57,7 @@ pub record WasDenied (plan : Plan) (s : State) : Type 0 where
   pub source : Source
   pub one : Contains plan.sources source
   pub native : source.act ≡ acts.Native
-  -- the natives before it was called, and its place among them
+  -- the natives before the call, and the place of the one that was called
   pub before : List Native
   pub place : ℕ
   pub place_is : place_of before source.name ≡ Some place
@@ -76,17 +76,17 @@ LacksNative plan natives =
 
 -- why a run ends in this state
 pub data Cause (plan : Plan) (s : State) : End → Type 0 where
-  -- it is full where its agenda is
+  -- the run is full: its agenda is
   of_agenda : is_full s.agenda ≡ true → Cause plan s ends.Full
-  -- it is full where no unit can be created, and its last execution was stopped for that
+  -- the run is full: no unit can be created, and its last execution was stopped for that
   of_units : (steps found : ℕ) → WasStopped plan s.board (stops.Full steps found)
       → no_unit_left s.board.world.units ≡ true → Cause plan s ends.Full
-  -- the same where a native asked for a unit
+  -- the run is full: no unit can be created, and a native asked for one
   of_ask : WasDenied plan s → no_unit_left s.board.world.units ≡ true → Cause plan s ends.Full
-  -- it is stuck where its last execution was
+  -- the run is stuck: its last execution was
   of_execution : (reason : Stuck) (steps found : ℕ) → WasStopped plan s.board (stops.Stuck reason steps found)
       → Cause plan s (ends.Stuck reason)
-  -- it is stuck where there is no native to call
+  -- the run is stuck: there is no native to call
   of_native : LacksNative plan s.natives → Cause plan s (ends.Stuck Missing)
 
 -- a run that ends full or stuck has a cause for it

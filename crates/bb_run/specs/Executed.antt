@@ -21,11 +21,11 @@ upon_verdict verdicts.Valid source a s =
 upon_verdict verdicts.Invalid source a s = telling (Invalid a.number ∷ []) s None
 upon_verdict (verdicts.Over end) source a s = over end s
 
--- by the verdict on the activation
+-- what is told upon a choice, by the verdict of the source's revalidation
 abbrev pub upon_choice : Source → Activation → State → Response
 upon_choice source a s = let v = validity source.revalidate a s.board in upon_verdict v.0 source a (with_board s v.1)
 
--- the finish and the closings, where the run ends so
+-- the finish and the closings, if the run ends
 abbrev pub finish_by : Option End → List Native → List Note
 finish_by None natives = []
 finish_by (Some end) natives = finish end natives
@@ -35,6 +35,6 @@ pub record IsFollowed (plan : Plan) (s : State) (a : Activation) (after : List N
   -- the source of the activation is there
   pub source : Source
   pub source_is : slice_get plan.sources a.source ≡ Some source
-  -- its notes upon the choice come first, and the finish where the run ends in them
+  -- what is told upon the choice comes first, and the finish where the run ends there
   pub rest : List Note
   pub begins : let told = upon_choice source a s in after ≡ (told.told ++ finish_by told.end told.state.natives) ++ rest

@@ -1,4 +1,4 @@
--- How a run's answer tells its end.
+-- The end of a run, by what `run` returns.
 use Rattle.std.specs.Prelude.{ℕ, Bool, true, false, List, take, Option, Some, None, ⊤}
 use Rattle.std.specs.Io.KnownBytes.{Appends}
 use Rattle.bb_trace.specs.declared.end.End.{End}

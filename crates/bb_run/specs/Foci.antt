@@ -21,7 +21,7 @@ use Rattle.bb_trace.specs.Plan.{Plan}
 
 -- ---- the foci of a blackboard
 
--- a text, a number, a truth value
+-- the text, number or truth value that a slot holds
 abbrev pub text_in : Option Value → Option (List ℕ)
 text_in (Some (values.Text text)) = Some text
 text_in _ = None
@@ -34,7 +34,7 @@ abbrev pub truth_in : Option Value → Option Bool
 truth_in (Some (values.Bool truth)) = Some truth
 truth_in _ = None
 
--- the focus of these four slots
+-- the focus with these values of its four slots
 abbrev pub focus_from : Option (List ℕ) → Option (List ℕ) → Option ℤ → Option Bool → Option Focus
 focus_from (Some source) (Some area) (Some weight) (Some active) =
     Some (record { source = source; area = area; weight = weight; active = active })
@@ -51,26 +51,26 @@ focus_of s u n =
     then focus_from (text_in (value_of u n 0)) (text_in (value_of u n 1)) (number_in (value_of u n 2)) (truth_in (value_of u n 3))
     else None
 
--- foci with what a unit is: this focus under its number, or none
+-- foci once a unit was told: the focus that it is stands under its number, or none does
 abbrev pub told_unit : Schema → Units → Foci → ℕ → Foci
 told_unit s u foci n = option_map_or (λ focus. fin.insert foci n focus) (focus_of s u n) (fin.remove foci n)
 
--- all foci of a blackboard: of each live unit what it is
+-- all foci of a blackboard: of each live unit the focus that it is, if it is one
 abbrev pub foci_on : Blackboard → Foci
 foci_on board = fold (told_unit board.schema board.world.units) fin.empty (fin.keys board.world.units.units)
 
 -- ---- what the agenda is told
 
--- of a unit that a note names
+-- foci once the unit that a note names was told
 abbrev pub told_note : Schema → Units → Foci → BoardNote → Foci
 told_note s u foci (happened event) = told_unit s u foci (unit_of event)
 told_note s u foci (said values) = foci
 
--- of those that notes name, in order
+-- foci once the units that notes name were told, in order
 abbrev pub told_notes : Schema → Units → List BoardNote → Foci → Foci
 told_notes s u notes foci = fold (told_note s u) foci notes
 
--- of all numbers that were given out, and of 0, which names no unit
+-- foci once all numbers that were given out were told, and 0, which names no unit
 abbrev pub told_all : Schema → Units → Foci → Foci
 told_all s u foci = fold (told_unit s u) foci (range_with_len 0 u.next)
 
@@ -80,14 +80,14 @@ with_foci a foci = record a { foci = foci }
 
 -- ---- the agenda that a run begins with
 
--- what foci are matched with
+-- what foci are matched with of a source: its name and its class
 abbrev pub rated_source : Source → RatedSource
 rated_source source = record { name = source.name; class = source.class }
 
 abbrev pub setting_of : Plan → Setting
 setting_of plan = record { schema = plan.schema; sources = map rated_source plan.sources }
 
--- nothing is pending, and it was told of the foci that the blackboard has
+-- the agenda that a run begins with: nothing is pending, and it was told of the foci that the blackboard has
 abbrev pub first_agenda : Plan → Blackboard → Agenda
 first_agenda plan board =
     with_foci (no_activations (setting_of plan)) (told_all board.schema board.world.units fin.empty)

@@ -28,9 +28,9 @@ pub mod Unstuck
 pub mod Reads
 -- the foci that a run rates by
 pub mod Weighed
--- how a run's answer tells its end, and what was written where it was cut short
+-- the end of a run by what `run` returns, and what was written where it was cut short
 pub mod Finish
--- for proofs alone
+-- for proofs only
 pub mod proving
 -- of bb_trace: what a run goes by, what it tells, and the text of that
 pub use Rattle.bb_trace.specs.TraceText

@@ -19,7 +19,7 @@ use Rattle.bb_trace.specs.Plan.{Plan}
 use Rattle.bb_run.specs.Told.{Stretch}
 use Rattle.bb_run.specs.Run.{choice, finish, rating}
 
--- ---- what notes tell
+-- ---- what notes say
 
 -- all notes of segments, in order
 abbrev pub all_of : List (List Note) → List Note
@@ -29,16 +29,16 @@ all_of segments = flat_map (λ segment. segment) segments
 abbrev pub notes_of : Stretch → List Note
 notes_of p = all_of p.told
 
--- the note is one of these notes, and comes after those before it
+-- the note is one of these notes, and these come before it
 abbrev pub At : (notes before : List Note) → Note → Type 0
 At notes before note = (after : List Note) × (notes ≡ before ++ note ∷ after)
 
--- the activation that a note tells to be new
+-- the activation that is new by a note, if one is
 abbrev pub triggered_by : Note → List Activation
 triggered_by (Triggered a) = a ∷ []
 triggered_by _ = []
 
--- the activation that a note tells to be chosen
+-- the activation that is chosen by a note, if one is
 abbrev pub chosen_by : Note → List Activation
 chosen_by (Chosen cycle a r) = a ∷ []
 chosen_by _ = []
@@ -49,23 +49,23 @@ gone_by (Chosen cycle a r) = a.number ∷ []
 gone_by (Obviated number) = number ∷ []
 gone_by _ = []
 
--- the note tells that a cycle is over: its execution has ended, or its activation was invalid
+-- a cycle is over by the note: its execution has ended, or its activation was invalid
 abbrev pub is_end : Note → Bool
 is_end (Ended steps found budget) = true
 is_end (NativeEnded asks) = true
 is_end (Invalid number) = true
 is_end _ = false
 
--- what a note tells that a native said at its close
+-- what a native said at its close, by a note
 abbrev pub closed_by : Note → List Closing
 closed_by (Closed closing) = closing ∷ []
 closed_by _ = []
 
--- all activations that notes tell to be new
+-- all activations that are new by notes
 abbrev pub triggered_in : List Note → List Activation
 triggered_in notes = flat_map triggered_by notes
 
--- all activations that notes tell to be chosen
+-- all activations that are chosen by notes
 abbrev pub chosen_in : List Note → List Activation
 chosen_in notes = flat_map chosen_by notes
 
@@ -73,7 +73,7 @@ chosen_in notes = flat_map chosen_by notes
 abbrev pub gone_in : List Note → List ℕ
 gone_in notes = flat_map gone_by notes
 
--- all that notes tell that natives said at their close
+-- all that natives said at their close, by notes
 abbrev pub closed_in : List Note → List Closing
 closed_in notes = flat_map closed_by notes
 
@@ -108,7 +108,7 @@ pub record IsCounted (notes : List Note) : Type 0 where
   -- the number of a new activation is one more than the number of those before it
   pub activations : (before : List Note) (a : Activation) → At notes before (Triggered a)
       → a.number ≡ length (triggered_in before) + 1
-  -- so is the number of a cycle
+  -- the number of a cycle is one more than the number of choices before it
   pub cycles : (before : List Note) (cycle : ℕ) (a : Activation) (r : ℤ) → At notes before (Chosen cycle a r)
       → cycle ≡ length (chosen_in before) + 1
 
@@ -128,14 +128,14 @@ pub record ExecutesInTurn (notes : List Note) : Type 0 where
   -- at a choice each cycle before is over: its execution has ended, or its activation was invalid
   pub choices : (before : List Note) (cycle : ℕ) (a : Activation) (r : ℤ) → At notes before (Chosen cycle a r)
       → ends_in before ≡ length (chosen_in before)
-  -- where a cycle is over one choice more was made than cycles were over before
+  -- where a cycle is over, one choice more was made than cycles were over before
   pub ends : (before : List Note) (steps found budget : ℕ) → At notes before (Ended steps found budget)
       → ends_in before + 1 ≡ length (chosen_in before)
   pub native_ends : (before : List Note) (asks : ℕ) → At notes before (NativeEnded asks)
       → ends_in before + 1 ≡ length (chosen_in before)
   pub invalids : (before : List Note) (number : ℕ) → At notes before (Invalid number)
       → ends_in before + 1 ≡ length (chosen_in before)
-  -- the same where an ask is refused
+  -- where an ask is refused, one choice more was made than cycles were over before
   pub refusals : (before : List Note) (ask : ℕ) (refusal : Refusal) → At notes before (Refused ask refusal)
       → ends_in before + 1 ≡ length (chosen_in before)
 
@@ -144,33 +144,33 @@ pub record ExecutesInTurn (notes : List Note) : Type 0 where
 -- the run has an end, which it tells once, and after it what each native says at its close, in order
 pub record IsFinished (run : Stretch) : Type 0 where
   pub end : End
-  -- the run ends so
+  -- the run ends in this way
   pub ends : run.end ≡ Some end
-  -- its last notes tell that and the closings
+  -- the last notes of the run are its end and the closings
   pub last : (before : List Note) × (notes_of run ≡ before ++ finish end run.state.natives)
   -- nothing but the closings comes after a finish
   pub once : (before : List Note) (e : End) (after : List Note) → notes_of run ≡ before ++ Finished e ∷ after
       → after ≡ map Closed (closings_of run.state.natives)
 
--- a native is another one, but for what it holds
+-- two natives are the same but for what they hold
 abbrev pub IsLike : Native → Native → Type 0
 IsLike native left = (held : List ℤ) × (left ≡ record native { held = held })
 
 -- each of the natives that were handed in is closed once, in order
 pub record ClosesEach (natives : List Native) (run : Stretch) : Type 0 where
-  -- those that are left are those that were handed in, but for what they hold
+  -- the natives at the end are those that were handed in, but for what they hold
   pub left : AllZip IsLike natives run.state.natives
-  -- they are closed in order, and nothing else is closed
+  -- the natives are closed in order, and nothing else is closed
   pub closings : closed_in (notes_of run) ≡ closings_of run.state.natives
   pub names : map (λ (c : Closing). c.name) (closed_in (notes_of run)) ≡ map (λ (n : Native). n.name) natives
 
--- the run makes so many cycles at most, and its end tells why not more
+-- the run makes no more cycles than the limit, and its end says why it made no more
 pub record KeepsLimit (plan : Plan) (limit : ℕ) (run : Stretch) : Type 0 where
   -- no more cycles than the limit
   pub within : length (chosen_in (notes_of run)) ≤ limit
-  -- a run that ends by its limit made as many
+  -- a run that ends by its limit made as many cycles
   pub met : run.end ≡ Some ends.Limit → length (chosen_in (notes_of run)) ≡ limit
-  -- and something can be chosen in its last state
+  -- something can be chosen in the last state of a run that ends by its limit
   pub left : run.end ≡ Some ends.Limit → (a : Activation) × (choice plan run.state ≡ Some a)
   -- nothing can be chosen in the last state of a run that ends in quiescence
   pub exhausted : run.end ≡ Some ends.Quiescence → choice plan run.state ≡ None
@@ -179,23 +179,23 @@ pub record KeepsLimit (plan : Plan) (limit : ℕ) (run : Stretch) : Type 0 where
 
 -- after these notes an activation is chosen in the last state of a run, and its line prints this rating
 pub record IsChosenAfter (plan : Plan) (run : Stretch) (before : List Note) (a : Activation) (r : ℤ) : Type 0 where
-  -- that run tells these notes, and then ends by its limit
+  -- the run tells these notes, and then ends by its limit
   pub told : notes_of run ≡ before ++ finish ends.Limit run.state.natives
   -- what is pending in its last state is what is pending by the notes
   pub agenda : pending_of run.state.agenda ≡ pending_after before
   -- the activation is the choice in that state
   pub choice_is : choice plan run.state ≡ Some a
-  -- the line prints the rating that it has there
+  -- the line prints the rating that the activation has there
   pub rated : r ≡ rating plan run.state a
   -- nothing that is pending there is rated higher, and of equals it is the earliest
   pub best : IsChosen (rating plan run.state) plan.floor (pending_of run.state.agenda) a
-  -- its source is one of the plan
+  -- the source of the activation is one of the plan
   pub source_there : a.source < length plan.sources
 
 -- ---- how runs of two limits compare
 
--- of two runs, the other with a longer limit: they are the same, or the first is over by its limit, and the other tells
--- the same up to that finish
+-- a run and one with a longer limit: they are the same, or the first ends by its limit, and the longer one tells the
+-- same up to that finish
 abbrev pub Extends : Stretch → Stretch → Type 0
 Extends run longer =
     (longer ≡ run) ⊎ ((run.end ≡ Some ends.Limit) × ((front : List (List Note)) × ((rest : List (List Note)) ×

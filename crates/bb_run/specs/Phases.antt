@@ -22,7 +22,7 @@ use Rattle.bb_run.specs.Order.{At, all_of, chosen_in, pending_after}
 pub data Phase : Type 0 where
   -- no cycle is open
   outside : Phase
-  -- the same, and quiescence has come since the last cycle
+  -- no cycle is open, and quiescence has come since the last one
   rested : Phase
   -- a cycle was begun, and is not over
   inside : Phase
@@ -47,12 +47,12 @@ after_in phase _ = phase
 abbrev pub phase_after : List Note → Phase
 phase_after notes = fold after_in outside notes
 
--- every run that makes so many cycles or more tells these segments first, and goes on from this state
+-- each run whose limit is `made` or more tells these segments first, and goes on from this state
 abbrev pub Reaches : Plan → Blackboard → List Native → (told : List (List Note)) → (made : ℕ) → State → Type 0
 Reaches plan board natives told made s =
     (left : ℕ) → unfinished plan board natives (made + left) ≡ after_told told (cycles plan made left s)
 
--- quiescence comes in its turn
+-- the note is quiescence, and comes where it may
 pub record IsQuiet (plan : Plan) (board : Blackboard) (natives : List Native) (before : List Note) (note : BoardNote)
     : Type 0 where
   pub is : note ≡ happened quiescence
@@ -72,20 +72,20 @@ pub record GoesByPhases (plan : Plan) (board : Blackboard) (natives : List Nativ
   pub rest : List (List Note)
   -- the first segment is what had been noted
   pub begins : run.told ≡ map Board board.world.notes ∷ rest
-  -- after it a note of the blackboard comes in a cycle, or is quiescence in its turn
+  -- after the first segment a note of the blackboard comes in a cycle, or is quiescence where it may come
   pub notes : (before : List Note) (note : BoardNote) → At (all_of rest) before (Board note)
       → (phase_after before ≡ inside) ⊎ IsQuiet plan board natives before note
   -- a cycle begins where none is open
   pub choices : (before : List Note) (cycle : ℕ) (a : Activation) (r : ℤ) → At (all_of rest) before (Chosen cycle a r)
       → (phase_after before ≡ outside) ⊎ (phase_after before ≡ rested)
-  -- what is over was open
+  -- a cycle that ends was open
   pub ends : (before : List Note) (steps found budget : ℕ) → At (all_of rest) before (Ended steps found budget)
       → phase_after before ≡ inside
   pub native_ends : (before : List Note) (asks : ℕ) → At (all_of rest) before (NativeEnded asks)
       → phase_after before ≡ inside
   pub invalids : (before : List Note) (number : ℕ) → At (all_of rest) before (Invalid number)
       → phase_after before ≡ inside
-  -- an ask is refused in a cycle alone
+  -- an ask is refused only in a cycle
   pub refusals : (before : List Note) (ask : ℕ) (refusal : Refusal) → At (all_of rest) before (Refused ask refusal)
       → phase_after before ≡ inside
   -- a run finishes by quiescence only where quiescence came, and nothing was chosen after it

@@ -17,35 +17,36 @@ use Rattle.bb_run.specs.Processing.{events_in, processing}
 use Rattle.bb_run.specs.Run.{choice, chosen_with, cycle, execution, first_state, if_valid, noted, rating}
 use Rattle.bb_run.specs.Run.{start, validity, wait}
 
+-- events that are processed, each with the state in which it is
 abbrev pub Visits : Type 0
 Visits = List (Event × State)
 
--- what comes later, unless the run is over
+-- what is processed later, unless the run is over
 abbrev pub unless_over : Option End → Visits → Visits
 unless_over None later = later
 unless_over (Some end) later = []
 
--- events in order, from a state on
+-- the events as they are processed in order, from a state on
 unfoldable pub processed : Plan → List Event → State → Visits
 processed plan [] s = []
 processed plan (event ∷ events) s =
     let p = processing plan event s in (event, s) ∷ unless_over p.end (processed plan events p.state)
 
--- those of a response that is reported
+-- the visits of a response that is reported
 abbrev pub processed_of : Plan → Response → Visits
 processed_of plan r = unless_over r.end (processed plan (events_in r.told) r.state)
 
--- before a cycle quiescence, where nothing can be chosen
+-- the visit before a cycle: quiescence, where nothing can be chosen
 abbrev pub processed_waiting : State → Option Activation → Visits
 processed_waiting s None = (quiescence, s) ∷ []
 processed_waiting s (Some a) = []
 
--- those of what a source's act brings about
+-- the visits of what a source's act brings about
 abbrev pub processed_acting : Plan → Option Source → Activation → State → Visits
 processed_acting plan None a s = []
 processed_acting plan (Some source) a s = processed_of plan (execution source.name source.act a s)
 
--- in the cycle of an activation
+-- the visits in the cycle of an activation
 abbrev pub processed_by_cycle : Plan → (number : ℕ) → Activation → State → Visits
 processed_by_cycle plan number a s =
     let source = slice_get plan.sources a.source in
@@ -53,12 +54,12 @@ processed_by_cycle plan number a s =
     let r = chosen_with number a (rating plan s a) v.0 (with_board s v.1) in
     unless_over r.end (processed_acting plan (if_valid v.0 source) a r.state)
 
--- those of what a choice leads to, where something can be chosen
+-- the visits of what a choice leads to, where something can be chosen
 abbrev pub if_any : Option Activation → (Activation → Visits) → Visits
 if_any None next = []
 if_any (Some a) next = next a
 
--- after so many cycles, where so many more can be made
+-- the visits after `made` cycles, where `left` more can be made
 unfoldable pub processed_by_cycles : Plan → (made left : ℕ) → State → Visits
 processed_by_cycles plan made zero s = processed_waiting s (choice plan s)
 processed_by_cycles plan made (suc left) s =
@@ -68,7 +69,7 @@ processed_by_cycles plan made (suc left) s =
     processed_by_cycle plan (made + 1) a p.state
     ++ unless_over c.end (processed_by_cycles plan (made + 1) left c.state)))
 
--- in a whole run, in order
+-- the visits in a whole run, in order
 abbrev pub processed_in : Plan → Blackboard → List Native → (limit : ℕ) → Visits
 processed_in plan board natives limit =
     let p = start plan board natives in
@@ -77,7 +78,7 @@ processed_in plan board natives limit =
 
 -- ---- none is left out
 
--- a run that ends so may leave events that it told: it is full or stuck
+-- a run with this end may leave these events unprocessed: none, unless it is full or stuck
 abbrev pub MayLeave : Option End → List Event → Type 0
 MayLeave (Some ends.Full) left = Unit {0}
 MayLeave (Some (ends.Stuck reason)) left = Unit {0}

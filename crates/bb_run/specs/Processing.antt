@@ -40,15 +40,14 @@ rerated_by a _ s = idle s
 abbrev pub reacting_to : Event → (Activation → Answer → State → Response) → Reaction → Activation → State → Response
 reacting_to event by reaction a s = asking reaction.code.code (entry_of a.unit (Some (unit_of event))) (by a) s
 
--- the same about each of these, in order
+-- the code of a reaction is asked about each of these pending activations, in order
 unfoldable pub reacting_to_each :
     Event → (Activation → Answer → State → Response) → Reaction → List Activation → State → Response
 reacting_to_each event by reaction [] s = idle s
 reacting_to_each event by reaction (a ∷ more) s =
     and_then (reacting_to event by reaction a s) (reacting_to_each event by reaction more)
 
--- a reaction, where there is one and its clauses name the event, is about each pending activation of the source at a
--- place
+-- a reaction, if there is one and its clauses name the event, to each pending activation of the source at a place
 abbrev pub reacting : Schema → Event → ℕ → (Activation → Answer → State → Response) → Option Reaction → State → Response
 reacting schema event place by None s = idle s
 reacting schema event place by (Some reaction) s =
@@ -64,7 +63,7 @@ activating event place base s =
     else telling (notes.Triggered (new_activation s.agenda place (unit_of event) base) ∷ [])
     (with_agenda s (with_activation s.agenda place (unit_of event) base)) None
 
--- a rating makes an activation with this base; else the source declines
+-- an answer that is a rating makes an activation with this base; by any other the source declines
 abbrev pub required_by : Event → ℕ → Answer → State → Response
 required_by event place (Rated base) s = activating event place base s
 required_by event place _ s = telling (notes.Declined place (unit_of event) ∷ []) s None
@@ -75,7 +74,7 @@ triggering event place rate None s = activating event place rate s
 triggering event place rate (Some code) s =
     asking code.code (entry_of (unit_of event) None) (required_by event place) s
 
--- the same where one of its clauses or more names the event
+-- a source is triggered if one of its clauses or more names the event
 abbrev pub if_triggered : Schema → Event → ℕ → Source → State → Response
 if_triggered schema event place source s =
     if any_match schema source.triggers event then triggering event place source.rate source.require s else idle s
@@ -102,17 +101,17 @@ response plan event s = response_by plan.schema event 0 plan.sources s
 abbrev pub processing : Plan → Event → State → Stretch
 processing plan event s = segment (response plan event s)
 
--- events in order, a segment each
+-- the processing of events in order, a segment each
 unfoldable pub processing_all : Plan → List Event → State → Stretch
 processing_all plan [] s = idle s
 processing_all plan (event ∷ events) s = and_then (processing plan event s) (processing_all plan events)
 
--- the event that a note tells, if it tells one
+-- the event of a note, if it is one of an event
 abbrev pub event_in : Note → List Event
 event_in (notes.Board (happened event)) = event ∷ []
 event_in _ = []
 
--- the events that notes tell, in order
+-- the events of notes, in order
 abbrev pub events_in : List Note → List Event
 events_in told = flat_map event_in told
 

@@ -12,14 +12,14 @@ use Rattle.bb_run.specs.Causes.{IsAsked}
 use Rattle.bb_run.specs.Processing.{response}
 use Rattle.bb_run.specs.Run.{validity}
 
--- no code that a source of the plan asks has an op that writes; of a code that was accepted for its part this is so
+-- no code that a source of the plan asks has an op that writes; this is so of a code that was accepted for its part
 abbrev pub AsksByReading : Plan → Type 0
 AsksByReading plan =
     (source : Source) (code : Checked) → Contains plan.sources source → IsAsked source code
     → has_no_writes code.code ≡ true
 
--- then what answers to an event, and what is asked about a choice, leaves the blackboard as it was, and no native
--- answers to an event
+-- what answers to an event, and what is asked about a choice, leaves the blackboard as it was, and no native answers to
+-- an event
 pub record LeavesBoard (plan : Plan) : Type 0 where
   pub events : (event : Event) (s : State) → (response plan event s).state.board ≡ s.board
   pub natives : (event : Event) (s : State) → (response plan event s).state.natives ≡ s.natives

@@ -61,18 +61,18 @@ abbrev pub wait_for : Plan → State → Option Activation → Stretch
 wait_for plan s None = quiet plan s
 wait_for plan s (Some a) = idle s
 
--- the wait before a cycle, by the choice there is
+-- the wait before a cycle, by what can be chosen
 abbrev pub wait : Plan → State → Stretch
 wait plan s = wait_for plan s (choice plan s)
 
--- the blackboard's notes are taken, and the agenda is told of the units that they name; no rating here goes by that
+-- the blackboard's notes are taken, and the agenda is told of the units that they name; `rating` does not go by that
 abbrev pub with_notes_taken : State → State
 with_notes_taken s = record s {
   board = with_world s.board (after_take s.board.world);
   agenda = with_foci s.agenda (told_notes s.board.schema s.board.world.units s.board.world.notes s.agenda.foci);
 }
 
--- what the blackboard noted is told, and what more there is to tell
+-- what the blackboard noted is told, and then these notes
 abbrev pub noted : State → List Note → Option End → Response
 noted s more end = telling (map Board s.board.world.notes ++ more) (with_notes_taken s) end
 
@@ -95,8 +95,7 @@ each_applied number [] s = idle s
 each_applied number (ask ∷ more) s =
     and_then (upon_ask number (applied ask s.board) s) (each_applied (number + 1) more)
 
--- the native at a place is called, its asks are applied, and it is told how many there were; one that is not there is
--- missing
+-- the native at a place is called, its asks are applied, and their number is told; without a native the run is stuck
 abbrev pub calling : Option ℕ → Activation → State → Response
 calling None a s = over (finishes.Stuck Missing) s
 calling (Some place) a s =
@@ -119,12 +118,12 @@ abbrev pub acting : Plan → Option Source → Activation → State → Stretch
 acting plan None a s = idle s
 acting plan (Some source) a s = reported plan (execution source.name source.act a s)
 
--- what the answer of a revalidation says: an activation is still of use unless it is no
+-- what the answer of a revalidation says: an activation is still of use unless the answer is no
 abbrev pub verdict_of : Answer → Verdict
 verdict_of No = verdicts.Invalid
 verdict_of _ = verdicts.Valid
 
--- the same of a reply, which may be no answer
+-- what the reply of a revalidation says, which may be no answer
 abbrev pub verdict_by : Reply → Verdict
 verdict_by (replies.Answer answer) = verdict_of answer
 verdict_by (replies.Over end) = verdicts.Over end
@@ -164,7 +163,7 @@ abbrev pub if_chosen : State → Option Activation → (Activation → Stretch) 
 if_chosen s None next = over finishes.Quiescence s
 if_chosen s (Some a) next = next a
 
--- what is left of a run after so many cycles, where so many more can be made
+-- what is left of a run after `made` cycles, where `left` more can be made
 unfoldable pub cycles : Plan → (made left : ℕ) → State → Stretch
 cycles plan made zero s = and_then (wait plan s) (λ t. if_chosen t (choice plan t) (λ a. over finishes.Limit t))
 cycles plan made (suc left) s =
@@ -175,11 +174,11 @@ cycles plan made (suc left) s =
 abbrev pub first_state : Plan → Blackboard → List Native → State
 first_state plan board natives = record { board = board; agenda = first_agenda plan board; natives = natives }
 
--- what the first units' creation noted is told, and its events are processed
+-- what the creation of the first units noted is told, and its events are processed
 abbrev pub start : Plan → Blackboard → List Native → Stretch
 start plan board natives = reported plan (noted (first_state plan board natives) [] None)
 
--- the end is told, and what each native says at its close, in order
+-- the last notes of a run: its end, and what each native says at its close, in order
 abbrev pub finish : End → List Native → List Note
 finish end natives = Finished end ∷ map Closed (closings_of natives)
 
@@ -188,14 +187,14 @@ abbrev pub finish_segments : Option End → List Native → List (List Note)
 finish_segments None natives = []
 finish_segments (Some end) natives = finish end natives ∷ []
 
--- the same, with its end told last
+-- a stretch with its end told last
 abbrev pub with_finish : Stretch → Stretch
 with_finish p = telling (p.told ++ finish_segments p.end p.state.natives) p.state p.end
 
--- the start, and then at most so many cycles
+-- the start, and then at most `limit` cycles
 abbrev pub unfinished : Plan → Blackboard → List Native → (limit : ℕ) → Stretch
 unfinished plan board natives limit = and_then (start plan board natives) (cycles plan 0 limit)
 
--- the whole run from a blackboard's first state, with at most so many cycles
+-- the whole run from a blackboard's first state, with at most `limit` cycles
 abbrev pub run : Plan → Blackboard → List Native → (limit : ℕ) → Stretch
 run plan board natives limit = with_finish (unfinished plan board natives limit)

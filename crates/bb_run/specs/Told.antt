@@ -5,20 +5,20 @@ use Rattle.bb_trace.specs.declared.note.Note.{Note}
 use Rattle.bb_run.specs.State.{State}
 
 pub record Told (X : Type 0) : Type 0 where
-  -- what it tells, in order
+  -- what is told, in order
   pub told : List X
   pub state : State
   pub end : Option End
 
--- what answers to an event, or to a choice, tells notes
+-- a response to an event, or to a choice: it tells notes
 abbrev pub Response : Type 0
 Response = Told Note
 
--- a stretch of a run tells segments: each is a list of notes, and is written whole
+-- a stretch of a run: it tells segments, each of which is a list of notes, and is written whole
 abbrev pub Stretch : Type 0
 Stretch = Told (List Note)
 
--- this is told
+-- a part that tells this, and leaves this state and end
 abbrev pub telling : {X : Type 0} → List X → State → Option End → Told X
 telling told s end = record { told = told; state = s; end = end }
 
@@ -30,11 +30,11 @@ idle s = telling [] s None
 abbrev pub over : {X : Type 0} → End → State → Told X
 over end s = telling [] s (Some end)
 
--- the same after what was told before
+-- a part with what was told before put in front
 abbrev pub after_told : {X : Type 0} → List X → Told X → Told X
 after_told told p = telling (told ++ p.told) p.state p.end
 
--- what comes after a part that ended so: the next one, unless the run is over
+-- a part with this end, and after it the next, unless the run is over
 abbrev pub and_then_unless : {X : Type 0} → Option End → Told X → (State → Told X) → Told X
 and_then_unless (Some end) p next = p
 and_then_unless None p next = after_told p.told (next p.state)

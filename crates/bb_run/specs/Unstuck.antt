@@ -78,7 +78,7 @@ pub record AsksFor (plan : Plan) (s : State) (event : Event) : Type 0 where
       → (source.obviate ≡ Some reaction) ⊎ (source.retrigger ≡ Some reaction)
       → any_match plan.schema reaction.clauses event ≡ true
       → Begins reaction.code.part reaction.code.frames reaction.code.code (entry_of a.unit (Some (unit_of event))) s.board
-  -- what answers to it leaves a state that is ready
+  -- what answers to the event leaves a state that is ready
   pub leaves : IsReady plan (response plan event s).state
 
 -- ---- what comes of it
@@ -88,7 +88,7 @@ abbrev pub NotStuck : Option End → Type 0
 NotStuck (Some (ends.Stuck reason)) = ⊥
 NotStuck _ = ⊤
 
--- an execution made no more steps than the budget that its line tells
+-- an execution made no more steps than the budget on its line
 abbrev pub KeepsBudget : Note → Type 0
 KeepsBudget (Ended steps found budget) = steps ≤ budget
 KeepsBudget _ = ⊤

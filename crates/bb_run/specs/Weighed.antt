@@ -11,11 +11,11 @@ use Rattle.bb_run.specs.Foci.{focus_of, setting_of}
 pub record KnowsFoci (plan : Plan) (s : State) : Type 0 where
   -- what was noted was taken
   pub taken : s.board.world.notes ≡ []
-  -- of each unit that is a focus the agenda has that focus, as the unit is, and of another it has none
+  -- the agenda has the focus that each unit is, and none of a unit that is no focus
   pub each : (n : ℕ) → get s.agenda.foci n ≡ focus_of s.board.schema s.board.world.units n
-  -- it matches them with the sources of the plan
+  -- the agenda matches foci with the sources of the plan
   pub setting : s.agenda.setting ≡ setting_of plan
 
--- each live number was given out; of a blackboard that fits this is so
+-- each live number was given out; this is so of a blackboard that fits
 abbrev pub NumbersGiven : Blackboard → Type 0
 NumbersGiven board = (n : ℕ) → is_live board.world.units n ≡ true → n < board.world.units.next

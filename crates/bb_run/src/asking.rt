@@ -16,7 +16,7 @@ use std::alloc::{AllocError, Global};
 #[derive(Clone, Copy, Debug)]
 pub(crate) enum Reply {
     Answer(Answer),
-    /// It came to no answer, so the run is over.
+    /// The code came to no answer, so the run is over.
     Over(End),
 }
 

@@ -1,5 +1,5 @@
 //! What a cycle does where its source has a native for its act: the native is called, and its asks are applied to the
-//! blackboard one by one. An execution (execution.rt) is that.
+//! blackboard one by one. The execution of an act (execution.rt) calls it.
 
 ghost use Rattle.std.specs.Prelude.{◌≡◌, ◌<◌, IfOk, Some, length, map};
 ghost use Rattle.bb_trace.specs.Applied.{applied};
@@ -13,7 +13,7 @@ use bb_agenda::Activation;
 use bb_trace::{Ask, Denial, End, NativeSource, Note, View, apply};
 use std::alloc::AllocError;
 
-// Applies an ask of this number. A refused ask is told; where no unit can be created the run is over.
+// Applies an ask of this number. A refused ask is noted; where no unit can be created the run is over.
 fn apply_one<N: NativeSource>(
     number: u64,
     ask: Ask,
@@ -59,8 +59,8 @@ fn apply_each<N: NativeSource>(
     Ok(None)
 }
 
-/// Calls the native at a place for the unit of an activation, applies what it asks, and appends what there is to tell of
-/// that. Returns the end of the run where it ends in that.
+/// Calls the native at a place for the unit of an activation, applies what it asks, and appends the notes of that.
+/// Returns the end of the run if it ends there.
 pub(crate) fn call<N: NativeSource>(
     place: usize,
     activation: Activation,

@@ -33,7 +33,7 @@ pub(crate) enum Decision {
     Over(End),
 }
 
-// The agenda rates by the foci that it was told of, and these are the blackboard's.
+// Chooses an activation, if one can be chosen. The agenda rates by the foci that it was told of: the blackboard's.
 fn choose<N: NativeSource>(plan: &Plan, state: &State<N>) -> Option<Activation>
     requires knows { Knows plan.now (seen N.meaning state.now) }
     ensures { result ≡ choice plan.now (seen N.meaning state.now) }
@@ -170,7 +170,7 @@ impl<O: Out> Teller<'_, O> {
         }
     }
 
-    // Tells what the first units' creation noted, and processes its events.
+    // Tells what the creation of the first units noted, and processes its events.
     fn begin<N: NativeSource>(
         &mut self,
         plan: &Plan,
@@ -347,8 +347,8 @@ fn write_run<N: NativeSource, O: Out>(
 }
 
 /// Runs a blackboard from its first state with the natives that were handed in, at most `limit` cycles, and writes the
-/// trace. At its end each native is closed once, in order, also where the run was cut short. `Memory`: memory ran out.
-/// `Write`: the output failed. A run is not stuck where its sources were made under the plan's schema, of codes that the
+/// trace. At its end each native is closed once, in order, also if the run was cut short. `Memory`: memory ran out.
+/// `Write`: the output failed. A run is not stuck if its sources were made under the plan's schema, of codes that the
 /// verifier accepted under it, each has a code for its act or there is a native of its name, and the blackboard is one
 /// of that schema.
 pub fn run<N: NativeSource, O: Out>(

@@ -1,4 +1,4 @@
-//! What a cycle does with its activation: whether it is still of use, and the execution of its source's act. A cycle
+//! What a cycle does with its activation: it asks whether it is still of use, and executes its source's act. The cycle
 //! (cycles.rt) has the notes told.
 
 ghost use Rattle.std.specs.Prelude.{◌≡◌, IfOk, option_map};
@@ -21,9 +21,9 @@ use std::alloc::{AllocError, Global};
 /// What a revalidation says of a chosen activation.
 #[derive(Clone, Copy, Debug)]
 pub(crate) enum Verdict {
-    /// It is still of use.
+    /// The activation is still of use.
     Valid,
-    /// It is needless by now.
+    /// The activation is no longer of use.
     Invalid,
     /// The revalidation came to no answer, so the run is over.
     Over(End),
@@ -59,8 +59,8 @@ pub(crate) fn validate(
     }
 }
 
-/// Appends what there is to tell of the choice of a cycle, with the verdict on it, and takes the activation off what is
-/// pending. Returns the end of the run where the verdict is that.
+/// Appends the notes of the choice of a cycle, with the verdict on it, and takes the activation off what is pending.
+/// Returns the end of the run if the verdict is that it is over.
 pub(crate) fn take_choice<N: NativeSource>(
     cycle: u64,
     activation: Activation,
@@ -93,8 +93,8 @@ pub(crate) fn take_choice<N: NativeSource>(
     }
 }
 
-/// Executes the act of a source for an activation, and appends what there is to tell of it. Returns the end of the run
-/// where the execution came to no answer.
+/// Executes the act of a source for an activation, and appends the notes of it. Returns the end of the run if the
+/// execution came to no answer.
 pub(crate) fn execute<N: NativeSource>(
     source: &Source,
     activation: Activation,
@@ -112,7 +112,7 @@ pub(crate) fn execute<N: NativeSource>(
     }
 }
 
-// Calls the native of a name. It is missing where whoever handed natives in gave none of that name.
+// Calls the native of a name. Where none of that name was handed in, the run is stuck.
 fn execute_native<N: NativeSource>(
     name: &str,
     activation: Activation,

@@ -7,7 +7,7 @@ use bb_trace::{End, Stuck};
 pub enum Finish {
     /// Nothing can be chosen, and quiescence changed nothing.
     Quiescence,
-    /// As many cycles as the limit were made, and something can be chosen still.
+    /// The limit of cycles was reached, and something can still be chosen.
     Limit,
     /// The blackboard or the agenda is full.
     Full,

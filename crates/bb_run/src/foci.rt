@@ -73,7 +73,7 @@ fn is_focus(board: &Board, unit: UnitId) -> bool
     board.schema().descends(board.class_of(unit), FOCUS)
 }
 
-// The focus of these four slots.
+// The focus with these values of its four slots.
 fn focus_from(
     source: Option<Text>,
     area: Option<Text>,
@@ -142,7 +142,7 @@ pub(crate) fn tell_notes(
     Ok(())
 }
 
-/// Tells the agenda of all units that were created on the blackboard. 0 names none.
+/// Tells the agenda of all units that were created on the blackboard. 0 names no unit.
 pub(crate) fn tell_all(agenda: &mut Agenda, board: &Board) -> Result<(), AllocError>
     ensures { IfOk result (λ _. agenda.new ≡ def.with_foci agenda.old
         (def.told_all board.now.schema board.now.world.units agenda.old.foci)) }

@@ -1,4 +1,4 @@
-//! What holds of every run. No code calls it: it says what the runs are like that `run_texts` tells.
+//! What holds of every run. No code calls it: it says what the runs are like that `run_texts` writes.
 
 ghost use Rattle.std.specs.Prelude.{◌≡◌, ℕ, ◌+◌, ◌-◌, ℤ, All, List, ◌∷◌, ◌++◌};
 ghost use Rattle.bb_agenda.specs.Activation.{Activation};
@@ -28,7 +28,7 @@ ghost use Rattle.bb_run.specs.Unstuck.{KeepsBudget, NotStuck};
 /// - `counted`: activations and cycles have the numbers from 1 on, in order.
 /// - `pending`: a cycle acts on an activation that is pending then, and prints a rating of at least the floor.
 /// - `executions`: the execution of a cycle, of a code or of a native, ends before the next cycle; an ask is refused
-///   while one is open alone.
+///   only while one is open.
 /// - `phases`: a run begins with what its blackboard had noted. After that a note of the blackboard comes between a
 ///   choice and the end of its cycle, or it is quiescence, which comes where no cycle is open, not twice without a
 ///   choice between, and in a state in which nothing that is pending by the notes can be chosen: the one that every run
@@ -40,10 +40,10 @@ ghost use Rattle.bb_run.specs.Unstuck.{KeepsBudget, NotStuck};
 /// - `causes`: a run is full only where its agenda is full in its last state, or where no unit can be created there and
 ///   its last execution was stopped for that, or its last native asked for one; it is stuck only where its last
 ///   execution was, or where a source has a native for its act and there is none of its name.
-/// - `limit`: a run makes no more cycles than its limit. Where it ends by that it made as many, and something can be
-///   chosen still; where it ends in quiescence nothing can be chosen.
+/// - `limit`: a run makes no more cycles than its limit. Where it ends by that it made as many, and something can
+///   still be chosen; where it ends in quiescence nothing can be chosen.
 /// - `answered`: sources are triggered as the events ask for it. At each choice, and at a finish by quiescence or by
-///   the limit, all that the events before it ask for has come, in their order, source by source; at another finish
+///   the limit, all that the events before it ask for is answered, in their order, source by source; at another finish
 ///   the first of it.
 /// - `told`: a run processes the events that it tells, each once and in order; where it is full or stuck, the first of
 ///   them.
@@ -65,7 +65,7 @@ ghost use Rattle.bb_run.specs.Unstuck.{KeepsBudget, NotStuck};
 /// codes that the verifier accepted under it.
 ///
 /// - `unstuck`: no run is stuck, whatever the reason, where each source without a code has a native of its name.
-/// - `budgets`: no execution makes more steps than the budget that its line tells.
+/// - `budgets`: no execution makes more steps than the budget on its line.
 /// - `ready`: in the last state of a run, and so at each choice, the blackboard still fits, and the unit of each
 ///   pending activation was created as one of its source's class, or it is that of quiescence.
 /// - `processes`: a run processes each event in a state that is ready, and the event is one of the blackboard then. So

@@ -1,5 +1,10 @@
 //! The run of a blackboard: events trigger sources, activations are pending on the agenda, and a cycle executes the
-//! best one. What it tells is written by bb_trace.
+//! best one.
+//!
+//! - In: a `Plan`, a `Board` and a roster of natives (`Start`), a limit of cycles and an output.
+//! - Out: `run`, how the run ended, with its trace written to the output and each native closed once.
+//! - Callers rely on: the trace is that of the abstract blackboard machine (`specs/Run`), whatever the sources do.
+//! - Cases: `runs`, `triggers`, `foci`, `floors`, `limits_of_runs`, `model-runs`; tests in bb_shell_tests.
 #![tactic(auto)]
 
 mod asking;

@@ -13,7 +13,7 @@ use bb_schema::Schema;
 use bb_trace::{End, Event, NativeSource, Note, Plan, Source};
 use std::alloc::AllocError;
 
-/// A source and its place among the sources of a plan.
+// A source and its place among the sources of a plan.
 #[derive(Clone, Copy)]
 struct Placed<'a> {
     source: &'a Source,
@@ -41,7 +41,7 @@ fn obviate<N: NativeSource>(
     }
 }
 
-// Has a source rate its pending activations anew, if the event is one for that.
+// Has a source rate its pending activations again, if the event is one for that.
 fn retrigger<N: NativeSource>(
     schema: &Schema,
     placed: Placed<'_>,
@@ -134,8 +134,8 @@ fn place_responds<N: NativeSource>(
 }
 
 /// Processes an event: each source in order obviates and retriggers its pending activations, and is triggered, and the
-/// notes tell of it. Those without a clause of the kind of the event are passed over, as they do nothing of that.
-/// Returns the end of the run where it ends in that.
+/// notes of that are appended. Sources without a clause of the kind of the event are skipped, as they would do nothing.
+/// Returns the end of the run if it ends there.
 pub(crate) fn respond<N: NativeSource>(
     plan: &Plan,
     event: Event,

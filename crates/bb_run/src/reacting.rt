@@ -108,7 +108,7 @@ pub(crate) fn obviate_all<N: NativeSource>(
     Ok(None)
 }
 
-/// Gives those pending activations of the source at a place another base that an event rates anew.
+/// Gives another base to those pending activations of the source at a place that an event rates again.
 pub(crate) fn retrigger_all<N: NativeSource>(
     reaction: &Reaction,
     event: Event,

@@ -1,4 +1,4 @@
-//! The state of a run, which its parts (processing.rt, calling.rt, execution.rt, cycles.rt) move.
+//! The state of a run, which its parts (processing.rt, calling.rt, execution.rt, cycles.rt) change.
 
 ghost use Rattle.std.specs.Prelude.{◌≡◌, map};
 ghost use Rattle.bb_trace.specs.Roster.{closings_of};

@@ -13,14 +13,14 @@ use crate::state::State;
 use bb_trace::{BoardNote as Noted, End, Event, Halt, NativeSource, Note, Out, Page, Plan};
 use std::alloc::Global;
 
-/// Who tells the run: the page, and where it is written.
+/// The writer of a run: the page, and where it is written.
 #[derive(Drop)]
 pub(crate) struct Teller<'a, O: Out> {
     pub page: &'a mut Page,
     pub out: &'a mut O,
 }
 
-// The event that a note tells, if it tells one.
+// The event of a note, if it is one of an event.
 fn event_in(note: &Note) -> Option<Event>
     ensures { option_list result ≡ event_in note.now }
 {
@@ -31,7 +31,7 @@ fn event_in(note: &Note) -> Option<Event>
 }
 
 impl<O: Out> Teller<'_, O> {
-    /// What the page is allocated by.
+    /// The allocator of the page.
     pub(crate) fn alloc(&self) -> Global {
         self.page.alloc()
     }
@@ -47,7 +47,7 @@ impl<O: Out> Teller<'_, O> {
         self.page.spill(self.out)
     }
 
-    /// Tells a segment, and writes the page.
+    // Tells a segment, and writes the page.
     fn tell_now(&mut self, plan: &Plan, notes: &[Note]) -> Result<(), Halt>
         requires open { O.has_failed self.old.out.now ≡ false }
         ensures same { Same self.old self.new }
@@ -58,7 +58,7 @@ impl<O: Out> Teller<'_, O> {
         self.page.flush(self.out)
     }
 
-    /// Processes an event.
+    // Processes an event.
     fn process<N: NativeSource>(
         &mut self,
         plan: &Plan,
@@ -77,7 +77,7 @@ impl<O: Out> Teller<'_, O> {
         Ok(end)
     }
 
-    /// Processes the events that notes tell, one after another, until the run ends.
+    // Processes the events that notes tell, one after another, until the run ends.
     fn process_all<N: NativeSource>(
         &mut self,
         plan: &Plan,
@@ -101,7 +101,7 @@ impl<O: Out> Teller<'_, O> {
         Ok(None)
     }
 
-    /// Tells of quiescence, and processes it. It is written at once, since who follows the run waits for it.
+    /// Tells of quiescence, and processes it. The page is written at once, since whoever follows the run waits for it.
     pub(crate) fn quiesce<N: NativeSource>(
         &mut self,
         plan: &Plan,

@@ -18,7 +18,7 @@ head_by : (b : Bool) (n : ℕ) (rest : List ℕ) → b ≡ true → slice_get (i
 head_by true n rest h = refl
 head_by false n rest h = absurd cc
 
--- a slot that comes before its inverse stands in the list behind those before it
+-- a slot that comes before its inverse stands in the list after those before it
 first_listed : (n : ℕ) (slots : List Slot) (i : ℕ) (t : Slot) → slice_get slots i ≡ Some t
     → comes_first (n + i) t ≡ true → slice_get (firsts n slots) (length (firsts n (take i slots))) ≡ Some (n + i)
 unfolding firsts

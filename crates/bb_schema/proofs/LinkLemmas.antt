@@ -80,7 +80,7 @@ links_couple s made paired h n l is_link =
     let from = try_map-from (resolved_slot s.classes s.slots) s.slots made n slot.0 h slot.1 in
     slot_coupled s made n from.0 slot.0 from.0.content l paired h from.1 from.2 slot.2 refl
 
--- and linking refuses nothing
+-- a slot of paired links is resolved, and nothing is refused
 linked_ok : (s : SchemaDraft) (n : ℕ) (t : Draft) (content : DraftContent) → ArePaired s
     → slice_get s.slots n ≡ Some t → t.content ≡ content → (x : Slot) × (resolved_slot s.classes s.slots t ≡ Ok x)
 linked_ok s n t (drafts.Default v) paired at is = (record { name = t.name; owner = t.owner; content = contents.Default v }, default_gives s.classes s.slots t v is)

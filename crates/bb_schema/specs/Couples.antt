@@ -20,7 +20,7 @@ firsts n (t ∷ ts) = if comes_first n t then n ∷ firsts (suc n) ts else first
 abbrev pub couples : Schema → List ℕ
 couples s = firsts 0 s.slots
 
--- the number of the couple whose first slot is n: so many couples are before it
+-- the number of the couple whose first slot is n: the number of couples before it
 abbrev pub couple_number : List Slot → ℕ → ℕ
 couple_number slots n = length (firsts 0 (take n slots))
 
@@ -31,7 +31,7 @@ couple_end slots n l = if nat_lt n l.inverse then (couple_number slots n, A) els
 abbrev pub couple_of : Schema → ℕ → Option (ℕ × Side)
 couple_of s n = option_map (couple_end s.slots n) (link_of s.slots n)
 
--- for each slot, numbered from n, the number of couples before it, where k come before all
+-- for each slot, numbered from n, the number of couples before it, where k couples come before all slots
 unfoldable pub counts : ℕ → ℕ → List Slot → List ℕ
 counts k n [] = []
 counts k n (t ∷ ts) = k ∷ counts (if comes_first n t then suc k else k) (suc n) ts

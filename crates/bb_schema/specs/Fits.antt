@@ -18,7 +18,7 @@ use Rattle.bb_schema.specs.SpaceReading.{has_slot_for}
 use Rattle.bb_schema.specs.Focus.{focus_slots}
 use Rattle.bb_schema.specs.Schema.{Schema, link_of, default_in}
 
--- a slot has a name, is of one of so many classes, and can hold its default
+-- a slot has a name, is of one of class_count classes, and can hold its default
 pub record IsSlot (sets : List LabelSet) (class_count : ℕ) (t : Slot) : Type 0 where
   pub name : IsTrue (is_name t.name)
   pub owner : t.owner < class_count

@@ -33,7 +33,7 @@ impl Side {
     }
 }
 
-/// Whether a slot is a link slot and comes before its inverse.
+// Whether a slot is a link slot and comes before its inverse.
 fn comes_first(number: usize, slot: &Slot) -> bool
     ensures { result ≡ comes_first number slot.now }
 {

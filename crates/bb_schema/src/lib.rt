@@ -1,5 +1,11 @@
-//! The schema of a blackboard: its classes, slots with resolved links, couples of these, and spaces, read from a JSON
-//! document. Crates above take its parts from here, those of `bb_schema_classes` too.
+//! The schema of a blackboard: classes, slots with their links resolved, couples of link slots, and spaces.
+//!
+//! - In: the text of a schema's document.
+//! - Out: `Schema::read`, the schema that the document means, or the first `SchemaFault` with the entry that it is at.
+//! - Callers rely on: what a schema declares has a number from here on (`ClassId`, `SlotId`, `SpaceId`, ..), and no
+//!   name is looked up again to run anything. A `SharedSchema` is one schema with many owners.
+//! - Family: bb_schema_form has the JSON, bb_schema_classes the classes and slots.
+//! - Cases: `schemas`, `documents`, `limits_of_documents`, `model-schemas`; tests in bb_board_parts_tests.
 #![tactic(auto)]
 
 mod couple;

@@ -36,7 +36,7 @@ fn document(alloc: Global, text: &str) -> Result<Document, SchemaFault>
     }
 }
 
-/// The schema of what the walk left, with numbers for the names of its links, and without spaces.
+// The schema of what the walk left, with numbers for the names of its links, and without spaces.
 #[tactic(auto, unfolding(crate::specs::Reading::bare_schema))]
 fn bare_schema(alloc: Global, walked: Walked) -> Result<Schema, SchemaFault>
     requires { IsWalked walked }
@@ -59,7 +59,7 @@ fn bare_schema(alloc: Global, walked: Walked) -> Result<Schema, SchemaFault>
     })
 }
 
-/// The schema with the spaces of the entries.
+// The schema with the spaces of the entries.
 #[tactic(auto, unfolding(crate::specs::Reading::schema_with_spaces))]
 fn schema_with_spaces(
     alloc: Global,
@@ -72,7 +72,7 @@ fn schema_with_spaces(
     Ok(bare.with_spaces(spaces))
 }
 
-/// The schema that the entries of a document mean. Their intervals are in order, as `Document::read` gives them.
+// The schema that the entries of a document mean. Their intervals are in order, as `Document::read` gives them.
 #[tactic(auto, unfolding(crate::specs::Reading::declared_schema))]
 fn declared_schema(alloc: Global, document: Document) -> Result<Schema, SchemaFault>
     requires { HaveSoundDefaults (declarations document) }

@@ -29,10 +29,10 @@ pub struct Schema {
     pub(crate) classes: Table<Class>,
     pub(crate) slots: Vec<Slot>,
     pub(crate) spaces: Table<Space>,
-    // For each slot, the number of couples before it.
+    /// For each slot, the number of couples before it.
     pub(crate) couples_before: Vec<CoupleId>,
     pub(crate) couple_count: usize,
-    // For each class, by which numbers it is told what descends from it.
+    /// For each class, its span, by which it is known what descends from the class.
     pub(crate) spans: Vec<Span>,
 }
 
@@ -263,7 +263,7 @@ impl Schema {
         link_at(&self.slots, slot)
     }
 
-    /// The inverse of a link slot. Another slot has none, and answers itself.
+    /// The inverse of a link slot. Any other slot has none, and gives itself.
     pub fn inverse(&self, slot: SlotId) -> SlotId
         ensures { result ≡ inverse_of self.now.slots slot }
     {
@@ -304,7 +304,7 @@ impl Schema {
     pub fn couple(&self, slot: SlotId) -> (CoupleId, Side)
         requires { IsSome (link_of self.now.slots slot) }
         ensures computed { couple_of self.now slot ≡ Some result }
-        // It is the number of the couple's first slot in the list of couples.
+        // The couple's number is the place of its first slot in the list of couples.
         ensures listed { slice_get (couples self.now) result.0 ≡
             option_map (λ l. min slot l.inverse) (link_of self.now.slots slot) }
     {

@@ -38,7 +38,7 @@ impl SharedSchema {
         })
     }
 
-    /// The same schema for one more owner.
+    /// The schema, for one more owner.
     pub fn share(&self) -> Result<SharedSchema, Memory>
         ensures { IfOk result (λ shared. shared ≡ self.now) }
     {

@@ -16,7 +16,7 @@ pub enum Content {
 }
 
 impl Content {
-    /// The kind, which the default tells.
+    /// The kind: that of the default, or the link.
     pub fn kind(&self) -> Kind
         ensures { result ≡ kind_of self.now }
     {
@@ -41,12 +41,12 @@ impl Content {
 #[derive(Debug, PartialEq, Drop)]
 pub struct Slot {
     pub name: Text,
-    /// The class that declares it.
+    /// The class that declares the slot.
     pub owner: ClassId,
     pub content: Content,
 }
 
-/// Whether the slot of a number has the name.
+// Whether the slot of a number has the name.
 #[tactic(auto, unfolding(crate::specs::Schema::has_name))]
 fn has_name(slots: &[Slot], slot: SlotId, name: &str) -> bool
     ensures { result ≡ has_name slots.now name.now slot }

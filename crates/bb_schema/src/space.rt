@@ -11,7 +11,7 @@ pub type SpaceId = u16;
 #[derive(Debug, PartialEq, Drop)]
 pub struct Dim {
     pub name: Text,
-    /// The label set of an enumerated one.
+    /// The label set of an enumerated dimension.
     pub set: Option<LabelSetId>,
 }
 

@@ -111,7 +111,7 @@ named_by view name_of xs places name o index at =
     let place : o ≡ spot (bytes_eq name) (map name_of (map view xs)) = at ∙ (index.first name ∙ position_spot (bytes_eq name) (map name_of (map view xs))) in
     sym (seen_at view xs o) ∙ (ap (option_and_then (slice_get (map view xs))) place ∙ sym (named_at name_of name (map view xs)))
 
--- the same where the items are seen as they are
+-- the first of a name, by the index, where the items are seen as they are
 pub named_in : {X : Type 0} (name_of : X → List ℕ) (xs : List X) (places : BTreeMap (Bor (List ℕ)) ℕ) (name : List ℕ)
     (o : Option ℕ) → IsIndex places (map name_of xs) → o ≡ indexed_place places name
     → option_and_then (slice_get xs) o ≡ first_named name_of name xs

@@ -1,4 +1,4 @@
--- Numbers that rise, with one more behind them.
+-- Numbers that rise, with one more after them.
 use Rattle.std.proofs.Common.{◌≡◌, ℕ, ◌<◌, List, [], ◌∷◌, ◌++◌, sym}
 use Rattle.std.specs.Prelude.{All}
 use Rattle.std.specs.List.{AllByRecursion}
@@ -13,7 +13,7 @@ above_push : (n : ℕ) (ns : List ℕ) (m : ℕ) → AllByRecursion (λ k. nat_c
 above_push n [] m all less = (less, tt)
 above_push n (k ∷ ns) m all less = (all.0, above_push n ns m all.1 less)
 
--- one that is above all of them stands behind them
+-- a number above all of them comes last
 pub rising_push : (ns : List ℕ) (m : ℕ) → IsStrictlySortedBy nat_cmp ns → All (λ n. n < m) ns
     → IsStrictlySortedBy nat_cmp (ns ++ m ∷ [])
 unfolding IsStrictlySortedBy

@@ -64,7 +64,7 @@ low_moved : (at n m : ℕ) → Moved at n m → m ≤ n + 1
 low_moved at n m (inl x) = let e = x.1 in omega (arith, e)
 low_moved at n m (inr x) = let e = x.1 in omega (arith, e)
 
--- what a new number comes behind, and before
+-- what a new number comes after, and before
 behind : (at n m : ℕ) → Moved at n m → (n < at → m ≤ at) × (m ≤ at → n < at)
 behind at n m (inl x) = let e = x.1 in let lt = x.0 in (λ h. omega (arith, e, h), λ h. lt)
 behind at n m (inr x) = let e = x.1 in let le = x.0 in (λ h. absurd (omega (arith, h, le)), λ h. absurd (omega (arith, e, h, le)))
@@ -84,7 +84,7 @@ module _ (at : ℕ) (k l : Span) where
   was_in : LiesIn (moved_span at k) (moved_span at l) → LiesIn k l
   was_in h = ((moved_order at l.first k.first).was_le h.0, (moved_order at k.first l.end).was_lt h.1)
 
-  -- what comes in right behind k lies where k lies
+  -- what comes in right after k lies where k lies
   comes_in : at ≡ k.first + 1 → LiesIn k l → LiesIn (new_span at) (moved_span at l)
   comes_in is h =
       let low = h.0 in let high = h.1 in
@@ -96,7 +96,7 @@ module _ (at : ℕ) (k l : Span) where
       let high = (before at l.end (moved at l.end) (moved_is at l.end)).1 h.1 in
       (omega (arith, is, low), omega (arith, is, high))
 
-  -- it lies in none where it is the first of all, and nothing lies in it
+  -- a span that comes first of all lies in none, and nothing lies in it
   first_in_none : at ≡ 0 → LiesIn (new_span at) (moved_span at l) → ⊥
   first_in_none is h = let low = (behind at l.first (moved at l.first) (moved_is at l.first)).1 h.0 in omega (arith, is, low)
 
@@ -259,7 +259,7 @@ next_kept f xs ys i d lt is =
     ∙ (get_or-append_right (map f (take i xs)) (drop i xs) i i d front (omega arith)
     ∙ (get_or-drop i xs (i - i) d ∙ ap (λ j. get_or xs j d) (omega arith)))
 
--- ---- what spans tell of two classes
+-- ---- what spans say of two classes
 
 parent_inside : (classes : List Class) (c p : ℕ) (k : Option Class) → slice_get classes c ≡ k → option_and_then (λ (j : Class). j.parent) k ≡ Some p → c < length classes
 parent_inside classes c p None is h = absurd cc
@@ -292,6 +292,6 @@ none_above classes spans c d k earlier here none h =
     let there = held_at spans d (omega (arith, low, lt)) in
     absurd (let both = sym none ∙ there.1 in cc)
 
--- a test that tells it is the climb
+-- a truth value that says whether one class descends from another is what the climb gives
 pub told : (classes : List Class) (c d : ℕ) (r : Bool) → ParentsAreEarlier classes → IsTrue r ↔ Descends classes c d → r ≡ descends_in classes c d
 told classes c d r earlier is = same_from_decides r (descends_in classes c d) is (descends_decides classes earlier c d (descends_in classes c d) refl)

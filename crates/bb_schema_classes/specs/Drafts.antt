@@ -14,7 +14,7 @@ pub use Rattle.bb_schema_classes.specs.declared.draft.ClassDraft.{ClassDraft}
 unfoldable pub draft_has_name : List Draft → List ℕ → ℕ → Bool
 draft_has_name slots name n = option_map_or (λ d. bytes_eq name d.name) (slice_get slots n) false
 
--- the class has a slot of the name already, an inherited one perhaps
+-- the class has a slot of the name already, inherited ones included
 abbrev pub has_slot_named : ClassDraft → List ℕ → Bool
 has_slot_named g name = list_any (draft_has_name g.slots name) g.class_slots
 
@@ -22,6 +22,6 @@ has_slot_named g name = list_any (draft_has_name g.slots name) g.class_slots
 abbrev pub is_full : ClassDraft → Bool
 is_full g = nat_le CLASS_SLOT_LIMIT (length g.class_slots) || nat_le SLOT_LIMIT (length g.slots)
 
--- with one more slot, which has the next number
+-- a class with one more slot, which has the next number
 abbrev pub with_slot : ClassDraft → Draft → ClassDraft
 with_slot g d = record { slots = g.slots ++ d ∷ []; class_slots = g.class_slots ++ length g.slots ∷ [] }

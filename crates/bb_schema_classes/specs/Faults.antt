@@ -27,7 +27,7 @@ fault_number Memory = 9
 abbrev pub here : SchemaFlaw → SchemaFault
 here flaw = At flaw Whole
 
--- the fault of an entry, seen from where the entry is one of a list
+-- the fault of an entry, its place seen from the value that lists the entry
 abbrev pub inside : ListKey → ℕ → SchemaFault → SchemaFault
 inside list index (At flaw place) = At flaw (inside_place list index place)
 inside list index Memory = Memory

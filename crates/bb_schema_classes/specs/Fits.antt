@@ -33,8 +33,8 @@ pub record AreLabelSets (sets : List LabelSet) : Type 0 where
 abbrev pub IsHeld : List LabelSet → Value → Type 0
 IsHeld sets v = IsTrue (value_fits (label_counts sets) (kind_of_value v) v)
 
--- a class has no more slots than the limit, each of so many, and none twice: their numbers rise, so that class order is
--- the order of the numbers
+-- a class has no more slots than the limit, each of them one of slot_count slots, and none twice: their numbers rise,
+-- so that class order is the order of the numbers
 pub record IsClass (slot_count : ℕ) (k : Class) : Type 0 where
   pub few : length k.slots ≤ CLASS_SLOT_LIMIT
   pub distinct : IsDistinct nat_eq k.slots
@@ -50,7 +50,7 @@ abbrev pub draft_default : DraftContent → Option Value
 draft_default (Default v) = Some v
 draft_default (Link to many inverse) = None
 
--- a slot has a name, is of one of so many classes, and can hold its default
+-- a slot has a name, is of one of class_count classes, and can hold its default
 pub record IsDraft (sets : List LabelSet) (class_count : ℕ) (d : Draft) : Type 0 where
   pub name : IsTrue (is_name d.name)
   pub owner : d.owner < class_count
@@ -91,7 +91,7 @@ pub record IsPaired (s : SchemaDraft) (n : ℕ) (d : Draft) : Type 0 where
   pub is : back.inverse ≡ n
   pub apart : link.inverse ≢ n
 
--- so it is with each link
+-- each link is paired
 abbrev pub ArePaired : SchemaDraft → Type 0
 ArePaired s = (n : ℕ) (d : Draft) (to : List ℕ) (many : Bool) (inverse : List ℕ)
     → slice_get s.slots n ≡ Some d → d.content ≡ Link to many inverse → IsPaired s n d

@@ -9,7 +9,7 @@ use Rattle.bb_schema_classes.specs.declared.draft.DraftContent.TheVariants.{Defa
 abbrev pub focus_class : Class
 focus_class = record { name = codes "focus"; parent = None; slots = 0 ∷ 1 ∷ 2 ∷ 3 ∷ [] }
 
--- they are two texts, a number and a truth
+-- the slots of `focus` are two texts, a number and a truth value
 abbrev pub focus_drafts : List Draft
 focus_drafts = record { name = codes "source"; owner = 0; content = Default (Text []) }
     ∷ record { name = codes "area"; owner = 0; content = Default (Text []) }

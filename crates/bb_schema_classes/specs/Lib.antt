@@ -10,7 +10,7 @@ pub use Rattle.bb_schema_form.specs.Numbers
 pub mod Values
 -- parents, which class descends from which, and the slots of a class
 pub mod Inheritance
--- the same by numbers: spans of a walk over the classes
+-- which class descends from which, by numbers: spans of a walk over the classes
 pub mod Spans
 -- the built-in class and its slots
 pub mod Focus
@@ -30,7 +30,7 @@ pub mod ClassReading
 pub mod Resolution
 -- what a walk over label sets and classes leaves
 pub mod Walk
--- what holds of it
+-- what holds of what a walk leaves
 pub mod Fits
 -- relations that only invariants and proofs speak of
 pub mod proving

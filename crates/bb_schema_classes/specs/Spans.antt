@@ -8,7 +8,7 @@ use Rattle.bb_schema_classes.specs.Inheritance.{Descends}
 abbrev pub LiesIn : (inner outer : Span) → Type 0
 LiesIn inner outer = (outer.first ≤ inner.first) × (inner.first < outer.end)
 
--- each class has a span, and they tell which class descends from which
+-- each class has a span, and the spans say which class descends from which
 pub record AreSpans (classes : List Class) (spans : List Span) : Type 0 where
   pub count : length spans ≡ length classes
   pub tell : (c d : ℕ) (k l : Span) → slice_get spans c ≡ Some k → slice_get spans d ≡ Some l

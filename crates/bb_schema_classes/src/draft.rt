@@ -65,7 +65,7 @@ pub(crate) fn draft_has_name(slots: &[Draft], slot: SlotId, name: &str) -> bool
     }
 }
 
-/// Whether one of some slots has the name.
+// Whether one of some slots has the name.
 fn is_any_named(slots: &[Draft], numbers: &[SlotId], name: &str) -> bool
     ensures { result ≡ list_any (draft_has_name slots.now name.now) numbers.now }
 {
@@ -77,7 +77,7 @@ fn is_any_named(slots: &[Draft], numbers: &[SlotId], name: &str) -> bool
 impl ClassDraft {
     ghost use Rattle.bb_schema_classes.specs.Drafts.{has_slot_named, is_full, with_slot};
 
-    /// Whether the class has a slot of the name, an inherited one perhaps.
+    /// Whether the class has a slot of the name, inherited ones included.
     pub(crate) fn has_slot_named(&self, name: &str) -> bool
         ensures { result ≡ has_slot_named self.now name.now }
     {

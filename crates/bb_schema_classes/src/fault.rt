@@ -1,4 +1,4 @@
-//! Why a document means no schema. `Walked::of` answers it, and `Schema::read` of `bb_schema`, from which the faults of
+//! Why a document means no schema. `Walked::of` returns it, and `Schema::read` of `bb_schema`, from which the faults of
 //! the form and of spaces come.
 
 ghost use Rattle.std.specs.Prelude.{◌≡◌};
@@ -92,7 +92,7 @@ impl SchemaFault {
         }
     }
 
-    /// The fault of an entry, seen from where the entry is one of a list.
+    /// The fault of an entry, its place seen from the value that lists the entry.
     pub fn inside(self, list: ListKey, index: usize) -> SchemaFault
         ensures { result ≡ inside list index self }
     {
@@ -106,7 +106,7 @@ impl SchemaFault {
     }
 }
 
-/// The answer of an entry of a list, a fault at its place in there.
+/// The answer of an entry of a list, a fault at its place in that list.
 pub fn placed<T>(
     answer: Result<T, SchemaFault>,
     list: ListKey,

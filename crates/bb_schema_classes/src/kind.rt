@@ -1,4 +1,4 @@
-//! What a slot can hold, and the numbers of slots. Values tell their kind, and links are resolved to it.
+//! What a slot can hold, and the numbers of slots. Values have a kind, and links are resolved to one.
 
 use crate::class::ClassId;
 use crate::label_set::LabelSetId;

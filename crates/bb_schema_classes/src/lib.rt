@@ -1,5 +1,5 @@
-//! The classes of a schema: its label sets, classes with their inheritance, the values of slots, and slots as their
-//! entries declare them. `Walked::of` reads all that, and `bb_schema` stands on it.
+//! The classes of a schema: label sets, classes with their inheritance, values, and slots as their entries declare
+//! them. `Walked::of` reads them, up to the first fault.
 #![tactic(auto)]
 
 mod class;

@@ -39,9 +39,9 @@ pub struct Walked {
 
 impl Walked {
     /// What the walk over the entries leaves, `focus` before all classes, or its first fault: label sets with their
-    /// labels, then classes with their slots and then links. A fault is told with the place of its entry, and at each
-    /// entry the checks come in the order of the faults' numbers. `Memory` may come at any point. The intervals of the entries are in order, as
-    /// `Document::read` gives them.
+    /// labels, then classes with their slots and then links. A fault has the place of its entry, and at each entry the
+    /// checks come in the order of the faults' numbers. `Memory` may come at any point. The intervals of the entries
+    /// are in order, as `Document::read` gives them.
     #[tactic(auto, unfolding(crate::specs::Walk::walk_of))]
     pub fn of(
         alloc: Global,

@@ -16,19 +16,19 @@ use std::alloc::{AllocError, Global};
 pub struct Span {
     /// The class's own number.
     pub first: u16,
-    /// The number behind its last descendant's.
+    /// The number after its last descendant's.
     pub end: u16,
 }
 
 impl Span {
-    /// Whether the number of another class is among these.
+    /// Whether the number of another class is in the span.
     pub fn holds(self, other: Span) -> bool
         ensures { IsTrue result ↔ LiesIn other self }
     {
         self.first <= other.first && other.first < self.end
     }
 
-    // The same numbers, once another has come in at a place.
+    // The numbers of a span, once another number has come in at a place.
     fn moved(self, at: u16) -> Span
         requires { IsWithin CLASS_LIMIT self }
         ensures { result ≡ moved_span at self }
@@ -40,7 +40,7 @@ impl Span {
     }
 }
 
-// The same number, once another has come in at a place.
+// A number, once another has come in at a place.
 fn moved(number: u16, at: u16) -> u16
     requires { number ≤ CLASS_LIMIT }
     ensures { result ≡ moved at number }
@@ -51,7 +51,7 @@ fn moved(number: u16, at: u16) -> u16
     number + 1
 }
 
-// The place right behind that of a parent, the first of all where there is none.
+// The place right after a parent's, or the first of all where there is no parent.
 fn place_of(spans: &[Span], parent: Option<ClassId>) -> u16
     requires { All (IsWithin CLASS_LIMIT) spans.now }
     ensures { result ≡ place_of spans.now parent }
@@ -65,7 +65,7 @@ fn place_of(spans: &[Span], parent: Option<ClassId>) -> u16
     }
 }
 
-// Another number comes in at a place.
+// Moves the numbers of all spans, as another number comes in at a place.
 fn make_room(spans: &mut Vec<Span>, at: u16)
     requires { All (IsWithin CLASS_LIMIT) spans.old.items }
     ensures { spans.new.items ≡ map (moved_span at) spans.old.items }
@@ -75,7 +75,7 @@ fn make_room(spans: &mut Vec<Span>, at: u16)
     }
 }
 
-// A class comes in, right behind its parent and before what else descends from it.
+// Adds a class, right after its parent and before what else descends from it.
 #[tactic(auto, unfolding(crate::specs::proving::SpanWalk::with_class))]
 fn add_class(spans: &mut Vec<Span>, parent: Option<ClassId>) -> Result<(), AllocError>
     requires { All (IsWithin CLASS_LIMIT) spans.old.items }

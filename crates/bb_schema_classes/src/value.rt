@@ -21,7 +21,7 @@ pub enum Value {
     Bool(bool),
     /// A label of a set.
     Label(LabelSetId, LabelId),
-    /// From the first number to the second, which is no less.
+    /// An interval from the first number to the second, which is no less.
     Interval(i64, i64),
 }
 
@@ -41,7 +41,7 @@ impl Clone for Value {
     }
 }
 
-/// Whether a label set, of which the number of labels is known, has a label.
+// Whether a label set, of which the number of labels is known, has a label.
 fn is_label(label_counts: &[usize], set: LabelSetId, label: LabelId) -> bool
     ensures { result ≡ is_label label_counts.now set label }
 {
@@ -52,7 +52,7 @@ fn is_label(label_counts: &[usize], set: LabelSetId, label: LabelId) -> bool
 }
 
 impl Value {
-    /// The kind of the slots that can hold it.
+    /// The kind of the slots that can hold the value.
     pub fn kind(&self) -> Kind
         ensures { result ≡ kind_of_value self.now }
     {
@@ -65,7 +65,7 @@ impl Value {
         }
     }
 
-    /// Whether a slot of a kind can hold it, where each label set has so many labels.
+    /// Whether a slot of a kind can hold the value. `label_counts` has the number of labels of each set.
     #[tactic(auto, unfolding(crate::specs::Values::value_fits))]
     pub fn fits(&self, label_counts: &[usize], kind: Kind) -> bool
         ensures { result ≡ value_fits label_counts.now kind self.now }

@@ -6,11 +6,11 @@ use Rattle.bb_schema_form.specs.declared.place.ListKey.{ListKey}
 use Rattle.bb_schema_form.specs.declared.place.DocumentPlace.TheVariants.{Whole}
 use Rattle.bb_schema_form.specs.Places.{inside_place}
 
--- what is read has not its form itself
+-- the fault of a value whose own form is wrong
 abbrev pub misshapen : DocumentFault
 misshapen = Shape Whole
 
--- the fault of an entry, seen from where the entry is one of a list
+-- the fault of an entry, its place seen from the value that lists the entry
 abbrev pub inside : ListKey → ℕ → DocumentFault → DocumentFault
 inside list index Json = Json
 inside list index (Shape place) = Shape (inside_place list index place)

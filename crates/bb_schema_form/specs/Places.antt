@@ -5,7 +5,7 @@ use Rattle.bb_schema_form.specs.declared.place.DocumentPlace.{DocumentPlace}
 use Rattle.bb_schema_form.specs.declared.place.ListKey.TheVariants.{Labels, Values, Classes, Slots, Links, Spaces, Dims, Units}
 use Rattle.bb_schema_form.specs.declared.place.DocumentPlace.TheVariants.{Whole, Entry, Inner}
 
--- the place, seen from where the entry is one of a list; entries lie two deep at most
+-- the place of an entry, seen from the value that lists the entry; entries lie two deep at most
 abbrev pub inside_place : ListKey → ℕ → DocumentPlace → DocumentPlace
 inside_place list index Whole = Entry (record { list = list; index = index })
 inside_place list index (Entry inner) = Inner (record { list = list; index = index }) inner

@@ -42,7 +42,7 @@ pub enum DefaultEntry {
     Bool(bool),
     /// A label of a set, or the set's first where the document gives none.
     Label { of: String, default: Option<String> },
-    /// From the first number to the second, which is no less.
+    /// An interval from the first number to the second, which is no less.
     Interval(i64, i64),
 }
 
@@ -83,7 +83,7 @@ pub struct UnitsDocument {
 pub struct UnitEntry {
     pub name: String,
     pub class: String,
-    /// In the order of the slots' names, byte by byte; each name stands once.
+    /// The given values, in the order of the slots' names, byte by byte; each name stands once.
     pub slots: Vec<GivenEntry>,
 }
 
@@ -94,14 +94,14 @@ pub struct GivenEntry {
     pub value: GivenValue,
 }
 
-/// A value that a first unit gives, as its JSON has it. Which slot it fits, the schema says.
+/// A value that a first unit gives, as its JSON has it. The schema says which slots it fits.
 #[derive(Debug, Drop)]
 pub enum GivenValue {
     Int(i64),
     /// A text, which for a slot of labels is a label's name.
     Text(String),
     Bool(bool),
-    /// From the first number to the second, which is no less.
+    /// An interval from the first number to the second, which is no less.
     Interval(i64, i64),
     /// Any other JSON. It fits no slot.
     Other,

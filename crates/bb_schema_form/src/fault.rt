@@ -1,4 +1,4 @@
-//! Why a text is no document. The readers of both documents answer it.
+//! Why a text is no document. The readers of both documents return it.
 
 ghost use Rattle.std.specs.Prelude.{◌≡◌};
 ghost use Rattle.bb_schema_form.specs.declared.fault.DocumentFault.TheVariants.{Memory as OutOfMemory};
@@ -25,7 +25,7 @@ pub enum DocumentFault {
 }
 
 impl DocumentFault {
-    /// What is read has not its form itself.
+    /// The fault of a value whose own form is wrong, and not that of an entry of one of its lists.
     pub(crate) fn misshapen() -> DocumentFault
         ensures { result ≡ misshapen }
     {
@@ -34,7 +34,7 @@ impl DocumentFault {
         }
     }
 
-    /// The fault of an entry, seen from where the entry is one of a list.
+    /// The fault of an entry, its place seen from the value that lists the entry.
     pub(crate) fn inside(self, list: ListKey, index: usize) -> DocumentFault
         ensures { result ≡ inside list index self }
     {
@@ -48,7 +48,7 @@ impl DocumentFault {
     }
 }
 
-/// The answer of an entry of a list, a fault at its place in there.
+/// The answer of an entry of a list, a fault at its place in that list.
 pub(crate) fn placed<T>(
     answer: Result<T, DocumentFault>,
     list: ListKey,

@@ -240,7 +240,7 @@ impl Entry for DimEntry {
     }
 }
 
-/// Whether a kind of dimension goes with a label set, or with none.
+// Whether a kind of dimension goes with a label set, or with none.
 fn is_dim_kind(kind: &str, set: Option<&str>) -> bool
     ensures { result ≡ is_dim_kind kind.now (option_map (λ t. t.now) set.entry) }
 {
@@ -259,7 +259,7 @@ fn optional_string(alloc: Global, text: Option<&str>) -> Result<Option<String>, 
     }
 }
 
-/// The default of a slot: it is of a label set where its kind is `label`, and of none where it is another.
+// The default of a slot: it is of a label set where its kind is `label`, and of none where it is another.
 #[tactic(auto, unfolding(crate::specs::Form::default_of))]
 fn default(
     alloc: Global,
@@ -296,7 +296,7 @@ fn label_default(
     })
 }
 
-/// The default of a slot of a kind without labels, as given, or the kind's own.
+// The default of a slot of a kind without labels, as given, or the kind's own.
 #[tactic(auto, unfolding(crate::specs::Form::plain_default_of))]
 fn plain_default(
     alloc: Global,

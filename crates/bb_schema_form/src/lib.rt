@@ -1,5 +1,5 @@
-//! The form of the two JSON documents, a schema's and the first units': which JSON they are and what their entries
-//! declare, before any name in them is looked up. JSON ends here.
+//! The form of the two JSON documents, a schema's and that of the first units: whether a text is such a document, and
+//! what its entries declare, before any name in them is looked up. JSON ends here.
 #![tactic(auto)]
 
 mod document;

@@ -39,7 +39,7 @@ fn owned_items(alloc: Global, values: &Vec<json::Value<'_>>) -> Option<Vec<Value
     Some(made)
 }
 
-/// The members go in one after another, so of a key that comes twice the last value stays, as `serde_json` has it.
+// The members go in one after another, so of a key that comes twice the last value stays, as `serde_json` has it.
 #[cycle(owned)]
 fn owned_members(
     alloc: Global,
@@ -57,7 +57,7 @@ fn owned_members(
     Some(made)
 }
 
-/// The number of a text that is an integer of 64 bits. `-0` is none: `serde_json` takes it for a float.
+// The number of a text that is an integer of 64 bits. `-0` is none: `serde_json` takes it for a float.
 fn integer(text: &str) -> Option<Number>
     ensures { IfSome result (λ n. number_of text.now ≡ Some (number_view n)) }
 {
@@ -76,7 +76,7 @@ fn has_minus(bytes: &[u8]) -> bool
     !bytes.is_empty() && bytes[0] == b'-'
 }
 
-/// The number of 0 or more that has these digits.
+// The number of 0 or more that has these digits.
 fn positive(digits: &[u8]) -> Option<Number>
     ensures { IfSome result (λ n. number_from false (scan digits.now) ≡ Some (number_view n)) }
 {
@@ -84,7 +84,7 @@ fn positive(digits: &[u8]) -> Option<Number>
     Some(Number::from(number))
 }
 
-/// The number below 0 that has these digits.
+// The number below 0 that has these digits.
 fn negative(digits: &[u8]) -> Option<Number>
     ensures { IfSome result (λ n. number_from true (scan digits.now) ≡ Some (number_view n)) }
 {

@@ -64,7 +64,7 @@ pub enum DocumentPlace {
 }
 
 impl DocumentPlace {
-    /// The place, seen from where the entry is one of a list. Entries lie two deep at most.
+    /// The place of an entry, seen from the value that lists the entry. Entries lie two deep at most.
     pub fn inside(self, list: ListKey, index: usize) -> DocumentPlace
         ensures { result ≡ inside_place list index self }
     {
@@ -83,7 +83,7 @@ impl Display for ListItem {
     }
 }
 
-/// As the entry would be written in a program: `classes[3].links[0]`. The document itself has no words.
+/// The entry as a program would write it: `classes[3].links[0]`. For the document itself, nothing.
 impl Display for DocumentPlace {
     fn fmt<W: Write>(&self, f: &mut Formatter<W>) -> fmt::Result {
         match self {

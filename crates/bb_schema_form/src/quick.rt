@@ -1,5 +1,5 @@
 //! The quick way to a document of first units: entries are read from a tree over the borrowed text (quick_entry.rt). It
-//! answers `None` wherever anything is unusual, and then says nothing of the text. `UnitsDocument::read` tries it.
+//! returns `None` wherever anything is unusual, and then says nothing of the text. `UnitsDocument::read` tries it.
 
 ghost use Rattle.std.specs.Prelude.{◌≡◌, [], Ok, IfSome, map};
 ghost use Rattle.std.specs.List.{list_any, list_all};
@@ -16,7 +16,7 @@ use json::{Reader, Scratch, Value};
 use std::alloc::Global;
 use std::mem;
 
-/// How deep the arrays and objects of a text nest at most: as deep as `serde_json` takes them.
+// How deep the arrays and objects of a text nest at most: as deep as `serde_json` takes them.
 const MAX_DEPTH: usize = 127;
 
 /// The document of first units that a text is, read the quick way.
@@ -64,7 +64,7 @@ fn have_list_keys(members: &[(&str, Value<'_>)]) -> bool
     members.iter().all(|member| is_list_key(member.0))
 }
 
-/// The entries of a list of the document; an absent one is empty. Of a key that comes twice the last list counts.
+// The entries of a list of the document; an absent one is empty. Of a key that comes twice the last list counts.
 fn entries_at<E: QuickEntry>(
     alloc: Global,
     list: ListKey,
@@ -86,7 +86,7 @@ where
     Some(found)
 }
 
-/// The entries of a value that is an array of such.
+// The entries of a value that is an array of such.
 fn entries<E: QuickEntry>(alloc: Global, list: ListKey, value: &Value<'_>) -> Option<Vec<E>>
 where
     E: Drop,

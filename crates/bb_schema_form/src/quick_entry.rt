@@ -38,7 +38,7 @@ impl QuickEntry for UnitEntry {
     }
 }
 
-/// The unit of a name, a class and slots, in this order; the slots may be absent.
+// The unit of a name, a class and slots, in this order; the slots may be absent.
 fn usual_unit(alloc: Global, members: &[(&str, Value<'_>)]) -> Option<UnitEntry>
     ensures { IfSome result (λ e. declared_by unit_of (object (members_view members.now)) ≡ Ok (unit_declaration e)) }
 {
@@ -59,7 +59,7 @@ fn usual_unit(alloc: Global, members: &[(&str, Value<'_>)]) -> Option<UnitEntry>
     }
 }
 
-/// The text of a member with this key.
+// The text of a member with this key.
 fn text_under(alloc: Global, member: &(&str, Value<'_>), key: &str) -> Option<String>
     ensures { IfSome result (λ s. (member.now.0.now ≡ key.now)
         × (value_view member.now.1 ≡ string (string_bytes s))) }
@@ -70,7 +70,7 @@ fn text_under(alloc: Global, member: &(&str, Value<'_>), key: &str) -> Option<St
     text(alloc, &member.1)
 }
 
-/// The slots that a member with this key gives.
+// The slots that a member with this key gives.
 fn slots_under(alloc: Global, member: &(&str, Value<'_>), key: &str) -> Option<Vec<GivenEntry>>
     ensures { IfSome result (λ es. (member.now.0.now ≡ key.now)
         × ((d : Data) × (of_json (value_view member.now.1) ≡ Some d)

@@ -99,7 +99,7 @@ pub(crate) fn given_slots(
     }
 }
 
-/// What the members of an object give, in their order.
+// What the members of an object give, in their order.
 fn givens(alloc: Global, members: &Map<String, Value>) -> Result<Vec<GivenEntry>, AllocError>
     ensures { IfOk result (λ es. map given_declaration es.items ≡ givens_of (members_view members.now.entries)) }
 {
@@ -112,7 +112,7 @@ fn givens(alloc: Global, members: &Map<String, Value>) -> Result<Vec<GivenEntry>
     Ok(entries)
 }
 
-/// The value that JSON gives for a slot.
+// The value that JSON gives for a slot.
 fn given_value(alloc: Global, value: &Value) -> Result<GivenValue, AllocError>
     ensures { IfOk result (λ given. value_declaration given ≡ given_value_of (view value.now)) }
 {
@@ -143,7 +143,7 @@ impl Entry for FirstLinkEntry {
     }
 }
 
-/// A link of the three names of which it is made.
+// A link of the three names of which it is made.
 #[tactic(auto, unfolding(crate::specs::UnitsDocument::first_link_of_names))]
 fn first_link(alloc: Global, names: &[Value]) -> Result<FirstLinkEntry, DocumentFault>
     ensures { Gives OutOfMemory first_link_declaration result (first_link_of_names (map view names.now)) }
@@ -175,7 +175,7 @@ impl Entry for MemberEntry {
     }
 }
 
-/// A member by its name and that of its space.
+// A member by its name and that of its space.
 #[tactic(auto, unfolding(crate::specs::UnitsDocument::member_of_names))]
 fn member(alloc: Global, names: &[Value]) -> Result<MemberEntry, DocumentFault>
     ensures { Gives OutOfMemory member_declaration result (member_of_names (map view names.now)) }

@@ -17,7 +17,7 @@ use Rattle.bb_shell.specs.Accepting.{accepted_draft, accepted_source, in_source}
 abbrev after_classes : Schema → SourceDraft Code → Result Classes InputFault → Result (SourceDraft Checked) InputFault
 after_classes s draft classes = classes >>= λ found. map_err (in_source draft.name) (accepted_draft s found draft)
 
--- they are not found
+-- where the classes of a source are not found, it is refused
 pub classes_fail : (s : Schema) (draft : SourceDraft Code) (e : InputFault) → (e ≡ inputs.Memory) ⊎ (map_err (inputs.Rule draft.name) (classes_of s draft) ≡ Err e) → (e ≡ inputs.Memory) ⊎ (accepted_source s draft ≡ Err e)
 classes_fail s draft e (inl memory) = inl memory
 classes_fail s draft e (inr failed) = inr (ap (after_classes s draft) failed)
@@ -27,7 +27,7 @@ told_by name (Ok d) given is = ap (map_err (in_source name)) is
 told_by name (Err e) given (inl memory) = inl (ap (in_source name) memory)
 told_by name (Err e) given (inr failed) = inr (ap (map_err (in_source name)) failed)
 
--- they are found, and this came of the codes
+-- where the classes are found, the source has what came of the codes
 pub codes_told : (s : Schema) (draft : SourceDraft Code) (name : List ℕ) (classes : Classes) (r : Result (SourceDraft Checked) CodeFault) (told : Result (SourceDraft Checked) InputFault) → name ≡ draft.name → map_err (inputs.Rule draft.name) (classes_of s draft) ≡ Ok classes
     → Gives faults.Memory (λ d. d) r (accepted_draft s classes draft) → told ≡ map_err (in_source name) r → Gives inputs.Memory (λ d. d) told (accepted_source s draft)
 codes_told s draft name classes r told same found gives is =

@@ -4,7 +4,7 @@ pub mod MeaningLemmas
 pub mod AcceptLemmas
 -- the sources of an input, one after another
 pub mod GatherLemmas
--- they are made of codes that were accepted
+-- the sources of an input are made of codes that were accepted
 pub mod MadeLemmas
--- and what an input means is well made
+-- what an input means is well made
 pub mod UnstuckLemmas

@@ -155,7 +155,7 @@ sources_made natives s codes sources h =
     let made = All-try_map (AreAccepted s) (IsMade s) (resolved_source s) (λ draft source are is. source_made_of s draft source (ok_of (inputs.Rule draft.name) (source_of s draft) source is) are) drafts.0 resolved.0 accepted resolved.1 in
     fitted_keeps natives (IsMade s) resolved.0 sources made (ok_of in_input (fitted natives resolved.0) sources resolved.2)
 
--- those of an input's texts too
+-- the sources of an input's texts are made of codes that were accepted
 pub given_made : (natives : List (List ℕ)) (s : Schema) (texts bundle : List ℕ) (sources : List Source) → given natives s texts bundle ≡ Ok sources → All (IsMade s) sources
 unfolding given
 given_made natives s texts bundle sources h =

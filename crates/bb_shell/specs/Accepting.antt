@@ -25,42 +25,42 @@ use Rattle.bb_refusal.specs.declared.input_fault.InputFault.TheVariants as input
 abbrev pub accepted_code : Schema → Part → Code → Result Checked CodeFault
 accepted_code s part code = map_err (faults.Verify part) (checked s part code)
 
--- the code of a part, if there is one
+-- the accepted code of a part, if there is one
 abbrev pub accepted_part : Schema → Part → Option Code → Result (Option Checked) CodeFault
 accepted_part s part None = Ok None
 accepted_part s part (Some code) = do
   checked' ← accepted_code s part code
   Ok (Some checked')
 
--- a reaction, if there is one
+-- a reaction with its code accepted, if there is one
 abbrev pub accepted_reaction : Schema → Option Part → Option (ReactionDraft Code) → Result (Option (ReactionDraft Checked)) CodeFault
 accepted_reaction s (Some part) (Some draft) = do
   code ← accepted_code s part draft.code
   Ok (Some (record { class = draft.class; clauses = draft.clauses; code = code }))
 accepted_reaction s _ _ = Ok None
 
--- what an activation does
+-- the act of a source, with its code accepted
 abbrev pub accepted_act : Schema → Part → ActDraft Code → Result (ActDraft Checked) CodeFault
 accepted_act s part (acts.Do code) = do
   checked' ← accepted_code s part code
   Ok (acts.Do checked')
 accepted_act s part acts.Native = Ok acts.Native
 
--- the requirement, then the code that obviates
+-- the requirement and the code that obviates, accepted in this order
 unfoldable pub accepted_first : Schema → Classes → FirstCodes Code → Result (FirstCodes Checked) CodeFault
 accepted_first s c codes = do
   require ← accepted_part s (parts.Require c.own) codes.require
   obviate ← accepted_reaction s (obviate_part c) codes.obviate
   Ok (record { require = require; obviate = obviate })
 
--- the code that retriggers, then the revalidation
+-- the code that retriggers and the revalidation, accepted in this order
 unfoldable pub accepted_later : Schema → Classes → LaterCodes Code → Result (LaterCodes Checked) CodeFault
 accepted_later s c codes = do
   retrigger ← accepted_reaction s (retrigger_part c) codes.retrigger
   revalidate ← accepted_part s (parts.Revalidate c.own) codes.revalidate
   Ok (record { retrigger = retrigger; revalidate = revalidate })
 
--- each code in the order in which a bundle has them
+-- all codes of a source, accepted in the order in which a bundle has them
 unfoldable pub accepted_codes : Schema → Classes → Codes Code → Result (Codes Checked) CodeFault
 accepted_codes s c codes = do
   first ← accepted_first s c codes.first
@@ -68,11 +68,11 @@ accepted_codes s c codes = do
   act ← accepted_act s (parts.Do c.own) codes.act
   Ok (record { first = first; later = later; act = act })
 
--- what a draft has beside its codes
+-- what a draft has besides its codes
 abbrev pub header_of : SourceDraft Code → Header
 header_of draft = record { name = draft.name; class = draft.class; rate = draft.rate; triggers = draft.triggers }
 
--- its codes
+-- the codes of a draft
 abbrev pub codes_of : SourceDraft Code → Codes Code
 codes_of draft = record {
   first = record { require = draft.require; obviate = draft.obviate };
@@ -80,7 +80,7 @@ codes_of draft = record {
   act = draft.act;
 }
 
--- a draft of both
+-- the draft of a header and codes
 abbrev pub draft_of : Header → Codes Checked → SourceDraft Checked
 draft_of header codes = record {
   name = header.name;
@@ -94,18 +94,18 @@ draft_of header codes = record {
   act = codes.act;
 }
 
--- the same draft with its codes accepted
+-- a draft with its codes accepted
 unfoldable pub accepted_draft : Schema → Classes → SourceDraft Code → Result (SourceDraft Checked) CodeFault
 accepted_draft s c draft = do
   codes ← accepted_codes s c (codes_of draft)
   Ok (draft_of (header_of draft) codes)
 
--- a code's fault is one of the source
+-- the fault of a code as one of the source of this name
 abbrev pub in_source : List ℕ → CodeFault → InputFault
 in_source name (faults.Verify part fault) = inputs.Verify name part fault
 in_source name faults.Memory = inputs.Memory
 
--- the classes are looked up, then each code is verified
+-- a source with its codes accepted: the classes are looked up, then each code is verified
 abbrev pub accepted_source : Schema → SourceDraft Code → Result (SourceDraft Checked) InputFault
 accepted_source s draft = do
   classes ← map_err (inputs.Rule draft.name) (classes_of s draft)

@@ -18,10 +18,10 @@ bundle_in schema sources = do
   s ← map_err inputs.Schema (schema_of schema)
   compiled_text s sources
 
--- there are sources, and a bundle of them was written so
+-- there are sources, and a bundle of them was written this far
 abbrev pub WritesBundle : Result (List (SourceDraft Code)) InputFault → Done → (taken given : Option (List ℕ)) → Type 0
 WritesBundle codes done taken given = IsOkAnd codes (λ xs. Wrote (bundle_text xs) done taken given)
 
--- there are sources, and a bundle of them spells these
+-- there are sources, and the bundle of them is read as the same sources
 abbrev pub IsReadAgain : Result (List (SourceDraft Code)) InputFault → Type 0
 IsReadAgain codes = IsOkAnd codes (λ xs. sources_of (bundle_text xs) ≡ Ok xs)

@@ -26,11 +26,11 @@ is_native acts.Native = true
 abbrev pub native_names : List Native → List (List ℕ)
 native_names natives = map (λ (n : Native). n.name) natives
 
--- the same, as a roster tells them
+-- the names of the natives of a roster
 abbrev pub names_in : List Closing → List (List ℕ)
 names_in handed_in = map (λ (c : Closing). c.name) handed_in
 
--- one of them is this name
+-- one of the natives has this name
 abbrev pub has_native : (natives : List (List ℕ)) → (name : List ℕ) → Bool
 has_native natives name = is_some (position (λ one. bytes_eq one name) natives)
 
@@ -38,11 +38,11 @@ has_native natives name = is_some (position (λ one. bytes_eq one name) natives)
 abbrev pub lacks_native : (natives : List (List ℕ)) → Source → Bool
 lacks_native natives source = is_native source.act && not (has_native natives source.name)
 
--- a source has a code for its act, or a native
+-- a source has a code for its act, or a native of its name is there
 abbrev pub HasAct : (natives : List (List ℕ)) → Source → Type 0
 HasAct natives source = lacks_native natives source ≡ false
 
--- one source more: no other has its name, their number is within the limit, and a native that it needs is there
+-- the sources with one more: no other has its name, their number is in the limit, and a native that it needs is there
 abbrev pub source_after : (natives : List (List ℕ)) → List Source → Source → Result (List Source) Unfit
 source_after natives sources source =
     if list_any (bytes_eq source.name) (names_of sources) then Err (unfits.Source source.name (rules.Twice (length sources)))
@@ -50,7 +50,7 @@ source_after natives sources source =
     else if lacks_native natives source then Err (unfits.Source source.name (rules.Native (length sources)))
     else Ok (sources ++ source ∷ [])
 
--- all of them, or the first that does not fit
+-- all sources, or the first that does not fit
 abbrev pub fitted : (natives : List (List ℕ)) → List Source → Result (List Source) Unfit
 fitted natives sources = try_fold (source_after natives) [] sources
 

@@ -15,9 +15,9 @@ pub mod Check
 pub mod Compile
 -- the shell of a blackboard and sources
 pub mod Shell
--- for models alone
+-- for models only
 pub mod proving
--- of bb_refusal: why an input is refused, and the line that tells it
+-- of bb_refusal: why an input is refused, and the line of a refusal
 pub use Rattle.bb_refusal.specs.Refusals
 pub use Rattle.bb_refusal.specs.declared.input_fault.InputFault
 -- of bb_run: what a part of a run tells, and what an event brings about
@@ -27,7 +27,7 @@ pub use Rattle.bb_run.specs.Processing
 pub use Rattle.bb_run.specs.Run
 pub use Rattle.bb_run.specs.Order
 pub use Rattle.bb_run.specs.Unstuck
--- of bb_run: how a run ends, how its answer tells that, and what was written where it was cut short
+-- of bb_run: how a run ends, by what `run` returns, and what was written where it was cut short
 pub use Rattle.bb_run.specs.End
 pub use Rattle.bb_run.specs.Finish
 pub use Rattle.bb_run.specs.declared.finish.Finish as Finishes

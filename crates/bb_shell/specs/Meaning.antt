@@ -14,7 +14,7 @@ pub record Meaning : Type 0 where
   -- the first units and their links, with what was noted of them
   pub board : Board
 
--- the schema, the first units, and the sources of both texts, in this order, where natives of these names are there
+-- the schema, the first units and the sources of both texts, read in this order, with natives of these names
 unfoldable pub meaning :
     (natives : List (List ℕ)) → (schema units sources bundle : List ℕ) → (floor : ℤ) → Result Meaning InputFault
 meaning natives schema units sources bundle floor = do

@@ -1,4 +1,4 @@
--- The shell of a blackboard and sources that fit together and the natives of these names, or the first fault.
+-- The shell of a blackboard, sources that fit together and the natives of these names, or the first fault.
 use Rattle.std.specs.Prelude.{ℕ, ℤ, List, Result, Ok}
 use Rattle.bb_basis.specs.Results.{◌>>=◌, map_err}
 use Rattle.bb_run.specs.Board.{Board}

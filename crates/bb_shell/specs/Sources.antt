@@ -18,7 +18,7 @@ use Rattle.bb_shell.specs.declared.fitting.Unfit.{Unfit}
 use Rattle.bb_shell.specs.declared.fitting.Unfit.TheVariants as unfits
 use Rattle.bb_shell.specs.Fitting.{fitted}
 
--- the names of a source are resolved
+-- a source with its names resolved
 abbrev pub resolved_source : Schema → SourceDraft Checked → Result Source InputFault
 resolved_source s draft = map_err (Rule draft.name) (source_of s draft)
 
@@ -27,14 +27,14 @@ abbrev pub in_input : Unfit → InputFault
 in_input (unfits.Source name fault) = Rule name fault
 in_input unfits.Memory = Memory
 
--- all of them: each is accepted, then each is resolved, then each has to fit those before it
+-- all sources: each is accepted, then each is resolved, then each has to fit those before it
 unfoldable pub sources_for : (natives : List (List ℕ)) → Schema → List (SourceDraft Code) → Result (List Source) InputFault
 sources_for natives s codes = do
   accepted' ← try_map (accepted_source s) codes
   resolved ← try_map (resolved_source s) accepted'
   map_err in_input (fitted natives resolved)
 
--- the codes of a source that is text; a fault is told with the source's name
+-- the codes of a source that is text; a fault comes with the source's name
 abbrev pub compiled_source : Schema → SourceText → Result (SourceDraft Code) InputFault
 compiled_source s tree = map_err (Compile tree.header.name) (compiled s tree)
 
@@ -44,7 +44,7 @@ compiled_text s sources = do
   trees ← map_err Lang (trees_of sources)
   try_map (compiled_source s) trees
 
--- those of a text and then those of a bundle, which is read as a whole once the text is compiled
+-- the codes of a text and then those of a bundle, which is read as a whole once the text is compiled
 unfoldable pub codes_in : Schema → (sources bundle : List ℕ) → Result (List (SourceDraft Code)) InputFault
 codes_in s sources bundle = do
   compiled' ← compiled_text s sources

@@ -27,7 +27,7 @@ pub(crate) enum CodeFault {
     Memory,
 }
 
-/// What a source has beside its codes.
+/// What a source has besides its codes.
 #[derive(Drop)]
 pub(crate) struct Header {
     name: Text,
@@ -43,7 +43,7 @@ pub(crate) struct FirstCodes<C> {
     obviate: Option<ReactionDraft<C>>,
 }
 
-/// The codes that rate activations anew, and that are asked once more about one that is chosen.
+/// The codes that rate activations again, and that are asked once more about one that is chosen.
 #[derive(Drop)]
 pub(crate) struct LaterCodes<C> {
     retrigger: Option<ReactionDraft<C>>,
@@ -58,8 +58,8 @@ pub(crate) struct Codes<C> {
     act: ActDraft<C>,
 }
 
-/// The same source with its codes accepted. Its classes are looked up first, then each code is verified, in the order
-/// in which a bundle has them.
+/// A source with its codes accepted. Its classes are looked up first, then each code is verified, in the order in which
+/// a bundle has them.
 pub(crate) fn accept(
     alloc: Global,
     schema: &Schema,
@@ -88,7 +88,7 @@ fn look_up(
     }
 }
 
-// The same of the source of this name: a fault of its codes is one of the source.
+// What was accepted of the source of this name: a fault of its codes becomes one of the source.
 fn in_source(
     name: Text,
     accepted: Result<SourceDraft<Checked>, CodeFault>,
@@ -102,7 +102,7 @@ fn in_source(
     }
 }
 
-// The codes that an event may ask first.
+// Accepts the codes that an event may ask first.
 #[tactic(auto, unfolding(crate::specs::Accepting::accepted_first))]
 fn accept_first(
     alloc: Global,
@@ -119,7 +119,7 @@ fn accept_first(
     Ok(FirstCodes { require, obviate })
 }
 
-// The codes that are asked about an activation that waits, or that was chosen.
+// Accepts the codes that are asked about an activation that waits, or that was chosen.
 #[tactic(auto, unfolding(crate::specs::Accepting::accepted_later))]
 fn accept_later(
     alloc: Global,
@@ -142,7 +142,7 @@ fn accept_later(
     })
 }
 
-// All codes of a source, in the order in which a bundle has them.
+// Accepts all codes of a source, in the order in which a bundle has them.
 #[tactic(auto, unfolding(crate::specs::Accepting::accepted_codes))]
 fn accept_codes(
     alloc: Global,
@@ -160,7 +160,7 @@ fn accept_codes(
     Ok(Codes { first, later, act })
 }
 
-// What a draft has beside its codes, and these.
+// What a draft has besides its codes, and the codes.
 fn taken_apart(draft: SourceDraft<Code>) -> (Header, Codes<Code>)
     ensures header { result.0 ≡ header_of draft }
     ensures codes { result.1 ≡ codes_of draft }
@@ -183,7 +183,7 @@ fn taken_apart(draft: SourceDraft<Code>) -> (Header, Codes<Code>)
     (header, Codes { first, later, act })
 }
 
-// The draft of these.
+// The draft of a header and codes.
 fn put_together(header: Header, codes: Codes<Checked>) -> SourceDraft<Checked>
     ensures { result ≡ draft_of header codes }
 {
@@ -200,7 +200,7 @@ fn put_together(header: Header, codes: Codes<Checked>) -> SourceDraft<Checked>
     }
 }
 
-// The same draft with its codes accepted.
+// A draft with its codes accepted.
 #[tactic(auto, unfolding(crate::specs::Accepting::accepted_draft))]
 fn accept_draft(
     alloc: Global,
@@ -230,7 +230,7 @@ fn accept_code(alloc: Global, schema: &Schema, part: Part, code: Code) -> Result
     }
 }
 
-// The code of a part, if the source has it.
+// Accepts the code of a part, if the source has it.
 fn accept_part(
     alloc: Global,
     schema: &Schema,
@@ -245,7 +245,7 @@ fn accept_part(
     }
 }
 
-// A reaction, if the source has it.
+// Accepts the code of a reaction, if the source has it.
 fn accept_reaction(
     alloc: Global,
     schema: &Schema,

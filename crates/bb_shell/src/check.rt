@@ -21,16 +21,16 @@ use std::alloc::Global;
 /// An input that was checked.
 #[derive(Drop)]
 pub struct Check {
-    /// How far the lines on it were written.
+    /// How far the lines on the input were written.
     pub done: Done,
     pub schema: Schema,
-    /// Its sources: those that are text, then those of the bundle.
+    /// The sources of the input: those that are text, then those of the bundle.
     pub sources: Vec<Source>,
 }
 
 /// Reads a schema and sources, as text and of a bundle, verifies all codes of all of them, and writes what the parts of
-/// each source cost, and how many sources there are. It refuses as `run_texts` does where it reads no units; then
-/// nothing is written. Each native is closed once, in order, and none is called. `Memory`: memory ran out.
+/// each source cost, and how many sources there are. No units are read; else an input is refused as by `run_texts`, and
+/// then nothing is written. Each native is closed once, in order, and none is called. `Memory`: memory ran out.
 pub fn check_sources<N: NativeSource, O: Out>(
     alloc: Global,
     schema: &str,
@@ -50,10 +50,10 @@ pub fn check_sources<N: NativeSource, O: Out>(
         sources_in (native_names (map N.meaning natives.items)) schema.now sources.now bundle.now ≡ Ok c.sources.items) }
     ensures schema { IfOk result (λ c. map_err InputFault.Schema (schema_of schema.now) ≡ Ok c.schema) }
 
-    // `Write` tells that the output has failed.
+    // `Write` says that the output has failed.
     ensures failed { IfOk result (λ c. O.has_failed out.new ≡ is_cut c.done) }
 
-    // At `Err` it is the first refusal, and the output is as it was.
+    // At `Err` the fault is the first refusal, and the output is as it was.
     ensures refused { IfErr result (λ e. (e ≡ InputFault.Memory)
         ⊎ (sources_in (native_names (map N.meaning natives.items)) schema.now sources.now bundle.now ≡ Err e)) }
     ensures quiet { OnErr result (out.new ≡ out.old) }
@@ -89,10 +89,10 @@ pub fn check_texts<N: NativeSource, O: Out>(
         WritesCheck (sources_in (native_names (map N.meaning natives.items)) schema.now sources.now bundle.now)
         done (O.taken out.old) (O.taken out.new)) }
 
-    // `Write` tells that the output has failed.
+    // `Write` says that the output has failed.
     ensures failed { IfOk result (λ done. O.has_failed out.new ≡ is_cut done) }
 
-    // At `Err` it is the first refusal, and the output is as it was.
+    // At `Err` the fault is the first refusal, and the output is as it was.
     ensures refused { IfErr result (λ e. (e ≡ InputFault.Memory)
         ⊎ (sources_in (native_names (map N.meaning natives.items)) schema.now sources.now bundle.now ≡ Err e)) }
     ensures quiet { OnErr result (out.new ≡ out.old) }

@@ -1,5 +1,4 @@
-//! The lines of a check: for each source what its parts cost, and at last the number of sources. `check_texts` writes
-//! them.
+//! The lines of a check (`check_texts` writes them): for each source what its parts cost, then the number of sources.
 
 ghost use Rattle.std.specs.Prelude.{◌≡◌, ◌++◌, IfOk, OnOk, option_map, string_bytes};
 ghost use Rattle.bb_shell.specs.CheckText.{act_text, check_text, part_line, part_text, source_text};
@@ -23,7 +22,7 @@ pub(crate) fn check_text(alloc: Global, sources: &[Source]) -> Result<String, Al
     Ok(text)
 }
 
-/// Appends the lines of a source, a part a line, in the order in which a bundle has them.
+// Appends the lines of a source, a part a line, in the order in which a bundle has them.
 fn add_source(text: &mut String, source: &Source) -> Result<(), AllocError>
     ensures { OnOk result (string_bytes text.new ≡ string_bytes text.old ++ source_text source.now) }
 {
@@ -45,7 +44,7 @@ fn code_of(reaction: &Option<Reaction>) -> Option<&Question>
     }
 }
 
-/// Appends the line of a part, if the source has it.
+// Appends the line of a part, if the source has it.
 fn add_part(
     text: &mut String,
     name: &str,
@@ -70,7 +69,7 @@ fn add_act(text: &mut String, name: &str, act: &Act) -> Result<(), AllocError>
     }
 }
 
-/// Appends the line of a part with this code.
+// Appends the line of a part with this code.
 fn add_line(text: &mut String, name: &str, part: &str, code: &Checked) -> Result<(), AllocError>
     ensures { OnOk result (string_bytes text.new ≡ string_bytes text.old ++ part_line name.now part.now code.now) }
 {

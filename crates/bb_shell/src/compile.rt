@@ -14,9 +14,9 @@ use bb_refusal::InputFault;
 use bb_run::{NativeSource, Out, close_each};
 use std::alloc::Global;
 
-/// Reads a schema and a text of sources, compiles these, and writes them as a bundle. It refuses as `run_texts` does
-/// where it reads neither units nor a bundle, and verifies nothing: schema, text, then source by source; then nothing
-/// is written. Each native is closed once, in order, and none is called. `Memory`: memory ran out.
+/// Reads a schema and a text of sources, compiles these, and writes them as a bundle. Neither units nor a bundle are
+/// read, and nothing is verified. An input is refused at the first step that refuses it: schema, text, then source by
+/// source; then nothing is written. Each native is closed once, in order, and none is called. `Memory`: memory ran out.
 pub fn compile_texts<N: NativeSource, O: Out>(
     alloc: Global,
     schema: &str,
@@ -31,13 +31,13 @@ pub fn compile_texts<N: NativeSource, O: Out>(
     ensures text { IfOk result (λ done.
         WritesBundle (bundle_in schema.now sources.now) done (O.taken out.old) (O.taken out.new)) }
 
-    // Whoever reads that bundle has these sources.
+    // The bundle that was written is read as the same sources.
     ensures again { IfOk result (λ _. IsReadAgain (bundle_in schema.now sources.now)) }
 
-    // `Write` tells that the output has failed.
+    // `Write` says that the output has failed.
     ensures failed { IfOk result (λ done. O.has_failed out.new ≡ is_cut done) }
 
-    // At `Err` it is the first refusal, and the output is as it was.
+    // At `Err` the fault is the first refusal, and the output is as it was.
     ensures refused { IfErr result (λ e. (e ≡ InputFault.Memory) ⊎ (bundle_in schema.now sources.now ≡ Err e)) }
     ensures quiet { OnErr result (out.new ≡ out.old) }
 {

@@ -50,7 +50,7 @@ fn compile_all(
     Ok(codes)
 }
 
-// The source of a tree. A fault is told with the source's name.
+// Compiles the source of a tree. A fault comes with the source's name.
 fn compile_source(
     alloc: Global,
     schema: &Schema,

@@ -82,7 +82,7 @@ fn lacks_native(natives: &[Closing], source: &Source) -> bool
     !is_there
 }
 
-// Why a source does not fit, by its name.
+// The fault of a source that does not fit, with its name.
 fn refuse(source: Source, fault: RuleFault) -> Unfit
     ensures { result ≡ Unfit.Source source.name fault }
 {
@@ -90,14 +90,14 @@ fn refuse(source: Source, fault: RuleFault) -> Unfit
     Unfit::Source { name, fault }
 }
 
-// Memory ran out, and the source is given up.
+// Drops a source, as memory ran out.
 fn give_up(_source: Source) -> Unfit
     ensures { result ≡ OutOfMemory }
 {
     Unfit::Memory
 }
 
-// Makes room for one source more, and adds its name, which no other has. An error changes nothing.
+// Makes room for one source more, and adds its name, which no other source has. An error changes nothing.
 fn make_room(
     alloc: Global,
     names: &mut Names,
@@ -161,7 +161,7 @@ impl Together {
         }
     }
 
-    /// Adds a source, which has to fit those before it: no other has its name, they are 256 at most, and a native that
+    /// Adds a source, which has to fit those before it: no other has its name, there are 256 at most, and a native that
     /// it needs is there.
     pub(crate) fn add(
         &mut self,
@@ -183,7 +183,7 @@ impl Together {
     }
 }
 
-/// All sources in order, where each fits those before it.
+/// All sources in order, if each fits those before it.
 pub(crate) fn fit_all(
     alloc: Global,
     natives: &[Closing],

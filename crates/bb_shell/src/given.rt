@@ -1,5 +1,5 @@
-//! The sources of an input, as its two texts have them: those of the language (compiled.rt) and those of a bundle. Its
-//! run (texts.rt) and its check (check.rt) begin with them.
+//! The sources of an input, as its two texts have them: those of the language (compiled.rt) and those of a bundle. The
+//! run (texts.rt) and the check (check.rt) of an input begin with them.
 
 ghost use Rattle.std.specs.Prelude.{◌≡◌, ◌≤◌, length, IfOk};
 ghost use Rattle.bb_basis.specs.Results.{Gives, map_err};
@@ -16,7 +16,7 @@ use bb_schema::Schema;
 use std::alloc::Global;
 
 /// The sources that run together: those that are text, then those of the bundle. All texts are compiled before the
-/// bundle is read, and this is read as a whole before a code is verified.
+/// bundle is read, and the bundle is read as a whole before a code is verified.
 #[tactic(auto, unfolding(crate::specs::Sources::given))]
 pub(crate) fn given(
     alloc: Global,
@@ -33,7 +33,7 @@ pub(crate) fn given(
     sources_for(alloc, natives, schema, codes)
 }
 
-// The codes of both texts.
+// The sources of both texts, with their codes.
 #[tactic(auto, unfolding(crate::specs::Sources::codes_in))]
 fn codes_in(
     alloc: Global,

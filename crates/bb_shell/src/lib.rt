@@ -1,5 +1,12 @@
-//! The blackboard shell: what an input's texts mean, which are refused, and their run. Programs (bb_main) call it
-//! with the texts of an input.
+//! The blackboard shell: what an input's texts mean, which inputs are refused, and their run.
+//!
+//! - In: the texts of a schema, of first units and of sources or a bundle; natives, a limit, a floor, and an output.
+//! - Out: `run_texts` runs them, `check_texts` reports what their sources cost, `compile_texts` is the bundle of their
+//!   texts; a `Shell` holds a blackboard and sources for hosts that run more than once.
+//! - Callers rely on: the first fault in the order of the texts refuses the input, and then nothing is written.
+//! - Hosts: docs/EMBEDDING.md, and bb_shell_host, which is one.
+//! - Cases: `refusals`, `check`, `examples_in_text`, `language`, `model-texts`, `model-checks`; tests in
+//!   bb_shell_tests.
 #![tactic(auto)]
 
 mod accepting;

@@ -30,8 +30,8 @@ pub struct Shell<N: NativeSource> {
 
 impl<N: NativeSource> Shell<N> {
     /// A shell of these sources in their order, which a host makes under the schema of the blackboard, with the natives
-    /// of a roster. The fault is the first, source by source: `Twice`, `Limit` past 256 sources, `Native` where none of
-    /// its name was handed in. At a fault each native is closed, in order, and blackboard and sources are given up.
+    /// of a roster. The fault is the first, source by source: `Twice`, `Limit` past 256 sources, `Native` if no native
+    /// of its name was handed in. At a fault each native is closed, in order, and blackboard and sources are dropped.
     pub fn new(
         alloc: Global,
         board: Board,
@@ -57,9 +57,9 @@ impl<N: NativeSource> Shell<N> {
         }
     }
 
-    /// Runs the shell, at most `limit` cycles, and writes the trace. Each native is closed once, in order, whatever comes
-    /// of the run. `Memory`: memory ran out. `Write`: the output failed. The run is not stuck where the sources were made
-    /// under the schema of the blackboard, of codes that were verified under it.
+    /// Runs the shell, at most `limit` cycles, and writes the trace. Each native is closed once, in order, whatever
+    /// comes of the run. `Memory`: memory ran out. `Write`: the output failed. The run is not stuck if the sources were
+    /// made under the schema of the blackboard, of codes that were verified under it.
     pub fn run<O: Out>(self, alloc: Global, limit: u32, out: &mut O) -> Finish
         requires open { O.has_failed out.old ≡ false }
         ensures finish { IfSome (end_of result) (λ end.

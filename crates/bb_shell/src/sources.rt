@@ -16,19 +16,20 @@ use bb_schema::Schema;
 use bb_verify::Checked;
 use std::alloc::{AllocError, Global};
 
-/// What comes of the sources so far. Each of their codes is accepted.
+/// What comes of the sources so far, whose codes are all accepted.
 #[derive(Drop)]
 pub(crate) enum Gathered {
-    /// Each of them fits those before it.
+    /// Each source fits those before it.
     Fit(Together),
-    /// One does not fit those before it. A source after it whose names are not found is refused first.
+    /// A source does not fit those before it. One after it whose names are not found is refused first.
     Unfit(Unfit),
-    /// The names of one are not found. A source after it whose code is not accepted is refused first.
+    /// The names of a source are not found. One after it whose code is not accepted is refused first.
     Unresolved(InputFault),
 }
 
 /// The sources that run together: the codes of each are accepted, then the names of each are resolved, then each has to
-/// fit those before it. The first step that refuses one tells why, and no source is kept behind one that does not fit.
+/// fit those before it. The fault is that of the first step that refuses one, and no source is kept after one that
+/// does not fit.
 pub(crate) fn sources_for(
     alloc: Global,
     natives: &[Closing],
@@ -63,7 +64,7 @@ fn gather_all(
     Ok(gathered)
 }
 
-// What comes of one source more.
+// What comes of the sources with one more.
 fn gather(
     alloc: Global,
     natives: &[Closing],
@@ -83,7 +84,7 @@ fn gather(
     }
 }
 
-// What comes of one source more, where each before it fits.
+// What comes of the sources with one more, where each before it fits.
 fn gather_fit(
     alloc: Global,
     natives: &[Closing],
@@ -99,7 +100,7 @@ fn gather_fit(
     }
 }
 
-// What comes of one source more, where one before it does not fit.
+// What comes of the sources with one more, where one before it does not fit.
 fn gather_unfit(
     alloc: Global,
     natives: &[Closing],

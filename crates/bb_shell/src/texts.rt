@@ -59,10 +59,10 @@ pub fn run_texts<N: NativeSource, O: Out>(
     // No run of an input is stuck.
     ensures unstuck { IfOk result (λ f. NotStuck (end_of f)) }
 
-    // `Write` tells that the output has failed, and no other finish does.
+    // `Write` says that the output has failed, and no other finish does.
     ensures failed { IfOk result (λ f. O.has_failed out.new ≡ is_write f) }
 
-    // At `Err` it is the first refusal, and the output is as it was.
+    // At `Err` the fault is the first refusal, and the output is as it was.
     ensures refused { IfErr result (λ e. (e ≡ InputFault.Memory)
         ⊎ (meaning (native_names (map N.meaning natives.items)) schema.now units.now sources.now bundle.now floor ≡ Err e)) }
     ensures quiet { OnErr result (out.new ≡ out.old) }
@@ -85,7 +85,7 @@ pub fn run_texts<N: NativeSource, O: Out>(
     }
 }
 
-// What an input means. Its sources were made under its schema, of codes that the verifier accepted under it.
+// What an input means. The sources were made under its schema, of codes that the verifier accepted under it.
 fn read_input(
     alloc: Global,
     natives: &[Closing],

@@ -1,5 +1,5 @@
-//! A text that was made whole and is then written, and how far that came. What checks an input (check.rt) and what
-//! compiles one (compile.rt) end with it.
+//! The writing of a text that was made as a whole, and how far that came. The check of an input (check.rt) and its
+//! compiling (compile.rt) end with it.
 
 ghost use Rattle.std.specs.Prelude.{◌≡◌, false};
 ghost use Rattle.bb_shell.specs.Written.{Wrote, is_cut};
@@ -9,9 +9,9 @@ use bb_run::{Out, put_all};
 /// How far a text was written.
 #[derive(Clone, Copy, Debug, PartialEq, Eq)]
 pub enum Done {
-    /// The output took all of it.
+    /// The output took the whole text.
     Written,
-    /// The output failed, and took a front of it.
+    /// The output failed, and took a front of the text.
     Write,
 }
 

@@ -40,7 +40,7 @@ fn main(rt: HostRuntime) -> ExitCode {
     }
 }
 
-/// Runs the sources, one of which is this host's native, and writes the trace.
+// Runs the sources, one of which is this host's native, and writes the trace.
 fn run<W: Write>(alloc: Global, out: &mut Ledger<W>) -> Result<Finish, InputFault>
     requires { out.old.pipe.failed ≡ false }
 {

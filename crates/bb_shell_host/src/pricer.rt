@@ -52,7 +52,7 @@ impl NativeSource for Pricer {
     }
 }
 
-/// The weight of a unit, 0 where it has none.
+// The weight of a unit, 0 where it has none.
 fn weight_of(view: &View<'_>, unit: UnitId) -> i64
     ensures { result ≡ weight_of view.now unit }
 {
@@ -72,7 +72,7 @@ fn weight_of(view: &View<'_>, unit: UnitId) -> i64
     }
 }
 
-/// Three times a weight, the greatest number at most.
+// Three times a weight, the greatest number at most.
 fn price_of(weight: i64) -> i64
     ensures { result ≡ price_of weight }
 {

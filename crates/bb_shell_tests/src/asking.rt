@@ -1,5 +1,5 @@
-//! Natives that ask for what is refused, for the last unit that has room, for long texts, and for what they themselves
-//! took away.
+//! Natives that ask for what is refused, for the last unit that there is room for, for long texts, and for what they
+//! themselves took away.
 
 ghost use Rattle.std.specs.Prelude.{◌≡◌, true, map, IfOk};
 ghost use Rattle.bb_shell.specs.Roster.{all_open};
@@ -17,7 +17,7 @@ use std::fmt::Write;
 use std::rc::Rc;
 use std::test::Fail;
 
-/// Things with parts, a space of things and a space of words.
+// Things with parts, a space of things and a space of words.
 const THING_SCHEMA: &str = r#"{"labels":[{"name":"hue","values":["red","green"]}],
     "classes":[{"name":"thing","slots":[{"name":"pos","kind":"interval"},
                                         {"name":"hue","kind":"label","of":"hue"},{"name":"score","kind":"int"}],
@@ -36,8 +36,8 @@ const ON_THINGS: &str = "source asker on thing { when create thing; rate 1; nati
 
 const ON_NOTES: &str = "source asker on note { when create note; rate 1; native; }";
 
-/// Counts its executions, and says how many there were at its close. It looks for the things in a space, and leaves
-/// their number, and one, in a cell.
+// A native that counts its executions, and says how many there were when it is closed. It looks for the things in a
+// space, and leaves their number plus one in a cell.
 #[derive(Drop)]
 struct Asker {
     role: Role,
@@ -79,7 +79,7 @@ impl NativeSource for Asker {
     }
 }
 
-/// The number of things in the space `board`.
+// The number of things in the space `board`.
 fn things(alloc: Global, view: &View<'_>) -> Result<usize, Memory> {
     let (Some(class), Some(space)) = (view.schema().class("thing"), view.schema().space("board"))
     else {
@@ -161,7 +161,7 @@ fn each_refusal(alloc: Global) -> Result<Vec<Ask>, Memory>
     Ok(asks)
 }
 
-/// One asker of a role.
+// One asker of a role.
 fn one_asker(
     alloc: Global,
     role: Role,
@@ -181,16 +181,16 @@ fn one_asker(
     Ok(natives)
 }
 
-/// What a run with one asker comes to.
+// What a run with one asker comes to.
 #[derive(Drop)]
 struct Ended {
     finish: Finish,
-    /// What the asker left in its cell.
+    // What the asker left in its cell.
     seen: u64,
     trace: Vec<u8>,
 }
 
-/// The texts of a run.
+// The texts of a run.
 #[derive(Clone, Copy)]
 struct Texts<'a> {
     schema: &'a str,
@@ -311,7 +311,7 @@ fn long_texts_to_be_said(rt: HostRuntime) -> Result<(), Fail> {
     Ok(())
 }
 
-/// 65,535 notes, of which the first has a source that is called for it.
+// 65,535 notes, of which the first has a source that is called for it.
 fn notes(alloc: Global) -> Result<String, Memory> {
     let mut units = String::from_str(alloc, r#"{"units":[{"name":"a","class":"note"}"#)?;
     for number in 1..65_535u32 {

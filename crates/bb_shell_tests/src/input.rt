@@ -9,7 +9,7 @@ use std::test::Fail;
 /// A schema with one class.
 pub(crate) const NOTE_SCHEMA: &str = r#"{"classes":[{"name":"note"}]}"#;
 
-/// One unit of that class.
+/// One unit of the class `note`.
 pub(crate) const ONE_NOTE: &str = r#"{"units":[{"name":"a","class":"note"}]}"#;
 
 /// A source that says "hello" of each note.
@@ -41,11 +41,11 @@ pub(crate) const FIRST: Input<'static> = Input {
 /// Why an input was refused.
 #[derive(Drop)]
 pub(crate) struct Outcome {
-    /// The line of the refusal, empty where there was none.
+    /// The line of the refusal, empty if there was none.
     pub refusal: String,
-    /// The number of the refusal, `None` where there was none.
+    /// The number of the refusal, `None` if there was none.
     pub number: Option<u8>,
-    /// Its report, empty where there was none.
+    /// The report on the refusal, empty if there was none.
     pub report: String,
 }
 
@@ -78,7 +78,7 @@ pub(crate) fn run_input(alloc: Global, input: Input<'_>) -> Result<Outcome, Fail
     }
 }
 
-/// The sections that the texts are.
+/// The texts of an input as its sections.
 pub(crate) fn sections_of(input: Input<'_>) -> Sections<'_> {
     Sections {
         schema: input.schema,

@@ -10,7 +10,7 @@ use std::fmt::Write;
 use std::rc::Rc;
 use std::test::Fail;
 
-/// Leaves what it sees in a cell.
+// A native that leaves what it sees in a cell.
 #[derive(Drop)]
 struct Looker {
     seen: Rc<Cell<String>>,
@@ -47,8 +47,8 @@ impl NativeSource for Looker {
     }
 }
 
-/// Appends a line: the number of the next unit, the parts of a unit and what it is a part of, and which of the first
-/// numbers are 0 or were things.
+// Appends a line: the number of the next unit, the parts of a unit and what it is a part of, and which of the first
+// numbers are 0 or were things.
 fn look(text: &mut String, unit: UnitId, view: &View<'_>) -> Result<(), Memory> {
     let Some(class) = view.schema().class("thing") else {
         return Ok(());
@@ -88,12 +88,12 @@ const THINGS: &str = r#"{"classes":[{"name":"thing",
     "links":[{"name":"parts","to":"thing","many":true,"inverse":"whole"},
              {"name":"whole","to":"thing","many":false,"inverse":"parts"}]}]}"#;
 
-/// The first has the others as its parts.
+// Three things, of which the first has the others as its parts.
 const UNITS: &str =
     r#"{"units":[{"name":"a","class":"thing"},{"name":"b","class":"thing"},{"name":"c","class":"thing"}],
     "links":[["a","parts","c"],["a","parts","b"]]}"#;
 
-/// One looker.
+// One looker.
 fn one_looker(alloc: Global, seen: &Rc<Cell<String>>) -> Result<Vec<Looker>, Memory>
     ensures { IfOk result (λ natives. all_open (map ⟦<Looker as NativeSource>⟧.meaning natives.items) ≡ true) }
 {

@@ -1,4 +1,4 @@
-//! Natives that a host writes, which tell their close, at each refusal of an input too; and natives of two types.
+//! Natives that a host writes, which tell when they are closed, also if an input is refused; and natives of two types.
 
 ghost use Rattle.std.specs.Prelude.{◌≡◌, true, map, IfOk};
 ghost use Rattle.bb_shell.specs.Roster.{all_open};
@@ -13,7 +13,7 @@ use std::cell::Cell;
 use std::rc::Rc;
 use std::test::Fail;
 
-/// Has a number, and puts it behind those that were told before at its close.
+/// A native with a number, which it appends to those that were told before when it is closed.
 #[derive(Drop)]
 pub(crate) struct Teller {
     number: u64,
@@ -50,7 +50,7 @@ impl NativeSource for Teller {
     }
 }
 
-/// Asks for nothing, and says the number of its executions at its close.
+// A native that asks for nothing, and says the number of its executions when it is closed.
 #[derive(Drop)]
 struct Counter {
     count: i64,
@@ -112,8 +112,8 @@ pub(crate) fn tellers(alloc: Global, told: &Rc<Cell<u64>>) -> Result<Vec<Teller>
     Ok(natives)
 }
 
-/// Runs an input with two natives. Answers the number of its refusal, 0 where there is none, what the natives told at
-/// their close, and what was written.
+// Runs an input with two natives. Returns the number of its refusal, 0 if there is none, what the natives told when
+// they were closed, and the number of bytes that were written.
 fn run_with(alloc: Global, input: Input<'_>) -> Result<(u8, u64, usize), Fail> {
     let told = Rc::new(alloc, Cell::new(0u64))?;
     let natives = tellers(alloc, &told)?;
@@ -141,7 +141,7 @@ fn run_with(alloc: Global, input: Input<'_>) -> Result<(u8, u64, usize), Fail> {
 fn each_refusal_closes_all(rt: HostRuntime) -> Result<(), Fail> {
     let alloc = rt.alloc();
     let damaged = "source hail note 1\nwhen create note\ndo 42\n";
-    // Done, and an op behind it that nothing goes to.
+    // Done, and after it an op that nothing goes to.
     let unreached = "source hail note 1\nwhen create note\ndo 4242430101000000000000000000022e2e\n";
     let alike = "source hail note 1\nwhen create note\nnative\n";
     let inputs = [
@@ -204,7 +204,7 @@ fn each_refusal_closes_all(rt: HostRuntime) -> Result<(), Fail> {
     Ok(())
 }
 
-// No source is theirs, so they are never called.
+// The natives have no source, so they are never called.
 #[test]
 fn natives_without_a_source(rt: HostRuntime) -> Result<(), Fail> {
     let alloc = rt.alloc();
@@ -237,7 +237,7 @@ fn natives_without_a_source(rt: HostRuntime) -> Result<(), Fail> {
     Ok(())
 }
 
-/// The trace of a run of one note, with natives of which one is called for it.
+// The trace of a run of one note, with natives of which one is called for it.
 fn count_one_note<N: NativeSource>(alloc: Global, natives: Vec<N>) -> Result<Vec<u8>, Fail>
     requires { all_open (map N.meaning natives.items) ≡ true }
 {

@@ -12,7 +12,7 @@ pub(crate) const NOT_ACCEPTED: &str =
 /// A text of a source on a class that is not there.
 pub(crate) const NOT_COMPILED: &str = "source echo on word { when create word; rate 1; native; }";
 
-/// The number of an input's refusal, or 0, and its line.
+// The number of an input's refusal, or 0, and its line.
 fn numbered_refusal(alloc: Global, input: Input<'_>) -> Result<String, Fail> {
     let outcome = run_input(alloc, input)?;
     let number = outcome.number.unwrap_or(0);
@@ -56,7 +56,7 @@ fn numbers_of_refusals(rt: HostRuntime) -> Result<(), Fail> {
     Ok(())
 }
 
-// What is not refused has no number, and a want of memory has no line.
+// What is not refused has no number, and a lack of memory has no line.
 #[test]
 fn numbers_without_lines(rt: HostRuntime) -> Result<(), Fail> {
     assert_eq!(rt; run_input(rt.alloc(), FIRST)?.number, None);

@@ -1,5 +1,4 @@
-//! What is said of refused inputs: the sentence of each step and what is shown of its place, and the line with its
-//! caret.
+//! The reports on refused inputs: the sentence of each step, what is shown of its place, and the line with its caret.
 
 use crate::input::{FIRST, HAIL, Input, NOTE_SCHEMA, ONE_NOTE, run_input, sections_of};
 use crate::refusals::{NOT_ACCEPTED, NOT_COMPILED};
@@ -8,13 +7,13 @@ use bb_shell::InputFault;
 use std::alloc::Global;
 use std::test::Fail;
 
-/// A bundle whose third line is none of hex digits.
+// A bundle whose third line has no pairs of hex digits.
 const NO_HEX: &str = "source hail note 1\nwhen create note\ndo 4\n";
 
-/// A bundle whose third line has bytes that are no code.
+// A bundle whose third line has bytes that are no code.
 const NO_CODE: &str = "source hail note 1\nwhen create note\ndo 42424302\n";
 
-/// What is said of sources that are text.
+// The report on sources that are text.
 fn said_of(alloc: Global, sources: &str) -> Result<String, Fail> {
     let input = Input {
         sources,
@@ -24,7 +23,7 @@ fn said_of(alloc: Global, sources: &str) -> Result<String, Fail> {
     Ok(run_input(alloc, input)?.report)
 }
 
-// What is said at each step that has no place in the text of sources.
+// The report of each step that has no place in the text of sources.
 #[test]
 fn sentences(rt: HostRuntime) -> Result<(), Fail> {
     for (schema, units, bundle, sentence) in [
@@ -100,8 +99,8 @@ fn nothing_said(rt: HostRuntime) -> Result<(), Fail> {
     Ok(())
 }
 
-// The caret stands below the column: behind a character of two bytes, behind a tab, below one that a terminal would
-// obey, and at the end of a text, where there is an empty line.
+// The caret stands below the column: after a character of two bytes, after a tab, below one that a terminal would obey,
+// and at the end of a text, where there is an empty line.
 #[test]
 fn carets(rt: HostRuntime) -> Result<(), Fail> {
     for (sources, report) in [
@@ -140,12 +139,12 @@ fn carets(rt: HostRuntime) -> Result<(), Fail> {
     Ok(())
 }
 
-/// How a line begins and ends that is not cut.
+// How a line begins and ends that is not cut.
 const BEGINNING: &str = "source a on note { when create note; rate 1; do { say \"";
 
 const END: &str = "\"; } }";
 
-/// A line, or what is shown of it: a text of so many letters, a comma too many, and another such text.
+// A line, or what is shown of it: a text of `before` letters, a comma too many, and a text of `after` letters.
 fn line(
     alloc: Global,
     front: &str,
@@ -168,7 +167,7 @@ fn push_repeated(text: &mut String, part: &str, times: usize) -> Result<(), Fail
     Ok(())
 }
 
-/// What is said of a line with a comma too many at the column, where this is shown, with so much before the caret.
+// The report on a line with a comma too many at the column, with what is shown and the indent of the caret.
 fn report_with(alloc: Global, column: usize, shown: &str, indent: usize) -> Result<String, Fail> {
     let mut report = format!(in alloc;
         "sources, line 1, column {column}: another token is due here\n  | "

@@ -1,16 +1,16 @@
-//! What a native of the tests asks for. `asking` has the native; definitions name this, so it is not of the tests alone.
+//! What a native of the tests asks for. `asking` has the native; definitions name this, so it is not for tests only.
 
 /// What an asker asks for.
 #[derive(Clone, Copy, Debug, PartialEq, Eq)]
 pub enum Role {
-    /// What each reason refuses, and then what is applied.
+    /// One ask for each reason to refuse one, and then two that are applied.
     EachRefusal,
-    /// That its unit be deleted, and then a slot of it set.
+    /// The asker asks to delete its unit, and then to set a slot of it.
     DeletesFirst,
-    /// Two units.
+    /// The asker asks for two units.
     CreatesTwo,
-    /// That its text be said.
+    /// The asker asks to say its text.
     Says,
-    /// It answers that memory ran out.
+    /// The asker returns that memory ran out.
     HasNoMemory,
 }

@@ -4,7 +4,7 @@ use bb_schema::{Schema, SchemaFault};
 use std::alloc::Global;
 use std::test::Fail;
 
-/// Whether two documents mean the same schema.
+// Whether two documents mean the same schema.
 fn mean_the_same(alloc: Global, document: &str, other: &str) -> Result<bool, SchemaFault> {
     let schema = Schema::read(alloc, document)?;
     let second = Schema::read(alloc, other)?;

@@ -12,7 +12,7 @@ use std::test::Fail;
 
 const PART: Part = Part::Do { class: 1 };
 
-/// The verified act of a source on notes.
+// The verified act of a source on notes.
 fn verified(
     alloc: Global,
     schema: &Schema,
@@ -24,7 +24,7 @@ fn verified(
     }
 }
 
-/// A source on notes that has an act alone, from its code.
+// A source on notes that has only an act, from its code.
 fn source_of(alloc: Global, schema: &Schema, code: SourceCode) -> Result<Source, Fail> {
     let SourceDraft {
         name,
@@ -51,7 +51,7 @@ fn source_of(alloc: Global, schema: &Schema, code: SourceCode) -> Result<Source,
     Ok(Source::new(alloc, schema, draft)?)
 }
 
-/// The sources of so many copies of `HAIL`.
+// The sources of `count` copies of `HAIL`.
 fn hails(alloc: Global, schema: &Schema, count: u8) -> Result<Vec<Source>, Fail> {
     let mut sources = Vec::new(alloc);
     for _ in 0..count {
@@ -62,19 +62,19 @@ fn hails(alloc: Global, schema: &Schema, count: u8) -> Result<Vec<Source>, Fail>
     Ok(sources)
 }
 
-/// A roster of no natives.
+// A roster of no natives.
 fn no_roster(alloc: Global) -> Result<Roster<Teller>, Fail> {
     Ok(Roster::new(alloc, no_natives(alloc))?)
 }
 
-/// A blackboard with one note.
+// A blackboard with one note.
 fn one_note(alloc: Global) -> Result<Board, Fail> {
     let mut board = Board::new(alloc, Schema::read(alloc, NOTE_SCHEMA)?)?;
     board.load(ONE_NOTE)?;
     Ok(board)
 }
 
-/// What a run of one note and one source writes, with this floor.
+// What a run of one note and one source writes, with this floor.
 fn trace(alloc: Global, floor: i64) -> Result<Vec<u8>, Fail> {
     let board = one_note(alloc)?;
     let sources = hails(alloc, board.schema(), 1)?;
@@ -86,7 +86,7 @@ fn trace(alloc: Global, floor: i64) -> Result<Vec<u8>, Fail> {
     }
 }
 
-/// Why a shell of one note and so many sources of one name can't be made.
+// Why a shell of one note and `count` sources of one name can't be made, if it can't.
 fn refusal(alloc: Global, count: u8) -> Result<Option<RuleFault>, Fail> {
     let board = one_note(alloc)?;
     let sources = hails(alloc, board.schema(), count)?;

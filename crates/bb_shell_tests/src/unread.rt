@@ -10,7 +10,7 @@ use std::io::{Error, ErrorKind, Read};
 use std::rc::Rc;
 use std::test::Fail;
 
-/// Can't be read.
+// A reader that can't be read.
 #[derive(Drop)]
 struct Unreadable;
 
@@ -20,7 +20,7 @@ impl Read for Unreadable {
     }
 }
 
-/// Never ends.
+// A reader that never ends.
 #[derive(Drop)]
 struct Endless;
 
@@ -31,7 +31,7 @@ impl Read for Endless {
     }
 }
 
-/// Whether an input of this reader is refused by that line, and two natives are closed, in order.
+// Whether an input of this reader is refused by that line, and two natives are closed, in order.
 fn closes_all<R: Read + Drop>(
     alloc: Global,
     mode: Mode,

@@ -16,7 +16,7 @@ use Rattle.bb_space.specs.proving.Indexed.{membership, is_told, IsIndexed}
 pub told_value : (m : Members) → IsIndexed m → (p : Place) → has m.places p ≡ true → is_told (membership m) p ≡ true
 told_value m indexed p there = by_bool (is_told (membership m) p) _ (λ told. told) (λ out. let never = indexed.only p there out in absurd cc)
 
--- its places are those of the values that members have
+-- the places of an index are those of the members' values
 indexed_of : (m : Members) → IsIndexed m → AreOf (fin.get (membership m)) m.places
 indexed_of m indexed = record { full = indexed.full; only = told_value m indexed }
 

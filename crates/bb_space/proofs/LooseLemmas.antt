@@ -67,7 +67,7 @@ told_but unit m p apart =
 pub same_values : (m n : Members) → n.values ≡ m.values → membership n ≡ membership m
 same_values m n same = ap (λ v. membership (record { values = v; places = n.places })) same
 
--- the same members and places
+-- an index stays loose where the members and places are the same
 pub same_loose : (spare more : Place → Bool) (m n : Members) → membership n ≡ membership m → n.places ≡ m.places → ((p : Place) → spare p ≡ true → more p ≡ true) → IsLoose spare m → IsLoose more n
 same_loose spare more m n members places wider l = record {
   full = λ p h. ap (λ s. has s p) places ∙ l.full p (ap (λ w. is_told w p) (sym members) ∙ h);

@@ -266,7 +266,7 @@ module _ (t : Spaces) (s : Standing) (x n : ℕ) (lt : x < length t.spaces) (are
   pub standing_entered : (now : Standing) (values : List DimValue) → is_member t x n ≡ false → ((m : ℕ) → listed now.lists m ≡ one_more s.lists n x m) → AreStanding (after_enter t x n values) now
   standing_entered now values out put m = put m ∙ with_by values m (m == n) refl out
 
-  -- it is taken out again
+  -- a unit that entered a space is taken out again
   back_by : (m : ℕ) (b : Bool) → (m == n) ≡ b → is_member t x n ≡ false → (l : List ℕ) → l ≡ cond b (with_number x (listed s.lists m)) (listed s.lists m)
       → cond b (filter (λ k. not (k == x)) l) l ≡ spaces_of t m
   back_by m true same out l is =

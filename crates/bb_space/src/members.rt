@@ -29,7 +29,7 @@ pub(crate) struct Members {
     places: BTreeSet<Place>,
 }
 
-/// Gives a member other values, and their place to those that it had. A unit that is none stays out.
+// Swaps the values of a member with others. A unit that is none stays out.
 fn exchange(values: &mut BTreeMap<UnitId, Items<DimValue>>, unit: UnitId, new: &mut Items<DimValue>)
     ensures moved { members_of_entries values.new.entries
         ≡ moved unit new.old (members_of_entries values.old.entries) }
@@ -41,7 +41,7 @@ fn exchange(values: &mut BTreeMap<UnitId, Items<DimValue>>, unit: UnitId, new: &
     }
 }
 
-/// The keys, rising.
+// The keys, rising.
 fn keys_of(alloc: Global, values: &BTreeMap<UnitId, Items<DimValue>>) -> Result<Vec<UnitId>, Memory>
     ensures { IfOk result (λ list. list.items ≡ map.keys (members_of_entries values.now.entries)) }
 {
@@ -52,7 +52,7 @@ fn keys_of(alloc: Global, values: &BTreeMap<UnitId, Items<DimValue>>) -> Result<
     Ok(list)
 }
 
-/// How many marks tell of some units, or 0 where the units are few, lie close together, or would need too many.
+// The number of marks for some units, or 0 where the units are few, lie close together, or would need too many.
 fn room_for_marks(among: &[UnitId]) -> usize {
     if among.len() < 16 || room(among, 4) > 0 {
         return 0;
@@ -99,8 +99,7 @@ impl Members {
         put_all(&mut self.places, unit, values)
     }
 
-    /// Gives a member other values, whose places are there, and their place to those that it had. A unit that is none
-    /// stays out.
+    /// Swaps the values of a member with others, whose places are there. A unit that is none stays out.
     pub(crate) fn exchange(&mut self, unit: UnitId, values: &mut Items<DimValue>)
         ensures same { self.new.places ≡ self.old.places }
         ensures moved { membership self.new ≡ moved unit values.old (membership self.old) }
@@ -121,8 +120,8 @@ impl Members {
         }
     }
 
-    /// Makes a unit a member with these values, and says whether it was none. An error changes nothing, nor does a
-    /// member.
+    /// Makes a unit a member with these values, and says whether it was none. A member stays as it is. An error changes
+    /// nothing.
     pub(crate) fn enter(&mut self, unit: UnitId, values: Items<DimValue>) -> Result<bool, Memory>
         requires { IsIndexed self.old }
         ensures new { IfOk result (λ new. new ≡ not (map.contains_key (membership self.old) unit)) }
@@ -198,7 +197,7 @@ impl Members {
         Ok(found)
     }
 
-    /// The same, or `None` where more than so many values can pass.
+    /// The members whose value can pass a test, rising, or `None` where more than `most` values can pass.
     pub(crate) fn few(
         &self,
         alloc: Global,
@@ -215,8 +214,8 @@ impl Members {
         Ok(Some(self.candidates(alloc, leaf)?))
     }
 
-    /// Members, rising, among them all whose values pass each of some tests: by two of these of neighbouring dimensions.
-    /// `None` where no two are so, or more than so many values can pass both.
+    /// Members, rising, among them all whose values pass each of some tests: by two tests of neighbouring dimensions.
+    /// `None` where there are no such two, or more than `most` values can pass both.
     pub(crate) fn few_passing(
         &self,
         alloc: Global,
@@ -230,7 +229,7 @@ impl Members {
         few_by_two(alloc, &self.places, tests, most)
     }
 
-    /// Those of some units that are members whose values pass each of some tests, in their order.
+    /// The units of a list that are members whose values pass each of some tests, in their order.
     pub(crate) fn passing(
         &self,
         alloc: Global,

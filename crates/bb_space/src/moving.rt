@@ -1,5 +1,5 @@
 //! How the values of a unit change in spaces: in all that are told, or, where memory is refused, in none. First the new
-//! places are put, which may fail; then the values are exchanged, and the old places taken, which cannot. spaces.rt
+//! places are put, which may fail; then the values are exchanged and the old places taken, which can't fail. spaces.rt
 //! calls it.
 
 ghost use Rattle.std.specs.Prelude.{◌≡◌, ◌<◌, OnOk, OnErr, length};
@@ -12,7 +12,7 @@ use bb_pattern::DimValue;
 use bb_schema::{SpaceId, UnitId};
 use std::alloc::AllocError;
 
-/// Puts the places of moves. An error may leave some of them.
+// Puts the places of moves. An error may leave some of them.
 fn prepare_all(
     spaces: &mut Vec<Members>,
     unit: UnitId,
@@ -33,7 +33,7 @@ fn prepare_all(
     Ok(())
 }
 
-/// Gives a unit other values, whose places are there, and their place in the moves to those that it had.
+// Swaps the values of a unit with those of moves, whose places are there.
 fn exchange_all(
     spaces: &mut Vec<Members>,
     unit: UnitId,
@@ -53,7 +53,7 @@ fn exchange_all(
     }
 }
 
-/// Takes the places of moves where the unit has no such values.
+// Takes the places of moves where the unit has no such values.
 fn settle_all(spaces: &mut Vec<Members>, unit: UnitId, moves: &[(SpaceId, Items<DimValue>)])
     requires { AreLoose unit moves.now spaces.old.items }
     ensures same { seen spaces.new.items ≡ seen spaces.old.items }

@@ -14,7 +14,7 @@ use bb_space_index::Leaf;
 use std::alloc::Global;
 use std::collections::BTreeMap;
 
-/// Whether values pass each of some tests.
+// Whether values pass each of some tests.
 fn fit_each(tests: &[Leaf], values: &[DimValue]) -> bool
     ensures { result ≡ fit_each tests.now values.now }
 {
@@ -26,7 +26,7 @@ fn fit_each(tests: &[Leaf], values: &[DimValue]) -> bool
     true
 }
 
-/// Whether a unit is a member whose values pass each of some tests.
+// Whether a unit is a member whose values pass each of some tests.
 fn passes(values: &BTreeMap<UnitId, Items<DimValue>>, tests: &[Leaf], unit: UnitId) -> bool
     ensures { result ≡ passes (members_of_entries values.now.entries) tests.now unit }
 {
@@ -36,7 +36,7 @@ fn passes(values: &BTreeMap<UnitId, Items<DimValue>>, tests: &[Leaf], unit: Unit
     }
 }
 
-/// Notes of a unit whether it passes, if the table, which begins with a first one, has a place for it.
+// Notes whether a unit passes, if the table, which begins with `first`, has a place for the unit.
 fn note(table: &mut Vec<Option<bool>>, first: UnitId, unit: UnitId, passes: bool)
     ensures { (k : ℕ) (b : Bool) → slice_get table.new.items k ≡ Some (Some b)
         → (slice_get table.old.items k ≡ Some (Some b)) ⊎ ((first + k ≡ unit) × (passes ≡ b)) }
@@ -50,7 +50,7 @@ fn note(table: &mut Vec<Option<bool>>, first: UnitId, unit: UnitId, passes: bool
     }
 }
 
-/// Notes of the members from one on, before another, whether they pass.
+// Notes of the members from `first` to before `end` whether they pass.
 fn look(
     values: &BTreeMap<UnitId, Items<DimValue>>,
     tests: &[Leaf],
@@ -69,7 +69,7 @@ fn look(
     }
 }
 
-/// What is noted of a unit.
+// What is noted of a unit.
 fn noted(table: &[Option<bool>], first: UnitId, unit: UnitId) -> Option<bool>
     ensures { (b : Bool) → result ≡ Some b
         → (first + (unit - first) ≡ unit) × (slice_get table.now (unit - first) ≡ Some (Some b)) }
@@ -78,7 +78,7 @@ fn noted(table: &[Option<bool>], first: UnitId, unit: UnitId) -> Option<bool>
     *table.get(at as usize)?
 }
 
-/// Whether a unit passes, by what is noted, or by a search where nothing is.
+// Whether a unit passes, by what is noted, or by a search where nothing is.
 fn passes_by(
     values: &BTreeMap<UnitId, Items<DimValue>>,
     tests: &[Leaf],
@@ -95,8 +95,8 @@ fn passes_by(
     }
 }
 
-/// How many units there are from the first to the last of some that rise, or 0 where more than so many come to one of
-/// them.
+/// How many units there are from the first to the last of some that rise, or 0 where that is more than `most` for each
+/// of them.
 pub(crate) fn room(among: &[UnitId], most: u64) -> usize {
     let (Some(first), Some(last)) = (among.first(), among.last()) else {
         return 0;
@@ -109,7 +109,7 @@ pub(crate) fn room(among: &[UnitId], most: u64) -> usize {
     }
 }
 
-/// Notes of so many units, from a first one on, whether they pass.
+// Notes of `room` units, from `first` on, whether they pass.
 fn noted_all(
     alloc: Global,
     values: &BTreeMap<UnitId, Items<DimValue>>,
@@ -127,7 +127,7 @@ fn noted_all(
     Ok(table)
 }
 
-/// Those of some units that are members whose values pass each of some tests, in their order.
+/// The units of a list that are members whose values pass each of some tests, in their order.
 pub(crate) fn passing(
     alloc: Global,
     values: &BTreeMap<UnitId, Items<DimValue>>,

@@ -44,7 +44,7 @@ impl Model for Spaces {
     ghost invariant = { λ s. AreIndexed s.spaces.items × AreStanding (seen s.spaces.items) s.standing };
 }
 
-/// Makes a unit a member of a space.
+// Makes a unit a member of a space.
 fn enter(
     spaces: &mut Vec<Members>,
     space: SpaceId,
@@ -61,7 +61,7 @@ fn enter(
     spaces[space as usize].enter(unit, values)
 }
 
-/// Takes a unit out of a space.
+// Takes a unit out of a space.
 fn leave(spaces: &mut Vec<Members>, space: SpaceId, unit: UnitId) -> bool
     requires indexed { AreIndexed spaces.old.items }
     requires space { space < length spaces.old.items }
@@ -72,7 +72,7 @@ fn leave(spaces: &mut Vec<Members>, space: SpaceId, unit: UnitId) -> bool
     spaces[space as usize].leave(unit)
 }
 
-/// Makes a unit a member of a space, and puts that among its spaces.
+// Makes a unit a member of a space, and puts that among its spaces.
 fn enter_new(
     spaces: &mut Vec<Members>,
     standing: &mut Standing,
@@ -102,7 +102,7 @@ fn enter_new(
     }
 }
 
-/// Takes a unit out of some spaces: all that it is in.
+// Takes a unit out of some spaces: all that it is in.
 fn leave_each(spaces: &mut Vec<Members>, unit: UnitId, list: &[SpaceId])
     requires indexed { AreIndexed spaces.old.items }
     requires all { list.now ≡ spaces_of (seen spaces.old.items) unit }
@@ -242,7 +242,8 @@ impl Spaces {
         self.spaces[space as usize].candidates(self.alloc, leaf)
     }
 
-    /// The same, or `None` where more than so many values can pass the test. It goes over no more than these.
+    /// The candidates in a space for a test, or `None` where more than `most` values can pass it. It goes over no more
+    /// than `most` values.
     pub fn few(
         &self,
         space: SpaceId,
@@ -256,9 +257,9 @@ impl Spaces {
     }
 
     /// Members of a space, rising, among them all whose values, as they were told last, pass each of some tests: by two
-    /// of these of neighbouring dimensions, of which the first asks for one low end or one label. After the last
-    /// dimension comes the first. `None` where no two are so, or more than so many values can pass both. It goes over no
-    /// more than these.
+    /// tests of neighbouring dimensions, of which the first asks for one low end or one label. After the last dimension
+    /// comes the first. `None` where there are no such two, or more than `most` values can pass both. It goes over no
+    /// more than `most` values.
     pub fn few_passing(
         &self,
         space: SpaceId,
@@ -272,7 +273,7 @@ impl Spaces {
         self.spaces[space as usize].few_passing(self.alloc, tests, most)
     }
 
-    /// Those of some units that are members of a space whose values, as they were told last, pass each of some tests,
+    /// The units of a list that are members of a space whose values, as they were told last, pass each of some tests,
     /// in their order. It is quicker where the units rise: then few of them are looked up one by one.
     pub fn passing(
         &self,

@@ -18,21 +18,21 @@ pub(crate) struct Standing {
     lists: BTreeMap<UnitId, Vec<SpaceId>>,
 }
 
-/// The first place of a greater number.
+// The first place of a greater number.
 fn first_above(list: &[SpaceId], space: SpaceId) -> Option<usize>
     ensures { result ≡ position (λ other. nat_lt space other) list.now }
 {
     list.iter().position(|other| space < *other)
 }
 
-/// Where a space belongs among others that rise.
+// Where a space belongs among others that rise.
 fn rank(list: &[SpaceId], space: SpaceId) -> usize
     ensures { result ≡ rank space list.now }
 {
     first_above(list, space).unwrap_or(list.len())
 }
 
-/// Puts a space among those of a unit that has some.
+// Puts a space among those of a unit that has some.
 fn put_at(
     lists: &mut BTreeMap<UnitId, Vec<SpaceId>>,
     unit: UnitId,
@@ -52,7 +52,7 @@ fn put_at(
     }
 }
 
-/// Takes a space out of those of a unit.
+// Takes a space out of those of a unit.
 fn remove_at(lists: &mut BTreeMap<UnitId, Vec<SpaceId>>, unit: UnitId, space: SpaceId)
     ensures { (n : ℕ) → listed lists.new n ≡ one_less lists.old unit space n }
 {

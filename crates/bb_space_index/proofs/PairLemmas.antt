@@ -285,7 +285,7 @@ at_place n (k ∷ ks) P all h = on (first_or (k.unit == n) (list_any (λ p. p.un
     on (inl one) rest = subst P (eqb-true k.unit n one) (all k (or_left (is_eq (place_cmp k k)) (list_any (meets (place_cmp k)) ks) (place_itself k)))
     on (inr later) rest = rest later
 
--- those near all tests have values
+-- units near all tests have values
 pub near_kept : (had : ℕ → Option (List DimValue)) (places : BTreeSet Place) → AreOf had places → (tests : List Leaf) (list : List ℕ) → AreAllNear tests places list → (n : ℕ) → is_among n list ≡ true → is_some (had n) ≡ true
 near_kept had places are tests list near n h = at_place n places.keys (λ u. is_some (had u) ≡ true) told (near.kept n h)
   where
@@ -296,7 +296,7 @@ near_kept had places are tests list near n h = at_place n places.keys (λ u. is_
         by None none g = absurd cc
         by (Some values) some g = ap is_some some
 
--- and all whose values pass are among them
+-- all units whose values pass are among those near all tests
 pub near_all : (had : ℕ → Option (List DimValue)) (places : BTreeSet Place) → AreOf had places → (tests : List Leaf) (list : List ℕ) → AreAllNear tests places list → (n : ℕ) → option_map_or (fit_each tests) (had n) false ≡ true → is_among n list ≡ true
 near_all had places are tests list near n h = at (had n) refl h
   where

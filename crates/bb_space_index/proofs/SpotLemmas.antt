@@ -35,11 +35,12 @@ then_int true y o = refl
 then_int false true o = refl
 then_int false false o = refl
 
--- a spot of a sort and key is no further than a value's place, on one dimension; on an edge that is before all values or behind them
+-- a spot of a sort and key is no further than a value's place, on one dimension; on an edge that is before all values
+-- or after them
 abbrev pub is_up_to : ℕ → ℤ → Bool → ℕ → ℤ → Bool
 is_up_to s k before sort key = nat_lt s sort || ((s == sort) && (int_lt k key || (not (int_lt key k) && before)))
 
--- how a sort and key stand to another, before what comes behind them
+-- how a sort and key stand to another, before what comes after them
 pub up_to_says : (s : ℕ) (k : ℤ) (sort : ℕ) (key : ℤ) (last : Ordering) (before : Bool) → is_le last ≡ before → is_le (ordering_then (nat_cmp s sort) (ordering_then (int_cmp k key) last)) ≡ is_up_to s k before sort key
 up_to_says s k sort key last before edges =
     let keys = ordering_then (int_cmp k key) last in
@@ -177,7 +178,7 @@ by_low Overlaps low high from = ap not (beyond high from) ∙ not_beyond high fr
 by_low Less low high from = ap not (at_least low from) ∙ not_at_least low from
 by_low More low high from = and_true (int_lt high from || (not (int_lt from high) && false)) ∙ beyond high from
 
--- two numbers of which the second is less stand behind all intervals
+-- two numbers of which the second is less stand after all intervals
 turned_out : (r : Relation) (low high : ℤ) → between_ends r low high 2 (pos 0) ≡ false
 turned_out Within low high = refl
 turned_out Covers low high = refl
@@ -185,7 +186,7 @@ turned_out Overlaps low high = refl
 turned_out Less low high = refl
 turned_out More low high = refl
 
--- and labels stand behind these
+-- labels stand after two numbers of which the second is less
 label_out : (s : ℕ) (k : ℤ) (before : Bool) (t : ℕ) (l : ℤ) (c : Bool) (sort : ℕ) (key : ℤ) → t < sort → (is_up_to s k before sort key && not (is_up_to t l c sort key)) ≡ false
 label_out s k before t l c sort key lt = ap (λ x. is_up_to s k before sort key && not (x || ((t == sort) && (int_lt l key || (not (int_lt key l) && c))))) (lt-ltb t sort lt) ∙ and_false (is_up_to s k before sort key)
 

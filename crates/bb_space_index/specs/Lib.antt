@@ -6,7 +6,7 @@ pub mod Candidates
 pub mod Places
 -- between which places of the index the candidates for a test stand
 pub mod Spots
--- the same for two tests together
+-- between which places of the index the candidates for two tests together stand
 pub mod Pairs
 -- which of some units are left by marks
 pub mod Marks

@@ -19,7 +19,7 @@ abbrev pub LeavesNear : (ℕ → Bool) → List ℕ → List ℕ → Type 0
 LeavesNear near among list =
     (passes : ℕ → Bool) → ((n : ℕ) → passes n ≡ true → near n ≡ true) → filter passes list ≡ filter passes among
 
--- the same of several tests
+-- no unit is left out that passes a test which asks no less than each of several
 abbrev pub LeavesAllNear : List Leaf → BTreeSet Place → List ℕ → List ℕ → Type 0
 LeavesAllNear tests places among list =
     (passes : ℕ → Bool) → ((k : ℕ) (test : Leaf) → slice_get tests k ≡ Some test

@@ -52,7 +52,7 @@ is_near_both pin next places n =
     || stands_in (beside pin (spot 0 2 (pos 0) 0)) (beside pin (spot 0 3 (pos 0) 0)) places n)
     || stands_in (spot pin.dim 2 (pos 0) 0) (spot pin.dim 3 (pos 0) 0) places n
 
--- these units, rising
+-- the list has the units with a place where both tests ask, rising
 pub record AreNearBoth (pin : Place) (next : Leaf) (places : BTreeSet Place) (list : List ℕ) : Type 0 where
   pub rises : IsStrictlySortedBy nat_cmp list
   pub same : (n : ℕ) → is_among n list ≡ is_near_both pin next places n
@@ -61,7 +61,7 @@ pub record AreNearBoth (pin : Place) (next : Leaf) (places : BTreeSet Place) (li
 abbrev pub AreThere : BTreeSet Place → ℕ → List DimValue → Type 0
 AreThere places n values = (p : Place) → is_place_of n values p ≡ true → has places p ≡ true
 
--- places of values on a dimension tell those on another
+-- the places on a dimension also have what their units have on the other
 abbrev pub Tells : BTreeSet Place → ℕ → ℕ → Type 0
 Tells places dim other =
     (n : ℕ) (values : List DimValue) → AreThere places n values

@@ -27,7 +27,7 @@ abbrev pub key_of : DimValue → ℤ
 key_of (Interval low high) = if int_le low high then low else pos 0
 key_of (Label set label) = pos label
 
--- the value on the dimension after one, or behind the last of them that on the first
+-- the value on the dimension after one, or that on the first where that one is the last
 abbrev pub next_of : List DimValue → ℕ → Option DimValue
 next_of values dim = option_or (slice_get values (dim + 1)) (slice_get values 0)
 
@@ -55,7 +55,7 @@ is_value_at p next v =
 abbrev pub is_at : List DimValue → Place → Bool
 is_at values p = option_map_or (is_value_at p (next_of values p.dim)) (slice_get values p.dim) false
 
--- it is the place of one of a unit's values
+-- the place is that of one of a unit's values
 abbrev pub is_place_of : ℕ → List DimValue → Place → Bool
 is_place_of unit values p = (p.unit == unit) && is_at values p
 

@@ -10,7 +10,7 @@ use Rattle.bb_space_index.specs.declared.leaf.Leaf.TheVariants.{Ordered, Is}
 use Rattle.bb_space_index.specs.declared.place.Place.{Place}
 use Rattle.bb_space_index.specs.Places.{place_cmp}
 
--- a place where no value stands: before the values of a sort and key, or behind them
+-- a place where no value stands: before the values of a sort and key, or after them
 abbrev pub spot : ℕ → ℕ → ℤ → ℕ → Place
 spot dim sort key edge = record {
   dim = dim;

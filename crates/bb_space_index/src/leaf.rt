@@ -25,14 +25,14 @@ pub enum Leaf {
     },
 }
 
-/// The value on a dimension, if it is there.
+// The value on a dimension, if it is there.
 fn value_at(values: &[DimValue], dim: u8) -> Option<DimValue>
     ensures { result ≡ slice_get values.now dim }
 {
     Some(*values.get(dim as usize)?)
 }
 
-/// Whether a value is there and in a relation to `[low, high]`.
+// Whether a value is there and in a relation to `[low, high]`.
 fn related(relation: Relation, low: i64, high: i64, value: Option<DimValue>) -> bool
     ensures { result ≡ related relation low high value }
 {
@@ -42,7 +42,7 @@ fn related(relation: Relation, low: i64, high: i64, value: Option<DimValue>) -> 
     }
 }
 
-/// Whether a value is there and this label.
+// Whether a value is there and this label.
 fn labelled(set: LabelSetId, label: LabelId, value: Option<DimValue>) -> bool
     ensures { result ≡ labelled set label value }
 {

@@ -1,5 +1,5 @@
-//! The places of values in the index of a space: which place a value has, the set of places kept in step with them, and
-//! where tests ask. `bb_space` keeps one such set for each space, and the members beside it.
+//! The index of a space: the set of the keys of its values, kept in step with them, and the ranges of keys in which a
+//! test can hold.
 #![tactic(auto)]
 
 mod index;

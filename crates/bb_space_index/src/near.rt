@@ -12,7 +12,7 @@ use bb_pattern::Relation;
 use bb_schema::UnitId;
 use std::collections::BTreeSet;
 
-/// A place where no value stands: before the values of a sort and key by the edge 0, behind them by 2.
+/// A place where no value stands: before the values of a sort and key where the edge is 0, after them where it is 2.
 pub(crate) fn spot(dim: usize, sort: u32, key: i64, edge: u8) -> Place
     ensures { result ≡ spot dim sort key edge }
 {
@@ -39,7 +39,7 @@ pub(crate) fn first_spot(relation: Relation, dim: usize, low: i64, high: i64) ->
     }
 }
 
-/// Where they end.
+/// Where the intervals end that can be in a relation to `[low, high]`.
 pub(crate) fn end_spot(relation: Relation, dim: usize, low: i64, high: i64) -> Place
     ensures { result ≡ end_spot relation dim low high }
 {
@@ -106,7 +106,7 @@ pub fn collect_near(
     }
 }
 
-/// Whether no more than so many places stand between two.
+/// Whether no more than `most` places stand between two.
 pub(crate) fn are_few(places: &BTreeSet<Place>, from: Place, to: Place, most: usize) -> bool
     ensures few { result ≡ nat_le (length (places_between from to places.now)) most }
 {
@@ -116,7 +116,7 @@ pub(crate) fn are_few(places: &BTreeSet<Place>, from: Place, to: Place, most: us
     places.range(from..to).nth(most).is_none()
 }
 
-/// Whether no more than so many intervals, or labels, can pass a test.
+/// Whether no more than `most` intervals, or labels, can pass a test.
 pub fn is_few(places: &BTreeSet<Place>, leaf: &Leaf, most: usize) -> bool
     ensures few { result ≡ nat_le (length (asked leaf.now places.now)) most }
 {

@@ -1,5 +1,6 @@
 //! Where in the index the candidates for two tests together stand: one that asks for one low end or one label, and one
-//! of the next dimension. A place tells what its unit has there, so they stand side by side. `bb_space` asks for them.
+//! of the next dimension. A place also has its unit's value there, so they stand side by side. `bb_space` asks for
+//! them.
 
 ghost use Rattle.std.specs.Prelude.{◌≡◌, ℕ, true, false, IfOk, IfSome};
 ghost use Rattle.bb_space_index.specs.Candidates.{dim_of};
@@ -15,8 +16,8 @@ use bb_schema::UnitId;
 use std::alloc::Global;
 use std::collections::BTreeSet;
 
-/// The sort and key at which all values stand that pass a test, if there are such. But two numbers of which the second
-/// is less may pass too.
+// The sort and key at which all values stand that pass a test, if there are such. But two numbers of which the second
+// is less may pass too.
 fn pin_of(leaf: &Leaf) -> Option<Place>
     ensures { result ≡ pin_of leaf.now }
 {
@@ -37,7 +38,7 @@ fn pin_of(leaf: &Leaf) -> Option<Place>
     }
 }
 
-/// Where the values begin that can pass a test, but for two numbers of which the second is less.
+// Where the values begin that can pass a test, but for two numbers of which the second is less.
 fn first_of(leaf: &Leaf) -> Place
     ensures { result ≡ first_of leaf.now }
 {
@@ -54,7 +55,7 @@ fn first_of(leaf: &Leaf) -> Place
     }
 }
 
-/// Where they end.
+// Where the values end that can pass a test, but for two numbers of which the second is less.
 fn end_of(leaf: &Leaf) -> Place
     ensures { result ≡ end_of leaf.now }
 {
@@ -71,7 +72,7 @@ fn end_of(leaf: &Leaf) -> Place
     }
 }
 
-/// Among the values of a sort and key, where those stand whose units have something on the next dimension.
+// Among the values of a sort and key, where those stand whose units have something on the next dimension.
 fn beside(pin: Place, next: Place) -> Place
     ensures { result ≡ beside pin next }
 {
@@ -87,7 +88,7 @@ fn beside(pin: Place, next: Place) -> Place
     }
 }
 
-/// Whether no place stands between two.
+// Whether no place stands between two.
 fn is_bare(places: &BTreeSet<Place>, from: Place, to: Place) -> bool
     ensures { result ≡ true → (n : ℕ) → stands_in from to places.now n ≡ false }
 {
@@ -97,7 +98,8 @@ fn is_bare(places: &BTreeSet<Place>, from: Place, to: Place) -> bool
     places.range(from..to).next().is_none()
 }
 
-/// The dimension of which the places on another tell: the one after it, or the first where nothing has a value there.
+// The dimension whose values the places on `dim` also have: the next one, or the first where nothing has a value
+// there.
 fn next_dim(places: &BTreeSet<Place>, dim: u8) -> usize
     ensures { Tells places.now dim result }
 {
@@ -108,7 +110,7 @@ fn next_dim(places: &BTreeSet<Place>, dim: u8) -> usize
     after
 }
 
-/// The first of some tests that is of a dimension.
+// The first of some tests that is of a dimension.
 fn test_on(tests: &[Leaf], dim: usize) -> Option<Leaf>
     ensures { IfSome result (λ test. (dim_of test ≡ dim) × IsAsked tests.now test) }
 {
@@ -120,7 +122,8 @@ fn test_on(tests: &[Leaf], dim: usize) -> Option<Leaf>
     None
 }
 
-/// The candidates for two tests, rising: for one by the sort and key that it asks for, and for one of the next dimension.
+// The candidates for two tests, rising: for one by the sort and key that it asks for, and for one of the next
+// dimension.
 fn near_both(
     alloc: Global,
     places: &BTreeSet<Place>,
@@ -141,8 +144,9 @@ fn near_both(
     Ok(found)
 }
 
-/// Units of places, rising, among them all whose values pass each of some tests: by the first two of neighbouring
-/// dimensions that no more than so many values can pass, of which the first asks for one sort and key.
+/// Units of places, rising, among them all whose values pass each of some tests: by the first two tests of neighbouring
+/// dimensions, of which the first asks for one sort and key, that no more than `most` values can pass. `None` where
+/// there are no such two.
 pub fn few_by_two(
     alloc: Global,
     places: &BTreeSet<Place>,

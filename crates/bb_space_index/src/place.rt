@@ -7,8 +7,8 @@ use bb_pattern::DimValue;
 use bb_schema::UnitId;
 
 /// A value that a unit has on a dimension. Those of a dimension stand together: first the intervals by their low ends,
-/// then those that are none, then the labels by their sets. Those of one low end, or of one label, stand by what their
-/// units have on the next dimension.
+/// then two numbers of which the second is less, then the labels by their sets. Those of one low end, or of one label,
+/// stand by what their units have on the next dimension.
 #[derive(Clone, Copy, PartialEq, Eq, PartialOrd, Ord)]
 pub struct Place {
     pub dim: usize,
@@ -16,16 +16,16 @@ pub struct Place {
     pub sort: u32,
     /// The low end, or the label.
     pub key: i64,
-    /// 1 for each value. So 0 stands before all of a sort and key, and 2 behind them.
+    /// 1 for each value, so that 0 stands before all values of a sort and key, and 2 after them.
     pub edge: u8,
-    /// The same of the value on the next dimension. All are 0 where there is none.
+    /// The sort of the value on the next dimension. This, `next_key` and `next_edge` are 0 where there is none.
     pub next_sort: u32,
     pub next_key: i64,
     pub next_edge: u8,
     pub unit: UnitId,
 }
 
-/// Where values of a kind stand among those of a dimension.
+// Where values of a kind stand among those of a dimension.
 fn sort_of(value: DimValue) -> u32
     ensures { result ≡ sort_of value }
 {
@@ -36,7 +36,7 @@ fn sort_of(value: DimValue) -> u32
     }
 }
 
-/// Where a value stands among those of its kind.
+// Where a value stands among those of its kind.
 fn key_of(value: DimValue) -> i64
     ensures { result ≡ key_of value }
 {
@@ -47,7 +47,7 @@ fn key_of(value: DimValue) -> i64
     }
 }
 
-/// The value on the dimension after one, or behind the last of them that on the first.
+/// The value on the dimension after `dim`, or that on the first where `dim` is the last.
 pub(crate) fn next_of(values: &[DimValue], dim: usize) -> Option<DimValue>
     requires { dim < length values.now }
     ensures { result ≡ next_of values.now dim }

@@ -1,5 +1,5 @@
-//! Which of some units can pass tests, by a walk over the places where each test asks. These lie side by side, and so
-//! many of them are gone over in the time in which one unit is looked up. `bb_space` asks for them.
+//! Which of some units can pass tests, by a walk over the places where each test asks. These lie side by side, so that
+//! many of them are visited in the time that one look-up of a unit takes. `bb_space` asks for them.
 
 ghost use Rattle.std.specs.Prelude.{◌≡◌, ℕ, true, IfOk, IfSome, filter};
 ghost use Rattle.bb_space_index.specs.Spots.{stands_in, is_near};
@@ -21,7 +21,7 @@ pub(crate) struct Marks {
     left: usize,
 }
 
-/// Marks a unit, if it has a mark.
+// Marks a unit, if it has a mark.
 fn mark(marks: &mut Vec<bool>, first: UnitId, unit: UnitId)
     ensures keeps { (n : ℕ) → is_kept first marks.old.items n ≡ true → is_kept first marks.new.items n ≡ true }
     ensures marked { is_kept first marks.new.items unit ≡ true }
@@ -35,7 +35,7 @@ fn mark(marks: &mut Vec<bool>, first: UnitId, unit: UnitId)
     }
 }
 
-/// Whether a unit is marked, or has no mark.
+// Whether a unit is marked, or has no mark.
 fn is_kept(first: UnitId, marks: &[bool], unit: UnitId) -> bool
     ensures { result ≡ is_kept first marks.now unit }
 {
@@ -48,7 +48,7 @@ fn is_kept(first: UnitId, marks: &[bool], unit: UnitId) -> bool
     }
 }
 
-/// Marks the units whose places stand between two, and says whether it came to the end.
+// Marks the units whose places stand between two, and says whether it came to the end.
 fn mark_between(places: &BTreeSet<Place>, from: Place, to: Place, marks: &mut Marks) -> bool
     ensures keeps { (n : ℕ) → is_left marks.old n ≡ true → is_left marks.new n ≡ true }
     ensures marked { result ≡ true
@@ -67,7 +67,7 @@ fn mark_between(places: &BTreeSet<Place>, from: Place, to: Place, marks: &mut Ma
     true
 }
 
-/// Marks the candidates for a test, and says whether it came to the end.
+// Marks the candidates for a test, and says whether it came to the end.
 fn mark_near(places: &BTreeSet<Place>, leaf: &Leaf, marks: &mut Marks) -> bool
     ensures { result ≡ true → (n : ℕ) → is_near leaf.now places.now n ≡ true → is_left marks.new n ≡ true }
 {
@@ -100,7 +100,7 @@ fn mark_near(places: &BTreeSet<Place>, leaf: &Leaf, marks: &mut Marks) -> bool
     }
 }
 
-/// Those of some units that are marked, or have no mark.
+// The units of a list that are marked, or have no mark, in their order.
 fn kept(
     alloc: Global,
     first: UnitId,
@@ -118,7 +118,7 @@ fn kept(
     Ok(list)
 }
 
-/// Some units without others that can't pass a test, or `None` where too many places stand where it asks.
+// The units of a list, less some that can't pass a test, or `None` where too many places stand where the test asks.
 fn thin_by(
     alloc: Global,
     places: &BTreeSet<Place>,
@@ -140,7 +140,7 @@ fn thin_by(
     Ok(Some(kept(alloc, marks.first, &marks.marks, among)?))
 }
 
-/// Some units without others that can't pass each of some tests, where marks for so many tell which.
+/// The units of a list, less some that can't pass each of some tests, by marks for `room` units from the first one on.
 pub fn thin_all(
     alloc: Global,
     places: &BTreeSet<Place>,
@@ -152,7 +152,7 @@ pub fn thin_all(
 {
     let mut list = among.to_vec(alloc)?;
     for test in tests {
-        // So few are sooner looked up.
+        // Fewer than 16 units are looked up faster one by one.
         if list.len() < 16 {
             break;
         }

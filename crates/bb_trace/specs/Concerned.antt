@@ -17,16 +17,16 @@ is_of_kind events.Quiescence clauses.Quiescence = true
 is_of_kind (events.Change unit of change) (clauses.Change kind class) = is_same_kind kind (kind_of change)
 is_of_kind _ _ = false
 
--- one of these clauses or more does
+-- a clause of this list names the kind of this event
 abbrev pub any_of_kind : Event → List Clause → Bool
 any_of_kind event list = list_any (is_of_kind event) list
 
--- one of the clauses of a reaction does, if there is one
+-- a clause of the reaction names the kind of this event, if there is a reaction
 abbrev pub reaction_of_kind : Event → Option Reaction → Bool
 reaction_of_kind event None = false
 reaction_of_kind event (Some reaction) = any_of_kind event reaction.clauses
 
--- one of the clauses that trigger a source does, or one of a reaction
+-- a clause that triggers the source, or one of its reactions, names the kind of this event
 abbrev pub is_concerned : Event → Source → Bool
 is_concerned event source =
     any_of_kind event source.triggers || reaction_of_kind event source.obviate || reaction_of_kind event source.retrigger

@@ -6,7 +6,7 @@ pub mod Concerned
 pub mod TraceText
 -- what the writing of a page does
 pub mod Page
--- for proofs alone
+-- for proofs only
 pub mod proving
 -- of bb_board: the blackboard, what happens on it and what it notes, and the document of its first units
 pub use Rattle.bb_board.specs.Board

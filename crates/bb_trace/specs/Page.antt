@@ -4,7 +4,7 @@ use Rattle.std.specs.Io.KnownBytes.{Appends}
 use Rattle.bb_trace.specs.declared.halt.Halt.{Halt}
 use Rattle.bb_trace.specs.declared.halt.Halt.TheVariants as halts
 
--- what the run is cut short by is that the output failed
+-- the run is cut short because the output failed
 abbrev pub halted_by_write : Halt → Bool
 halted_by_write halts.Memory = false
 halted_by_write halts.Write = true

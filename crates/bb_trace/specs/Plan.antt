@@ -5,7 +5,7 @@ use Rattle.bb_trace.specs.Source.{Source}
 
 pub record Plan : Type 0 where
   pub schema : Schema
-  -- in their order
+  -- the sources, in order
   pub sources : List Source
   -- the least rating that can be chosen
   pub floor : ℤ

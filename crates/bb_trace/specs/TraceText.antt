@@ -48,7 +48,7 @@ value_text s (values.Label set label) = unwrap_or (name_of_label s set label) []
 value_text s (values.Interval low high) =
     codes "[" ++ signed_decimal low ++ codes "," ++ signed_decimal high ++ codes "]"
 
--- a unit is told by its number
+-- a value, or `#` and the number of a unit
 abbrev pub said_text : Schema → Said → List ℕ
 said_text s (saids.Value v) = value_text s v
 said_text s (saids.Unit n) = codes "#" ++ decimal n

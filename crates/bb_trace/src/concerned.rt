@@ -31,7 +31,7 @@ impl Concerned {
         }
     }
 
-    /// The places of those of these sources that an event concerns, for each event.
+    /// The places of the sources that an event concerns, for each event.
     pub(crate) fn of(alloc: Global, sources: &[Source]) -> Result<Concerned, AllocError>
         requires { length sources.now ≤ SOURCE_LIMIT }
         ensures { IfOk result (λ concerned. AreConcerned sources.now concerned) }
@@ -86,7 +86,7 @@ impl Concerned {
         Ok(())
     }
 
-    // The same for those of a reaction, if there is one.
+    // Adds a place, the last, for each kind that a clause of a reaction names, if there is a reaction.
     fn add_reaction(&mut self, place: u16, reaction: &Option<Reaction>) -> Result<(), AllocError>
         ensures { OnOk result ((event : Happened) → places_for self.new event
             ≡ put_if (reaction_of_kind event reaction.now) (places_for self.old event) place) }

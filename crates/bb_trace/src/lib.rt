@@ -1,5 +1,10 @@
-//! What a run tells: its notes, their lines, and the page on which the lines wait to be written. Crates above take the
-//! parts of blackboards, natives and sources that a run is made of from here too.
+//! What a run reports: its notes, their lines, and the page on which lines wait to be written to an output. Here is
+//! also the `Plan` that a run goes by.
+//!
+//! - In: notes of a run, and an `Out`.
+//! - Out: the lines of a trace.
+//! - Callers rely on: a segment is written whole, or the output refused it; no line depends on when a page is written.
+//! - Cases: `said`, `outputs`; `runs` and `model-runs` compare whole traces.
 #![tactic(auto)]
 
 mod concerned;

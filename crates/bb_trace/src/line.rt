@@ -161,7 +161,7 @@ fn add_said_value(
     }
 }
 
-/// Appends a value, as `say` tells it.
+/// Appends a value, as `say` writes it.
 pub fn add_value(
     alloc: Global,
     text: &mut String,

@@ -1,11 +1,11 @@
-//! What a run tells. The run (bb_run) notes it, and line.rt makes a line of each note.
+//! What a run reports. The run (bb_run) notes it, and line.rt makes a line of each note.
 
 use crate::end::End;
 use bb_agenda::Activation;
 use bb_native::{Closing, Refusal};
 use bb_schema::UnitId;
 
-/// What a run tells: what the blackboard noted, and the steps of control.
+/// What a run reports: what the blackboard noted, and the steps of control.
 #[derive(Debug, Drop)]
 pub enum Note {
     /// What the blackboard noted, or quiescence.
@@ -17,7 +17,7 @@ pub enum Note {
         source: u16,
         unit: UnitId,
     },
-    /// A pending activation became needless.
+    /// A pending activation is no longer needed.
     Obviated {
         number: u64,
     },
@@ -26,7 +26,7 @@ pub enum Note {
         number: u64,
         base: i64,
     },
-    /// The choice of a cycle, the rating by which it was made included.
+    /// The choice of a cycle, with the rating by which it was made.
     Chosen {
         cycle: u64,
         activation: Activation,

@@ -6,15 +6,15 @@ ghost use Rattle.std.specs.Bool.{OnTrue as WhenTrue, OnFalse as WhenFalse};
 
 use std::io::Write;
 
-/// Where a trace is written. It tells the bytes that it took, and whether it has failed.
+/// Where a trace is written: it takes bytes until it fails.
 pub trait Out {
-    /// The bytes that it took, where it tells them.
+    /// The bytes that the output took, where they are known.
     ghost taken: { Self → Option (List ℕ) };
 
-    /// Whether it has failed.
+    /// Whether the output has failed.
     ghost has_failed: { Self → Bool };
 
-    /// Takes bytes from the front, at least one, and answers how many; or takes none, answers 0 and has failed.
+    /// Takes bytes from the front, at least one, and returns how many; or takes none, returns 0 and has failed.
     fn put(&mut self, bytes: &[u8]) -> usize
         requires some { 0 < length bytes.now }
         requires open { has_failed self.old ≡ false }
@@ -22,7 +22,7 @@ pub trait Out {
         ensures taken { Appends (taken self.old) (taken self.new) (take result bytes.now) }
         ensures failed { has_failed self.new ≡ (result == 0) };
 
-    /// Whether it has failed.
+    /// Whether the output has failed.
     fn failed(&self) -> bool
         ensures { result ≡ has_failed self.now };
 }
@@ -75,7 +75,7 @@ impl<W: Write> Out for Pipe<W> {
     }
 }
 
-/// Writes all the bytes, or answers that the output has failed; then it took the front of them.
+/// Writes all the bytes, and returns whether that succeeded: if not, the output took the front of them and has failed.
 pub fn put_all<O: Out>(out: &mut O, bytes: &[u8]) -> bool
     requires { O.has_failed out.old ≡ false }
     ensures ok { WhenTrue result (Appends (O.taken out.old) (O.taken out.new) bytes.now) }

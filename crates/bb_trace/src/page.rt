@@ -1,4 +1,4 @@
-//! The page: the text that was told and is not written yet. The run (bb_run) adds segments to it and has it written.
+//! The page: text of a trace that is not written yet. The run (bb_run) adds segments to it and has it written.
 
 ghost use Rattle.std.specs.Prelude.{◌≡◌, ◌<◌, ◌++◌, [], false, take, OnErr, OnOk, length};
 ghost use Rattle.bb_trace.specs.TraceText.{segment_text};
@@ -15,10 +15,10 @@ use std::marker::Model;
 /// The length from which a page is written.
 pub const PAGE_LIMIT: usize = 65_536;
 
-/// The work from which a page is written whatever its length, in steps of codes: so a trace can be followed as it grows.
+// The work from which a page is written whatever its length, in steps of codes, so that a trace can be followed.
 const WORK_LIMIT: u64 = 1 << 20;
 
-/// What a segment counts for beside the steps that it tells of, so that some hundred segments are enough.
+// The work that a segment counts for besides the steps of its execution, so that a few hundred segments are enough.
 const SEGMENT_WORK: u64 = 1 << 12;
 
 /// Text that waits to be written.
@@ -26,9 +26,9 @@ const SEGMENT_WORK: u64 = 1 << 12;
 pub struct Page {
     alloc: Global,
     text: Vec<u8>,
-    /// A line that is not whole yet: no part of one comes to the text.
+    // The line that is being made: only whole lines are appended to the text.
     line: String,
-    /// What was done since the page was written.
+    // The work that was done since the page was last written.
     work: u64,
 }
 
@@ -53,7 +53,7 @@ impl Page {
         }
     }
 
-    /// What the page is allocated by. Who tells segments on it takes memory there too.
+    /// The allocator of the page. Whoever adds segments to it takes memory from it too.
     pub fn alloc(&self) -> Global {
         self.alloc
     }
@@ -72,8 +72,8 @@ impl Page {
         Ok(())
     }
 
-    /// Writes the page if it has the length of a page, so that it is short afterwards, or if much was done since it was
-    /// written.
+    /// Writes the page if it has reached `PAGE_LIMIT`, or if much was done since it was last written. Afterwards it is
+    /// shorter than that.
     pub fn spill<O: Out>(&mut self, out: &mut O) -> Result<(), Halt>
         requires { O.has_failed out.old ≡ false }
         ensures written { Spills (O.taken out.old) (O.taken out.new) self.old self.new result }
@@ -101,7 +101,7 @@ impl Page {
     }
 }
 
-// What was done, by what is told of it: an execution's end is told last.
+// The work of a segment, by its last note: the end of an execution comes last.
 fn work_of(notes: &[Note]) -> u64 {
     match notes.last() {
         Some(Note::Ended { steps, .. }) => SEGMENT_WORK.saturating_add(
@@ -111,7 +111,7 @@ fn work_of(notes: &[Note]) -> u64 {
     }
 }
 
-// Appends a line for each note. An error leaves what was there in front.
+// Appends a line for each note. After an error the text still begins with what was there before.
 fn add_notes(
     alloc: Global,
     line: &mut String,

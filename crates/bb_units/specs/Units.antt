@@ -67,12 +67,12 @@ next_number u = if is_full u then Err Full else Ok u.next
 abbrev pub new_unit : Layout → ℕ → Unit
 new_unit l class = record { class = class; values = blank l class }
 
--- with one more unit, under the next number
+-- the units with one more, under the next number
 abbrev pub after_create : Units → ℕ → Units
 after_create u class =
     record { next = u.next + 1; units = map.insert u.units u.next (new_unit u.layout class); layout = u.layout }
 
--- the same units without one
+-- the units without one that is deleted
 abbrev pub after_delete : Units → ℕ → Units
 after_delete u n = record { next = u.next; units = map.remove u.units n; layout = u.layout }
 
@@ -84,6 +84,6 @@ with_slot x slot value = record { class = x.class; values = with_value x.values 
 abbrev pub with_value_of : map.FinMap nat_cmp Unit → ℕ → ℕ → Value → map.FinMap nat_cmp Unit
 with_value_of m n slot value = option_map_or (λ x. map.insert m n (with_slot x slot value)) (map.get m n) m
 
--- the same units, but for one value of one
+-- the units with another value in a slot of one
 abbrev pub after_set : Units → ℕ → ℕ → Value → Units
 after_set u n slot value = record { next = u.next; units = with_value_of u.units n slot value; layout = u.layout }

@@ -7,7 +7,7 @@ use Rattle.bb_schema_classes.specs.declared.value.Value.{Value}
 abbrev pub value_at : List (ℕ × Value) → ℕ → Option Value
 value_at values slot = lookup (λ s. s == slot) values
 
--- the same values, but for one slot
+-- values with another value for one slot
 abbrev pub with_value : List (ℕ × Value) → ℕ → Value → List (ℕ × Value)
 with_value values slot value = set_value (λ s. s == slot) values value
 

@@ -1,4 +1,4 @@
-//! Why a unit could not be created. `Units::create` answers it.
+//! Why a unit could not be created. `Units::create` returns it.
 
 ghost use Rattle.std.specs.Prelude.{◌≡◌};
 ghost use Rattle.bb_units.specs.declared.fault.CreateFault.TheVariants.{Memory as OutOfMemory};

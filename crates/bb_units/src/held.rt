@@ -7,12 +7,12 @@ use crate::shared_value::SharedValue;
 use bb_schema::Value;
 use std::marker::Model;
 
-/// Where the value of a slot comes from.
+// Where the value of a slot comes from.
 #[derive(Drop)]
 enum Content {
-    /// The default of the slot, which the layout and all units that were given no other value share.
+    // The default of the slot, which the layout and all units that were given no other value share.
     Default(SharedValue),
-    /// A value that was given to the slot.
+    // A value that was given to the slot.
     Given(Value),
 }
 
@@ -37,7 +37,7 @@ impl Model for Held {
     ghost view = { λ h. value_of_content h.content };
 }
 
-/// The value of what a slot holds.
+// The value of what a slot holds.
 fn value_of(content: &Content) -> &Value
     ensures { result.now ≡ value_of_content content.now }
 {

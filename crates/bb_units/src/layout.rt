@@ -13,8 +13,8 @@ use bb_schema::{ClassId, Kind, LabelSetId, Schema, SlotId, Value};
 use std::alloc::Global;
 use std::marker::Model;
 
-/// What the units keep of their schema: which slots each class has, what a new unit has in them, and
-/// what they can hold.
+/// What the units keep of their schema: which slots each class has, what a new unit has in them, and what they can
+/// hold.
 #[derive(Drop)]
 pub(crate) struct Layout {
     // By class, all its slots in class order.
@@ -38,7 +38,7 @@ impl Model for Layout {
     } };
 }
 
-/// The default of an ordinary slot.
+// The default of an ordinary slot.
 fn default_at(defaults: &[Option<SharedValue>], slot: SlotId) -> Option<&SharedValue>
     ensures { option_map (λ v. v.now) result ≡ default_at defaults.now slot }
 {
@@ -48,7 +48,7 @@ fn default_at(defaults: &[Option<SharedValue>], slot: SlotId) -> Option<&SharedV
     }
 }
 
-/// The slots that have a default, each with it, in their order.
+// The slots that have a default, each with it, in their order.
 fn defaults_of(
     alloc: Global,
     defaults: &[Option<SharedValue>],
@@ -66,7 +66,7 @@ fn defaults_of(
     Ok(values)
 }
 
-/// By class, all its slots in class order.
+// By class, all its slots in class order.
 fn slots_by_class(alloc: Global, schema: &Schema) -> Result<Vec<Vec<SlotId>>, Memory>
     ensures { IfOk result (λ lists. map (λ v. v.items) lists.items ≡ map (λ k. k.slots) schema.now.classes) }
 {
@@ -77,7 +77,7 @@ fn slots_by_class(alloc: Global, schema: &Schema) -> Result<Vec<Vec<SlotId>>, Me
     Ok(lists)
 }
 
-/// What a new unit has in a slot. A link slot is `None`.
+// What a new unit has in a slot. A link slot is `None`.
 fn default_of(alloc: Global, schema: &Schema, slot: SlotId) -> Result<Option<SharedValue>, Memory>
     requires { slot < length schema.now.slots }
     ensures { IfOk result (λ default. default ≡ default_of schema.now slot) }
@@ -88,7 +88,7 @@ fn default_of(alloc: Global, schema: &Schema, slot: SlotId) -> Result<Option<Sha
     }
 }
 
-/// By slot, the default of an ordinary one.
+// By slot, the default of an ordinary one.
 fn defaults_by_slot(alloc: Global, schema: &Schema) -> Result<Vec<Option<SharedValue>>, Memory>
     ensures { IfOk result (λ defaults. defaults.items ≡ map (λ t. default_in t.content) schema.now.slots) }
 {
@@ -99,7 +99,7 @@ fn defaults_by_slot(alloc: Global, schema: &Schema) -> Result<Vec<Option<SharedV
     Ok(defaults)
 }
 
-/// By label set, the number of its labels.
+// By label set, the number of its labels.
 fn label_counts(alloc: Global, schema: &Schema) -> Result<Vec<usize>, Memory>
     ensures { IfOk result (λ counts. counts.items ≡ label_counts schema.now.label_sets) }
 {

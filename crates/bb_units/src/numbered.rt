@@ -17,10 +17,10 @@ use std::marker::Model;
 const FEW: usize = 32;
 
 /// The live units in a list by their numbers, which it gives out. These rise, and a unit that is deleted leaves a gap,
-/// so a look-up mostly goes straight to the place. Once there are more gaps than units, all are closed at one go.
+/// so a look-up mostly goes straight to the place. Once there are more gaps than units, all gaps are closed at once.
 #[derive(Drop)]
 pub(crate) struct Numbered {
-    // Above the number of each entry.
+    // The number of the next unit, above that of each entry.
     next: UnitId,
     // Each number with its unit, or with none where that was deleted. The numbers rise.
     entries: Vec<(UnitId, Option<Unit>)>,
@@ -41,7 +41,7 @@ impl Model for Numbered {
     ghost invariant = { λ n. AreNumbered n.next n.entries.items n.live };
 }
 
-/// A place, if the entry of a number stands there.
+// A place, if the entry of a number stands there.
 fn tried(entries: &[(UnitId, Option<Unit>)], place: usize, unit: UnitId) -> Option<usize>
     ensures { IfSome result (λ place. IsAt entries.now place unit) }
 {
@@ -51,7 +51,7 @@ fn tried(entries: &[(UnitId, Option<Unit>)], place: usize, unit: UnitId) -> Opti
     Some(place)
 }
 
-/// The place of a number, if none is left out between the first one and it. A number below gives a place outside.
+// The place of a number, if none is left out between the first one and it. A number below gives a place outside.
 fn place_from_first(entries: &[(UnitId, Option<Unit>)], unit: UnitId) -> Option<usize>
     ensures { IfSome result (λ place. IsAt entries.now place unit) }
 {
@@ -59,7 +59,7 @@ fn place_from_first(entries: &[(UnitId, Option<Unit>)], unit: UnitId) -> Option<
     tried(entries, unit.wrapping_sub(first) as usize, unit)
 }
 
-/// The place of a number, if none is left out between it and the last one. A number above gives a place outside.
+// The place of a number, if none is left out between it and the last one. A number above gives a place outside.
 fn place_from_last(entries: &[(UnitId, Option<Unit>)], unit: UnitId) -> Option<usize>
     ensures { IfSome result (λ place. IsAt entries.now place unit) }
 {
@@ -68,7 +68,7 @@ fn place_from_last(entries: &[(UnitId, Option<Unit>)], unit: UnitId) -> Option<u
     tried(entries, (entries.len() - 1).wrapping_sub(behind), unit)
 }
 
-/// The place of a number: counted from the first one or from the last, or else found by halving.
+// The place of a number: counted from the first one or from the last, or else found by halving.
 fn place_of(entries: &[(UnitId, Option<Unit>)], unit: UnitId) -> Option<usize>
     requires { Rise entries.now }
     ensures { result ≡ place_in unit entries.now }
@@ -82,7 +82,7 @@ fn place_of(entries: &[(UnitId, Option<Unit>)], unit: UnitId) -> Option<usize>
     entries.binary_search_by_key(&unit, |entry| entry.0).ok()
 }
 
-/// The unit of a number, if it is live.
+// The unit of a number, if it is live.
 fn unit_at(entries: &[(UnitId, Option<Unit>)], unit: UnitId) -> Option<&Unit>
     requires { Rise entries.now }
     ensures { option_map (λ x. x.now) result ≡ map.get (units_in entries.now) unit }
@@ -91,7 +91,7 @@ fn unit_at(entries: &[(UnitId, Option<Unit>)], unit: UnitId) -> Option<&Unit>
     entries[place].1.as_ref()
 }
 
-/// Gives a slot of a unit another value, if the unit is live and has the slot.
+// Gives a slot of a unit another value, if the unit is live and has the slot.
 fn update(entries: &mut Vec<(UnitId, Option<Unit>)>, unit: UnitId, slot: SlotId, value: Value)
     requires { Rise entries.old.items }
     ensures updated { units_in entries.new.items ≡ with_value_of (units_in entries.old.items) unit slot value }
@@ -107,7 +107,7 @@ fn update(entries: &mut Vec<(UnitId, Option<Unit>)>, unit: UnitId, slot: SlotId,
     }
 }
 
-/// Leaves a gap in the place of a unit.
+// Leaves a gap in the place of a unit.
 fn vacate(entries: &mut Vec<(UnitId, Option<Unit>)>, unit: UnitId)
     requires { Rise entries.old.items }
     ensures gone { units_in entries.new.items ≡ map.remove (units_in entries.old.items) unit }
@@ -119,7 +119,7 @@ fn vacate(entries: &mut Vec<(UnitId, Option<Unit>)>, unit: UnitId)
     drop(entries[place].1.take());
 }
 
-/// Closes the gaps, if they are more than the live units and the list is not short.
+// Closes the gaps, if they are more than the live units and the list is not short.
 fn close_gaps(entries: &mut Vec<(UnitId, Option<Unit>)>, live: usize)
     ensures same { units_in entries.new.items ≡ units_in entries.old.items }
     ensures kept { (next n : ℕ) → AreNumbered next entries.old.items n → AreNumbered next entries.new.items n }

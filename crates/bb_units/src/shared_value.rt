@@ -39,7 +39,7 @@ impl SharedValue {
         })
     }
 
-    /// The same value for one more owner. It copies nothing.
+    /// The value, for one more owner. It is not copied.
     pub(crate) fn share(&self) -> Result<SharedValue, Memory>
         ensures { IfOk result (λ shared. shared ≡ self.now) }
     {

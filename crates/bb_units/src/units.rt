@@ -46,7 +46,7 @@ impl Model for Units {
     ghost invariant = { λ u. Fits (record { next = u.units.next; units = u.units.units; layout = u.layout }) };
 }
 
-/// The value of a slot of a unit, if the unit is live and has the slot.
+// The value of a slot of a unit, if the unit is live and has the slot.
 fn value_in(units: &Numbered, unit: UnitId, slot: SlotId) -> Option<&Value>
     ensures { option_map (λ v. v.now) result ≡ value_among units.now.units unit slot }
 {

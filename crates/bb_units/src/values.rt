@@ -25,7 +25,7 @@ impl Model for Values {
     ghost view = { λ v. v.entries.items };
 }
 
-/// The index of a slot among values.
+// The index of a slot among values.
 fn place(entries: &[(SlotId, Held)], slot: SlotId) -> Option<usize>
     ensures { result ≡ place_of slot entries.now }
 {

@@ -19,7 +19,7 @@ pub checked_by : (s : Schema) (part : Part) (code : Code) (frames : List Frame) 
 unfolding checked accepted
 checked_by s part code frames one two three four = rw (one, two, three, four) refl
 
--- it is the code with these frames
+-- what was accepted is the code with the frames of its places
 module _ (s : Schema) (part : Part) (code : Code) (c : Checked) (h : checked s part code ≡ Ok c) where
   abbrev with_frames : List Frame → Checked
   with_frames frames = record { code = code; part = part; frames = frames }

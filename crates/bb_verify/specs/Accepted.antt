@@ -25,7 +25,7 @@ pub record Checked : Type 0 where
   pub part : Part
   pub frames : List Frame
 
--- the same code, accepted, or its first fault
+-- a code that is accepted, with its part and its frames, or its first fault
 unfoldable pub checked : Schema → Part → Code → Result Checked VerifyFault
 checked s part code = do
   frames ← accepted s part code

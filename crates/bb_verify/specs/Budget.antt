@@ -4,7 +4,7 @@ use Rattle.std.specs.List.{sum_by}
 use Rattle.bb_verify_effect.specs.Code.{Code, places}
 use Rattle.bb_verify_loops.specs.Loops.{depth}
 
--- how often a place can come, where so many loops hold it and no sequence has more than m elements
+-- how often a place can come, where `loops` loops hold it and no sequence has more than m elements
 abbrev pub turns : (m loops : ℕ) → ℕ
 turns m loops = (m + 1) ^ loops
 

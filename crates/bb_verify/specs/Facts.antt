@@ -21,7 +21,7 @@ use Rattle.bb_verify.specs.Places.{entry_frame}
 abbrev pub edges_of : Schema → Part → Code → Op → Frame → Result (Option Frame × Option Frame) Flaw
 edges_of s part code op f = effect s part code op f >>= λ e. Ok (e.on, e.target)
 
--- it is known what an entry of a stack is
+-- an entry of a stack is of a kind that says what it is
 abbrev pub is_known : Kind → Bool
 is_known Any = false
 is_known k = true

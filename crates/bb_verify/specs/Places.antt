@@ -31,7 +31,7 @@ with_frames all (e ∷ es) = with_frames (set all e.place (Some (frame_of e.fram
 unfoldable pub declared_frames : Code → List (Option Frame)
 declared_frames code = with_frames (replicate (length code.ops) None) code.frames
 
--- the frame that is declared for a place, where this is the list of all places
+-- the frame that is declared for a place; `declared` is the list of all places
 abbrev pub declared_at : List (Option Frame) → ℕ → Option Frame
 declared_at declared place = option_and_then (λ f. f) (slice_get declared place)
 
@@ -64,7 +64,7 @@ target_due s (Some left) (Some declared) = fits_declared s left declared
 target_due s (Some left) None = Err flaws.Frame
 target_due s None declared = Ok tt
 
--- the last op does not go on: a code of so many ops has another place
+-- the last op does not go on: where an op goes on to a place, a code of `count` ops has that place
 abbrev pub has_next : (count place : ℕ) → Option Frame → Result (Unit {0}) Flaw
 has_next count place (Some left) = if nat_le count place then Err flaws.End else Ok tt
 has_next count place None = Ok tt

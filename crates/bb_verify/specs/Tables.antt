@@ -17,7 +17,7 @@ use Rattle.bb_verify_effect.specs.Each.{each}
 use Rattle.bb_verify_effect.specs.Flaws.{fault_at}
 use Rattle.bb_verify_effect.specs.Part.{units_of}
 
--- a table of so many has an entry of this number
+-- a table of `count` entries has one of this number
 abbrev pub entry : (count number : ℕ) → Result (Unit {0}) Flaw
 entry count number = if nat_lt number count then Ok tt else Err Table
 
@@ -29,7 +29,7 @@ known_kind s (Old class) = entry (length s.classes) class
 known_kind s (Seq class) = entry (length s.classes) class
 known_kind s k = Ok tt
 
--- the same, and it is known what an entry of a stack is
+-- an entry of a stack is of a kind that says what it is, and its class or its label set is one of the schema
 abbrev pub known_entry : Schema → Kind → Result (Unit {0}) Flaw
 known_entry s Any = Err Table
 known_entry s k = known_kind s k
@@ -73,7 +73,7 @@ in_tables s code (ops.As class place) = entry (length s.classes) class
 in_tables s code (ops.New class) = entry (length s.classes) class
 in_tables s code op = Ok tt
 
--- the same of the op at a place
+-- the operands of the op at a place, if there is one, name entries of their tables
 unfoldable pub table_at : Schema → Code → ℕ → Result (Unit {0}) VerifyFault
 table_at s code place =
     elim (slice_get code.ops place) [ None ↦ Ok tt | Some op ↦ map_err (fault_at place) (in_tables s code op) ]

@@ -1,5 +1,12 @@
-//! The verifier: which codes are accepted for the parts of a source. Whoever makes sources (bb_rules, bb_shell) calls
-//! it, and the machine executes only what it accepted.
+//! The verifier: which codes are accepted for the parts of a source, and the budget of steps of each.
+//!
+//! - In: a schema, a `Code`, and the `Part` that it is for.
+//! - Out: `verify`, a `Checked` code with a frame for each place, or the first `VerifyFault` with the op that it is at.
+//! - Callers rely on: exactly the codes of the definition are accepted, and bb_machine's `trial` never goes wrong on
+//!   one.
+//! - Family: bb_verify_frame has what is known at a place, bb_verify_effect what an op does to that, bb_verify_loops
+//!   where ops may go.
+//! - Cases: `verify`, `codes`, `examples`, `model-bent_codes`; tests in bb_code_tests.
 #![tactic(auto)]
 
 mod checked;

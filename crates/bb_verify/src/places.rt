@@ -20,7 +20,7 @@ use bb_verify_effect::{
 use bb_verify_loops::target_of;
 use std::alloc::{AllocError, Global};
 
-// The declared frame of a number, if a code has so many.
+// The declared frame of a number, if the code has one of that number.
 fn numbered_frame(code: &Code, number: usize) -> Option<&Declared>
     ensures value { option_map (λ f. frame_of f.now) result ≡ numbered_frame code.now.frames (Some number) }
     ensures few { IfSome result (λ f. (length f.now.locals ≤ LOCAL_LIMIT) × (length f.now.stack ≤ STACK_LIMIT)) }
@@ -33,7 +33,7 @@ fn numbered_frame(code: &Code, number: usize) -> Option<&Declared>
     Some(&frames[number].frame)
 }
 
-// The frame that a code declares for a place, where this is the number of the frame of each place.
+// The frame that a code declares for a place. `declared` has the number of the frame of each place.
 fn declared_at<'a>(code: &'a Code, declared: &[Option<usize>], place: usize) -> Option<&'a Declared>
     ensures value { option_map (λ f. frame_of f.now) result
         ≡ declared_at (numbered_frames code.now.frames declared.now) place }
@@ -131,7 +131,7 @@ fn put_frame(all: &mut Vec<Option<usize>>, place: usize, number: usize)
     }
 }
 
-// For each place of a code which of its declared frames is there.
+// For each place of a code the number of the frame that it declares there.
 #[tactic(auto, unfolding(crate::specs::Places::declared_frames))]
 fn declared_frames(alloc: Global, code: &Code) -> Result<Vec<Option<usize>>, AllocError>
     ensures { IfOk result (λ v. numbered_frames code.now.frames v.items ≡ declared_frames code.now) }
@@ -188,7 +188,7 @@ fn target_due(
     }
 }
 
-// The last op does not go on: a code of so many ops has another place.
+// The last op does not go on: where an op goes on to a place, a code of `count` ops has that place.
 fn has_next(count: usize, place: usize, left: &Option<Frame>) -> Result<(), Flaw>
     ensures { result ≡ has_next count place left.now }
 {
@@ -203,7 +203,7 @@ fn has_next(count: usize, place: usize, left: &Option<Frame>) -> Result<(), Flaw
     }
 }
 
-// An op at a place.
+// Checks an op at a place, and adds the place to the walk.
 #[tactic(auto, unfolding(crate::specs::Places::visit_op))]
 fn visit_op(
     schema: &Schema,
@@ -231,7 +231,7 @@ fn visit_op(
     target_due(schema, &target, declared_for(code, declared, op))
 }
 
-// The op at a place.
+// Checks the op at a place, if there is one, and adds the place to the walk.
 #[tactic(auto, unfolding(crate::specs::Places::visit))]
 fn visit(
     schema: &Schema,

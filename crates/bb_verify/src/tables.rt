@@ -9,7 +9,7 @@ use bb_verify_effect::{
     Code, Flaw, FrameEntry, Kind, LabelId, LabelSetId, Op, Part, Place, Schema, VerifyFault,
 };
 
-// A table of so many has an entry of this number.
+// A table of `count` entries has one of this number.
 fn entry(count: usize, number: usize) -> Result<(), Flaw>
     ensures { result ≡ entry count number }
 {
@@ -32,7 +32,7 @@ fn known_kind(schema: &Schema, kind: Kind) -> Result<(), Flaw>
     }
 }
 
-// The same, and it is known what an entry of a stack is.
+// An entry of a stack is of a kind that says what it is, and its class or its label set is one of the schema.
 fn known_entry(schema: &Schema, kind: Kind) -> Result<(), Flaw>
     ensures { result ≡ known_entry schema.now kind }
 {
@@ -78,7 +78,7 @@ fn known_frames(schema: &Schema, frames: &[FrameEntry]) -> Result<(), Flaw>
     Ok(())
 }
 
-// The places of declared frames rise and are inside a code of so many ops.
+// The places of declared frames rise and are inside a code of `count` ops.
 fn places_rise(count: usize, frames: &[FrameEntry]) -> Result<(), Flaw>
     ensures { result ≡ places_rise 0 count frames.now }
 {
@@ -145,7 +145,7 @@ fn in_tables(schema: &Schema, code: &Code, op: Op) -> Result<(), Flaw>
     }
 }
 
-// The same of the op at a place.
+// The operands of the op at a place, if there is one, name entries of their tables.
 #[tactic(auto, unfolding(crate::specs::Tables::table_at))]
 fn table_at(schema: &Schema, code: &Code, place: Place) -> Result<(), VerifyFault>
     ensures { result ≡ table_at schema.now code.now place }

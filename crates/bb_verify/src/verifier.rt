@@ -14,7 +14,7 @@ use bb_verify_loops::{check_jumps, check_loops};
 use std::alloc::Global;
 
 /// Accepts a code for a part of a source, or returns its first fault: of the tables, of the jumps, of the loops, and
-/// then place by place. At a fault, and where memory runs out, the code is given up.
+/// then place by place. At a fault, and where memory runs out, the code is dropped.
 #[tactic(auto, unfolding(crate::specs::Accepted::accepted, crate::specs::Accepted::checked))]
 pub fn verify(
     alloc: Global,

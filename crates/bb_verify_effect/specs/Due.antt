@@ -1,4 +1,4 @@
--- The kinds that ops have to meet, and what a schema says of them (of this project).
+-- The kinds that ops require, and what a schema says of them (of this project).
 use Rattle.std.specs.Prelude.{ℕ, false, List, ◌∷◌, Option, Some, None, Result, Ok, Err, nat_lt, length}
 use Rattle.std.specs.Prelude.{if◌then◌else◌}
 use Rattle.std.specs.Option.{option_map_or}
@@ -98,7 +98,7 @@ link_slot s class slot = do
   held ← ok_or (held_in s class slot) flaws.Slot
   ok_or (link_kind held) flaws.Slot
 
--- where a singular one leads
+-- where a singular link slot of a class leads
 unfoldable pub single_slot : Schema → (class slot : ℕ) → Result Link Flaw
 single_slot s class slot = do
   link ← link_slot s class slot

@@ -1,6 +1,6 @@
--- What an op does to the frame of its place, or its flaw (of this project). An op tests, in this order: how many operands
--- there are, and whether the stack has room; their kinds; whether a unit is live where it has to be; its slot; the class
--- of a link; its space; its query; whether the part may change the blackboard; and whether it ends so.
+-- What an op does to the frame of its place, or its flaw (of this project). An op tests, in this order: how many
+-- operands there are, and whether the stack has room; their kinds; whether a unit is live where it has to be; its slot;
+-- the class of a link; its space; its query; whether the part may change the blackboard; and whether it ends so.
 use Rattle.std.specs.Prelude.{ℕ, length, map, slice_get, Some, None, ◌==◌, Result, Ok, Err, if◌then◌else◌}
 use Rattle.bb_basis.specs.Results.{◌>>=◌, ok_or}
 use Rattle.bb_verify_frame.specs.Schema.{Schema}

@@ -1,4 +1,4 @@
--- which kinds ops have to meet
+-- which kinds ops require
 pub mod Due
 -- the frames that an op leaves
 pub mod Edges

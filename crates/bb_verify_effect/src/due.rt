@@ -1,4 +1,4 @@
-//! The kinds that ops have to meet, and what a schema says of them. The effects of ops call it.
+//! The kinds that ops require, and what a schema says of them. The effects of ops call it.
 
 ghost use Rattle.std.specs.Prelude.{◌≡◌, length};
 ghost use Rattle.bb_verify_frame.specs.Each.{each};
@@ -81,7 +81,7 @@ pub(crate) fn sayable(kind: Kind) -> Result<(), Flaw>
     }
 }
 
-/// None is a sequence.
+/// None of the kinds is that of a sequence.
 pub(crate) fn all_sayable(kinds: &[Kind]) -> Result<(), Flaw>
     ensures { result ≡ each sayable kinds.now }
 {
@@ -167,7 +167,7 @@ pub(crate) fn link_slot(schema: &Schema, class: ClassId, slot: SlotId) -> Result
     link_kind(held).ok_or(Flaw::Slot)
 }
 
-/// Where a singular one leads.
+/// Where a singular link slot of a class leads.
 #[tactic(auto, unfolding(crate::specs::Due::single_slot))]
 pub(crate) fn single_slot(schema: &Schema, class: ClassId, slot: SlotId) -> Result<Link, Flaw>
     ensures { result ≡ single_slot schema.now class slot }

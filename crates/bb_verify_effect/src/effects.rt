@@ -13,8 +13,8 @@ use crate::plain::{combine, drop_one, eq_label, eq_unit, load, store_local, turn
 use crate::reading::{find, get, links, size};
 use bb_verify_frame::{Code, Flaw, Frame, Kind, Op, Part, Schema};
 
-/// Changes the frame as an op does, and returns whether the next op may come. Where the op goes to a place, `target` gets
-/// the frame there.
+/// Changes the frame as an op does, and returns whether the next op may come. Where the op goes to a place, `target`
+/// gets the frame there.
 #[tactic(auto, unfolding(crate::specs::Effect::effect), using(crate::proofs::EffectLemmas::on_is))]
 pub fn effect(
     schema: &Schema,

@@ -9,7 +9,7 @@ use crate::due::{class_of, due, sequence_of, single_slot};
 use crate::reading::pop_live;
 use bb_verify_frame::{ClassId, Flaw, Frame, Kind, LocalId, Part, Schema, SlotId};
 
-// The next op alone follows, where the frame was changed without a flaw.
+/// The next op alone follows, where the frame was changed without a flaw.
 pub(crate) fn on(done: Result<(), Flaw>) -> Result<bool, Flaw>
     ensures { result ≡ map_ok (λ _. true) done }
 {
@@ -79,7 +79,7 @@ pub(crate) fn next_unit(
     on(frame.push(Kind::Ref(class)))
 }
 
-// The op at the place alone follows.
+/// The op at the place alone follows.
 pub(crate) fn only_there(frame: &Frame, target: &mut Option<Frame>) -> Result<bool, Flaw>
     ensures { map_ok (edges_of frame.now target.new) result ≡ Ok (only_there frame.now) }
 {

@@ -1,5 +1,4 @@
-//! What each op of a code does to the frame of its place. The verifier calls it for one place after another, and takes
-//! frames and codes from here too.
+//! What each op of a code does to the frame at its place, or its flaw.
 #![tactic(auto)]
 
 mod changing;

@@ -11,7 +11,7 @@ use Rattle.bb_code.specs.Flaw.TheVariants.{Depth}
 use Rattle.bb_verify_frame.specs.declared.frame.Frame.{Frame}
 use Rattle.bb_verify_frame.specs.Stack.{newest}
 
--- the same frame with another stack
+-- a frame with another stack in place of its own
 abbrev pub with_stack : List Kind → Frame → Frame
 with_stack stack f = record { locals = f.locals; stack = stack }
 
@@ -34,15 +34,15 @@ pop_two f = do
   first ← pop second.1
   Ok ((first.0, second.0), first.1)
 
--- there are so many entries
+-- there are at least n entries
 unfoldable pub enough : ℕ → Frame → Result (Unit {0}) Flaw
 enough n f = if nat_lt (length f.stack) n then Err Depth else Ok tt
 
--- so many of the newest entries, the deepest first
+-- the n newest entries, the deepest first
 abbrev pub top : ℕ → Frame → List Kind
 top n f = reverse (take n f.stack)
 
--- the frame without so many of the newest entries
+-- the frame without the n newest entries
 abbrev pub without : ℕ → Frame → Frame
 without n f = with_stack (drop n f.stack) f
 

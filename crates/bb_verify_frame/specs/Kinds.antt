@@ -1,5 +1,4 @@
--- Which kinds, and which frames, may stand where others are declared, and what a deletion leaves of a kind (of this
--- project).
+-- Which kinds and frames may stand where others are declared, and what a deletion leaves of a kind (of this project).
 use Rattle.std.specs.Prelude.{ℕ, Bool, true, false, ◌==◌, ◌&&◌, ◌||◌, if◌then◌else◌}
 use Rattle.std.specs.Cmp.Lexicographic.{pointwise}
 use Rattle.bb_code.specs.Schema.{Schema, descends}
@@ -7,7 +6,7 @@ use Rattle.bb_code.specs.Kind.{Kind}
 use Rattle.bb_code.specs.Kind.TheVariants.{Any, Int, Text, Bool as Truth, Label, Interval, Ref, Old, Seq}
 use Rattle.bb_verify_frame.specs.declared.frame.Frame.{Frame}
 
--- one kind of values that are neither units nor sequences
+-- two kinds are the same, and of values that are neither units nor sequences
 abbrev pub is_same_plain : Kind → Kind → Bool
 is_same_plain Int Int = true
 is_same_plain Text Text = true
@@ -24,7 +23,7 @@ weakens s (Old class) (Old ancestor) = descends s class ancestor
 weakens s (Seq class) (Seq ancestor) = descends s class ancestor
 weakens s k declared = is_same_plain k declared
 
--- the same of a local, which may also be declared to be anything
+-- a local of the first kind may stand where one of the second kind is declared, which may also be anything
 unfoldable pub weakens_local : Schema → Kind → Kind → Bool
 weakens_local s k Any = true
 weakens_local s k declared = weakens s k declared
@@ -40,7 +39,7 @@ frame_weakens s f declared =
 abbrev pub related : Schema → (class other : ℕ) → Bool
 related s class other = descends s class other || descends s other class
 
--- what is known of a unit, of a local or an entry of the stack, once a unit of a class was deleted
+-- what is still known of a local or an entry of the stack once a unit of a class was deleted
 unfoldable pub struck : Schema → ℕ → Kind → Kind
 struck s deleted (Ref class) = if related s class deleted then Old class else Ref class
 struck s deleted k = k

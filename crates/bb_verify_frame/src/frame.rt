@@ -29,7 +29,7 @@ impl Frame {
         }
     }
 
-    /// The same once more.
+    /// A copy of the frame.
     pub fn copied(&self) -> Frame
         ensures { result ≡ self.now }
     {
@@ -60,7 +60,7 @@ impl Frame {
         Ok((first, second))
     }
 
-    /// There are so many entries.
+    /// Checks that there are at least `count` entries.
     #[tactic(auto, unfolding(crate::specs::Frame::enough))]
     pub fn enough(&self, count: usize) -> Result<(), Flaw>
         ensures value { result ≡ enough count self.now }
@@ -72,7 +72,7 @@ impl Frame {
         Ok(())
     }
 
-    /// So many of the newest entries, the deepest first.
+    /// The `count` newest entries, the deepest first.
     pub fn top(&self, count: usize) -> &[Kind]
         requires { count ≤ length self.now.stack }
         ensures { result.now ≡ top count self.now }
@@ -80,7 +80,7 @@ impl Frame {
         self.stack.top(count)
     }
 
-    /// Drops so many of the newest entries.
+    /// Drops the `count` newest entries.
     pub fn shorten(&mut self, count: usize)
         requires { count ≤ length self.old.stack }
         ensures { self.new ≡ without count self.old }
@@ -88,7 +88,7 @@ impl Frame {
         self.stack.shorten(count);
     }
 
-    /// The stack has room for one more entry.
+    /// Checks that the stack has room for one more entry.
     #[tactic(auto, unfolding(crate::specs::Frame::room))]
     pub fn room(&self) -> Result<(), Flaw>
         ensures { result ≡ room self.now }

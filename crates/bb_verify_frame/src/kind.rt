@@ -1,5 +1,4 @@
-//! Kinds: which may stand where others are declared, and what a deletion leaves of them. The checks of ops and of edges
-//! call it.
+//! Kinds: which may stand where others are declared, and what a deletion leaves. Checks of ops and edges call it.
 
 ghost use Rattle.std.specs.Prelude.{◌≡◌, map};
 ghost use Rattle.std.specs.Cmp.Lexicographic.{pointwise};
@@ -9,7 +8,7 @@ ghost use Rattle.bb_verify_frame.specs.Frame.{frame_of};
 use crate::frame::Frame;
 use bb_code::{ClassId, Frame as Declared, Kind, Schema};
 
-/// Whether both are one kind of values that are neither units nor sequences.
+/// Whether two kinds are the same, and of values that are neither units nor sequences.
 pub fn is_same_plain(kind: Kind, other: Kind) -> bool
     ensures { result ≡ is_same_plain kind other }
 {
@@ -87,7 +86,7 @@ pub fn frame_weakens(schema: &Schema, frame: &Frame, declared: &Declared) -> boo
     all_weaken(schema, frame.stack.entries(), declared.stack.as_slice())
 }
 
-/// What is known of a unit, of a local or an entry of the stack, once a unit of a class was deleted.
+// What is still known of a local or an entry of the stack once a unit of a class was deleted.
 #[tactic(auto, unfolding(crate::specs::Kinds::struck))]
 fn struck(schema: &Schema, deleted: ClassId, kind: Kind) -> Kind
     ensures { result ≡ struck schema.now deleted kind }
@@ -106,7 +105,7 @@ fn struck(schema: &Schema, deleted: ClassId, kind: Kind) -> Kind
     }
 }
 
-/// The same of all that a slice holds.
+/// Changes each kind of a slice to what is still known once a unit of a class was deleted.
 pub(crate) fn mark_stale(schema: &Schema, deleted: ClassId, kinds: &mut [Kind])
     ensures { kinds.new ≡ map (struck schema.now deleted) kinds.old }
 {

@@ -1,5 +1,5 @@
-//! What is known at a place of a code: the kinds of its locals and of its stack, for a part of a source. The effects of
-//! ops change frames, and the verifier keeps one for each place. Crates above take codes from here too.
+//! What is known at a place of a code: the kinds of its locals and of its stack, for a part of a source, and which
+//! frame may stand where another is declared.
 #![tactic(auto)]
 
 mod frame;

@@ -1,4 +1,4 @@
-//! The kinds of the locals. Frames hold it.
+//! The kinds of the locals. Frames hold them.
 
 ghost use Rattle.std.specs.Prelude.{◌≡◌, ◌<◌, ◌≤◌, length, [], ◌∷◌, ◌++◌, List, Option, Some, None, set, slice_get, map, replicate};
 ghost use Rattle.bb_code.specs.Limits.{LOCAL_LIMIT};
@@ -12,7 +12,7 @@ use std::marker::Model;
 /// The kinds of at most `LOCAL_LIMIT` locals. Contracts see them as a list.
 #[derive(Drop)]
 pub struct Locals {
-    // Those from `count` on mean nothing.
+    // The kinds from `count` on mean nothing.
     kinds: [Kind; LOCAL_LIMIT as usize],
     count: usize,
 }
@@ -29,7 +29,7 @@ impl Model for Locals {
 }
 
 impl Locals {
-    /// So many locals, of which nothing is known.
+    /// `count` locals, of which nothing is known.
     pub fn anything(count: u8) -> Locals
         requires { count ≤ LOCAL_LIMIT }
         ensures { result ≡ replicate count Any }
@@ -55,7 +55,7 @@ impl Locals {
         }
     }
 
-    /// The same once more.
+    /// A copy of the locals.
     pub(crate) fn copied(&self) -> Locals
         ensures { result ≡ self.now }
     {
@@ -75,7 +75,7 @@ impl Locals {
         Some(self.kinds[local as usize])
     }
 
-    /// The same but for one local.
+    /// The locals with another kind for one of them.
     pub fn with(self, local: u8, kind: Kind) -> Locals
         ensures { result ≡ set self local kind }
     {
@@ -101,7 +101,7 @@ impl Locals {
         &self.kinds[..self.count]
     }
 
-    /// Leaves what is known of the locals once a unit of a class was deleted.
+    /// Changes each local's kind to what is still known once a unit of a class was deleted.
     pub fn mark_stale(&mut self, schema: &Schema, deleted: ClassId)
         ensures { self.new ≡ map (struck schema.now deleted) self.old }
     {

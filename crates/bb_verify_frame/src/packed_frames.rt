@@ -1,4 +1,4 @@
-//! The frames of places, one behind the other. The pass over the places fills it, and accepted codes keep it.
+//! The frames of places, one after another. The pass over the places fills it, and accepted codes keep it.
 
 ghost use Rattle.std.specs.Prelude.{◌≡◌, ◌<◌, ◌++◌, ◌∷◌, [], IfOk, OnErr, OnOk, Some, length, reverse, slice_get};
 ghost use Rattle.bb_verify_frame.specs.proving.Packed.{Lies, frame_in};
@@ -60,7 +60,7 @@ fn put_kinds(kinds: &mut Vec<Kind>, frame: &Frame) -> Result<Span, AllocError>
     })
 }
 
-// The frame whose kinds lie there.
+// The frame whose kinds lie in a span.
 fn frame_in(kinds: &[Kind], span: Span) -> Frame
     requires { Lies (length kinds.now) span }
     ensures { result ≡ frame_in kinds.now span }

@@ -8,9 +8,9 @@ use bb_code::{ClassId, Flaw};
 /// Which part of a source a code is for: `class` is that of the activation's unit, `of` that of the event's unit.
 #[derive(Clone, Copy, Debug, PartialEq, Eq)]
 pub enum Part {
-    /// Whether an activation comes to be, and with which rating.
+    /// Whether an activation is made, and with which rating.
     Require { class: ClassId },
-    /// Whether an event makes an activation needless.
+    /// Whether an event makes an activation unnecessary.
     Obviate { class: ClassId, of: ClassId },
     /// Whether an event gives an activation another rating, and which.
     Retrigger { class: ClassId, of: ClassId },

@@ -1,4 +1,4 @@
-//! The kinds of the entries of a stack. Frames hold it.
+//! The kinds of the entries of a stack. Frames hold them.
 
 ghost use Rattle.std.specs.Prelude.{◌≡◌, ◌<◌, ◌≤◌, length, [], ◌∷◌, List, Option, Some, None, option_map, drop, reverse, take, map};
 ghost use Rattle.bb_code.specs.Limits.{STACK_LIMIT};
@@ -12,7 +12,7 @@ use std::marker::Model;
 /// The kinds of at most `STACK_LIMIT` entries. Contracts see them as a list, the newest first.
 #[derive(Drop)]
 pub struct Stack {
-    // The deepest first. Those from `len` on mean nothing.
+    // The deepest first. The kinds from `len` on mean nothing.
     kinds: [Kind; STACK_LIMIT],
     len: usize,
 }
@@ -29,7 +29,7 @@ impl Model for Stack {
 }
 
 impl Stack {
-    /// The same once more.
+    /// A copy of the stack.
     pub(crate) fn copied(&self) -> Stack
         ensures { result ≡ self.now }
     {
@@ -88,7 +88,7 @@ impl Stack {
         Some(self.kinds[self.len])
     }
 
-    /// Drops so many of the newest entries.
+    /// Drops the `count` newest entries.
     pub(crate) fn shorten(&mut self, count: usize)
         requires { count ≤ length self.old }
         ensures { self.new ≡ drop count self.old }
@@ -96,7 +96,7 @@ impl Stack {
         self.len -= count;
     }
 
-    /// So many of the newest entries, the deepest first.
+    /// The `count` newest entries, the deepest first.
     pub(crate) fn top(&self, count: usize) -> &[Kind]
         requires { count ≤ length self.now }
         ensures { result.now ≡ reverse (take count self.now) }
@@ -112,7 +112,7 @@ impl Stack {
         &self.kinds[..self.len]
     }
 
-    /// Leaves what is known of the entries once a unit of a class was deleted.
+    /// Changes each entry's kind to what is still known once a unit of a class was deleted.
     pub fn mark_stale(&mut self, schema: &Schema, deleted: ClassId)
         ensures { self.new ≡ map (struck schema.now deleted) self.old }
     {

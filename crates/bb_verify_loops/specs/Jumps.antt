@@ -25,7 +25,7 @@ target_of op = None
 abbrev pub before : (place other : ℕ) → Result (Unit {0}) Flaw
 before place other = if nat_lt place other then Ok tt else Err Jump
 
--- an op goes to a place ahead of it, inside a code of so many ops
+-- an op goes to a place ahead of it, inside a code of `count` ops
 unfoldable pub ahead : (count place target : ℕ) → Result (Unit {0}) Flaw
 ahead count place target = do
   _ ← before place target
@@ -42,7 +42,7 @@ check_target count place (ops.Next l target) = before target count
 check_target count place (ops.Back target) = before target place
 check_target count place op = Ok tt
 
--- the same of the op at a place
+-- the op at a place, if there is one, goes to where it may
 unfoldable pub jump_at : Code → ℕ → Result (Unit {0}) VerifyFault
 jump_at code place =
     elim (slice_get code.ops place)

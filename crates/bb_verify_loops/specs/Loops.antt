@@ -14,12 +14,12 @@ use Rattle.bb_verify_loops.specs.declared.loops.TheConstants.{NESTING_LIMIT}
 use Rattle.bb_code.specs.Each.{each}
 use Rattle.bb_code.specs.Flaws.{fault_at}
 
--- the test holds, or the loops are not in order
+-- the loops are not in order unless the test holds
 abbrev pub check_order : Bool → Result (Unit {0}) Flaw
 check_order true = Ok tt
 check_order false = Err flaws.Loop
 
--- the test would show that the loops are not in order
+-- the loops are not in order if the test holds
 abbrev pub never : Bool → Result (Unit {0}) Flaw
 never true = Err flaws.Loop
 never false = Ok tt
@@ -38,7 +38,7 @@ depth code place = length (filter (holds place) code.loops)
 abbrev pub is_misplaced : ℕ → (first second : Loop) → Bool
 is_misplaced place first second = (second.head == place) && nat_le second.head first.head
 
--- no loop with its head at the place is listed right behind one whose head is not before it
+-- no loop with its head at the place is listed right after one whose head is not before it
 unfoldable pub rising : ℕ → List Loop → Result (Unit {0}) Flaw
 rising place (first ∷ second ∷ ls) =
     never (is_misplaced place first second) >>= λ _. rising place (second ∷ ls)
@@ -67,7 +67,7 @@ local_in _ = None
 abbrev pub local_of : Code → Loop → Option ℕ
 local_of code l = local_in (slice_get code.ops l.head)
 
--- both have a local, and it is the same
+-- two locals are there and equal
 abbrev pub is_same_local : Option ℕ → Option ℕ → Bool
 is_same_local (Some l) (Some other) = l == other
 is_same_local _ _ = false
@@ -76,7 +76,7 @@ is_same_local _ _ = false
 abbrev pub is_around : Loop → Loop → Bool
 is_around outer l = nat_lt outer.head l.head && nat_lt l.head outer.end
 
--- a loop around this one ends no earlier, and has another local
+-- if the second loop is around the first, it ends no earlier and has another local
 unfoldable pub nests : Code → Loop → Loop → Result (Unit {0}) Flaw
 nests code l outer = do
   _ ← never (is_around outer l && nat_lt outer.end l.end)
@@ -89,7 +89,7 @@ loop_due code l = do
   _ ← check_order (ends l (op_before code l.end))
   each (nests code l) code.loops
 
--- the same of a loop with its head at the place
+-- a loop with its head at the place begins and ends as it has to, and nests with all others
 unfoldable pub head_due : Code → ℕ → Loop → Result (Unit {0}) Flaw
 head_due code place l = if l.head == place then loop_due code l else Ok tt
 
@@ -109,7 +109,7 @@ enters_at_head place target l = if holds target l then check_order (holds place 
 unfoldable pub keeps_local : Code → (place local : ℕ) → Loop → Result (Unit {0}) Flaw
 keeps_local code place local l = never (holds place l && is_same_local (local_of code l) (Some local))
 
--- what an op may do at a place, for the loops
+-- the loops let an op at a place do what it does
 unfoldable pub op_due : Code → ℕ → Op → Result (Unit {0}) Flaw
 op_due code place (ops.Next local target) = check_order (list_any (is_head place) code.loops)
 op_due code place (ops.Back target) = check_order (list_any (is_end (place + 1)) code.loops)
@@ -123,7 +123,7 @@ op_due code place op = Ok tt
 
 -- ---- a place, and all of them
 
--- the loops with their heads at the place, how many loops hold it, and its op
+-- the loops with their heads at the place, how many loops hold the place, and the op there
 unfoldable pub place_due : Code → ℕ → Option Op → Result (Unit {0}) Flaw
 place_due code place None = Ok tt
 place_due code place (Some op) = do
@@ -140,7 +140,7 @@ abbrev pub lesser : Option ℕ → ℕ → ℕ
 lesser None head = head
 lesser (Some so_far) head = min so_far head
 
--- the lowest head that is no place of a code of so many ops
+-- the lowest head that is no place of a code of `count` ops
 unfoldable pub lowest_outside : ℕ → Option ℕ → List Loop → Option ℕ
 lowest_outside count so_far [] = so_far
 lowest_outside count so_far (l ∷ ls) =

@@ -32,7 +32,7 @@ fn before(place: usize, other: usize) -> Result<(), Flaw>
     Err(Flaw::Jump)
 }
 
-// An op goes to a place ahead of it, inside a code of so many ops.
+// An op goes to a place ahead of it, inside a code of `count` ops.
 #[tactic(auto, unfolding(crate::specs::Jumps::ahead))]
 fn ahead(count: usize, place: Place, target: Place) -> Result<(), Flaw>
     ensures { result ≡ ahead count place target }
@@ -58,7 +58,7 @@ fn check_target(count: usize, place: Place, op: Op) -> Result<(), Flaw>
     }
 }
 
-// The same of the op at a place.
+// The op at a place, if there is one, goes to where it may.
 #[tactic(auto, unfolding(crate::specs::Jumps::jump_at))]
 fn jump_at(code: &Code, place: Place) -> Result<(), VerifyFault>
     ensures { result ≡ jump_at code.now place }

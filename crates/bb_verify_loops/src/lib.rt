@@ -1,4 +1,5 @@
-//! Where the ops of a code may go: its jumps and its loops. The verifier calls it, before it looks at what ops do.
+//! Where the ops of a code may go: jumps ahead, and loops that nest. The verifier asks this first, before it looks at
+//! what ops do.
 #![tactic(auto)]
 
 mod jumps;

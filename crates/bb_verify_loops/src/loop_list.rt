@@ -1,5 +1,5 @@
-//! The list of the loops of a code: up to which place it rises, and whether all heads are inside the code. `check_loops`
-//! asks it.
+//! The list of the loops of a code: up to which place it rises, and whether all heads are inside the code.
+//! `check_loops` calls it.
 
 ghost use Rattle.std.specs.Prelude.{◌≡◌, None, length};
 ghost use Rattle.bb_verify_loops.specs.Loops.{lesser, lowest_outside, none_outside};
@@ -17,8 +17,8 @@ fn least_misplaced(so_far: Place, first: Loop, second: Loop) -> Place
     so_far
 }
 
-// The list of the loops rises up to there: the lowest head of a loop that is listed right behind one whose head is not
-// before it, or the number of ops.
+// The place up to which the list of the loops rises: the lowest head of a loop that is listed right after one whose
+// head is not before it, but at most `count`.
 fn sorted_below(count: Place, loops: &[Loop]) -> Place
     ensures { result ≡ sorted_below count loops.now }
 {
@@ -31,7 +31,7 @@ fn sorted_below(count: Place, loops: &[Loop]) -> Place
     sorted
 }
 
-/// The list of the loops of a code rises up to there.
+/// The place up to which the list of the loops of a code rises.
 pub(crate) fn sorted_of(code: &Code) -> Place
     ensures { result ≡ sorted_below (length code.now.ops) code.now.loops }
 {
@@ -48,7 +48,7 @@ fn lesser(so_far: Option<Place>, head: Place) -> Place
     }
 }
 
-// The lowest head that is no place of a code of so many ops.
+// The lowest head that is no place of a code of `count` ops.
 fn lowest_outside(count: usize, loops: &[Loop]) -> Option<Place>
     ensures { result ≡ lowest_outside count None loops.now }
 {
@@ -82,7 +82,7 @@ fn all_inside(code: &Code) -> Result<(), VerifyFault>
     none_outside(lowest_outside(code.ops().len(), code.loops()))
 }
 
-/// What comes after the places up to which the list rises: the place where it does not, or a head outside the code.
+/// The fault after the places up to which the list rises: the place where it does not, or a head outside the code.
 pub(crate) fn rest_of(code: &Code, sorted: Place) -> Result<(), VerifyFault>
     requires { sorted ≡ sorted_below (length code.now.ops) code.now.loops }
     ensures { result ≡ rest_of code.now }

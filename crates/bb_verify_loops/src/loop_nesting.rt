@@ -1,5 +1,5 @@
-//! One loop of a code: how it begins and ends, and that it nests with the others. `check_loops` asks it of the loop with
-//! its head at a place.
+//! One loop of a code: how it begins and ends, and that it nests with the others. `check_loops` calls it for the loop
+//! with its head at a place.
 
 ghost use Rattle.std.specs.Prelude.{◌≡◌, filter};
 ghost use Rattle.bb_code.specs.Each.{each};
@@ -8,7 +8,7 @@ ghost use Rattle.bb_verify_loops.specs.proving.OpenLoops.{IsAt};
 
 use bb_code::{Code, Flaw, LocalId, Loop, Op, Place};
 
-/// The test holds, or the loops are not in order.
+/// Returns `Flaw::Loop` unless the test holds.
 pub(crate) fn check_order(test: bool) -> Result<(), Flaw>
     ensures { result ≡ check_order test }
 {
@@ -18,7 +18,7 @@ pub(crate) fn check_order(test: bool) -> Result<(), Flaw>
     }
 }
 
-/// The test would show that the loops are not in order.
+/// Returns `Flaw::Loop` if the test holds.
 pub(crate) fn never(test: bool) -> Result<(), Flaw>
     ensures { result ≡ never test }
 {
@@ -74,7 +74,7 @@ pub(crate) fn local_of(code: &Code, l: Loop) -> Option<LocalId>
     local_in(code.op(l.head as usize))
 }
 
-/// Both have a local, and it is the same.
+/// Whether both locals are there and equal.
 pub(crate) fn is_same_local(local: Option<LocalId>, other: Option<LocalId>) -> bool
     ensures { result ≡ is_same_local local other }
 {
@@ -91,7 +91,7 @@ fn is_around(outer: Loop, l: Loop) -> bool
     outer.head < l.head && l.head < outer.end
 }
 
-// A loop around this one ends no earlier, and has another local.
+// If `outer` is around `l`, it ends no earlier and has another local.
 #[tactic(auto, unfolding(crate::specs::Loops::nests))]
 fn nests(code: &Code, l: Loop, outer: Loop) -> Result<(), Flaw>
     ensures { result ≡ nests code.now l outer }
@@ -109,7 +109,7 @@ fn nests_with_all(code: &Code, l: Loop, loops: &[Loop]) -> Result<(), Flaw>
     Ok(())
 }
 
-// It nests with all others, if it does so with those that hold its head.
+// A loop nests with all others. Only those that hold its head need be looked at.
 fn nests_around(code: &Code, l: Loop, around: &[Loop]) -> Result<(), Flaw>
     requires { around.now ≡ filter (holds l.head) code.now.loops }
     ensures { result ≡ each (nests code.now l) code.now.loops }

@@ -1,5 +1,5 @@
-//! What an op may do for the loops: where a Next and a Back stand, where jumps go, and into which locals is stored.
-//! `check_loops` asks it of the op at a place.
+//! What the loops let an op do: where a Next and a Back stand, where jumps go, and which locals are stored to.
+//! `check_loops` calls it for the op at a place.
 
 ghost use Rattle.std.specs.Prelude.{◌≡◌, ◌+◌, ◌<◌, Ok, length};
 ghost use Rattle.std.specs.List.{list_any};
@@ -85,7 +85,7 @@ fn keeps_around(
     keeps_locals(code, place as usize, local, around)
 }
 
-/// What an op may do at a place, for the loops.
+/// Checks that the loops let an op at a place do what it does.
 #[tactic(auto, unfolding(crate::specs::Loops::op_due, crate::specs::Jumps::check_target))]
 pub(crate) fn op_due(
     code: &Code,

@@ -7,12 +7,18 @@ use bb_basis::Items;
 use bb_code::{Code, Loop};
 use std::alloc::{AllocError, Global};
 
-/// What is known of all loops of a code, whether or not they are in order.
+/// What is known of all loops of a code, whether or not they are in order. For the loops 1-5 and 2-4 of 6 ops:
+///
+/// ```text
+/// index    0 1 2 3 4 5 6
+/// ends     . . . . x x .
+/// deepest  0 0 2 3 3 2 0
+/// ```
 #[derive(Drop)]
 pub(crate) struct LoopTables {
     /// For each place, and for the one past the last, whether a loop ends there.
     pub(crate) ends: Items<bool>,
-    /// For each place, one further on, one more than the greatest head of the loops that hold it, or 0.
+    /// At index `place + 1` one more than the greatest head of the loops that hold the place, or 0. At index 0 it is 0.
     pub(crate) deepest: Items<usize>,
 }
 
@@ -24,7 +30,7 @@ fn put_end(ends: &mut Vec<bool>, end: usize)
     }
 }
 
-// For each of so many places whether a loop ends there.
+// For each of `count` places whether a loop ends there.
 fn ends_of(alloc: Global, count: usize, loops: &[Loop]) -> Result<Vec<bool>, AllocError>
     ensures { IfOk result (λ v. HasEnds count loops.now v.items) }
 {
@@ -43,7 +49,8 @@ fn put_reach(reach: &mut Vec<usize>, head: usize, end: usize)
     }
 }
 
-// For each of so many places the greatest end of the loops with their heads there, or 0.
+// For each of `count` places the greatest end of the loops with their heads there, or 0: for the loops 1-5 and 2-4 of
+// 6 ops 0 5 4 0 0 0.
 fn reach_of(alloc: Global, count: usize, loops: &[Loop]) -> Result<Vec<usize>, AllocError>
     ensures { IfOk result (λ v. HasReach count loops.now v.items) }
 {
@@ -54,8 +61,8 @@ fn reach_of(alloc: Global, count: usize, loops: &[Loop]) -> Result<Vec<usize>, A
     Ok(reach)
 }
 
-// One more than the greatest head from which a loop reaches over the place, or 0. A head from which none does is passed
-// over, and with it those from which none reaches over the place before it.
+// One more than the greatest head from which a loop reaches over the place, or 0. Where none does from a head,
+// the search goes on at the greatest head from which one reaches over the place before that head.
 fn deepest_at(reach: &[usize], deepest: &[usize], place: usize) -> usize
     requires inside { place < length reach.now }
     requires before { HasDeepest place reach.now deepest.now }
@@ -68,7 +75,7 @@ fn deepest_at(reach: &[usize], deepest: &[usize], place: usize) -> usize
     found
 }
 
-// The same for each place, one further on.
+// At index `place + 1` what `deepest_at` gives for the place, and 0 at index 0.
 fn deepest_of(alloc: Global, reach: &[usize]) -> Result<Vec<usize>, AllocError>
     ensures { IfOk result (λ v. HasDeepest (length reach.now) reach.now v.items) }
 {
@@ -82,7 +89,7 @@ fn deepest_of(alloc: Global, reach: &[usize]) -> Result<Vec<usize>, AllocError>
     Ok(deepest)
 }
 
-// For each place, one further on, one more than the greatest head of the loops that hold it, or 0.
+// The table `deepest` of `LoopTables`, for a code of `count` ops.
 fn heads_of(alloc: Global, count: usize, loops: &[Loop]) -> Result<Vec<usize>, AllocError>
     ensures { IfOk result (λ v. HasHeads count loops.now v.items) }
 {

@@ -23,7 +23,7 @@ use std::alloc::{AllocError, Global};
 /// The greatest number of loops that hold one place.
 pub const NESTING_LIMIT: usize = 4;
 
-// No more loops than may nest hold the place.
+// Whether at most `NESTING_LIMIT` loops hold the place.
 fn few_around(code: &Code, place: Place, here: Option<Loop>, around: &[Loop]) -> bool
     requires { IsAt code.now place here around.now }
     ensures { result ≡ nat_le (depth code.now place) NESTING_LIMIT }
@@ -31,7 +31,7 @@ fn few_around(code: &Code, place: Place, here: Option<Loop>, around: &[Loop]) ->
     around.len() <= NESTING_LIMIT
 }
 
-// The loop with its head at the place, how many loops hold it, and its op.
+// Checks the loop with its head at the place, how many loops hold the place, and the op there.
 #[tactic(auto, unfolding(crate::specs::proving::OpenLoops::rest_due))]
 fn rest_due(
     code: &Code,
@@ -52,7 +52,7 @@ fn rest_due(
     op_due(code, tables, place, op, here, around)
 }
 
-// The same of the op at the place, if it is one.
+// Checks the loops at the place and its op, if there is one.
 fn place_due(
     code: &Code,
     tables: &LoopTables,
@@ -110,7 +110,7 @@ fn loops_at(code: &Code, place: Place, next: usize) -> Option<Loop>
     }
 }
 
-// How many loops of the list were met.
+// The index of the loop in the list that comes next, after the one with its head here.
 fn passed(next: usize, here: Option<Loop>) -> usize
     requires { next < 65536 }
     ensures { result ≡ passed next here }
@@ -133,14 +133,14 @@ fn add(around: &mut Vec<Loop>, here: Option<Loop>) -> Result<(), AllocError>
     }
 }
 
-// The loops that end after the place.
+// Keeps the loops that end after the place.
 fn leave_ended(around: &mut Vec<Loop>, place: Place)
     ensures { around.new.items ≡ filter (lasts place) around.old.items }
 {
     around.retain(|l| place < l.end);
 }
 
-// The loops that hold the place, from those that held the place before it.
+// Turns the loops that held the place before into those that hold this one.
 fn enter(around: &mut Vec<Loop>, place: Place, here: Option<Loop>) -> Result<(), AllocError>
     ensures { IfOk result (λ _. around.new.items ≡ entered place around.old.items here) }
 {
@@ -149,7 +149,7 @@ fn enter(around: &mut Vec<Loop>, place: Place, here: Option<Loop>) -> Result<(),
     Ok(())
 }
 
-// How many loops hold each of the first places, or the first fault there. The list rises up to them.
+// How many loops hold each place before `sorted`, up to which the list rises, or the first fault there.
 #[tactic(auto, unfolding(crate::specs::proving::OpenLoops::depths_below))]
 fn depths_below(
     alloc: Global,
@@ -176,7 +176,7 @@ fn depths_below(
     Ok(Items::from(depths))
 }
 
-/// Answers how many loops hold each place, or the first place at which the loops are not in order.
+/// Returns how many loops hold each place, or the first place at which the loops are not in order.
 pub fn check_loops(alloc: Global, code: &Code) -> Result<Items<usize>, VerifyFault>
     requires { jumps code.now ≡ Ok tt }
     ensures fault { Gives out_of_memory (λ _. tt) result (loops code.now) }

@@ -12,7 +12,7 @@ pub(crate) enum Fault {
     /// The text is no code.
     #[error("{0}")]
     Text(AsmFault),
-    /// The digits are none.
+    /// The input is not pairs of hex digits.
     #[error("the input is not pairs of hex digits")]
     Hex,
     /// The bytes are no code.

@@ -19,12 +19,12 @@ const USAGE: &str =
                                  with the file of a schema also the names that it gives
 Standard input is the code. Status 1: it is none; 2: the words on the command line are wrong.";
 
-/// What the words of the command line ask for.
+// What the words of the command line ask for.
 #[derive(Clone, Copy)]
 enum Task<'a> {
     Hex,
     Text,
-    /// A listing, with the file of a schema.
+    // A listing, with the file of a schema.
     List(Option<&'a str>),
 }
 
@@ -38,7 +38,7 @@ fn task_of<'a>(words: &[&'a str]) -> Option<Task<'a>> {
     }
 }
 
-/// The code that hex digits spell.
+// The code that hex digits spell.
 fn code_of_hex(alloc: Global, digits: &str) -> Result<Code, Fault> {
     let Ok(bytes) = hex::decode(alloc, digits.trim()) else {
         return Err(Fault::Hex);
@@ -46,7 +46,7 @@ fn code_of_hex(alloc: Global, digits: &str) -> Result<Code, Fault> {
     Ok(Code::decode(alloc, &bytes)?)
 }
 
-/// The code of hex digits, which begin like each code, or else of a text.
+// The code that hex digits spell, if the input begins with those of each code, or else the code of a text.
 fn code_of_either(alloc: Global, input: &str) -> Result<Code, Fault> {
     if input.trim().starts_with("424243") {
         code_of_hex(alloc, input)
@@ -61,7 +61,7 @@ fn hex_of(alloc: Global, code: &Code) -> Result<String, Fault> {
     Ok(line)
 }
 
-/// The schema of a file, where one is named.
+// The schema of a file, if one is named.
 fn schema_of<R: Files + AllocGlobal>(rt: &R, file: Option<&str>) -> Result<Option<Schema>, Fault> {
     let Some(file) = file else {
         return Ok(None);
@@ -72,7 +72,7 @@ fn schema_of<R: Files + AllocGlobal>(rt: &R, file: Option<&str>) -> Result<Optio
     Ok(Some(Schema::read(rt.alloc(), &text)?))
 }
 
-/// What a task makes of the input.
+// What a task makes of the input.
 fn answer<R: Files + AllocGlobal>(rt: &R, task: Task<'_>, input: &str) -> Result<String, Fault> {
     let alloc = rt.alloc();
     match task {

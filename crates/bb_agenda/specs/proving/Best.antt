@@ -22,7 +22,7 @@ abbrev pub better : Option Candidate → Candidate → Candidate
 better None next = next
 better (Some best) next = if precedes next.rating next.number best.rating best.number then next else best
 
--- it is one of those that are pending
+-- the candidate stands for an activation that is pending
 abbrev pub StandsFor : (ℕ → ℤ → ℤ) → List (BTreeSet Rank) → Candidate → Type 0
 StandsFor rate orders b =
     (s : ℕ) × (r : Rank) × (is_ranked orders s r ≡ true) × (b.rating ≡ rate s r.base.0) × (b.number ≡ r.number)
@@ -32,7 +32,7 @@ abbrev pub IsFirst : ℤ → ℕ → Option Candidate → Type 0
 IsFirst rating number None = ⊥
 IsFirst rating number (Some b) = precedes rating number b.rating b.number ≡ false
 
--- the best of the first so many sources
+-- the best of the first count sources
 pub record BestOf (rate : ℕ → ℤ → ℤ) (orders : List (BTreeSet Rank)) (count : ℕ) (best : Option Candidate) : Type 0 where
   pub stands : (b : Candidate) → best ≡ Some b → StandsFor rate orders b
   pub first : (s : ℕ) (r : Rank) → s < count → is_ranked orders s r ≡ true → IsFirst (rate s r.base.0) r.number best

@@ -12,14 +12,14 @@ use Rattle.bb_agenda.specs.proving.Lists.{listed}
 use Rattle.bb_agenda.specs.proving.Ranks.{AreRanked}
 
 pub record AreFiled (activations : List Activation) (numbers : List ℕ) (lists : BTreeMap ℕ (List ℕ)) : Type 0 where
-  -- their numbers rise
+  -- the numbers of the activations rise
   pub rising : RisesBy number_of activations
-  -- and are those that are kept
+  -- the numbers are those of the activations
   pub numbered : numbers ≡ map number_of activations
-  -- the list of each source has its own
+  -- the list of each source has the numbers of its activations
   pub sourced : (source : ℕ) → listed lists source ≡ map number_of (filter (is_of source) activations)
 
--- each is kept under its number
+-- each activation is kept under its number
 abbrev pub AreKeyed : List (ℕ × Activation) → Type 0
 AreKeyed entries = AllByRecursion (λ e. e.0 ≡ e.1.number) entries
 

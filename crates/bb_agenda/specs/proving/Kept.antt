@@ -17,7 +17,7 @@ abbrev pub entry_in : List Activation → List ℕ → ℕ → Entry
 entry_in kept gone number =
     if is_gone gone number then obviated else option_map_or pending (find (has_number number) kept) executed
 
--- what became of so many activations
+-- what became of all activations that were given
 unfoldable pub entries_of : ℕ → List Activation → List ℕ → List Entry
 entries_of given kept gone = map (entry_in kept gone) (range_with_len 1 given)
 
@@ -26,5 +26,5 @@ pub record IsKept (given : ℕ) (kept : List Activation) (gone : List ℕ) : Typ
   pub numbers : AllByRecursion (λ a. a.number ≤ given) kept
   -- no other number was obviated
   pub gone_given : (number : ℕ) → given < number → is_gone gone number ≡ false
-  -- they are all that is pending
+  -- the activations that are kept are all that is pending
   pub all : filter_map if_pending (entries_of given kept gone) ≡ kept

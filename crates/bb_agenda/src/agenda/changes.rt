@@ -13,7 +13,7 @@ use bb_schema::UnitId;
 use std::alloc::AllocError;
 
 impl Agenda {
-    /// Refuses a change, where memory was refused to one before.
+    // Refuses a change, where memory was refused to one before.
     fn guard(&self) -> Result<(), Memory>
         ensures ok { OnOk result (self.now.refused ≡ false) }
         ensures err { OnErr result (self.now.refused ≡ true) }
@@ -24,7 +24,7 @@ impl Agenda {
         Ok(())
     }
 
-    /// Keeps whether memory was refused to a change.
+    // Keeps whether memory was refused to a change.
     fn keep(&mut self, refused: bool)
         ensures { self.new ≡ (if refused then when_refused self.old else self.old) }
     {
@@ -60,8 +60,8 @@ impl Agenda {
         changed
     }
 
-    /// The pending activation of a number is executed now, so it is no longer pending; a number of no pending activation
-    /// changes nothing. `Memory`: a change before this one was refused.
+    /// The pending activation of a number is executed now, so it is no longer pending; a number of no pending
+    /// activation changes nothing. `Memory`: a change before this one was refused.
     pub fn executed(&mut self, number: u64) -> Result<(), Memory>
         ensures ok { OnOk result (self.new ≡ with_executed self.old number) }
         ensures err { OnErr result (self.new ≡ when_refused self.old) }

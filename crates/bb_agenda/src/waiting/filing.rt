@@ -21,8 +21,8 @@ use std::alloc::{AllocError, Global};
 use std::cmp::Reverse;
 use std::collections::{BTreeMap, BTreeSet};
 
-/// Puts an activation into the list and the order of its source. After an error it stands in none, and the others as
-/// before.
+// Puts an activation into the list and the order of its source. After an error it is in neither, and the others are as
+// before.
 fn file(
     alloc: Global,
     lists: &mut BTreeMap<u16, Row>,
@@ -47,7 +47,7 @@ fn file(
     Ok(())
 }
 
-/// Keeps an activation, whose number is above all others. After an error it is not there, and the others as before.
+/// Keeps an activation, whose number is above all others. After an error it is not there, and the others are as before.
 pub(crate) fn store(
     alloc: Global,
     activations: &mut BTreeMap<u64, Activation>,

@@ -25,7 +25,7 @@ use bb_units::CreateFault;
 use std::alloc::AllocError;
 
 impl Board {
-    /// Refuses a change, where memory was refused to one before.
+    // Refuses a change, where memory was refused to one before.
     fn guard(&self) -> Result<(), Memory>
         ensures ok { OnOk result (self.now.refused ≡ false) }
         ensures err { OnErr result (self.now.refused ≡ true) }
@@ -36,7 +36,7 @@ impl Board {
         Ok(())
     }
 
-    /// Keeps whether memory was refused to a change.
+    // Keeps whether memory was refused to a change.
     fn keep(&mut self, refused: bool)
         ensures { self.new ≡ (if refused then when_refused self.old else self.old) }
     {
@@ -63,8 +63,7 @@ impl Board {
     }
 
     /// Sets a slot of a unit to a value that it may be set to, tells the unit's spaces, and notes the event, also where
-    /// the value is equal.
-    /// `Memory`: this change was refused, or one before it.
+    /// the value is equal. `Memory`: this change was refused, or one before it.
     pub fn set(&mut self, unit: UnitId, slot: SlotId, value: Value) -> Result<(), Memory>
         requires { may_set self.old.world unit slot value ≡ Ok tt }
         ensures ok { OnOk result (self.new ≡
@@ -79,9 +78,9 @@ impl Board {
         changed
     }
 
-    /// Links two units that may be linked by a slot, and notes each link that goes and the new one, all at both of their
-    /// units. If the slot is singular the unit's old link goes, then if its inverse is singular the partner's. Where they
-    /// are linked nothing changes. `Memory`: this change was refused, or one before it.
+    /// Links two units that may be linked by a slot, and notes each link that goes and the new one, all at both of
+    /// their units. If the slot is singular the unit's old link goes, then if its inverse is singular the partner's.
+    /// Where they are linked nothing changes. `Memory`: this change was refused, or one before it.
     pub fn link(&mut self, unit: UnitId, slot: SlotId, partner: UnitId) -> Result<(), Memory>
         requires { may_link self.old.schema self.old.world unit slot partner ≡ Ok tt }
         ensures ok { OnOk result (self.new ≡
@@ -112,9 +111,9 @@ impl Board {
         changed
     }
 
-    /// Deletes a live unit with all its links, and takes it out of all spaces. It notes each link, slot by slot in class
-    /// order, at both of its units, then that it leaves its spaces, by their numbers, and then that it is gone. Its
-    /// number is never used again. `Memory`: this change was refused, or one before it.
+    /// Deletes a live unit with all its links, and takes it out of all spaces. It notes each link, slot by slot in
+    /// class order, at both of its units, then that it leaves its spaces, by their numbers, and then that it is gone.
+    /// Its number is never used again. `Memory`: this change was refused, or one before it.
     pub fn delete(&mut self, unit: UnitId) -> Result<(), Memory>
         requires { IsTrue (is_live self.old.world.units unit) }
         ensures ok { OnOk result (self.new ≡ with_world self.old (after_delete self.old.schema self.old.world unit)) }
@@ -159,8 +158,8 @@ impl Board {
         changed
     }
 
-    /// Lets a live unit leave a space of the schema, and notes it. Where it is no member nothing changes. `Memory`: this
-    /// change was refused, or one before it.
+    /// Lets a live unit leave a space of the schema, and notes it. Where it is no member nothing changes. `Memory`:
+    /// this change was refused, or one before it.
     pub fn leave(&mut self, unit: UnitId, space: SpaceId) -> Result<(), Memory>
         requires live { IsTrue (is_live self.old.world.units unit) }
         requires space { space < length self.old.schema.spaces }
@@ -183,12 +182,12 @@ impl Board {
         self.world.take_notes()
     }
 
-    /// Creates the first units of a JSON document on a fresh blackboard, sets the values that it gives them, links them,
-    /// lets them enter spaces, and notes all that. Or tells the document's first fault: `Json` where the text is not
-    /// JSON, then `Shape` where the JSON has another form, then the first fault of the units in their order, then that
-    /// of the links, and then that of the spaces. Of a unit the name is checked first, then its class, then whether
-    /// there is room, then its values; of a link the names of its units and of its slot, then the class of the second
-    /// unit; of a space its unit's name and its own, then whether it takes the unit's class. A fault leaves the
+    /// Creates the first units of a JSON document on a fresh blackboard, sets the values that it gives them, links
+    /// them, lets them enter spaces, and notes all that. Or returns the document's first fault: `Json` where the text
+    /// is not JSON, then `Shape` where the JSON has another form, then the first fault of the units in their order,
+    /// then that of the links, and then that of the spaces. Of a unit the name is checked first, then its class, then
+    /// whether there is room, then its values; of a link the names of its units and of its slot, then the class of the
+    /// second unit; of a space its unit's name and its own, then whether it takes the unit's class. A fault leaves the
     /// blackboard as it was. `Memory` may come at any point; then this load was refused, or a change before it.
     pub fn load(&mut self, text: &str) -> Result<(), UnitsFault>
         requires { is_fresh self.old ≡ true }

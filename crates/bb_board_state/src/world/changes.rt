@@ -52,8 +52,8 @@ impl World {
         Ok(())
     }
 
-    /// Links two units that may be linked by a slot. If the slot is singular the unit's old link goes, then if its inverse
-    /// is singular the partner's. Where they are linked nothing changes.
+    /// Links two units that may be linked by a slot. If the slot is singular the unit's old link goes, then if its
+    /// inverse is singular the partner's. Where they are linked nothing changes.
     pub fn link(&mut self, unit: UnitId, slot: SlotId, partner: UnitId) -> Result<(), Memory>
         requires { may_link self.old.schema self.old.world unit slot partner ≡ Ok tt }
         ensures ok { OnOk result (self.new ≡

@@ -16,17 +16,17 @@ pub record IsAgain (code : Code) : Type 0 where
   pub word : list_all (nat_le 33) (code_digits code) ≡ true
   pub read : (line : ℕ) → code_in line (code_digits code) ≡ Ok code
 
--- the same of a part that is a code alone
+-- the hex digits of a part that is a code alone spell it, if the part is there
 abbrev pub AreAgain : Option Code → Type 0
 AreAgain None = Unit {0}
 AreAgain (Some code) = IsAgain code
 
--- of a reaction
+-- the hex digits of a reaction's code spell it, if the reaction is there
 abbrev pub IsReactionAgain : Option (ReactionDraft Code) → Type 0
 IsReactionAgain None = Unit {0}
 IsReactionAgain (Some reaction) = IsAgain reaction.code
 
--- of an act
+-- the hex digits of an act's code spell it, if the act is a code
 abbrev pub IsActAgain : ActDraft Code → Type 0
 IsActAgain (Do code) = IsAgain code
 IsActAgain Native = Unit {0}

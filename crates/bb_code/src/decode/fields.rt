@@ -11,19 +11,19 @@ use crate::fault::CodeFault;
 use bb_basis::{Items, Text};
 use std::alloc::Global;
 
-/// What can stand in a list.
+/// A field that can stand in a list.
 pub(crate) trait Field: Sized {
     ghost use Rattle.bb_code.specs.Fields.{Field as Reads};
 
     /// What the front of bytes is as such a field.
     ghost at: { Reads Self };
 
-    /// Reads one.
+    /// Reads one from the front of bytes.
     fn read(alloc: Global, bytes: &[u8]) -> Result<(Self, &[u8]), CodeFault>
         ensures { Gives CodeFault.Memory (λ x. (x.0, x.1.now)) result (at bytes.now) };
 }
 
-/// Reads as many fields as the number says.
+/// Reads `count` fields.
 pub(crate) fn read_each<F: Field>(
     alloc: Global,
     count: usize,

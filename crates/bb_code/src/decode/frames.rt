@@ -63,7 +63,7 @@ impl Field for Loop {
     }
 }
 
-/// A frame of a code with so many locals.
+// Reads a frame of a code with `locals` locals.
 #[tactic(auto, unfolding(crate::specs::Fields::frame_at))]
 fn read_frame(alloc: Global, locals: u8, bytes: &[u8]) -> Result<(FrameEntry, &[u8]), CodeFault>
     ensures { Gives CodeFault.Memory (λ x. (x.0, x.1.now)) result (frame_at locals bytes.now) }
@@ -75,7 +75,7 @@ fn read_frame(alloc: Global, locals: u8, bytes: &[u8]) -> Result<(FrameEntry, &[
     Ok((FrameEntry { place, frame }, rest))
 }
 
-/// The frames of a code with so many locals.
+/// Reads the frames of a code with `locals` locals.
 #[tactic(auto, unfolding(crate::specs::Fields::list_at))]
 pub(crate) fn read_frames(
     alloc: Global,

@@ -59,7 +59,7 @@ fn read_next(bytes: &[u8]) -> Result<(Op, &[u8]), CodeFault>
     Ok((Op::Next(local, place), rest))
 }
 
-/// Reads what follows an opcode.
+// Reads what follows an opcode.
 #[tactic(auto, unfolding(crate::specs::Ops::op_after))]
 fn read_op_after(form: OpForm, bytes: &[u8]) -> Result<(Op, &[u8]), CodeFault>
     ensures { map_ok (λ x. (x.0, x.1.now)) result ≡ op_after form bytes.now }

@@ -54,7 +54,7 @@ impl Field for Query {
     }
 }
 
-/// Reads a pattern of at most so many levels and so many nodes, and returns how many nodes may still come.
+// Reads a pattern of at most `depth` levels and `room` nodes, and returns how many nodes may still come.
 #[cycle(reading)]
 fn read_pattern(
     alloc: Global,
@@ -70,7 +70,7 @@ fn read_pattern(
     read_tagged(alloc, depth - 1, room - 1, bytes)
 }
 
-/// Reads a node whose parts are of at most so many levels.
+// Reads a node whose parts are of at most `depth` levels.
 #[cycle(reading)]
 #[tactic(auto, unfolding(crate::specs::Patterns::node_at))]
 fn read_tagged(
@@ -88,7 +88,7 @@ fn read_tagged(
     Ok((Pattern::new(node), room, rest))
 }
 
-/// Reads what follows the byte of a node.
+// Reads what follows the byte of a node.
 #[cycle(reading)]
 #[tactic(auto, unfolding(crate::specs::Patterns::node_after, crate::specs::Patterns::test_at))]
 fn read_node(
@@ -136,7 +136,7 @@ fn read_node(
     }
 }
 
-/// Reads the number of the parts of a node, and the parts, which are of at most so many levels.
+// Reads the number of the parts of a node, and the parts, which are of at most `depth` levels.
 #[cycle(reading)]
 #[tactic(auto, unfolding(crate::specs::Patterns::parts_at))]
 fn read_parts(

@@ -25,7 +25,7 @@ sequence_below : (s : Sequence) → deep-Sequence s ≤ nodes (sequence_rose (se
 sequence_below (Find class space pattern) = omega arith
 sequence_below (Links unit slot) = omega arith
 
--- the same with one added on both sides
+-- no pattern of a list has more nodes than all of them together; one is added on both sides
 parts_below : (ps : List PatternTree) → most (λ p. pattern_size p + 1) ps ≤ all_nodes (pattern_roses (patterns_of ps)) + 1
 parts_below [] = omega arith
 parts_below (p ∷ ps) = omega (arith, parts_below ps)

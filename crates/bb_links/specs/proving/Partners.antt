@@ -9,7 +9,7 @@ use Rattle.bb_links.specs.declared.partners.Partners.{Partners}
 use Rattle.bb_links.specs.Pairs.{near, far, same_pair}
 use Rattle.bb_links.specs.proving.Maps.{value_at, row}
 
--- the other side
+-- the opposite of a side
 abbrev pub opposite : Side → Side
 opposite A = B
 opposite B = A

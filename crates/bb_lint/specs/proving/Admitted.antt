@@ -4,7 +4,7 @@ use Rattle.std.specs.Global.{Vec}
 use Rattle.bb_schema.specs.Schema.{Schema}
 use Rattle.bb_lint.specs.Finds.{admitted_classes}
 
--- each list has those of the space of its number
+-- each list has the classes that the space of its number admits
 abbrev pub AreAdmitted : Schema → List (Vec ℕ) → Type 0
 AreAdmitted s lists =
     (space : ℕ) (list : Vec ℕ) → slice_get lists space ≡ Some list → list.items ≡ admitted_classes s space

@@ -82,7 +82,7 @@ of_by : (s : Schema) (w : World) (class n : ℕ) (found : Option ℕ) → class_
 of_by s w class n None is up = absurd cc
 of_by s w class n (Some c) is up = record { own = c; is = is; under = up }
 
--- they are of the query's class
+-- the units that a query finds are of its class
 pub answers_are : (b : Board) → units.Fits b.world.units → (q : Query) (ds : List DimValue) → All (WasOf b.schema b.world q.class) (answer b.schema b.world.units b.world.spaces q ds)
 answers_are b uf q ds =
     let s = b.schema in

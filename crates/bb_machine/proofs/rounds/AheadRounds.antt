@@ -128,7 +128,7 @@ module _ (ls : List Loop) (m : ℕ) (left next : Loop → ℕ) (p t : ℕ) (lt :
           let early : q < t = grind (arith, nat_tests) in
           rw is (let a = later_le q in let b = none_entered q early in omega (arith, a, b))
 
-  -- and the place that is left less often
+  -- the place that is left can come less often than before
   pub ahead_lt : comes ls m next t p < comes ls m left p p
   unfolding comes later
   ahead_lt =

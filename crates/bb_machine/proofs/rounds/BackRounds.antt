@@ -112,7 +112,7 @@ module _ (ls : List Loop) (m : ℕ) (left next : Loop → ℕ) (p t : ℕ) (lt :
       by false is true is_too = let low : q < t = grind (arith, nat_tests) in let high : p ≤ q = grind (arith, nat_tests) in absurd (omega (arith, low, high, lt))
       by false is false is_too = rw (is, is_too) (let a = later_le q in omega (arith, a))
 
-  -- and the place that is left less often
+  -- the place that is left can come less often than before
   pub back_lt : comes ls m next t p < comes ls m left p p
   unfolding comes later
   back_lt =

@@ -132,7 +132,7 @@ module _ (code : Code) (inside : (l : Loop) → In code.loops l → l.head < len
   -- ---- a Next
 
   module _ (p local t : ℕ) (at : slice_get code.ops p ≡ Some (ops.Next local t)) where
-    -- it is at the head of a loop, and goes to the end of it
+    -- a Next is at the head of a loop, and goes to the end of it
     pub next_own : (l : Loop) × In code.loops l × (l.head ≡ p) × (l.end ≡ t)
     unfolding op_due
     next_own =
@@ -198,7 +198,7 @@ module _ (code : Code) (inside : (l : Loop) → In code.loops l → l.head < len
         let so : (t == l.head) ≡ true = sym (ap (ends l) (ap (op_before code) next ∙ at)) ∙ (rest_so l there).0 in
         grind (arith, nat_tests)
 
-    -- it is before the end of a loop, and goes to the head of it
+    -- a Back is before the end of a loop, and goes to the head of it
     pub back_own : (l : Loop) × In code.loops l × (l.head ≡ t) × (l.end ≡ p + 1)
     unfolding op_due
     back_own =

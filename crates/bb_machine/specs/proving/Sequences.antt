@@ -12,12 +12,12 @@ use Rattle.bb_machine_step.specs.Sequence.{Sequence}
 use Rattle.bb_machine_step.specs.Machine.{Machine}
 use Rattle.bb_machine_step.specs.Changing.{State}
 
--- a sequence has no more elements left than so many; other values have none
+-- a sequence has no more than k elements left; other values have none
 abbrev pub IsLow : ℕ → Value → Type 0
 IsLow k (Seq q) = length q.rest ≤ k
 IsLow k v = Unit {0}
 
--- the same of what a local holds
+-- what a local holds has no more than k elements left
 abbrev pub IsLowIn : ℕ → Option Value → Type 0
 IsLowIn k None = Unit {0}
 IsLowIn k (Some v) = IsLow k v
@@ -36,12 +36,12 @@ abbrev pub left_in : List (Option Value) → Option ℕ → ℕ
 left_in locals None = 0
 left_in locals (Some l) = elements (slice_get locals l)
 
--- how many are left for a loop
+-- how many elements are left for a loop
 abbrev pub left_of : Code → Machine → Loop → ℕ
 left_of code m l = left_in m.locals (local_of code l)
 
--- the locals are as they were, and the stack got no sequence but one that was found, of no more elements than there can
--- be units
+-- the locals are as they were, and the stack got no sequence but one that was found, of no more elements than there
+-- can be units
 pub record Keeps (m next : Machine) : Type 0 where
   pub locals : next.locals ≡ m.locals
   pub found : m.found ≤ next.found
@@ -56,7 +56,7 @@ pub record Stores (local : ℕ) (m next : Machine) : Type 0 where
   pub value_low : All (IsLow m.found) m.stack → IsLow m.found value
   pub stack : All (IsLow m.found) m.stack → All (IsLow m.found) next.stack
 
--- the sequence of a local lost an element at least, and the next op follows, or the op at the place does
+-- the sequence of a local lost at least one element, and the next op follows, or the op at the place does
 pub record Takes (local place : ℕ) (m next : Machine) : Type 0 where
   pub before : Sequence
   pub later : Sequence

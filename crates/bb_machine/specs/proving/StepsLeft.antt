@@ -1,4 +1,4 @@
--- How many steps an execution of an accepted code can still make. Of each place it is told how often it can still come.
+-- How many steps an execution of an accepted code can still make: for each place how often it can still come.
 use Rattle.std.specs.Prelude.{◌≡◌, ◌⊎◌, ◌≤◌, ℕ, ◌+◌, ◌*◌, ◌^◌, Bool, true, not, ◌==◌, ◌&&◌, nat_le, cond, List, length, filter, slice_get, Some}
 use Rattle.std.specs.List.{sum_by}
 use Rattle.bb_code.specs.Code.{Code, places}
@@ -18,7 +18,7 @@ apart ls other place = length (filter (λ l. holds place l && not (holds other l
 abbrev pub often : List Loop → (m other place : ℕ) → ℕ
 often ls m other place = (m + 1) ^ apart ls other place
 
--- how many rounds a loop can still begin, where so many elements are left for it: at its head none was taken yet
+-- how many rounds a loop can still begin, where `left` elements are left for it: at its head none was taken yet
 abbrev pub rounds : (left : Loop → ℕ) → (at : ℕ) → Loop → ℕ
 rounds left at l = cond (l.head == at) (left l) (left l + 1)
 
@@ -40,13 +40,13 @@ steps_left code m left at = sum_by (comes code.loops m left at) (places code)
 abbrev pub is_between : (head place : ℕ) → Loop → Bool
 is_between head place l = is_head head l && holds place l
 
--- a loop around the place that comes next was around this one and begins no more rounds than it could, or begins at that
--- place with as few elements as any sequence
+-- a loop around the place that comes next was around this one and begins no more rounds than it could, or begins at
+-- that place with as few elements as any sequence
 abbrev pub Onward : (m : ℕ) → (left next : Loop → ℕ) → (at to : ℕ) → Loop → Type 0
 Onward m left next at to l =
     ((holds at l ≡ true) × (rounds next to l ≤ rounds left at l)) ⊎ ((l.head ≡ to) × (next l ≤ m))
 
--- each loop is so, where the execution goes ahead
+-- each loop around the place that comes next is as `Onward` says, where the execution goes ahead
 abbrev pub Ahead : List Loop → (m : ℕ) → (left next : Loop → ℕ) → (at to : ℕ) → Type 0
 Ahead ls m left next at to = (l : Loop) → In ls l → holds to l ≡ true → Onward m left next at to l
 

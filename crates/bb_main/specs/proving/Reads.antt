@@ -1,4 +1,4 @@
--- What a reading of a whole input answers, and what it takes.
+-- What a reading of a whole input returns, and what it takes.
 use Rattle.std.specs.Prelude.{◌≡◌, ◌≤◌, ◌+◌, ℕ, Bool, true, false, List, length, Option, IfSome, Result, Ok, Err, Vec}
 use Rattle.std.specs.Io.KnownBytes.{Consumes}
 use Rattle.std.specs.declared.alloc.Global.{Global}
@@ -14,7 +14,7 @@ is_failure (Err Read) = true
 is_failure (Err Limit) = false
 is_failure (Err Memory) = false
 
--- at Ok all bytes, which are within the limit; at Limit one more was taken, at no other answer
+-- at Ok all bytes, which are within the limit; at Limit one more was taken, as at no other result
 abbrev pub Reads : Option (List ℕ) → Option (List ℕ) → Result (Vec ℕ Global) ReadFault → Type 0
 Reads old new (Ok read) =
     IfSome old (λ xs. read.items ≡ xs) × Consumes old new read.items × (length read.items ≤ INPUT_LIMIT)

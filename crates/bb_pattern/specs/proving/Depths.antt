@@ -8,7 +8,7 @@ use Rattle.bb_pattern.specs.declared.pattern.Pattern.TheDeep.{deep-Node}
 use Rattle.bb_pattern.specs.Trees.{Tree, node_count, nodes_count}
 use Rattle.bb_pattern.specs.View.{tree_of, trees_of}
 
--- the same with one added on both sides
+-- no part has more nodes than all of them together, with one added on both sides
 pub most_le-nodes_count : (ps : List Tree) → most (λ p. node_count p + 1) ps ≤ nodes_count (trees_of ps) + 1
 most_le-nodes_count [] = omega arith
 most_le-nodes_count (p ∷ ps) = omega (arith, most_le-nodes_count ps)
@@ -21,7 +21,7 @@ falls (Not part) = omega arith
 falls (Ordered relation dim operand) = omega arith
 falls (Is dim operand) = omega arith
 
--- none has more nodes than all of them together
+-- no part has more nodes than all of them together
 pub most_below : (ps : List Tree) → most node_count ps ≤ nodes_count (trees_of ps)
 most_below [] = omega arith
 most_below (p ∷ ps) = omega (arith, most_below ps)

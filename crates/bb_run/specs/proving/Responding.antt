@@ -13,7 +13,7 @@ abbrev pub response_at : Schema → Event → List Source → (place : ℕ) → 
 response_at schema event sources place s =
     option_map_or (λ source. source_response schema event place source s) (slice_get sources place) (idle s)
 
--- those of the sources at these places, in their order
+-- the response of the sources at these places, in order
 unfoldable pub responses_at : Schema → Event → List Source → (places : List ℕ) → State → Response
 responses_at schema event sources [] s = idle s
 responses_at schema event sources (place ∷ places) s =

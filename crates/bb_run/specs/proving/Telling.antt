@@ -36,26 +36,26 @@ pub record IsResponse (r : Response) (old new : List Note) (s : State) (e : Opti
   pub state : s ≡ r.state
   pub end : e ≡ r.end
 
--- the code was executed so, or memory ran out
+-- an execution came to this result, and left this blackboard, or memory ran out
 abbrev pub Attempts : Result Outcome Stop × Blackboard → Result Outcome Stop → Blackboard → Type 0
 Attempts e (Ok o) board = (e.0 ≡ Ok o) × (board ≡ e.1)
 Attempts e (Err (stops.Full steps found)) board = (e.0 ≡ Err (stops.Full steps found)) × (board ≡ e.1)
 Attempts e (Err (stops.Stuck reason steps found)) board = (e.0 ≡ Err (stops.Stuck reason steps found)) × (board ≡ e.1)
 Attempts e (Err stops.Memory) board = ⊤
 
--- a code was asked so
+-- a code that was asked replied this, and left this blackboard
 pub record Replies (e : Result Outcome Stop × Blackboard) (reply : Reply) (board : Blackboard) : Type 0 where
   pub reply_is : reply ≡ reply_by e.0
   pub board_is : board ≡ e.1
 
--- a verdict was given so
+-- a revalidation gave this verdict, and left this blackboard
 pub record Validates (v : Verdict × Blackboard) (verdict : Verdict) (board : Blackboard) : Type 0 where
   pub verdict_is : verdict ≡ v.0
   pub board_is : board ≡ v.1
 
 -- ---- segments
 
--- what the output took, if it tells it, and what waits on the page
+-- what the output took, if that is known, and what waits on the page
 pub record Place : Type 0 where
   pub taken : Option (List ℕ)
   pub page : List ℕ
@@ -63,7 +63,7 @@ pub record Place : Type 0 where
 abbrev pub at_page : Option (List ℕ) → List ℕ → Place
 at_page taken page = record { taken = taken; page = page }
 
--- where a teller is, by what its output tells that it took
+-- where a teller is, by what its output took
 abbrev pub at : {O : Type 0} → (O → Option (List ℕ)) → Teller O → Place
 at taken t = at_page (taken t.out.now) t.page.now
 
@@ -110,7 +110,7 @@ abbrev pub WroteUntil : Plan → (start taken : Option (List ℕ)) → List (Lis
 WroteUntil plan start taken segments halts.Memory = WroteFirst plan start taken segments
 WroteUntil plan start taken segments halts.Write = WroteFront plan start taken segments
 
--- these segments were told, whatever was told before
+-- the segments were told, whatever was told before
 abbrev pub IsTold : Plan → Place → Place → List (List Note) → Type 0
 IsTold plan old new segments =
     (start : Option (List ℕ)) (told : List (List Note)) → HasWritten plan start old told
@@ -122,7 +122,7 @@ CutIn plan old new segments halt =
     (start : Option (List ℕ)) (told : List (List Note)) → HasWritten plan start old told
     → ToldUntil plan start new (told ++ segments) halt
 
--- these segments were told, or the run was cut short in them
+-- the segments were told, or the run was cut short in them
 abbrev pub Tells : {X : Type 0} → Plan → Place → Place → List (List Note) → Result X Halt → Type 0
 Tells plan old new segments (Ok x) = IsTold plan old new segments
 Tells plan old new segments (Err halt) = CutIn plan old new segments halt
@@ -137,11 +137,11 @@ abbrev pub MakesBy : {X : Type 0} → (X → Option End) → Plan → Place → 
 MakesBy end_of plan old new p s (Ok x) = IsTold plan old new p.told × Leaves p s (end_of x)
 MakesBy end_of plan old new p s (Err halt) = CutIn plan old new p.told halt
 
--- the run may end in it
+-- a stretch was told, or cut short, in which the run may end
 abbrev pub Makes : Plan → Place → Place → Stretch → State → Result (Option End) Halt → Type 0
 Makes = MakesBy (λ e. e)
 
--- the run ends in it
+-- a stretch was told, or cut short, in which the run ends
 abbrev pub Finishes : Plan → Place → Place → Stretch → State → Result End Halt → Type 0
 Finishes = MakesBy (λ e. Some e)
 
@@ -155,7 +155,7 @@ abbrev pub GivesUp : (taken given : Option (List ℕ)) → (page : List ℕ) →
 GivesUp taken given page halts.Memory = Appends taken given page
 GivesUp taken given page halts.Write = (count : ℕ) × Appends taken given (take count page)
 
--- how far any segments were told is how far they are written, where the run is cut short by the first and ends by the second
+-- what was told of any segments is written of them, where the run is cut short by the first halt and ends by the second
 abbrev pub CutsShort : Place → (given : Option (List ℕ)) → Halt → Halt → Type 0
 CutsShort place given halt result =
     (plan : Plan) (start : Option (List ℕ)) (segments : List (List Note)) → ToldUntil plan start place segments halt
@@ -169,23 +169,23 @@ Concludes plan place given segments result =
 
 -- ---- decisions
 
--- what a choice after quiescence comes to
+-- what is decided after quiescence, by the choice there
 abbrev pub decision_by : Option End → Option Activation → Decision
 decision_by (Some end) choice = Over end
 decision_by None None = Over Quiescence
 decision_by None (Some a) = Act a
 
--- what comes after the wait before a cycle
+-- what is decided after the wait before a cycle
 abbrev pub decision_after : Plan → Stretch → Decision
 decision_after plan p = decision_by p.end (choice plan p.state)
 
--- the wait before a cycle was told, with this state after it, and this decision comes
+-- the wait before a cycle was told, with this state after it, and this is decided
 pub record Waited (plan : Plan) (old new : Place) (s t : State) (decision : Decision) : Type 0 where
   pub told : IsTold plan old new (wait plan s).told
   pub state : t ≡ (wait plan s).state
   pub decision_is : decision ≡ decision_after plan (wait plan s)
 
--- the same, or the run was cut short in the wait
+-- the wait before a cycle was told, and this is decided after it, or the run was cut short in the wait
 abbrev pub Waits : Plan → Place → Place → (s t : State) → Result Decision Halt → Type 0
 Waits plan old new s t (Ok decision) = Waited plan old new s t decision
 Waits plan old new s t (Err halt) = CutIn plan old new (wait plan s).told halt

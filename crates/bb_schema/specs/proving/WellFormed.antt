@@ -11,5 +11,5 @@ pub record IsWellFormed (s : Schema) (couples_before : List ℕ) (couple_count :
   -- for each slot, the number of couples before it
   pub counted : couples_before ≡ counts 0 0 s.slots
   pub all : couple_count ≡ length (couples s)
-  -- the spans of its classes
+  -- the spans are those of the classes
   pub told : AreSpans s.classes spans

@@ -51,8 +51,8 @@ fn space_classes_of(alloc: Global, schema: &Schema, names: &[String]) -> Result<
     Ok(listed)
 }
 
-/// Whether a dimension can read a slot of the kind: an ordered one numbers and intervals, an enumerated one labels of
-/// its set.
+// Whether a dimension can read a slot of the kind: an ordered one numbers and intervals, an enumerated one labels of
+// its set.
 fn suits(set: Option<LabelSetId>, kind: Kind) -> bool
     ensures { result ≡ suits set kind }
 {

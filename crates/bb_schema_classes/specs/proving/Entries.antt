@@ -12,7 +12,7 @@ abbrev pub indexed_place : BTreeMap (Bor (List ℕ)) ℕ → List ℕ → Option
 indexed_place places name = get_by (λ k. slice_cmp nat_cmp name k.now) places
 
 pub record IsIndex (places : BTreeMap (Bor (List ℕ)) ℕ) (texts : List (List ℕ)) : Type 0 where
-  -- it is the place of the first text that is the name
+  -- the place of a name is that of the first text that is the name
   pub first : (name : List ℕ) → indexed_place places name ≡ position (bytes_eq name) texts
 
 -- the indexes of what a class declares

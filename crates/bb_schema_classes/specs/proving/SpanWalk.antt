@@ -6,15 +6,15 @@ use Rattle.bb_schema_classes.specs.declared.span.Span.{Span}
 use Rattle.bb_schema_classes.specs.Inheritance.{Descends}
 use Rattle.bb_schema_classes.specs.Spans.{LiesIn}
 
--- the number, once another has come in at a place
+-- a number, once another has come in at a place
 unfoldable pub moved : (at n : ℕ) → ℕ
 moved at n = if nat_lt n at then n else n + 1
 
--- the same of both numbers of a span
+-- a span, once another number has come in at a place
 abbrev pub moved_span : ℕ → Span → Span
 moved_span at s = record { first = moved at s.first; end = moved at s.end }
 
--- where a class comes in: right behind its parent, or first of all
+-- where a class comes in: right after its parent, or first of all
 abbrev pub place_of : List Span → Option ℕ → ℕ
 place_of spans None = 0
 place_of spans (Some p) = option_map_or (λ s. s.first + 1) (slice_get spans p) 0
@@ -23,15 +23,15 @@ place_of spans (Some p) = option_map_or (λ s. s.first + 1) (slice_get spans p) 
 abbrev pub new_span : ℕ → Span
 new_span at = record { first = at; end = at + 1 }
 
--- with one more class
+-- spans with that of one more class
 unfoldable pub with_class : List Span → Option ℕ → List Span
 with_class spans parent = map (moved_span (place_of spans parent)) spans ++ new_span (place_of spans parent) ∷ []
 
--- the numbers are of a walk over so many classes
+-- the numbers are of a walk over n classes
 abbrev pub IsWithin : ℕ → Span → Type 0
 IsWithin n s = (s.first < n) × (s.end ≤ n)
 
--- the spans of the first classes
+-- the spans of the first n classes
 pub record IsWalk (classes : List Class) (n : ℕ) (spans : List Span) : Type 0 where
   pub count : length spans ≡ n
   pub within : All (IsWithin n) spans

@@ -39,7 +39,7 @@ fn parent_number(
     }
 }
 
-/// The slots that a class has from its parent.
+// The slots that a class has from its parent.
 fn inherited_slots(
     alloc: Global,
     classes: &Table<Class>,
@@ -56,7 +56,7 @@ fn inherited_slots(
     }
 }
 
-/// Adds the class of an entry, which is one of all.
+// Adds the class of an entry, which is one of all.
 #[tactic(auto, unfolding(crate::specs::ClassReading::class_after))]
 fn add_class(
     alloc: Global,

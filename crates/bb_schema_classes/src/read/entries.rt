@@ -95,7 +95,7 @@ impl<'a> Model for Entries<'a> {
     ghost invariant = { λ e. IsIndex e.places (map (λ c. c.name) e.classes.items) };
 }
 
-// By hand, as that of `ClassIndex`.
+// By hand, for the reason of `ClassIndex`.
 impl<'a> Drop for Entries<'a> {
     fn drop(self) {
         let Entries {

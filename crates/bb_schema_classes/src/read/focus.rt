@@ -16,7 +16,7 @@ fn text_slot(alloc: Global, name: &str) -> Result<SlotEntry, AllocError>
     })
 }
 
-/// The built-in class, as a document would declare it.
+// The built-in class, as a document would declare it.
 fn focus(alloc: Global) -> Result<ClassEntry, AllocError>
     ensures { IfOk result (λ entry. class_declaration entry ≡ focus) }
 {

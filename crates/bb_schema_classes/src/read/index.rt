@@ -47,7 +47,7 @@ impl NamedEntry for LinkEntry {
     }
 }
 
-/// Keeps the place of a name, unless an earlier place of it is kept.
+// Keeps the place of a name, unless an earlier place of it is kept.
 fn keep_first<'a>(
     places: &mut BTreeMap<&'a str, usize>,
     name: &'a str,

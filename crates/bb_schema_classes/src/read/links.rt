@@ -22,7 +22,7 @@ fn leads_to(link: &LinkEntry, class: &str, inverse: &str) -> bool
     link.to.as_str() == class && link.inverse.as_str() == inverse
 }
 
-/// Whether the class that a link leads to declares its inverse, another slot, which leads back.
+// Whether the class that a link leads to declares its inverse, another slot, which leads back.
 fn leads_back(target: &ClassIndex, class: &str, link: &LinkEntry) -> bool
     ensures { result ≡ leads_back target.now class.now (link_declaration link.now) }
 {
@@ -47,7 +47,7 @@ fn link_content(alloc: Global, entry: &LinkEntry) -> Result<DraftContent, AllocE
     })
 }
 
-/// Appends the link slot of an entry to the class `owner`.
+// Appends the link slot of an entry to the class `owner`.
 #[tactic(auto, unfolding(crate::specs::LinkReading::link_after))]
 fn add_link(
     alloc: Global,

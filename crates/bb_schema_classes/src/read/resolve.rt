@@ -1,4 +1,4 @@
-//! The link of a slot, with numbers in place of names. It can be told once all classes are read.
+//! The link of a slot, with numbers in place of names. It is known once all classes are read.
 
 ghost use Rattle.std.specs.Prelude.{◌≡◌, find};
 ghost use Rattle.bb_schema_classes.specs.Inheritance.{slots_in};
@@ -20,7 +20,7 @@ fn find_draft(slots: &[Draft], numbers: &[SlotId], name: &str) -> Option<SlotId>
         .find(|number| draft_has_name(slots, *number, name))
 }
 
-/// The slot that a name refers to in a class.
+// The slot that a name refers to in a class.
 fn slot_named(classes: &Table<Class>, slots: &[Draft], class: ClassId, name: &str) -> Option<SlotId>
     ensures { result ≡ find (draft_has_name slots.now name.now) (slots_in classes.now class) }
 {

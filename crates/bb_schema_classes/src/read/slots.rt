@@ -70,7 +70,7 @@ fn is_long(default: &DefaultEntry) -> bool
     }
 }
 
-/// Appends the ordinary slot of an entry to the class of number `owner`.
+// Appends the ordinary slot of an entry to the class of number `owner`.
 #[tactic(auto, unfolding(crate::specs::SlotReading::slot_after))]
 fn add_slot(
     alloc: Global,

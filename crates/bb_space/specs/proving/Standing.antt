@@ -33,6 +33,6 @@ one_less lists unit space n = if n == unit then filter (λ m. not (m == space)) 
 abbrev pub none_left : BTreeMap ℕ (Vec ℕ) → ℕ → ℕ → List ℕ
 none_left lists unit n = if n == unit then [] else listed lists n
 
--- each unit has those that it is in
+-- the list of each unit has the spaces that it is in
 abbrev pub AreStanding : Spaces → Standing → Type 0
 AreStanding t s = (n : ℕ) → listed s.lists n ≡ spaces_of t n

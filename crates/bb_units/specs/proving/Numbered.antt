@@ -18,15 +18,15 @@ pub record Given : Type 0 where
 abbrev pub none_given : Given
 none_given = record { next = 1; units = map.empty }
 
--- with one more unit, under the next number
+-- the live units with one more, under the next number
 abbrev pub one_given : Given → Unit → Given
 one_given g x = record { next = g.next + 1; units = map.insert g.units g.next x }
 
--- the same units without one
+-- the live units without one
 abbrev pub one_gone : Given → ℕ → Given
 one_gone g n = record { next = g.next; units = map.remove g.units n }
 
--- the same units, but for one value of one
+-- the live units with another value in a slot of one
 abbrev pub one_set : Given → ℕ → ℕ → Value → Given
 one_set g n slot value = record { next = g.next; units = with_value_of g.units n slot value }
 

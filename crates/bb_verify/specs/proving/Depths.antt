@@ -10,14 +10,14 @@ use Rattle.bb_verify.specs.Budget.{turns}
 abbrev pub depths_of : Code → List ℕ
 depths_of code = map (depth code) (places code)
 
--- how many of the depths are this one
+-- how many of the depths are `loops`
 abbrev pub count_of : List ℕ → ℕ → ℕ
 count_of depths loops = count_by (λ d. d == loops) depths
 
--- how many are 0, how many 1, and so on
+-- how many of the depths are 0, how many are 1, and so on
 abbrev pub counts_of : List ℕ → List ℕ
 counts_of depths = map (count_of depths) (range_with_len 0 (NESTING_LIMIT + 1))
 
--- so many places of each depth count as often as they can come
+-- how often all places together can come, given the number of places of each depth
 abbrev pub budget_by : List ℕ → ℕ → ℕ
 budget_by counts m = sum_by (λ loops. get_or counts loops 0 * turns m loops) (range_with_len 0 (NESTING_LIMIT + 1))

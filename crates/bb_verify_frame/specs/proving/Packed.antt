@@ -1,17 +1,17 @@
--- How the frames of places lie one behind the other.
+-- How the frames of places lie one after another.
 use Rattle.std.specs.Prelude.{◌≤◌, ◌-◌, ℕ, List, take, drop, reverse}
 use Rattle.bb_code.specs.Kind.{Kind}
 use Rattle.bb_verify_frame.specs.declared.frame.Frame.{Frame}
 use Rattle.bb_verify_frame.specs.declared.packed_frames.Span.{Span}
 
--- the frame whose kinds lie there
+-- the frame whose kinds lie in a span
 abbrev pub frame_in : List Kind → Span → Frame
 frame_in kinds s = record {
   locals = take (s.middle - s.start) (drop s.start kinds);
   stack = reverse (take (s.end - s.middle) (drop s.middle kinds));
 }
 
--- a frame can lie there, among so many kinds
+-- a frame can lie in a span of `count` kinds
 pub record Lies (count : ℕ) (s : Span) : Type 0 where
   pub locals : s.start ≤ s.middle
   pub few_locals : s.middle - s.start ≤ 32

@@ -30,13 +30,14 @@ pub record IsDeepest (reach : List ℕ) (place found : ℕ) : Type 0 where
   pub none : (head : ℕ) → found ≤ head → head ≤ place → slice_index reach head ≤ place
   pub some : (head : ℕ) → head + 1 ≡ found → place < slice_index reach head
 
--- the same for each place, one further on
+-- at index place + 1 one more than the greatest head from which a loop reaches over the place, or 0; at index 0 it is 0
 pub record HasDeepest (count : ℕ) (reach deepest : List ℕ) : Type 0 where
   pub len : length deepest ≡ count + 1
   pub first : slice_index deepest 0 ≡ 0
   pub each : (place : ℕ) → place < count → IsDeepest reach place (slice_index deepest (place + 1))
 
--- for each place, one further on, one more than the greatest head of the loops that hold it, or 0
+-- at index place + 1 one more than the greatest head of the loops that hold the place, or 0: for the loops 1-5 and 2-4
+-- of 6 ops 0 0 2 3 3 2 0
 pub record HasHeads (count : ℕ) (loops : List Loop) (deepest : List ℕ) : Type 0 where
   pub len : length deepest ≡ count + 1
   pub each : (place : ℕ) → place < count → (low : ℕ) → list_any (holds_from low place) loops ≡ nat_lt low (slice_index deepest (place + 1))

@@ -19,7 +19,7 @@ use Rattle.bb_verify_loops.specs.Loops.{holds, depth, check_order, rising, is_he
 abbrev pub at_head : ℕ → Loop → Option Loop
 at_head place l = if l.head == place then Some l else None
 
--- the same of the loop that comes next in a list
+-- the loop that comes next in a list, if its head is at the place
 abbrev pub if_at_head : ℕ → Option Loop → Option Loop
 if_at_head place None = None
 if_at_head place (Some l) = at_head place l
@@ -27,7 +27,7 @@ if_at_head place (Some l) = at_head place l
 abbrev pub loops_at : (place next : ℕ) → List Loop → Option Loop
 loops_at place next loops = if_at_head place (slice_get loops next)
 
--- how many loops of the list were met
+-- the index of the loop in the list that comes next, after the one with its head here
 abbrev pub passed : ℕ → Option Loop → ℕ
 passed next None = next
 passed next (Some l) = next + 1
@@ -44,25 +44,25 @@ stays place l = nat_le place l.end
 abbrev pub entered : (place : ℕ) → List Loop → Option Loop → List Loop
 entered place around here = filter (lasts place) (around ++ option_to_list here)
 
--- the loops of the list whose heads are before the place are the first so many
+-- the loops of the list whose heads are before the place are those before index `next`
 pub record IsPassed (place next : ℕ) (loops : List Loop) : Type 0 where
   pub low : All (λ l. l.head < place) (take next loops)
   pub high : All (λ l. place ≤ l.head) (drop next loops)
 
--- the list rises up to the place, one loop at most has its head there, and these hold it
+-- the list rises up to the place, one loop at most has its head there, `here`, and the loops `around` hold it
 pub record IsAt (code : Code) (place : ℕ) (here : Option Loop) (around : List Loop) : Type 0 where
   pub rises : rising place code.loops ≡ Ok tt
   pub loops_at : filter (is_head place) code.loops ≡ option_to_list here
   pub holding : around ≡ filter (holds place) code.loops
 
--- what is due at a place up to which the list rises
+-- what is checked at a place up to which the list rises
 unfoldable pub rest_due : Code → ℕ → Op → Result (Unit {0}) Flaw
 rest_due code place op = do
   _ ← each (head_due code place) code.loops
   _ ← check_order (nat_le (depth code place) NESTING_LIMIT)
   op_due code place op
 
--- how many loops hold each of the first places, if they are in order there
+-- how many loops hold each of the first `count` places, if the loops are in order there
 unfoldable pub depths_below : Code → ℕ → Result (List ℕ) VerifyFault
 depths_below code count = do
   _ ← each (loop_at code) (range_with_len 0 count)
@@ -72,12 +72,12 @@ depths_below code count = do
 abbrev pub least_misplaced : ℕ → (first second : Loop) → ℕ
 least_misplaced so_far first second = if nat_le second.head first.head then min so_far second.head else so_far
 
--- the list rises up to there
+-- the place up to which the list rises, but at most `so_far`
 unfoldable pub sorted_below : ℕ → List Loop → ℕ
 sorted_below so_far (first ∷ second ∷ ls) = sorted_below (least_misplaced so_far first second) (second ∷ ls)
 sorted_below so_far _ = so_far
 
--- what comes after the places up to which the list rises
+-- the fault after the places up to which the list rises: the place where it does not, or a head outside the code
 unfoldable pub rest_of : Code → Result (Unit {0}) VerifyFault
 rest_of code =
     if nat_lt (sorted_below (length code.ops) code.loops) (length code.ops)
