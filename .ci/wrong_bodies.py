@@ -1,8 +1,8 @@
 """Which crates' wrong bodies (`must-fail/`) were tried as they are: `.ci/tried` has a line `CRATE DIGEST` for each.
 
 A crate's digest is over all that the trial of its wrong bodies goes by: the kit, the crate itself (its line in crates.txt,
-`src/` without comments and test modules, `specs/`, `proofs/`, `must-fail/`), and of every crate below it what a contract can
-mean (`specs/`, and `src/` without the bodies of functions). A definition counts for all crates above it, whoever hands it
+`src/` without test modules, `specs/`, `proofs/`, `must-fail/`), and of every crate below it what a contract can mean
+(`specs/`, and `src/` without the bodies of functions), all without comments. A definition counts for all crates above it, whoever hands it
 on: which of them a clause uses in the end is not looked for, so a crate may be tried again for nothing, and never too seldom.
 Proofs of crates below don't count, as no lemma makes a false goal true.
 """
@@ -18,13 +18,13 @@ ROOT = Path(__file__).resolve().parent.parent
 TRIED = ROOT / ".ci/tried"
 sys.dont_write_bytecode = True
 sys.path.insert(0, str(ROOT / "tools"))
-from sources import code_of, crates_of, parted, without_bodies  # noqa: E402
+from sources import code_of, crates_of, logic_of, parted, without_bodies  # noqa: E402
 
 PARTS = ("src", "specs", "proofs", "must-fail")
-OWN = ("specs", "proofs", "must-fail")
 
 # Two states of the workspace share nearly all texts.
 code_of = cache(code_of)
+logic_of = cache(logic_of)
 without_bodies = cache(without_bodies)
 
 
@@ -62,6 +62,11 @@ def code(files):
     return {f"src/{path}": code_of(text) for path, text in parted(sources)[0].items()}
 
 
+def logic(files, name):
+    """The definitions or the proofs of a crate without comments, texts by path."""
+    return {path: logic_of(it.decode(errors="replace")) for path, it in part(files, name).items()}
+
+
 def digest(texts):
     """One digest of texts or bytes by name."""
     whole = hashlib.sha256()
@@ -73,14 +78,14 @@ def digest(texts):
 
 def itself(line, files):
     """The digest of a crate for itself."""
-    own = {path: it for name in OWN for path, it in part(files, name).items()}
-    return digest({"line": repr(line), **code(files), **own})
+    own = {**code(files), **logic(files, "specs"), **logic(files, "proofs"), **part(files, "must-fail")}
+    return digest({"line": repr(line), **own})
 
 
 def from_above(files):
     """The digest of a crate for those above it: what its contracts can mean."""
     clauses = {path: without_bodies(it) for path, it in code(files).items()}
-    return digest({**clauses, **part(files, "specs")})
+    return digest({**clauses, **logic(files, "specs")})
 
 
 def below(name, lines):

@@ -35,6 +35,11 @@ def code_of(text):
     return "\n".join(line.rstrip() for line in lines if line.strip())
 
 
+def logic_of(text):
+    """A file of definitions or proofs without the lines that are comments, and without those that are blank."""
+    return "\n".join(it.rstrip() for it in text.splitlines() if it.strip() and not it.lstrip().startswith("--"))
+
+
 def parted(sources):
     """The sources of a crate, texts by their paths in src/, without its test modules, and those modules.
 
