@@ -1,4 +1,4 @@
-// What is shown, by the page's address: `#cycle-3`, `#act-5`, `#unit-7`, `#source-crop`, `#line-12`.
+// What is shown, by the page's address: `#cycle-3`, `#act-5`, `#unit-7`, `#source-crop`, `#source-crop-do`, `#line-12`.
 
 const STUCK = ["", "Missing", "Kind", "Deleted", "LinkClass", "Outside", "Slot", "Turns"];
 
@@ -41,8 +41,12 @@ function showNotices() {
   const long = dropped > 0 && html("p", {},
     `The run is too long for one page: of its ${plural(cycles, "cycle")} the first ${kept(run.steps.slice(0, gap))} `,
     `and the last ${kept(run.steps.slice(gap))} are shown. The counts are those of the whole run.`);
-  at(".notices").append(...[cut, long].filter(Boolean));
+  const floor = run.floor === null && html("p", {},
+    "What was rated below 0 acted, so the run had a floor of its own, and this page tells of none. Give it too: ",
+    html("code", {}, "tools/see --floor=N"));
+  at(".notices").append(...[cut, long, floor].filter(Boolean));
   at(".whole span").textContent = dropped > 0 ? "All that is shown" : "Whole run";
+  at(".whole span").style.width = `${LABELS - 14}px`;
 }
 
 function showKeys() {
@@ -50,7 +54,8 @@ function showKeys() {
   const rated = key(["raised", "lowered"], "rated anew");
   const ofSources = [...legend(["cycle", "invalid", "trigger"]), rated, ...legend(["obviate", "decline"]), waits];
   at(".sources .keys").append(...ofSources);
-  at(".activations .keys").append("bars from trigger to end, with each base; after the end the rating");
+  const below = html("span", { class: "key below" }, "below the floor");
+  at(".activations .keys").append("bars from trigger to end, with each base; after the end the rating", below);
   at(".units .keys").append(...legend(["create", "set", "link", "unlink", "enter", "leave", "delete"]));
 }
 
@@ -61,7 +66,10 @@ const NAMEABLE = {
   line: { of: (name) => run.stepAt(Number(name)), panel: stepPanel },
   act: { of: (name) => run.actOf.get(Number(name)), panel: actPanel },
   unit: { of: (name) => run.unitOf.get(Number(name)), panel: unitPanel },
-  source: { of: (name) => run.sources.find((it) => it.name === name), panel: sourcePanel },
+  source: {
+    of: (name) => run.sources.find((it) => it.name === name.split("-")[0]),
+    panel: (source, name) => sourcePanel(source, name.split("-")[1]),
+  },
 };
 
 const firstStep = () => run.steps.find((it) => it.cycle) ?? run.steps[0];
@@ -83,7 +91,7 @@ function show() {
   const life = !step && (sort === "act" || sort === "unit") ? run.lifeOf(item) : null;
   const now = timeline.selected ?? firstStep();
   const selected = step ?? (line ? item : life ? stepOfLife(life, now) : now);
-  fill(step ? stepPanel(step) : NAMEABLE[sort].panel(item));
+  fill(step ? stepPanel(step) : NAMEABLE[sort].panel(item, name));
   timeline.show(selected, id);
   lines.show(selected, line, life?.lines ?? new Set());
 }
@@ -91,6 +99,7 @@ function show() {
 function fill(panel) {
   details.replaceChildren(...panel.flat(Infinity).filter(Boolean));
   details.scrollTop = 0;
+  details.querySelector(".here")?.scrollIntoView({ block: "center" });
 }
 
 function go(id, isReplaced = false) {
@@ -102,7 +111,7 @@ function go(id, isReplaced = false) {
 function showNothing() {
   const before = "Memory ran out, or the output failed, before the first line.";
   const within = ["Memory ran out, or the output failed, within the first line: ", html("code", {}, run.cut)];
-  const how = html("code", {}, "./bb < examples/desk.bb | tools/see > run.html");
+  const how = html("code", {}, "./bb < examples/desk.bb | tools/see --input examples/desk.bb > run.html");
   at("main").replaceWith(html("div", { class: "nothing" },
     html("h2", {}, "Nothing was written"), html("p", {}, run.cut ? within : before),
     html("p", {}, faint("To see a run, give its trace: ", how))));
@@ -129,11 +138,11 @@ function find() {
 
 function foundPanel(text, found) {
   const source = ({ name, counts }) => html("li", {}, sourceHead(name), ` acted ${plural(counts.cycle, "time")}`);
-  const unit = ({ number, of }) => html("li", {}, link(`unit-${number}`, `unit ${number}`), " ", faint(of));
+  const unit = ({ number }) => html("li", {}, unitTold(number));
   return [
     head("Found", `“${text}”`),
     listed("Sources", found.sources, source, "None has it in its name."),
-    listed("Units", found.units, unit, "None has this number, or it in its class."),
+    listed("Units", found.units, unit, "None has this number, or it in its name or class."),
     listed("Lines", found.lines, (it) => lineItem({ number: it, text: run.textAt(it) }), "None has it."),
   ];
 }

@@ -9,6 +9,7 @@ function stepPanel(step) {
     stepHead(step),
     step.act > 0 && choice(step),
     step.kind === "quiescence" && quiet(step),
+    step.act > 0 && partOfText(run.actOf.get(step.act).source, run.isInvalid(step) ? "revalidate" : "do"),
     effects(step, lines),
     reactions(step, lines),
     ending(lines),
@@ -31,10 +32,14 @@ function choice(step) {
   const act = run.actOf.get(step.act);
   const waited = run.waitingAt(step.first);
   const others = waited.filter((it) => it !== act);
+  const below = others.filter((it) => run.isBelow(step, it));
+  const over = others.filter((it) => !below.includes(it));
   return [
     chosen(step, act),
     part("Why did it act now?", null, html("div", { class: "prose" }, whyNow(step, act, waited))),
-    passedOver(step, others),
+    passedOver(step, over, below.length ? "Nothing else could be chosen." : "Nothing else waited."),
+    belowFloor(step, below),
+    fociThere(step),
   ];
 }
 
@@ -51,7 +56,6 @@ function chosen(step, act) {
 }
 
 function whyNow(step, act, waited) {
-  const weight = run.weightOf(step);
   const rerated = run.basesBefore(act, step.first) - 1;
   const before = run.passedOver(act).filter((it) => it.index < step.index).length;
   const those = run.isAcrossGap(act) ? " of those that are shown" : "";
@@ -61,7 +65,7 @@ function whyNow(step, act, waited) {
     html("p", {},
       waited.length > 1 ? `Of ${waited.length.toLocaleString("en")} that waited it was rated highest, ${step.rating}; `
         + "of equal ratings the lowest number goes first." : `It alone waited, rated ${step.rating}.`,
-      weight !== 0n && ` Foci weighed its source ${weight > 0n ? "up" : "down"} by ${weight > 0n ? weight : -weight}.`),
+      weighedTold(step)),
     html("p", {},
       "It was triggered ", where, causeTold(run.triggerOf(act)), ".",
       rerated > 0 && ` It was rated anew ${rerated === 1 ? "once" : `${rerated} times`} since.`,
@@ -70,29 +74,54 @@ function whyNow(step, act, waited) {
   ];
 }
 
-function passedOver(step, others) {
-  const isTold = others.some((act) => run.isWeighedAlike(step, act));
-  const baseOf = (act) => run.baseAt(act, step.first);
-  const byBase = (one, other) => Number(baseOf(other) - baseOf(one)) || one.number - other.number;
+// Those that were rated, or based, higher come first.
+function inOrder(step, acts, valueOf) {
+  const sign = (it) => (it > 0n ? 1 : it < 0n ? -1 : 0);
+  return [...acts].sort((one, other) => sign(valueOf(step, other) - valueOf(step, one)) || one.number - other.number);
+}
+
+const baseIn = (step, act) => run.baseAt(act, step.first);
+
+function passedOver(step, others, none) {
+  const told = others.filter((act) => run.ratingAt(step, act) !== null);
+  const isAll = told.length === others.length;
   const made = (act) => {
     const why = run.whyPassed(step, act);
-    const rating = run.isWeighedAlike(step, act) ? String(baseOf(act) + run.weightOf(step)) : faint("?");
-    const rated = [String(baseOf(act)), ...(isTold ? [rating] : [])];
+    const rating = run.ratingAt(step, act) ?? faint("?");
+    const rated = [String(baseIn(step, act)), ...(told.length ? [rating] : [])];
     return row(actLink(act.number), actAbout(act), ...rated, html("span", { class: why.sort }, why.text));
   };
-  const heads = ["Act.", "Source, unit", "Base", ...(isTold ? ["Rating"] : []), "Passed over for"];
-  return tabled("What waited, and was passed over?", [...others].sort(byBase), heads, made, "Nothing else waited.",
-    remark("Foci may weigh each source up or down. A trace tells the rating of what is chosen alone, and foci weigh ",
-      "all activations of one source alike: of other sources only the base is known."));
+  const heads = ["Act.", "Source, unit", "Base", ...(told.length ? ["Rating"] : []), "Passed over for"];
+  const order = inOrder(step, others, isAll ? (...its) => run.ratingAt(...its) : baseIn);
+  const where = run.file === undefined ? "." : " where a code set a focus that may match.";
+  return tabled("What waited, and was passed over?", order, heads, made, none,
+    !isAll && remark("Foci may weigh each source up or down. A trace tells the rating of what is chosen alone, and ",
+      `foci weigh all activations of one source alike: of other sources only the base is known${where}`));
+}
+
+// What could not be chosen where a step begins.
+function belowFloor(step, acts) {
+  const isTold = acts.some((act) => run.ratingAt(step, act) !== null);
+  const ratings = (act) => (isTold ? [run.ratingAt(step, act) ?? faint("?")] : []);
+  const made = (act) => row(actLink(act.number), actAbout(act), String(baseIn(step, act)), ...ratings(act));
+  const heads = ["Act.", "Source, unit", "Base", ...(isTold ? ["Rating"] : [])];
+  return acts.length > 0 && tabled("What waits below the floor", inOrder(step, acts, baseIn), heads, made);
+}
+
+// The floor, as far as it is told: what waits at quiescence may show that it was another one.
+function floorTold(step, waited) {
+  if (run.floor === null) return "the floor, of which this page knows that it was below 0";
+  const isAbove = waited.some((act) => (run.ratingAt(step, act) ?? run.floor - 1n) >= run.floor);
+  return isAbove ? "the floor, which was above that of this page" : `the floor, ${run.floor}`;
 }
 
 function quiet(step) {
   const waited = run.waitingAt(step.first);
-  const made = (act) => row(actLink(act.number), actAbout(act), String(run.baseAt(act, step.first)));
-  const below = "Nothing could be chosen: all that waits is rated below the floor, which is 0 in the program.";
+  const below = () => `Nothing could be chosen: all that waits is rated below ${floorTold(step, waited)}.`;
   return [
-    html("p", {}, waited.length ? below : "Nothing waited.", " The sources answer to quiescence as to any event."),
-    waited.length > 0 && tabled("What waits below the floor", waited, ["Act.", "Source, unit", "Base"], made),
+    html("p", {}, waited.length ? below() : "Nothing waited.", " The sources answer to quiescence as to any event."),
+    belowFloor(step, waited),
+    fociThere(step),
   ];
 }
 
@@ -116,8 +145,18 @@ function endTold(text) {
 function reactions(step, lines) {
   const all = lines.filter((it) => REACTION.test(it.text));
   if (!all.length && !(step.cycle && lines.some((it) => it.word === "end"))) return null;
-  return listed("What did that bring about?", all, reaction, "No source answered to it.");
+  const actOf = (it) => run.actOf.get(Number(it.text.split(" ")[1]));
+  const isSame = (it) => it.word === "retrigger" && !run.turnOf(actOf(it), it.number);
+  const same = all.filter(isSame).map((it) => actOf(it).number);
+  const names = same.slice(0, 8).map((it, at) => [at > 0 && ", ", actLink(it)]);
+  const many = `${plural(same.length, "activation")} kept ${same.length === 1 ? "its" : "their"} base: `;
+  return listed("What did that bring about?", all.filter((it) => !isSame(it)), reaction,
+    same.length ? "Nothing is rated anew." : "No source answered to it.",
+    same.length > 0 && remark(many, names, same.length > 8 && ", .."));
 }
+
+// The part that is asked before such a line.
+const ASKED = { trigger: "require", decline: "require", obviate: "obviate", retrigger: "retrigger" };
 
 function reaction({ number, word, text }) {
   const words = text.split(" ");
@@ -131,8 +170,11 @@ function reaction({ number, word, text }) {
     retrigger: () => [", activation ", actLink(act.number), `, base ${run.baseAt(act, number)} → `, bold(words[2])],
   }[word]();
   const shape = word === "retrigger" ? run.turnOf(act, number) : word;
-  return marked(shape, [faint(verb), " ", sourceHead(source), about], [lineLink(number), ", ", causeTold(number)]);
+  const place = placeOf(run.sources.find((it) => it.name === source), ASKED[word]);
+  const below = [lineLink(number), ", ", causeTold(number), place && ["; ", ASKED[word], " in ", place]];
+  return marked(shape, [faint(verb), " ", sourceHead(source), about], below);
 }
+
 
 function ending(lines) {
   const ends = lines.filter(({ word }) => word === "finish" || word === "closed");
@@ -164,7 +206,8 @@ function baseItem(act, at) {
 function endItem(act) {
   if (!act.ended) {
     const where = run.finish ? "at the end of the run" : "where the trace is cut";
-    return marked("waits", [stepLink(run.steps.at(-1)), `: it still waits ${where}`]);
+    const below = run.finish && run.isBelow(run.after, act) && ", below the floor";
+    return marked("waits", [stepLink(run.steps.at(-1)), `: it still waits ${where}`, below]);
   }
   const step = run.stepAt(act.ended);
   if (act.fate === "obviated") return marked("obviate", [stepLink(step), ": obviated"], causeTold(act.ended));
@@ -180,7 +223,7 @@ function overRow(step, act) {
   const taken = run.actOf.get(step.act);
   const why = run.whyPassed(step, act);
   const instead = [actLink(taken.number), " ", sourceLink(taken.source.name)];
-  const base = String(run.baseAt(act, step.first));
+  const base = String(baseIn(step, act));
   const because = html("span", { class: why.sort }, why.text);
   return row(link(step.id, String(step.cycle)), instead, String(step.rating), base, because);
 }
@@ -193,11 +236,12 @@ function unitPanel(unit) {
     return [stepLink(step), step.act > 0 && [" by ", sourceLink(run.actOf.get(step.act).source.name)]];
   };
   const bySteps = [...Map.groupBy(unit.changes, (line) => run.stepAt(line)).values()];
-  const item = (line) => lineItem({ number: line, text: run.textAt(line) });
+  const item = (line) => lineItem({ number: line, text: run.textAt(line), except: unit.number });
   const group = (lines) => html("li", { class: "group" }, html("p", {}, at(lines[0])), few(lines, item));
   return [
-    head(`Unit ${unit.number}`, unit.of),
+    head(`Unit ${run.called(unit.number)}`, unit.of),
     html("p", {}, "Created in ", at(unit.created), unit.deleted > 0 && [", deleted in ", at(unit.deleted)], "."),
+    heldPart(unit),
     part("When did it change?", unit.changes.length, few(bySteps, group),
       remark("A trace names the slots that are set, and not their values.")),
     tabled("Activations for it", unit.acts, actHeads("Source"), (act) => actRow(act, sourceLink(act.source.name)),
@@ -212,15 +256,16 @@ function actRow(act, about) {
   return row(actLink(act.number), about, stepLink(run.stepAt(run.triggerOf(act))), String(act.bases[0][1]), end);
 }
 
-function sourcePanel(source) {
+function sourcePanel(source, part) {
   const { retrigger, ...others } = source.counts;
   const all = Object.entries(others).map(([word, count]) => [word, MARK_NAMES[word], count]);
   all.push(["raised", "rated anew", retrigger]);
   const marks = ([shape, name, count]) => fact([icon(shape), " ", name], count.toLocaleString("en"));
   const acts = run.acts.filter((it) => it.source === source);
   return [
-    head(source.name, "source"),
+    head(source.name, source.of ? `source on ${source.of}` : "source"),
     html("dl", { class: "counts" }, all.map(marks)),
+    wholeText(source, part),
     tabled("Its activations", acts, actHeads("Unit"), (act) => actRow(act, ofUnit(act)), "It got none."),
   ];
 }

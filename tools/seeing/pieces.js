@@ -39,14 +39,20 @@ function unitLink(number, prefix = "") {
   return run.unitOf.has(number) ? link(`unit-${number}`, name) : name;
 }
 
+// The name of a unit, to stand beside its number.
+function nameTold(number) {
+  const name = run.unitOf.get(number)?.name;
+  return name && [" ", html("span", { class: "called", title: name }, clipped(name, 40))];
+}
+
 function unitTold(number) {
   if (!number) return "no unit";
   const unit = run.unitOf.get(number);
-  return ["unit ", unitLink(number), unit && [" ", faint(unit.of)]];
+  return ["unit ", unitLink(number), nameTold(number), unit && [" ", faint(unit.of)]];
 }
 
 // What an activation is of: its source and its unit, of which quiescence gives none.
-const ofUnit = (act) => (act.unit ? unitLink(act.unit, "#") : faint("no unit"));
+const ofUnit = (act) => (act.unit ? [unitLink(act.unit, "#"), nameTold(act.unit)] : faint("no unit"));
 const actAbout = (act) => [sourceLink(act.source.name), " ", ofUnit(act)];
 
 // ---- lines of the trace
@@ -60,9 +66,14 @@ function told(text) {
   return [head, others.map((it, place) => [" ", toldWord(NAMED[word]?.[place + 1], it)])];
 }
 
+const UNIT = /^#\d+$/;
+
+// Values that are said: texts, units, and what stands between them.
+const saidParts = (text) => text.match(/"(?:[^"\\]|\\.)*"?|#\d+|[^"#]+|./gs) ?? [];
+
 function saidValues(text) {
-  return (text.match(/"(?:[^"\\]|\\.)*"?|#\d+|[^"#]+|./gs) ?? []).map((it) => {
-    if (/^#\d+$/.test(it)) return unitLink(Number(it.slice(1)), "#");
+  return saidParts(text).map((it) => {
+    if (UNIT.test(it)) return unitLink(Number(it.slice(1)), "#");
     return it.startsWith('"') ? html("span", { class: "said" }, it) : it;
   });
 }
@@ -76,9 +87,19 @@ function toldWord(sort, word) {
   return [unitLink(Number(number)), slot && `.${slot}`];
 }
 
-function lineItem({ number, text }) {
+// The names of the units in a line, behind it, but for one that is named already.
+function namesIn(text, except = 0) {
+  const numbers = text.startsWith("say ")
+    ? saidParts(text.slice(3)).filter((it) => UNIT.test(it)).map((it) => it.slice(1))
+    : text.split(" ").filter((_, place) => NAMED[text.split(" ", 1)[0]]?.[place] === "unit");
+  const others = new Set(numbers.map((it) => parseInt(it, 10)).filter((it) => it !== except));
+  const names = [...others].map(nameTold).filter(Boolean);
+  return names.length > 0 && html("span", { class: "names" }, names.map((it, at) => [at > 0 && ",", it]));
+}
+
+function lineItem({ number, text, except = 0 }) {
   const place = html("a", { class: "line-number", href: `#line-${number}` }, String(number));
-  return html("li", {}, place, html("code", {}, told(text)));
+  return html("li", {}, place, html("code", {}, told(text)), namesIn(text, except));
 }
 
 // What brought a reaction about, as far as the trace tells.

@@ -1,9 +1,15 @@
-"""Reads a trace, as docs/formats/trace.md has it: its lines, and what they say of steps, activations and units."""
+"""Reads a trace, as docs/formats/trace.md has it: its lines, and what they say of steps, activations and units.
+
+With the input of the run it knows more: what first units are called, and what foci weigh until a code sets them.
+"""
 
 import re
 from collections import deque
 from collections.abc import Iterable
 from dataclasses import dataclass, field
+
+from foci import Foci, Held
+from given import First, Given
 
 N = r"(0|[1-9][0-9]{0,38})"
 Z = r"(0|-?[1-9][0-9]{0,38})"
@@ -43,6 +49,8 @@ ENDS_LIMIT = 6_000_000
 STEP_LIMIT = 1_000_000
 LINE_LIMIT = 2_000
 
+ANOTHER = "so the input is not that of this trace"
+
 
 class NoTrace(Exception):
     """A line that can't be in a trace, or not there."""
@@ -65,12 +73,17 @@ class Source:
 
 @dataclass(slots=True)
 class Unit:
-    """A unit, with the lines in which it was created and deleted, 0 where it was not."""
+    """A unit, with the lines in which it was created and deleted, 0 where it was not.
+
+    A first unit has its name, and a focus what it held, with the line from which on: both are of the input.
+    """
 
     number: int
     of: str
     created: int
     deleted: int = 0
+    name: str = ""
+    held: list[tuple[int, Held]] = field(default_factory=list)
 
 
 @dataclass(slots=True)
@@ -160,7 +173,10 @@ class Reaction:
 
 @dataclass(slots=True)
 class Run:
-    """What a trace says. `finish` is empty where the trace is cut, and `cut` is a last line that was not ended."""
+    """What a trace says. `finish` is empty where the trace is cut, and `cut` is a last line that was not ended.
+
+    `given` is the input, where it is there; `floor` is None where the run had another one than the program's own.
+    """
 
     kept: Kept = field(default_factory=Kept)
     sources: dict[str, Source] = field(default_factory=dict)
@@ -173,6 +189,8 @@ class Run:
     longest: int = 0
     finish: str = ""
     cut: str = ""
+    given: Given | None = None
+    floor: int | None = 0
 
     @property
     def steps(self) -> list[Step]:
@@ -188,8 +206,10 @@ class Run:
 class Reader:
     """Takes the lines of a trace, one after another, and refuses the first that can't stand where it does."""
 
-    def __init__(self):
-        self.run = Run()
+    def __init__(self, given: Given | None = None, floor: int | None = None):
+        self.run = Run(given=given, floor=floor or 0)
+        self.is_floor_told = floor is not None
+        self.foci = Foci()
         self.step = Step("start", 1)
         # What may come next: changes of the first units, what a code does, reactions, or nothing but `closed`.
         self.state = "first units"
@@ -218,6 +238,7 @@ class Reader:
 
     def begin(self, step: Step, state: str) -> None:
         """The step before is over."""
+        self.want_all_firsts()
         self.close()
         self.step = step
         self.state = state
@@ -233,6 +254,56 @@ class Reader:
         """There are no more lines."""
         self.close()
         return self.run
+
+    # What the input tells
+
+    def want_all_firsts(self) -> None:
+        """The first units were all created."""
+        if self.run.given and self.step.kind == "start" and self.run.units < len(self.run.given.firsts):
+            self.refuse(f"the input has {len(self.run.given.firsts)} first units, {ANOTHER}")
+
+    def know_unit(self, unit: Unit) -> None:
+        """A new unit: its name, and what it holds if it is a focus."""
+        given = self.run.given
+        if unit.of not in given.classes:
+            self.refuse(f"the input has no class {unit.of}, {ANOTHER}")
+        held = Held() if "focus" in given.classes[unit.of] else None
+        if self.step.kind == "start":
+            first = self.first(unit)
+            unit.name, held = first.name, first.held
+        if held:
+            unit.held.append((unit.created, held))
+            self.foci.change(None, held)
+
+    def first(self, unit: Unit) -> First:
+        firsts = self.run.given.firsts
+        if unit.number > len(firsts):
+            self.refuse(f"the input has {len(firsts)} first units, {ANOTHER}")
+        if firsts[unit.number - 1].of != unit.of:
+            self.refuse(f"unit {unit.number} is a {firsts[unit.number - 1].of} in the input, {ANOTHER}")
+        return firsts[unit.number - 1]
+
+    def know_set(self, line: Line, unit: Unit, slot: str) -> None:
+        """A code sets a slot of a focus, to what no trace tells. Of what a focus held in a step the last is kept."""
+        if not unit.held or slot not in Held._fields or self.step.kind == "start":
+            return
+        since, before = unit.held[-1]
+        after = before._replace(**{slot: None})
+        if since >= self.step.first:
+            unit.held.pop()
+        unit.held.append((line.number, after))
+        self.foci.change(before, after)
+
+    def want_rating(self, chosen: Activation, rating: int) -> None:
+        """What a cycle chooses is rated as the input has it, and no lower than the floor."""
+        written = self.run.given and self.run.given.sources[chosen.source.name]
+        add = self.foci.add(written.name, written.classes) if written else None
+        if add is not None and rating != chosen.bases[-1][1] + add:
+            self.refuse(f"rated {rating}, where the input comes to {chosen.bases[-1][1] + add}, {ANOTHER}")
+        if self.run.floor is not None and rating < self.run.floor:
+            if self.is_floor_told:
+                self.refuse(f"rated {rating}, so {self.run.floor} is not the floor of this trace")
+            self.run.floor = None
 
     # Changes
 
@@ -253,13 +324,20 @@ class Reader:
             self.refuse(f"unit {number} is created where unit {self.run.units + 1} is due")
         unit = Unit(number, match[2], line.number)
         self.take_change(line, unit)
+        if self.run.given:
+            self.know_unit(unit)
         self.run.units = number
         self.run.live[number] = unit
 
     def take_set(self, line: Line, match: re.Match) -> None:
+        unit = self.live(match[1])
+        self.take_change(line, unit)
+        self.know_set(line, unit, match[2])
+
+    def take_enter(self, line: Line, match: re.Match) -> None:
         self.take_change(line, self.live(match[1]))
 
-    take_enter = take_leave = take_set
+    take_leave = take_enter
 
     def take_link(self, line: Line, match: re.Match) -> None:
         self.live(match[3])
@@ -272,12 +350,16 @@ class Reader:
         self.take_change(line, unit)
         unit.deleted = line.number
         del self.run.live[unit.number]
+        if unit.held:
+            self.foci.change(unit.held[-1][1], None)
 
     # Reactions
 
     def take_reaction(self, line: Line, source: Source, rank: tuple[int, int], unit: int | None = None) -> None:
         """A source answers to one of the events, in their order; its answers to one event have rising ranks."""
         self.want(("first units", "reactions"), "a reaction in a cycle that has no `end` yet")
+        if self.state == "first units":
+            self.want_all_firsts()
         self.state = "reactions"
         before = self.latest.get(source.name)
         event = self.reactions[-1].event if self.reactions else 0
@@ -289,7 +371,6 @@ class Reader:
             self.refuse("a reaction to no event" if unit is None else f"a reaction to no event of unit {unit}")
         self.latest[source.name] = Reaction(line, source, rank, unit, event)
         self.reactions.append(self.latest[source.name])
-        source.counts[line.text.partition(" ")[0]] += 1
 
     def settle_causes(self) -> None:
         """Each reaction is given the first and the last event that it can be an answer to."""
@@ -305,7 +386,11 @@ class Reader:
             it.line.causes = self.events[it.event][0], self.events[last][0]
 
     def source(self, name: str) -> Source:
-        return self.run.sources.setdefault(name, Source(name, len(self.run.sources)))
+        if name not in self.run.sources:
+            if self.run.given and name not in self.run.given.sources:
+                self.refuse(f"the input has no source {name}, {ANOTHER}")
+            self.run.sources[name] = Source(name, len(self.run.sources))
+        return self.run.sources[name]
 
     def waits(self, number: str) -> Activation:
         activation = self.run.waiting.get(int(number))
@@ -325,21 +410,28 @@ class Reader:
         source = self.source(match[2])
         self.take_reaction(line, source, (2, 0), unit)
         line.about = Activation(number, source, unit, [(line.number, base)])
+        source.counts["trigger"] += 1
         self.run.activations = number
         self.run.waiting[number] = line.about
 
     def take_decline(self, line: Line, match: re.Match) -> None:
-        self.take_reaction(line, self.source(match[1]), (2, 0), int(match[2]))
+        source = self.source(match[1])
+        self.take_reaction(line, source, (2, 0), int(match[2]))
+        source.counts["decline"] += 1
 
     def take_obviate(self, line: Line, match: re.Match) -> None:
         line.about = self.waits(match[1])
         self.take_reaction(line, line.about.source, (0, line.about.number))
+        line.about.source.counts["obviate"] += 1
         self.over(line.about, "obviated")
 
     def take_retrigger(self, line: Line, match: re.Match) -> None:
+        """What has the base that it had is not rated anew."""
         line.about = self.waits(match[1])
         self.take_reaction(line, line.about.source, (1, line.about.number))
-        line.about.bases.append((line.number, int(match[2])))
+        if int(match[2]) != line.about.bases[-1][1]:
+            line.about.source.counts["retrigger"] += 1
+            line.about.bases.append((line.number, int(match[2])))
 
     # Cycles
 
@@ -357,6 +449,7 @@ class Reader:
         chosen = self.waits(act)
         if (name, int(unit)) != (chosen.source.name, chosen.unit):
             self.refuse(f"activation {act} was triggered for {chosen.source.name} and unit {chosen.unit}")
+        self.want_rating(chosen, rating)
         self.begin(Step("cycle", line.number, cycle, chosen, rating), "chosen")
         self.idle = False
         self.run.cycles = cycle
@@ -399,6 +492,7 @@ class Reader:
             self.want(("first units", "reactions"), f"`finish {match[1]}` in a cycle that has no `end` yet")
         if match[1] == "quiescence" and not self.idle:
             self.refuse("`finish quiescence` without `quiescence`, or with a cycle since")
+        self.want_all_firsts()
         self.state = "finished"
 
     def take_closed(self, line: Line, match: re.Match) -> None:
@@ -410,6 +504,11 @@ def told_unknown(text: str) -> str:
     return f"no line of a trace: {ascii(text[:60] + '…' * (len(text) > 60))}"
 
 
+def is_refusal(raw: bytes) -> bool:
+    """Whether a trace that begins with this line is that of a refused input."""
+    return REFUSAL.fullmatch(raw.decode(errors="replace").removesuffix("\n")) is not None
+
+
 def told_refusal(text: str) -> str:
     """What is said of a first line that is none of a run's."""
     return (
@@ -417,9 +516,9 @@ def told_refusal(text: str) -> str:
     )
 
 
-def read(lines: Iterable[bytes]) -> Run:
+def read(lines: Iterable[bytes], given: Given | None = None, floor: int | None = None) -> Run:
     """The run that a trace tells, whose lines end with their line feeds; a last one that does not is cut."""
-    reader = Reader()
+    reader = Reader(given, floor)
     for raw in lines:
         if not raw.endswith(b"\n"):
             reader.run.cut = raw.decode(errors="replace")[:LINE_LIMIT]

@@ -37,8 +37,28 @@ class Run {
     }));
     this.unitOf = new Map(this.units.map((unit) => [unit.number, unit]));
     for (const act of this.acts) this.unitOf.get(act.unit)?.acts.push(act);
+    this.floor = data.floor === null ? null : BigInt(data.floor);
+    this.foci = [];
+    if (data.given) this.takeInput(data.given);
     this.indexLines(data.causes);
     this.nameSteps();
+    this.after = { kind: this.finish === "quiescence" ? "quiescence" : "end", act: 0, first: this.totals.lines + 1 };
+  }
+
+  // What the input tells: the text of sources, the names of units, and what foci held, each from a line on.
+  takeInput({ file, sources, names, held, foci }) {
+    this.file = file;
+    sources.forEach(([of, pieces], index) => {
+      const made = pieces.map(([part, line, lines]) => ({ part, line, lines }));
+      Object.assign(this.sources[index], { of, pieces: made });
+    });
+    for (const [number, name] of names) this.unitOf.get(number).name = name;
+    const whole = (it) => (it === null ? null : BigInt(it));
+    this.held = held.map(([source, area, weight, active, adds]) => ({
+      ...{ source, area, active, weight: whole(weight) },
+      adds: new Map(adds.map(([index, add]) => [index, whole(add)])),
+    }));
+    this.foci = foci.map(([number, since]) => Object.assign(this.unitOf.get(number), { since }));
   }
 
   // The changes of each unit, and the causes of each reaction.
@@ -130,9 +150,10 @@ class Run {
     return act.bases[Math.max(0, this.basesBefore(act, line) - 1)][1];
   }
 
-  // Whether a line that rates an activation anew raised or lowered it.
+  // Whether a line that rates an activation raised or lowered it, or neither.
   turnOf(act, line) {
-    return this.baseAt(act, line + 1) < this.baseAt(act, line) ? "lowered" : "raised";
+    const [before, after] = [this.baseAt(act, line), this.baseAt(act, line + 1)];
+    return after < before ? "lowered" : after > before ? "raised" : null;
   }
 
   // What waited when a line came, the activation that it chose too.
@@ -145,22 +166,67 @@ class Run {
     return step.rating - this.baseAt(this.actOf.get(step.act), step.first);
   }
 
-  // Whether an activation that waited is of the source that was chosen: then foci weighed both alike.
-  isWeighedAlike(step, act) {
-    return this.actOf.get(step.act).source === act.source;
+  // What foci add to a source's ratings where a step begins, null where that is not told. They weigh all activations of
+  // a source alike, so what is chosen tells it of its own source.
+  weightAt(step, source) {
+    if (step.act && this.actOf.get(step.act).source === source) return this.weightOf(step);
+    if (this.file === undefined) return null;
+    const adds = this.fociAt(step).filter((it) => it.adds.has(source.index)).map((it) => it.adds.get(source.index));
+    return adds.includes(null) ? null : adds.reduce((sum, it) => sum + it, 0n);
   }
 
-  // Why a cycle passed over an activation that waited, as far as a trace tells.
+  // The rating of what waits where a step begins, null where that is not told.
+  ratingAt(step, act) {
+    const weight = this.weightAt(step, act.source);
+    return weight === null ? null : this.baseAt(act, step.first) + weight;
+  }
+
+  // Whether what waits where a step begins is known to be rated below the floor.
+  isBelow(step, act) {
+    if (step.kind === "quiescence") return true;
+    const rating = this.floor === null ? null : this.ratingAt(step, act);
+    return rating !== null && rating < this.floor;
+  }
+
+  // Why a cycle passed over an activation that waited, as far as that is told.
   whyPassed(step, act) {
     const base = this.baseAt(act, step.first);
-    const isAlike = this.isWeighedAlike(step, act);
-    const rating = isAlike ? base + this.weightOf(step) : base;
-    if (rating < step.rating) return { sort: "lower", text: isAlike ? `rated lower, ${rating}` : "lower base" };
-    if (rating === step.rating && act.number > step.act) {
-      return { sort: "later", text: isAlike ? `rated ${rating} too, later number` : "same base, later number" };
+    const told = this.ratingAt(step, act);
+    const isTold = told !== null;
+    const rating = told ?? base;
+    if (this.floor !== null && rating < this.floor) {
+      return { sort: "below", text: isTold ? `below the floor, ${rating}` : "base below the floor" };
     }
+    if (rating < step.rating) return { sort: "lower", text: isTold ? `rated lower, ${rating}` : "lower base" };
+    if (rating === step.rating && act.number > step.act) {
+      return { sort: "later", text: isTold ? `rated ${rating} too, later number` : "same base, later number" };
+    }
+    if (isTold) return { sort: "weighed", text: `rated ${rating}: the input is another` };
     const by = rating - step.rating + (act.number < step.act ? 1n : 0n);
     return { sort: "weighed", text: `foci took off ${by} or more` };
+  }
+
+  // ---- foci, which only the input tells from other units
+
+  // The foci that there were where a step begins, with what they held then, and the line from which on they held it.
+  fociAt(step) {
+    const isThere = (it) => it.created < step.first && (!it.deleted || it.deleted >= step.first);
+    step.foci ??= this.foci.filter(isThere).map((unit) => {
+      const at = firstWhere(unit.since.length, (it) => unit.since[it][0] >= step.first) - 1;
+      const [line, held] = unit.since[at];
+      return { unit, line, ...this.held[held] };
+    });
+    return step.foci;
+  }
+
+  // What weighed the source that a cycle chose: the foci of which it is told by how much, the others, and what these
+  // come to together.
+  weighersOf(step) {
+    const { source } = this.actOf.get(step.act);
+    const all = this.fociAt(step).filter((it) => it.adds.has(source.index));
+    const told = all.filter((it) => it.adds.get(source.index) !== null);
+    const sum = told.reduce((it, focus) => it + focus.adds.get(source.index), 0n);
+    return { source, told, others: all.filter((it) => !told.includes(it)), rest: this.weightOf(step) - sum };
   }
 
   // The cycles that passed over an activation while it waited.
@@ -184,13 +250,22 @@ class Run {
     return !act.ended || act.ended >= gap.first;
   }
 
+  // ---- units
+
+  // A unit's number, and its name where that is told.
+  called(number) {
+    const name = this.unitOf.get(number)?.name;
+    return name ? `${number} ${name}` : String(number);
+  }
+
   // ---- finding
 
   find(text) {
     const wanted = text.trim().toLowerCase();
     const number = /^(?:#|unit )?(\d+)$/.exec(wanted)?.[1];
     const sources = this.sources.filter((it) => it.name.includes(wanted));
-    const units = this.units.filter((it) => String(it.number) === number || it.of.includes(wanted));
+    const isCalled = (it) => it.of.includes(wanted) || it.name?.toLowerCase().includes(wanted);
+    const units = this.units.filter((it) => String(it.number) === number || isCalled(it));
     this.lowered ??= this.lines.map((it) => it.toLowerCase());
     const lines = [];
     const within = wanted.startsWith("#") && number ? new RegExp(`(?:^\\w+ |unit |#)${number}(?![0-9])`) : null;

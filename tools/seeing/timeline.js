@@ -1,7 +1,7 @@
 // The picture: columns are steps (the start, cycles, quiescence), and below each other stand the agenda, the sources,
 // the activations and the units. Only the columns in the window are drawn.
 
-const LABELS = 172;
+const LABELS = run.file === undefined ? 172 : 232;
 const WIDTHS = [12, 16, 22, 30, 42, 56, 72];
 const MOST_ROWS = 60;
 
@@ -181,21 +181,22 @@ class Timeline {
   }
 
   drawAxis() {
-    const widest = String(this.run.totals.cycles).length * 7 + 6;
-    const every = [1, 2, 5, 10, 20, 50].find((it) => it * this.width >= widest);
-    const broad = (step) => this.columnName(step).length * 7 + 10;
-    const chosen = this.isShown(this.selected) ? this.selected : null;
-    const between = (step) => Math.abs(step.index - chosen.index) * this.width;
-    const isFree = (step) => !chosen || between(step) > (broad(step) + broad(chosen)) / 2 - 4;
-    const named = this.shown.filter((step) => step !== chosen && step.cycle % every === 0 && isFree(step));
-    const name = (step, sort) => svg("text", { class: sort, x: this.middle(step.index), y: 16 }, this.columnName(step),
-      svg("title", {}, this.run.nameOf(step)));
-    const pill = (step) => {
-      const width = broad(step);
-      return svg("rect", { class: "pill", x: this.middle(step.index) - width / 2, y: 3, width, height: 18, rx: 9 });
+    const columns = this.shown.map((step) => ({
+      ...{ step, cycle: step.cycle, name: this.columnName(step), at: this.middle(step.index) },
+    }));
+    const chosen = columns.find((it) => it.step === this.selected);
+    const every = namedEach(this.width, String(this.run.totals.cycles));
+    const named = new Set(axisNames(columns, every, chosen));
+    const title = (it) => svg("title", {}, this.run.nameOf(it.step));
+    const name = (it, sort) => svg("text", { class: sort, x: it.at, y: 16 }, it.name, title(it));
+    const dot = (it) => svg("circle", { class: "axis-dot", cx: it.at, cy: 12, r: 2 }, title(it));
+    const pill = (it) => {
+      const width = breadthOf(it.name) + PILL;
+      return svg("rect", { class: "pill", x: it.at - width / 2, y: 3, width, height: 18, rx: 9 });
     };
     this.canvas("axis", 24, svg("text", { class: "heading", x: 14, y: 16 }, "Cycle"),
-      named.map((step) => name(step, "axis-name")),
+      columns.filter((it) => !it.cycle && !named.has(it)).map(dot),
+      [...named].filter((it) => it !== chosen).map((it) => name(it, "axis-name")),
       chosen && [pill(chosen), name(chosen, "axis-name selected")]);
   }
 
@@ -212,7 +213,7 @@ class Timeline {
     const bars = this.shown.filter((step) => step.kind !== "gap").map((step) => {
       const tall = (step.waiting / most) * (height - 22);
       const text = String(step.waiting);
-      const isText = text.length * 6.6 + 2 <= this.width;
+      const isText = breadthOf(text) + 4 <= this.width;
       const x = this.left(step.index) + 1;
       const sort = step === this.selected ? "bar selected" : "bar";
       return svg("g", {},
@@ -248,7 +249,8 @@ class Timeline {
         if (line.word === "obviate") add(this.run.actOf.get(Number(words[1])).source, step, "obviate");
         if (line.word === "retrigger") {
           const act = this.run.actOf.get(Number(words[1]));
-          add(act.source, step, this.run.turnOf(act, line.number));
+          const turn = this.run.turnOf(act, line.number);
+          if (turn) add(act.source, step, turn);
         }
       }
     }
@@ -334,21 +336,38 @@ class Timeline {
     const to = end >= this.end ? this.left(this.end) : this.middle(end);
     const unit = this.run.unitOf.get(act.unit);
     const state = this.waiting.has(act) ? (this.selected.act === act.number ? "taken" : "passed") : "";
-    const title = `activation ${act.number}: ${act.source.name} on unit ${act.unit}${unit ? `, a ${unit.of}` : ""}`;
+    const on = `${act.source.name} on unit ${this.run.called(act.unit)}${unit ? `, a ${unit.of}` : ""}`;
+    const bases = [...new Set([act.bases[0], act.bases.at(-1)].map(([, base]) => base))].join(" → ");
+    const title = `activation ${act.number}: ${on}, base ${bases}`;
     return [
       svg("path", { class: "row-line", d: `M0 ${top + high}H${this.breadth}` }),
       this.label(middle, high, `#act-${act.number}`,
         svg("text", { class: "name", x: 14, y: middle + 4 },
           svg("tspan", { class: "faint" }, `${act.number} `), clipped(act.source.name, 15 - String(act.number).length)),
-        this.sideValue(middle + 4, act.unit ? `#${act.unit}` : "quiescence"),
+        this.sideValue(middle + 4, act.unit ? clipped(`#${this.run.called(act.unit)}`, 12) : "quiescence"),
         svg("title", {}, title)),
       svg("a", { href: `#act-${act.number}`, tabindex: -1, class: `life ${state}` }, svg("title", {}, title),
-        svg("rect", { x: from, y: middle - 8, width: Math.max(to - from, 2), height: 16, rx: 3 })),
+        svg("rect", { x: from, y: middle - 8, width: Math.max(to - from, 2), height: 16, rx: 3 }),
+        this.stretchesBelow(act, trigger, end, from, to).map(([x, right]) =>
+          svg("rect", { class: "below", x, y: middle - 7.5, width: right - x, height: 15, rx: 3 },
+            svg("title", {}, `${title}, below the floor`)))),
       this.basesOf(act, from, to, middle),
       trigger >= this.first && mark("trigger", from, middle),
       act.ended > 0 && end < this.end && this.endOf(act, to, middle, end),
       !act.ended && mark("waits", to - 6, middle, `activation ${act.number} still waits`),
     ];
+  }
+
+  // Where in the window it waits below the floor: what a column did counts from its middle to that of the next.
+  stretchesBelow(act, trigger, end, from, to) {
+    const stretches = [];
+    for (let at = Math.max(trigger, this.first - 1); at < Math.min(end, this.end); at++) {
+      if (!this.run.isBelow(this.run.steps[at + 1] ?? this.run.after, act)) continue;
+      const [left, right] = [Math.max(from, this.middle(at)), Math.min(to, this.middle(at + 1))];
+      if (stretches.at(-1)?.[1] === left) stretches.at(-1)[1] = right;
+      else stretches.push([left, right]);
+    }
+    return stretches.filter(([left, right]) => left < right);
   }
 
   // The base at its trigger, and each new one where it came.
@@ -366,7 +385,7 @@ class Timeline {
       const room = (seen[at + 1]?.x ?? to) - start - 6;
       return [
         isMark && mark(this.run.turnOf(act, it.line), it.x, middle, `activation ${act.number}: base ${it.base} now`),
-        room >= text.length * 6.6 && svg("text", { class: "rating", x: start, y: middle + 4 }, text),
+        room >= breadthOf(text) && svg("text", { class: "rating", x: start, y: middle + 4 }, text),
       ];
     });
   }
@@ -405,12 +424,15 @@ class Timeline {
     const deleted = unit.deleted ? this.run.stepAt(unit.deleted).index : this.run.steps.length;
     const from = created < this.first ? LABELS : this.left(created) + 5;
     const to = deleted >= this.end ? this.left(this.end) : this.left(deleted + 1) - 5;
+    const of = clipped(unit.of, 12);
+    const room = 24 - String(unit.number).length;
     return [
       svg("path", { class: "row-line", d: `M0 ${top + high}H${this.breadth}` }),
       this.label(middle, high, `#unit-${unit.number}`,
-        svg("text", { class: "name", x: 14, y: middle + 4 },
-          svg("tspan", { class: "faint" }, `#${unit.number} `), clipped(unit.of, 20 - String(unit.number).length)),
-        svg("title", {}, `unit ${unit.number}, a ${unit.of}`)),
+        svg("text", { class: "name", x: 14, y: middle + 4 }, svg("tspan", { class: "faint" }, `#${unit.number} `),
+          unit.name ? clipped(unit.name, room - of.length) : clipped(unit.of, room - 4)),
+        unit.name && this.sideValue(middle + 4, of),
+        svg("title", {}, `unit ${this.run.called(unit.number)}, a ${unit.of}`)),
       svg("rect", { class: "unit-life", x: from, y: middle - 1.5, width: Math.max(to - from, 2), height: 3, rx: 1.5 }),
       created >= this.first && mark("create", from, middle, `unit ${unit.number} created`),
       deleted < this.end && mark("delete", to, middle, `unit ${unit.number} deleted`),
