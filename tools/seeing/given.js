@@ -33,7 +33,7 @@ function listing(pieces, marked = null) {
   const code = ({ text, isMarked }, at) => html("span", { class: isMarked && "here" }, cut(text, at));
   const made = ({ number, spans }) => html("li", {}, html("span", { class: "line-number" }, String(number)),
     html("code", {}, spans.map(code)));
-  return html("div", { class: "listing" }, few(rows, made));
+  return html("div", { class: "listing" }, few(rows, made, "ul", MORE));
 }
 
 // The text of a part that was executed, or that said no.

@@ -131,7 +131,7 @@ function tabled(title, items, heads, made, none, ...more) {
 }
 
 // A list of which the first few are shown, and more where they are asked for.
-function few(items, made, tag = "ul") {
+function few(items, made, tag = "ul", first = FEW) {
   const list = html(tag, { class: "list" });
   const button = html("button", { class: "more" });
   let shown = 0;
@@ -141,9 +141,9 @@ function few(items, made, tag = "ul") {
     button.hidden = shown >= items.length;
     button.textContent = `Show ${Math.min(items.length - shown, MORE)} more`;
   };
-  add(FEW);
+  add(first);
   button.addEventListener("click", () => add(MORE));
-  return items.length > FEW ? [list, button] : [list];
+  return items.length > first ? [list, button] : [list];
 }
 
 function table(heads, items, made) {
