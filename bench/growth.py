@@ -198,6 +198,22 @@ def cleared(name, count):
     yield CLEAR
 
 
+OWN = """%sources
+source once on note {
+  when create note;
+  rate 1;
+  obviate on note when update note.at; { answer it = ev; }
+  do { }
+}
+"""
+
+
+def reacting(name, count):
+    """Each unit has an activation, which the next event of the unit obviates, beside those of all units after it."""
+    yield from placed(0, "", name, count, ())
+    yield OWN
+
+
 def objects(name, count):
     """A document of so many objects of one key."""
     yield '%schema\n{"classes":['
@@ -288,6 +304,7 @@ KINDS = source_texts.kinds(short) + [
     ("The same, the last unit first", "units", backwards, [("short", short)], 4_096, 65_536),
     ("Units that enter 256 spaces", "pairs", everywhere, [("short", short)], 12_800, 409_600),
     ("Units set and deleted beside 256 spaces", "units", cleared, [("short", short)], 4_096, 65_536),
+    ("Reactions to events of the activation's own unit", "units", reacting, [("short", short)], 4_096, 65_536),
     ("Values of no slot", "values", values_of_no_slot, [("others", other), ("colliding", colliding)], 12_500, 400_000),
     ("Class entries", "classes", classes, [("others", other), ("colliding", colliding)], 10_000, 320_000),
     ("Links to a class of many slots", "slots", inverses, [("short", short)], 18_750, 300_000),

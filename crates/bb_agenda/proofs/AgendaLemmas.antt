@@ -1,12 +1,11 @@
 -- What each change of an agenda does to what is pending, and to how many were given.
-use Rattle.std.proofs.Common.{◌≡◌, ℕ, ◌+◌, ℤ, Bool, true, false, not, cond, List, [], ◌∷◌, ◌++◌, length, map, filter, None, Ok, Err, ◌⊎◌, inl, inr, refl, sym, ap, ◌∙◌, length-append}
+use Rattle.std.proofs.Common.{◌≡◌, ℕ, ◌+◌, ℤ, Bool, true, false, not, cond, List, [], ◌∷◌, ◌++◌, length, map, filter, None, refl, ap, ◌∙◌, length-append}
 use Rattle.std.specs.List.{filter_map}
 use Rattle.std.proofs.lemmas.List.{length-map}
 use Rattle.std.proofs.lemmas.List.Elements.{filter_map-append}
 use Rattle.bb_agenda_foci.specs.declared.activation.Activation.{Activation}
-use Rattle.bb_agenda.specs.Agenda.{Agenda, Entry, pending, executed, obviated, if_pending, pending_of, has_number, next_number, is_full}
-use Rattle.bb_agenda.specs.declared.fault.AddFault.TheVariants as faults
-use Rattle.bb_agenda.specs.Changes.{new_activation, with_activation, added_number, becoming, with_entry, with_obviated, with_executed, based_at, with_base, other_than, rebased}
+use Rattle.bb_agenda.specs.Agenda.{Agenda, Entry, pending, executed, obviated, if_pending, pending_of, has_number}
+use Rattle.bb_agenda.specs.Changes.{new_activation, with_activation, becoming, with_entry, with_obviated, with_executed, based_at, with_base, other_than, rebased}
 
 pub pending_added : (a : Agenda) (source unit : ℕ) (base : ℤ) → pending_of (with_activation a source unit base) ≡ pending_of a ++ new_activation a source unit base ∷ []
 pending_added a source unit base = filter_map-append if_pending a.given (pending (new_activation a source unit base) ∷ [])
@@ -67,18 +66,3 @@ pub given_executed : (a : Agenda) (number : ℕ) → length (with_executed a num
 given_executed a number = given_changed a number (λ _. executed)
 
 -- ---- the number that is added
-
-pub added_ok : (a : Agenda) (number : ℕ) → added_number a ≡ Ok number → (is_full a ≡ false) × (number ≡ next_number a)
-added_ok a number is = at (is_full a) refl is
-  where
-    at : (b : Bool) → is_full a ≡ b → cond b (Err faults.Full) (Ok (next_number a)) ≡ Ok number → (is_full a ≡ false) × (number ≡ next_number a)
-    at true h is = absurd cc
-    at false h is = (h, let same : next_number a ≡ number = cc in sym same)
-
-pub added_full : (a : Agenda) → (faults.Full ≡ faults.Memory) ⊎ (added_number a ≡ Err faults.Full) → is_full a ≡ true
-added_full a (inl is) = absurd cc
-added_full a (inr is) = at (is_full a) refl is
-  where
-    at : (b : Bool) → is_full a ≡ b → cond b (Err faults.Full) (Ok (next_number a)) ≡ Err faults.Full → is_full a ≡ true
-    at true h is = h
-    at false h is = absurd cc

@@ -77,9 +77,6 @@ module _ (rate : ℕ → ℤ → ℤ) (weight : ℕ → ℤ) (sums : (s : ℕ) (
       at Greater h g p = absurd cc
 
   module _ (orders : List (BTreeSet Rank)) where
-    pub best_none : BestOf rate orders 0 None
-    best_none = record { stands = λ b e. absurd cc; first = λ s r lt. absurd (omega (arith, lt)) }
-
     there : (i : ℕ) (o : BTreeSet Rank) (r : Rank) → slice_get orders i ≡ Some o → is_ranked orders i r ≡ contains rank_cmp o r
     there i o r is = ap (λ x. option_map_or (λ y. contains rank_cmp y r) x false) is
 

@@ -2,10 +2,10 @@
 use Rattle.std.proofs.Common.{◌≡◌, ℕ, zero, suc, ℤ, Bool, true, false, not, cond, ◌==◌, List, [], ◌∷◌, map, filter, find, Some, None, refl, sym, ap, ◌∙◌, arith, eqb-true, eq-eqb, ne_eqb}
 use Rattle.std.specs.Prelude.{Contains, option_map}
 use Rattle.bb_agenda_foci.specs.declared.activation.Activation.{Activation}
-use Rattle.bb_agenda.specs.Agenda.{Agenda, number_of, has_number, is_of, pending_of, pending_for, pending_at}
-use Rattle.bb_agenda.specs.Changes.{with_obviated, with_executed, with_base, other_than, rebased}
+use Rattle.bb_agenda.specs.Agenda.{Agenda, number_of, has_number, is_of, is_on, pending_of, pending_for, pending_on, pending_at}
+use Rattle.bb_agenda.specs.Changes.{other_than, rebased}
 use Rattle.bb_agenda.specs.Fits.{Fits}
-use Rattle.bb_agenda.proofs.AgendaLemmas.{pending_obviated, pending_executed, pending_rebased}
+use Rattle.bb_agenda.proofs.FiledLemmas.{filter_turned}
 use Rattle.bb_agenda.proofs.RisingLemmas.{found_contained}
 
 -- ---- among others
@@ -41,6 +41,10 @@ found_rebased number n base (a ∷ kept) = at (has_number n a) (found_rebased nu
 
 -- ---- on an agenda
 
+-- what is pending of a source for a unit, sorted out one way or the other
+pub pending_turned : (a : Agenda) (source unit : ℕ) → filter (is_of source) (pending_on a unit) ≡ filter (is_on unit) (pending_for a source)
+pending_turned a source unit = filter_turned (is_of source) (is_on unit) (pending_of a)
+
 -- an activation that is pending is the one of its number
 pub pending_itself : (a : Agenda) → Fits a → (x : Activation) → Contains (pending_of a) x → pending_at a x.number ≡ Some x
 pending_itself a fits x there = found_contained number_of (pending_of a) x fits.rising there
@@ -57,23 +61,6 @@ contains_kept p (y ∷ ys) x there = at (p y) there (contains_kept p ys x)
     at true (suc k, lt, is) further = later (further (k, omega (arith, lt), is))
     at false there further = later (further there)
 
--- an activation that is pending of a source is the one of its number
-pub pending_for_itself : (a : Agenda) → Fits a → (source : ℕ) (x : Activation) → Contains (pending_for a source) x → pending_at a x.number ≡ Some x
-pending_for_itself a fits source x there = pending_itself a fits x (contains_kept (is_of source) (pending_of a) x there)
-
--- what is obviated or executed is no longer pending
-pub none_obviated : (a : Agenda) (number : ℕ) → pending_at (with_obviated a number) number ≡ None
-none_obviated a number = ap (find (has_number number)) (pending_obviated a number) ∙ not_found_less number (pending_of a)
-
-pub none_executed : (a : Agenda) (number : ℕ) → pending_at (with_executed a number) number ≡ None
-none_executed a number = ap (find (has_number number)) (pending_executed a number) ∙ not_found_less number (pending_of a)
-
--- another number is as before
-pub at_obviated : (a : Agenda) (number n : ℕ) → (n == number) ≡ false → pending_at (with_obviated a number) n ≡ pending_at a n
-at_obviated a number n other = ap (find (has_number n)) (pending_obviated a number) ∙ found_less number n (pending_of a) other
-
-pub at_executed : (a : Agenda) (number n : ℕ) → (n == number) ≡ false → pending_at (with_executed a number) n ≡ pending_at a n
-at_executed a number n other = ap (find (has_number n)) (pending_executed a number) ∙ found_less number n (pending_of a) other
-
-pub at_rebased : (a : Agenda) (number n : ℕ) (base : ℤ) → pending_at (with_base a number base) n ≡ option_map (rebased number base) (pending_at a n)
-at_rebased a number n base = ap (find (has_number n)) (pending_rebased a number base) ∙ found_rebased number n base (pending_of a)
+-- an activation that is pending of a source, or for a unit, is the one of its number
+pub kept_itself : (a : Agenda) → Fits a → (p : Activation → Bool) (x : Activation) → Contains (filter p (pending_of a)) x → pending_at a x.number ≡ Some x
+kept_itself a fits p x there = pending_itself a fits x (contains_kept p (pending_of a) x there)

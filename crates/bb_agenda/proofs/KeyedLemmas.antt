@@ -72,12 +72,6 @@ module _ (es : Entries) (keyed : AreKeyed es) where
     pub keyed_put : AreKeyed (insert_entry nat_cmp es a.number a)
     keyed_put = subst AreKeyed (sym put_is) (each_more (λ (e : ℕ × Activation). e.0 ≡ e.1.number) es (a.number, a) keyed refl)
 
-    -- an activation that was put is taken away again
-    pub put_gone : remove_entry (is_at (nat_cmp a.number)) (insert_entry nat_cmp es a.number a) ≡ es
-    put_gone = ap (remove_entry (is_at (nat_cmp a.number))) put_is ∙ remove_last a.number a es (keys_below a.number es keyed below)
-
--- ---- one less
-
 pub keyed_less : (n : ℕ) (es : Entries) → AreKeyed es → AreKeyed (remove_entry (is_at (nat_cmp n)) es)
 keyed_less n [] keyed = tt
 keyed_less n (e ∷ es) keyed = at (is_at (nat_cmp n) e.0) (keyed_less n es keyed.1)
@@ -116,15 +110,6 @@ nothing_rebased n base (x ∷ xs) none = at (has_number n x) refl none (nothing_
     at : (b : Bool) → has_number n x ≡ b → cond b (Some x) (find (has_number n) xs) ≡ None → (find (has_number n) xs ≡ None → map (rebased n base) xs ≡ xs) → map (rebased n base) (x ∷ xs) ≡ x ∷ xs
     at true h none later = absurd cc
     at false h none later = rw h (ap (λ ys. x ∷ ys) (later none))
-
--- nor one that is left out
-pub nothing_less : (n : ℕ) (xs : List Activation) → find (has_number n) xs ≡ None → filter (other_than n) xs ≡ xs
-nothing_less n [] none = refl
-nothing_less n (x ∷ xs) none = at (has_number n x) none (nothing_less n xs)
-  where
-    at : (b : Bool) → cond b (Some x) (find (has_number n) xs) ≡ None → (find (has_number n) xs ≡ None → filter (other_than n) xs ≡ xs) → cond (not b) (x ∷ filter (other_than n) xs) (filter (other_than n) xs) ≡ x ∷ xs
-    at true none later = absurd cc
-    at false none later = ap (λ ys. x ∷ ys) (later none)
 
 -- an activation that gets the base that it has stays as it is
 pub same_base : (n : ℕ) (xs : List Activation) (a : Activation) → RisesBy number_of xs → find (has_number n) xs ≡ Some a → map (rebased n a.base) xs ≡ xs

@@ -1,5 +1,5 @@
 -- The order in which the pending activations of a source are executed, after each change.
-use Rattle.std.proofs.Common.{◌≡◌, ℕ, zero, suc, ◌<◌, ◌==◌, Bool, true, false, cond, ◌&&◌, List, [], ◌∷◌, ◌++◌, length, set, Some, None, refl, sym, ap, subst, ◌∙◌, arith, eqb-true, eq-eqb, ne_eqb}
+use Rattle.std.proofs.Common.{◌≡◌, ℕ, zero, suc, ◌<◌, ◌==◌, Bool, true, false, cond, ◌&&◌, List, [], ◌∷◌, length, set, Some, None, refl, sym, ap, subst, ◌∙◌, arith, eqb-true, eq-eqb, ne_eqb}
 use Rattle.std.specs.Prelude.{slice_get}
 use Rattle.std.specs.Option.{option_map_or}
 use Rattle.std.proofs.lemmas.Bool.{and_parts}
@@ -7,13 +7,6 @@ use Rattle.std.proofs.lemmas.Option.{slice_get_within}
 use Rattle.std.specs.BTreeSet.{BTreeSet, contains, Updates}
 use Rattle.bb_agenda.specs.declared.rank.Rank.{Rank}
 use Rattle.bb_agenda.specs.proving.Ranks.{rank_cmp, same_rank, is_ranked, ranked_more, ranked_less}
-
--- an empty order more
-pub one_empty : (orders : List (BTreeSet Rank)) (o : BTreeSet Rank) → o.keys ≡ [] → (s : ℕ) (r : Rank) → is_ranked (orders ++ o ∷ []) s r ≡ is_ranked orders s r
-one_empty [] o none zero r = rw none refl
-one_empty [] o none (suc s) r = refl
-one_empty (x ∷ xs) o none zero r = refl
-one_empty (x ∷ xs) o none (suc s) r = one_empty xs o none s r
 
 after_both : (i s : ℕ) → (suc i == suc s) ≡ (i == s)
 after_both i s = by (i == s) refl
@@ -29,10 +22,6 @@ changed_at (x ∷ xs) zero o zero r lt = refl
 changed_at (x ∷ xs) zero o (suc s) r lt = rw (ne_eqb 0 (suc s) (λ e. omega (arith, e))) refl
 changed_at (x ∷ xs) (suc i) o zero r lt = rw (ne_eqb (suc i) 0 (λ e. omega (arith, e))) refl
 changed_at (x ∷ xs) (suc i) o (suc s) r lt = rw (after_both i s) (changed_at xs i o s r (omega (arith, lt)))
-
-cond_same : (b : Bool) (x : Bool) → cond b x x ≡ x
-cond_same true x = refl
-cond_same false x = refl
 
 -- a source without an order
 nothing_ranked : (orders : List (BTreeSet Rank)) (i : ℕ) (r : Rank) → slice_get orders i ≡ None → is_ranked orders i r ≡ false

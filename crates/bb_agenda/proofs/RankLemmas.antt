@@ -12,6 +12,7 @@ use Rattle.std.proofs.lemmas.Bool.{and_parts}
 use Rattle.std.proofs.lemmas.Cmp.{int_cmp_total, nat_cmp_total, on_total, back_total, then_total, eq_by_cmp_equiv}
 use Rattle.std.proofs.lemmas.List.Folds.{find-append}
 use Rattle.std.proofs.lemmas.Map.Lookups.{exact_signed, exact_unsigned}
+use Rattle.bb_basis.proofs.BoolLemmas.{and_false}
 use Rattle.bb_agenda_foci.specs.declared.activation.Activation.{Activation}
 use Rattle.bb_agenda.specs.declared.rank.Rank.{Rank}
 use Rattle.bb_agenda.specs.Agenda.{has_number, is_of}
@@ -61,10 +62,6 @@ ranks_as a s r = a.source == s && same_rank (rank_of a) r
 
 turned : (a : Activation) (s : ℕ) (r : Rank) → has_rank s r a ≡ ranks_as a s r
 turned a s r = ap (λ b. is_of s a && b) (same_back r (rank_of a))
-
-and_false : (b : Bool) → (b && false) ≡ false
-and_false true = refl
-and_false false = refl
 
 ranks_not : (a : Activation) (s : ℕ) (r : Rank) → (a.number ≡ r.number → ⊥) → ranks_as a s r ≡ false
 ranks_not a s r apart = ap (λ b. a.source == s && b) (other_rank (rank_of a) r apart) ∙ and_false (a.source == s)

@@ -1,5 +1,5 @@
 -- Lists along which a number rises: with one item more or less, by places, and searched.
-use Rattle.std.proofs.Common.{◌≡◌, ℕ, zero, suc, ◌<◌, ◌≤◌, ◌⊎◌, inl, inr, ◌==◌, Bool, true, false, not, cond, List, [], ◌∷◌, ◌++◌, map, filter, find, length, get_or, set, Some, None, Result, Ok, Err, refl, sym, ap, subst, arith, eq-eqb, ne_eqb}
+use Rattle.std.proofs.Common.{◌≡◌, ℕ, zero, suc, ◌<◌, ◌≤◌, ◌⊎◌, inl, inr, ◌==◌, Bool, true, false, not, cond, List, [], ◌∷◌, ◌++◌, map, filter, find, length, get_or, Some, Result, Ok, Err, refl, sym, ap, subst, arith, eq-eqb, ne_eqb}
 use Rattle.std.specs.Prelude.{Contains, IfNone}
 use Rattle.std.specs.List.{AllByRecursion, list_any, remove}
 use Rattle.std.specs.List.Sorted.{IsBinarySearchResult}
@@ -11,7 +11,7 @@ use Rattle.std.proofs.lemmas.List.Folds.{list_any_none}
 use Rattle.std.proofs.lemmas.List.Sorted.{searched}
 use Rattle.bb_agenda.specs.Fits.{RisesBy}
 use Rattle.bb_agenda.specs.proving.Lists.{Rising, is_in}
-use Rattle.bb_agenda.proofs.ChosenLemmas.{contained_holds, each_more, found_holds}
+use Rattle.bb_agenda.proofs.ChosenLemmas.{contained_holds, each_more}
 
 -- ---- what holds of each
 
@@ -74,20 +74,6 @@ module _ {X : Type 0} (key : X → ℕ) where
       let parts = or_parts (key x == n) (list_any (λ y. key y == n) xs) none in
       rw parts.0 (ap (λ ys. x ∷ ys) (without_absent n xs parts.1))
 
-  unchanged : (n : ℕ) (f : X → X) (xs : List X) → list_any (λ x. key x == n) xs ≡ false → map (λ x. cond (key x == n) (f x) x) xs ≡ xs
-  unchanged n f [] none = refl
-  unchanged n f (x ∷ xs) none =
-      let parts = or_parts (key x == n) (list_any (λ y. key y == n) xs) none in
-      rw parts.0 (ap (λ ys. x ∷ ys) (unchanged n f xs parts.1))
-
-  pub find_absent : (n : ℕ) (xs : List X) → list_any (λ x. key x == n) xs ≡ false → find (λ x. key x == n) xs ≡ None
-  find_absent n [] none = refl
-  find_absent n (x ∷ xs) none =
-      let parts = or_parts (key x == n) (list_any (λ y. key y == n) xs) none in
-      rw parts.0 (find_absent n xs parts.1)
-
-  -- ---- the item of a number, by its place
-
   module _ (n : ℕ) where
     after : (x : X) (xs : List X) → RisesBy key (x ∷ xs) → key x ≡ n → list_any (λ y. key y == n) xs ≡ false
     after x xs rising is = above_absent n xs (subst (λ m. AllByRecursion (λ y. m < key y) xs) is rising.0)
@@ -103,31 +89,6 @@ module _ {X : Type 0} (key : X → ℕ) where
     without_at (x ∷ xs) (suc i) d rising lt is =
         let within : i < length xs = omega (arith, lt) in
         rw (before x xs i d rising within is) (ap (λ ys. x ∷ ys) (without_at xs i d rising.1 within is))
-
-    pub found_at : (xs : List X) (i : ℕ) (d : X) → RisesBy key xs → i < length xs → key (get_or xs i d) ≡ n → find (λ x. key x == n) xs ≡ Some (get_or xs i d)
-    found_at [] i d rising lt is = absurd (omega (arith, lt))
-    found_at (x ∷ xs) zero d rising lt is = rw (eq-eqb (key x) n is) refl
-    found_at (x ∷ xs) (suc i) d rising lt is =
-        let within : i < length xs = omega (arith, lt) in
-        rw (before x xs i d rising within is) (found_at xs i d rising.1 within is)
-
-    pub changed_at : (f : X → X) (xs : List X) (i : ℕ) (d : X) → RisesBy key xs → i < length xs → key (get_or xs i d) ≡ n → set xs i (f (get_or xs i d)) ≡ map (λ x. cond (key x == n) (f x) x) xs
-    changed_at f [] i d rising lt is = absurd (omega (arith, lt))
-    changed_at f (x ∷ xs) zero d rising lt is = rw (eq-eqb (key x) n is) (ap (λ ys. f x ∷ ys) (sym (unchanged n f xs (after x xs rising is))))
-    changed_at f (x ∷ xs) (suc i) d rising lt is =
-        let within : i < length xs = omega (arith, lt) in
-        rw (before x xs i d rising within is) (ap (λ ys. x ∷ ys) (changed_at f xs i d rising.1 within is))
-
-  -- what a search finds is found by its number too
-  pub found_again : (q : X → Bool) (xs : List X) (a : X) → RisesBy key xs → find q xs ≡ Some a → find (λ x. key x == key a) xs ≡ Some a
-  found_again q [] a rising is = absurd cc
-  found_again q (x ∷ xs) a rising is = at (q x) is (λ later. found_again q xs a rising.1 later)
-    where
-      at : (b : Bool) → cond b (Some x) (find q xs) ≡ Some a → (find q xs ≡ Some a → find (λ y. key y == key a) xs ≡ Some a) → find (λ y. key y == key a) (x ∷ xs) ≡ Some a
-      at true is later = let same : x ≡ a = cc in rw (eq-eqb (key x) (key a) (ap key same)) is
-      at false is later =
-          let below : key x < key a = found_holds q (λ y. key x < key y) xs a rising.0 is in
-          rw (ne_eqb (key x) (key a) (λ same. omega (arith, below, same))) (later is)
 
   pub found_contained : (xs : List X) (a : X) → RisesBy key xs → Contains xs a → find (λ x. key x == key a) xs ≡ Some a
   found_contained [] a rising (k, lt, is) = absurd (omega (arith, lt))

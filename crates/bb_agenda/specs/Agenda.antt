@@ -57,6 +57,10 @@ has_number number a = a.number == number
 abbrev pub is_of : ℕ → Activation → Bool
 is_of source a = a.source == source
 
+-- the activation is for this unit
+abbrev pub is_on : ℕ → Activation → Bool
+is_on unit a = a.unit == unit
+
 -- the numbers of what is pending
 abbrev pub numbers_pending : Agenda → List ℕ
 numbers_pending a = map number_of (pending_of a)
@@ -68,6 +72,14 @@ pending_for a source = filter (is_of source) (pending_of a)
 -- the numbers of what is pending of a source
 abbrev pub numbers_for : Agenda → ℕ → List ℕ
 numbers_for a source = map number_of (pending_for a source)
+
+-- what is pending for a unit
+abbrev pub pending_on : Agenda → ℕ → List Activation
+pending_on a unit = filter (is_on unit) (pending_of a)
+
+-- the numbers of what is pending for a unit
+abbrev pub numbers_on : Agenda → ℕ → List ℕ
+numbers_on a unit = map number_of (pending_on a unit)
 
 -- the pending activation of a number
 abbrev pub pending_at : Agenda → ℕ → Option Activation

@@ -4,7 +4,7 @@ pub mod Kept
 pub mod Ranks
 -- how the code finds what is pending
 pub mod Filed
--- lists of numbers that rise, and one for each source
+-- lists of numbers that rise, by source and by unit
 pub mod Lists
 -- the best of all that are pending
 pub mod Best

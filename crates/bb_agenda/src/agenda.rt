@@ -2,8 +2,8 @@
 //! takes off it what a cycle executes.
 
 ghost use Rattle.std.specs.Prelude.{◌≡◌, Contains, IfSome, IsSome, Some, option_map};
-ghost use Rattle.bb_agenda.specs.Agenda.{no_activations, pending_of, is_full, number_of, numbers_pending, numbers_for};
-ghost use Rattle.bb_agenda.specs.Agenda.{pending_at, pending_for, status};
+ghost use Rattle.bb_agenda.specs.Agenda.{no_activations, pending_of, is_full, number_of, numbers_pending, numbers_for, numbers_on};
+ghost use Rattle.bb_agenda.specs.Agenda.{pending_at, pending_for, pending_on, status};
 ghost use Rattle.bb_agenda_foci.specs.declared.activation.Activation.{Activation};
 ghost use Rattle.bb_agenda.specs.Fits.{Fits};
 ghost use Rattle.bb_agenda.specs.Rating.{rating_in};
@@ -97,6 +97,16 @@ impl Agenda {
             → pending_at self.now a.number ≡ Some a }
     {
         self.waiting.of_source(source)
+    }
+
+    /// The numbers of what is pending for a unit, rising.
+    pub fn pending_on(&self, unit: UnitId) -> &[u64]
+        ensures numbers { result.now ≡ numbers_on self.now unit }
+        // Each activation is pending under its number.
+        ensures itself { (a : Activation) → Contains (pending_on self.now unit) a
+            → pending_at self.now a.number ≡ Some a }
+    {
+        self.waiting.on_unit(unit)
     }
 
     /// What became of the activation of a number, if the number was given.

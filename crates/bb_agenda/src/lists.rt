@@ -1,51 +1,63 @@
-//! A list of numbers that rise for each source. waiting.rt keeps the numbers of what is pending in it.
+//! The numbers of what is pending, in a list for each source and in one for each unit. waiting.rt keeps them.
 
-ghost use Rattle.std.specs.Prelude.{◌≡◌, ℕ, OnOk, OnErr, IsSome};
+ghost use Rattle.std.specs.Prelude.{◌≡◌, ℕ, [], OnOk, OnErr, IsSome, if◌then◌else◌, ◌==◌};
 ghost use Rattle.std.specs.Ordering.{nat_cmp};
 ghost use Rattle.std.specs.BTreeMap.{get};
-ghost use Rattle.bb_agenda.specs.proving.Lists.{Rising, listed, one_more, one_less};
+ghost use Rattle.bb_agenda.specs.proving.Lists.{Rising, listed, one_more, one_less, without_last};
+ghost use Rattle.bb_agenda.specs.proving.Lists.{HasMore, HasLess, AreSame, Rise};
 
 use crate::row::Row;
+use bb_agenda_foci::Activation;
 use bb_basis::Memory;
-use std::alloc::Global;
+use bb_schema::UnitId;
+use std::alloc::{AllocError, Global};
 use std::collections::BTreeMap;
 
-/// The list of a source.
-pub(crate) fn list_of(lists: &BTreeMap<u16, Row>, source: u16) -> &[u64]
-    ensures { result.now ≡ listed lists.now source }
+/// The numbers of activations, which rise in each list.
+#[derive(Drop)]
+pub(crate) struct Lists {
+    // Those of each source that ever had one.
+    pub(crate) by_source: BTreeMap<u64, Row>,
+    // Those of each unit that has one.
+    pub(crate) by_unit: BTreeMap<u64, Row>,
+}
+
+// The list of a key.
+fn list_of(lists: &BTreeMap<u64, Row>, key: u64) -> &[u64]
+    ensures { result.now ≡ listed lists.now key }
 {
-    match lists.get(&source) {
+    match lists.get(&key) {
         None => &[],
         Some(list) => list.as_slice(),
     }
 }
 
-/// Gives a source one more number, the last. An error changes nothing.
-pub(crate) fn add_to(
+// Gives a key one more number, the last. An error changes nothing.
+fn add_to(
     alloc: Global,
-    lists: &mut BTreeMap<u16, Row>,
-    source: u16,
+    lists: &mut BTreeMap<u64, Row>,
+    key: u64,
     number: u64,
 ) -> Result<(), Memory>
-    ensures ok { OnOk result ((s : ℕ) → listed lists.new s ≡ one_more lists.old source number s) }
-    ensures err { OnErr result ((s : ℕ) → listed lists.new s ≡ listed lists.old s) }
+    ensures ok { OnOk result ((k : ℕ) → listed lists.new k ≡ one_more lists.old key number k) }
+    ensures err { OnErr result ((k : ℕ) → listed lists.new k ≡ listed lists.old k) }
 {
-    if lists.contains_key(&source) {
-        return push_at(lists, source, number);
+    if lists.contains_key(&key) {
+        return push_at(lists, key, number);
     }
     let mut list = Row::new(alloc);
     list.push(number)?;
-    lists.insert(source, list)?;
+    lists.insert(key, list)?;
     Ok(())
 }
 
-// Appends a number to the list of a source that has one.
-fn push_at(lists: &mut BTreeMap<u16, Row>, source: u16, number: u64) -> Result<(), Memory>
-    requires { IsSome (get nat_cmp lists.old source) }
-    ensures ok { OnOk result ((s : ℕ) → listed lists.new s ≡ one_more lists.old source number s) }
-    ensures err { OnErr result ((s : ℕ) → listed lists.new s ≡ listed lists.old s) }
+// Appends a number to the list of a key that has one.
+fn push_at(lists: &mut BTreeMap<u64, Row>, key: u64, number: u64) -> Result<(), Memory>
+    requires { IsSome (get nat_cmp lists.old key) }
+    ensures ok { OnOk result ((k : ℕ) → listed lists.new k ≡ one_more lists.old key number k) }
+    ensures err { OnErr result ((k : ℕ) → listed lists.new k ≡ listed lists.old k) }
 {
-    match lists.get_mut(&source) {
+    match lists.get_mut(&key) {
         None => unreachable!(),
         Some(list) => {
             list.push(number)?;
@@ -54,13 +66,85 @@ fn push_at(lists: &mut BTreeMap<u16, Row>, source: u16, number: u64) -> Result<(
     }
 }
 
-/// Takes a number out of the list of a source, which rises.
-pub(crate) fn remove_from(lists: &mut BTreeMap<u16, Row>, source: u16, number: u64)
-    requires { Rising (listed lists.old source) }
-    ensures { (s : ℕ) → listed lists.new s ≡ one_less lists.old source number s }
+// Takes the last number of a key away again.
+fn take_back(lists: &mut BTreeMap<u64, Row>, key: u64)
+    ensures { (k : ℕ) → listed lists.new k
+        ≡ if key == k then without_last (listed lists.old k) else listed lists.old k }
 {
-    match lists.get_mut(&source) {
+    match lists.get_mut(&key) {
+        None => (),
+        Some(list) => list.pop(),
+    }
+}
+
+// Takes a number out of the list of a key, which rises.
+fn remove_from(lists: &mut BTreeMap<u64, Row>, key: u64, number: u64)
+    requires { Rising (listed lists.old key) }
+    ensures { (k : ℕ) → listed lists.new k ≡ one_less lists.old key number k }
+{
+    match lists.get_mut(&key) {
         None => (),
         Some(list) => list.remove(number),
+    }
+}
+
+// Forgets the list of a key where it has no numbers.
+fn drop_empty(lists: &mut BTreeMap<u64, Row>, key: u64)
+    ensures { (k : ℕ) → listed lists.new k ≡ listed lists.old k }
+{
+    if list_of(lists, key).is_empty() {
+        lists.remove(&key);
+    }
+}
+
+impl Lists {
+    /// No numbers. It allocates nothing.
+    pub(crate) fn new(alloc: Global) -> Lists
+        ensures sources { result.by_source.entries ≡ [] }
+        ensures units { result.by_unit.entries ≡ [] }
+    {
+        Lists {
+            by_source: BTreeMap::new(alloc),
+            by_unit: BTreeMap::new(alloc),
+        }
+    }
+
+    /// The numbers of a source.
+    pub(crate) fn of_source(&self, source: u16) -> &[u64]
+        ensures { result.now ≡ listed self.now.by_source source }
+    {
+        list_of(&self.by_source, u64::from(source))
+    }
+
+    /// The numbers of a unit.
+    pub(crate) fn of_unit(&self, unit: UnitId) -> &[u64]
+        ensures { result.now ≡ listed self.now.by_unit unit }
+    {
+        list_of(&self.by_unit, unit)
+    }
+
+    /// Appends the number of an activation to the lists of its source and its unit. An error changes no list.
+    pub(crate) fn add(&mut self, alloc: Global, activation: &Activation) -> Result<(), Memory>
+        ensures ok { OnOk result (HasMore self.old activation.now self.new) }
+        ensures err { OnErr result (AreSame self.old self.new) }
+    {
+        let source = u64::from(activation.source);
+        add_to(alloc, &mut self.by_source, source, activation.number)?;
+        if add_to(alloc, &mut self.by_unit, activation.unit, activation.number).is_err() {
+            take_back(&mut self.by_source, source);
+            return Err(AllocError);
+        }
+        Ok(())
+    }
+
+    /// Takes the number of an activation out of the lists of its source and its unit.
+    pub(crate) fn remove(&mut self, activation: &Activation)
+        requires { Rise self.old activation.now }
+        ensures { HasLess self.old activation.now self.new }
+    {
+        let number = activation.number;
+        remove_from(&mut self.by_source, u64::from(activation.source), number);
+        remove_from(&mut self.by_unit, activation.unit, number);
+        drop_empty(&mut self.by_unit, activation.unit);
     }
 }

@@ -2,7 +2,7 @@
 
 ghost use Rattle.std.specs.Prelude.{◌≡◌, [], ◌∷◌, ◌++◌, OnOk, OnErr, IfSome, IfNone, false};
 ghost use Rattle.std.specs.Prelude.{◌≤◌, length, drop};
-ghost use Rattle.bb_agenda.specs.proving.Lists.{Rising, IsAt, is_in, without};
+ghost use Rattle.bb_agenda.specs.proving.Lists.{Rising, IsAt, is_in, without, without_last};
 
 use bb_basis::Memory;
 use std::alloc::Global;
@@ -76,6 +76,15 @@ impl Row {
     {
         self.items.push(number)?;
         Ok(())
+    }
+
+    /// Takes the last number away.
+    pub(crate) fn pop(&mut self)
+        ensures { self.new ≡ without_last self.old }
+    {
+        if self.start < self.items.len() {
+            self.items.pop();
+        }
     }
 
     /// Takes a number away.

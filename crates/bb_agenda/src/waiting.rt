@@ -1,5 +1,5 @@
-//! What is pending on an agenda, found by its number or its source, and in the order in which those of a source are
-//! executed, without a walk over all of it. agenda.rt keeps it.
+//! What is pending on an agenda, found by its number, its source or its unit, and in the order in which those of a
+//! source are executed, without a walk over all of it. agenda.rt keeps it.
 
 ghost use Rattle.std.specs.Prelude.{◌≡◌, ◌<◌, [], ◌∷◌, ◌++◌, map, filter, find, length, is_some, OnOk, OnErr};
 ghost use Rattle.std.specs.Prelude.{IfSome, option_map};
@@ -7,7 +7,7 @@ ghost use Rattle.std.specs.List.{AllByRecursion};
 ghost use Rattle.std.specs.Map.{lookup};
 ghost use Rattle.std.specs.Ordering.{nat_cmp};
 ghost use Rattle.std.specs.BTreeMap.{is_at};
-ghost use Rattle.bb_agenda.specs.Agenda.{number_of, has_number, is_of};
+ghost use Rattle.bb_agenda.specs.Agenda.{number_of, has_number, is_of, is_on};
 ghost use Rattle.bb_agenda.specs.Changes.{other_than, rebased};
 ghost use Rattle.bb_agenda.specs.Chosen.{chosen};
 ghost use Rattle.bb_agenda.specs.Fits.{RisesBy};
@@ -16,12 +16,13 @@ ghost use Rattle.bb_agenda_foci.specs.Rating.{rating};
 mod filing;
 
 use crate::choosing::best_of;
-use crate::lists::{list_of, remove_from};
+use crate::lists::Lists;
 use crate::order::rank_out;
 use crate::rank::Rank;
 use crate::row::Row;
 use bb_agenda_foci::{Activation, Steering};
 use bb_basis::Memory;
+use bb_schema::UnitId;
 use filing::{rebase, rerank, store};
 use std::alloc::Global;
 use std::collections::{BTreeMap, BTreeSet};
@@ -34,8 +35,8 @@ pub(crate) struct Waiting {
     activations: BTreeMap<u64, Activation>,
     // The numbers of the activations.
     numbers: Row,
-    // The numbers of the activations of each source.
-    by_source: BTreeMap<u16, Row>,
+    // The numbers of the activations of each source and of each unit.
+    lists: Lists,
     // The ranks of the activations of each source, at its index.
     orders: Vec<BTreeSet<Rank>>,
 }
@@ -51,7 +52,7 @@ impl Model for Waiting {
 
     ghost use Rattle.bb_agenda.specs.proving.Filed.{AreWaiting};
 
-    ghost invariant = { λ w. AreWaiting w.activations.entries w.numbers w.by_source w.orders.items };
+    ghost invariant = { λ w. AreWaiting w.activations.entries w.numbers w.lists w.orders.items };
 }
 
 impl Waiting {
@@ -63,7 +64,7 @@ impl Waiting {
             alloc,
             activations: BTreeMap::new(alloc),
             numbers: Row::new(alloc),
-            by_source: BTreeMap::new(alloc),
+            lists: Lists::new(alloc),
             orders: Vec::new(alloc),
         }
     }
@@ -88,7 +89,15 @@ impl Waiting {
         ensures value { result.now ≡ map number_of (filter (is_of source) self.now) }
         ensures rising { RisesBy number_of self.now }
     {
-        list_of(&self.by_source, source)
+        self.lists.of_source(source)
+    }
+
+    /// The numbers of the activations for a unit.
+    pub(crate) fn on_unit(&self, unit: UnitId) -> &[u64]
+        ensures value { result.now ≡ map number_of (filter (is_on unit) self.now) }
+        ensures rising { RisesBy number_of self.now }
+    {
+        self.lists.of_unit(unit)
     }
 
     /// The activation of a number.
@@ -129,7 +138,7 @@ impl Waiting {
         match store(
             self.alloc,
             &mut self.activations,
-            &mut self.by_source,
+            &mut self.lists,
             &mut self.orders,
             &activation,
         ) {
@@ -147,7 +156,7 @@ impl Waiting {
     {
         if let Some(activation) = self.activations.remove(&number) {
             self.numbers.remove(number);
-            remove_from(&mut self.by_source, activation.source, number);
+            self.lists.remove(&activation);
             rank_out(&mut self.orders, activation.source, Rank::of(&activation));
         }
     }

@@ -1,4 +1,3 @@
-pub mod EntryLemmas
 pub mod Laws
 pub mod Rows
 pub mod ShiftLemmas

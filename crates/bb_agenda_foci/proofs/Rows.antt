@@ -10,7 +10,7 @@ use Rattle.bb_agenda_foci.specs.declared.setting.RatedSource.{RatedSource}
 use Rattle.bb_agenda_foci.specs.Matching.{is_source, is_ancestor, is_area, matches}
 use Rattle.bb_agenda_foci.specs.Rating.{total_weight, rating}
 use Rattle.bb_agenda_foci.specs.proving.Entries.{foci_of}
-use Rattle.bb_agenda_foci.proofs.EntryLemmas.{values_are}
+use Rattle.bb_basis.proofs.EntryLemmas.{values_are}
 
 schema : Schema
 schema = record {

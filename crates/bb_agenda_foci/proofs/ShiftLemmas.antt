@@ -54,13 +54,6 @@ not_below : (k : ℕ) → nat_lt k k ≡ false
 not_below k = le-ltb k k (omega arith)
 
 module _ (setting : Setting) (gone new : Option Focus) where
-  pub none_shifted : (xs : List ℤ) → AreShifted setting gone new 0 xs xs
-  none_shifted xs place = by (slice_get xs place)
-    where
-      by : (o : Option ℤ) → o ≡ option_map (shifted setting gone new 0 place) o
-      by None = refl
-      by (Some w) = ap (λ b. Some (cond b (w +ℤ shift_at setting gone new place) w)) (sym (le-ltb place 0 (omega arith)))
-
   -- the sum at a place was not changed yet
   unchanged_by : (k : ℕ) (w : ℤ) (o : Option ℤ) → Some w ≡ option_map (shifted setting gone new k k) o → o ≡ Some w
   unchanged_by k w None is = absurd cc
@@ -96,9 +89,6 @@ module _ (setting : Setting) (gone new : Option Focus) where
   next_sum from to k w so_far at sums = sums k w (unchanged_by k w (slice_get from k) (sym at ∙ so_far k))
 
 -- ---- all sums are changed
-
-pub sums_of : (setting : Setting) (foci : Foci) (weights : List ℤ) → AreWeights setting foci weights → AreSums weights
-sums_of setting foci weights are = λ place w at. (are place w at).1
 
 moved : (old new gone came : ℤ) → new +ℤ gone ≡ old +ℤ came → new ≡ old +ℤ (came +ℤ neg_ℤ gone)
 moved old new gone came is = omega (arith, ints, is)

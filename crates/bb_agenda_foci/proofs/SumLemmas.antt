@@ -14,7 +14,7 @@ use Rattle.bb_agenda_foci.specs.declared.focus.Focus.{Focus}
 use Rattle.bb_agenda_foci.specs.Rating.{total_weight}
 use Rattle.bb_agenda_foci.specs.proving.Entries.{foci_of}
 use Rattle.bb_agenda_foci.specs.proving.Weights.{weight_by, part_of, IsWeight, IsSum}
-use Rattle.bb_agenda_foci.proofs.EntryLemmas.{values_are}
+use Rattle.bb_basis.proofs.EntryLemmas.{values_are}
 
 abbrev Entries : Type 0
 Entries = List (ℕ × Focus)

@@ -64,6 +64,7 @@ fn reach(weights: &mut Vec<i128>, setting: &Setting, foci: &Foci) -> Result<(), 
     requires { AreWeights setting.now foci.now weights.old.items }
     ensures { AreWeights setting.now foci.now weights.new.items }
 {
+    // For the proof: what holds of the foci.
     foci.fits();
     for place in weights.len()..setting.source_count() {
         weights.push(foci.rating(setting, place, 0))?;
@@ -120,6 +121,7 @@ impl Steering {
     {
         reach(&mut self.weights, &self.setting, &self.foci)?;
         let gone = self.foci.set(unit, focus)?;
+        // For the proof: what holds of the foci.
         self.foci.fits();
         shift(
             &mut self.weights,
@@ -135,6 +137,7 @@ impl Steering {
         ensures { self.new ≡ with_foci self.old (fin.remove self.old.foci unit) }
     {
         let gone = self.foci.remove(unit);
+        // For the proof: what holds of the foci.
         self.foci.fits();
         shift(&mut self.weights, &self.setting, gone.as_ref(), None);
     }

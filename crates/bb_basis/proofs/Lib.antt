@@ -1,3 +1,4 @@
+pub mod BoolLemmas
 pub mod ListLemmas
 pub mod NumberLemmas
 pub mod AppendLemmas
@@ -7,10 +8,9 @@ pub mod ResultLemmas
 pub mod MadeLemmas
 pub mod IntoMapLemmas
 pub mod SliceLemmas
-pub mod TryMapLemmas
 pub mod TryFoldLemmas
-pub mod SliceFoldLemmas
 pub mod PlacedLemmas
 pub mod MapAtLemmas
 pub mod FoldAtLemmas
+pub mod EntryLemmas
 pub mod Limits

@@ -63,18 +63,6 @@ pub spot_none : {X : Type 0} (p : X → Bool) (xs : List X) → spot p xs ≡ No
 spot_none p [] h = refl
 spot_none p (x ∷ xs) h = none_below (p x) (list_any p xs) (spot p xs) (spot_none p xs) h
 
-some_up : (o : Option ℕ) (n : ℕ) → ((i : ℕ) → o ≡ Some i → i < n) → (i : ℕ) → option_map suc o ≡ Some i → i < suc n
-some_up None n rest i h = absurd cc
-some_up (Some j) n rest i h = let lt = rest j refl in let e : suc j ≡ i = cc in omega (arith, lt, e)
-
-some_below : (t : Bool) (o : Option ℕ) (n : ℕ) → ((i : ℕ) → o ≡ Some i → i < n) → (i : ℕ) → cond t (Some 0) (option_map suc o) ≡ Some i → i < suc n
-some_below true o n rest i h = let e : 0 ≡ i = cc in omega (arith, e)
-some_below false o n rest i h = some_up o n rest i h
-
-pub spot_within : {X : Type 0} (p : X → Bool) (xs : List X) (i : ℕ) → spot p xs ≡ Some i → i < length xs
-spot_within p [] i h = absurd cc
-spot_within p (x ∷ xs) i h = some_below (p x) (spot p xs) (length xs) (spot_within p xs) i h
-
 pub none_spot : {X : Type 0} (p : X → Bool) (xs : List X) → list_any p xs ≡ false → spot p xs ≡ None
 none_spot p [] h = refl
 none_spot p (x ∷ xs) h =

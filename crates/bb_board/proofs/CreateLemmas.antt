@@ -1,12 +1,7 @@
 -- What one unit more makes of a blackboard, by what the units' own call answers.
-use Rattle.std.proofs.Common.{◌≡◌, ℕ, ◌<◌, List, map, length, Some, arith, ◌⊎◌, inl, inr, Bool, true, false, cond, Result, Ok, Err, refl, ap}
-use Rattle.std.specs.Str.{bytes_eq}
-use Rattle.std.proofs.lemmas.List.{length-map}
+use Rattle.std.proofs.Common.{◌≡◌, ℕ, ◌⊎◌, inl, inr, Bool, true, false, cond, Result, Ok, Err, refl, ap}
 use Rattle.std.specs.Prelude.{OnOk}
 use Rattle.bb_basis.specs.Results.{map_err}
-use Rattle.bb_basis.proofs.PositionLemmas.{position_within}
-use Rattle.bb_schema_classes.specs.declared.class.Class.{Class}
-use Rattle.bb_schema.specs.Schema.{Schema, class_named}
 use Rattle.bb_units.specs.declared.fault.CreateFault.{CreateFault}
 use Rattle.bb_units.specs.declared.fault.CreateFault.TheVariants.{Full as NoMoreUnits, Memory as NoMemory}
 use Rattle.bb_units.specs.Units.{next_number, is_full}
@@ -35,12 +30,6 @@ pub with_unit-err : (w : World) (class : ℕ) (e : CreateFault) → (e ≡ NoMem
 unfolding with_unit
 with_unit-err w class e (inl m) = inl (ap of_create_fault m)
 with_unit-err w class e (inr given) = inr (where_full (is_full w.units) w.units.next (after_create w class) e given)
-
--- the class of a name is there
-pub class_within : (s : Schema) (name : List ℕ) (class : ℕ) → class_named s name ≡ Some class → class < length s.classes
-class_within s name class is =
-    let within = position_within (bytes_eq name) (map (λ (k : Class). k.name) s.classes) class is in
-    omega (arith, within, length-map s.classes (λ (k : Class). k.name))
 
 -- a call that has no fault once its fault is mapped leaves what it leaves without a fault
 pub placed_leaves : {X E F : Type 0} (P : Type 0) (at : E → F) (r : Result X E) (x : X) → Ok x ≡ map_err at r → OnOk r P → P

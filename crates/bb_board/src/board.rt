@@ -204,6 +204,7 @@ impl Board {
     pub fn fits(&self)
         ensures { Fits self.now.schema self.now.world }
     {
+        // For the proof: what holds of the world.
         self.world.fits();
     }
 }

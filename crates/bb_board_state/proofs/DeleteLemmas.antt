@@ -9,6 +9,8 @@ use Rattle.std.specs.FinMap.{get, get-remove, nat_cmp-IsAntisymmetric}
 use Rattle.std.proofs.lemmas.Bool.{and_from, or_parts, eq-eqb}
 use Rattle.std.proofs.lemmas.List.Folds.{list_all-map}
 use Rattle.std.proofs.lemmas.Option.{slice_get-map}
+use Rattle.bb_basis.proofs.NumberLemmas.{nat_lt_below}
+use Rattle.bb_basis.proofs.BoolLemmas.{not_true}
 use Rattle.bb_schema.specs.declared.couple.Side.{Side}
 use Rattle.bb_schema.specs.declared.couple.Side.TheVariants.{A, B}
 use Rattle.bb_schema.specs.Schema.{Schema, slots_of}
@@ -31,7 +33,7 @@ use Rattle.bb_board_state.specs.Links.{parting, is_turn, slot_partings, after_de
 use Rattle.bb_board_state.specs.Fits.{is_noted, is_of_owner, Fits}
 use Rattle.bb_board_state.proofs.AllLemmas.{all_append, all_filter, all_flat_map}
 use Rattle.bb_board_state.proofs.OutliveLemmas.{deleted_outlives}
-use Rattle.bb_board_state.proofs.NoteLemmas.{below, notes_kept}
+use Rattle.bb_board_state.proofs.NoteLemmas.{notes_kept}
 use Rattle.bb_board_state.proofs.KeepLemmas.{owner_kept, event_of_live}
 use Rattle.bb_board_state.proofs.KnowLemmas.{knows_deleted}
 use Rattle.bb_board_state.proofs.SideLemmas.{link_at}
@@ -49,10 +51,6 @@ others_stay u n k c apart is = ap (option_map (λ x. x.class)) (get-remove nat_c
 
 -- pairs without a unit
 
-not_true : (b : Bool) → not b ≡ true → b ≡ false
-not_true true is = absurd cc
-not_true false is = refl
-
 is_apart : (side : Side) (n : ℕ) (p : ℕ × ℕ) → not (p.0 == n || p.1 == n) ≡ true → near side p ≡ n → ⊥
 is_apart A n p kept e = absurd (let f : true ≡ false = sym (eq-eqb p.0 n e) ∙ (or_parts (p.0 == n) (p.1 == n) (not_true (p.0 == n || p.1 == n) kept)).0 in cc)
 is_apart B n p kept e = absurd (let f : true ≡ false = sym (eq-eqb p.1 n e) ∙ (or_parts (p.0 == n) (p.1 == n) (not_true (p.0 == n || p.1 == n) kept)).1 in cc)
@@ -68,7 +66,7 @@ same_singular n (k ∷ ks) = ap (λ xs. k.singular ∷ xs) (same_singular n ks)
 
 range_below : (m n a : ℕ) → a + n ≤ m → list_all (λ x. nat_lt x m) (range_with_len a n) ≡ true
 range_below m zero a le = refl
-range_below m (suc n) a le = and_from (nat_lt a m) (list_all (λ x. nat_lt x m) (range_with_len (a + 1) n)) (below a m (omega (arith, le))) (range_below m n (a + 1) (omega (arith, le)))
+range_below m (suc n) a le = and_from (nat_lt a m) (list_all (λ x. nat_lt x m) (range_with_len (a + 1) n)) (nat_lt_below a m (omega (arith, le))) (range_below m n (a + 1) (omega (arith, le)))
 
 module _ (s : Schema) (w : World) (sf : schemas.Fits s) (fits : Fits s w) (n : ℕ) (live : is_live w.units n ≡ true) where
   abbrev left : Units

@@ -10,6 +10,7 @@ use Rattle.std.specs.FinMap.{get, get-insert, nat_cmp-IsAntisymmetric}
 use Rattle.std.specs.Cmp.{Equal-is}
 use Rattle.std.proofs.lemmas.Bool.{and_parts}
 use Rattle.std.proofs.lemmas.List.{length-map}
+use Rattle.bb_basis.proofs.NumberLemmas.{nat_lt_below}
 use Rattle.bb_schema_classes.specs.declared.class.Class.{Class}
 use Rattle.bb_schema_classes.specs.declared.value.Value.{Value}
 use Rattle.bb_schema_classes.specs.Kinds.{kind_of_value}
@@ -40,7 +41,7 @@ use Rattle.bb_board_state.proofs.AllLemmas.{all_weaker}
 use Rattle.bb_board_state.proofs.ClassLemmas.{same_class_of}
 use Rattle.bb_board_state.proofs.KnowLemmas.{knows_none, knows_created, knows_set}
 use Rattle.bb_board_state.proofs.OutliveLemmas.{created_outlives, set_outlives}
-use Rattle.bb_board_state.proofs.NoteLemmas.{below, still, notes_kept, noted_more, event_of}
+use Rattle.bb_board_state.proofs.NoteLemmas.{still, notes_kept, noted_more, event_of}
 
 without_pairs : (xs : List Singular) → map (λ k. k.singular) (map no_pairs xs) ≡ xs
 without_pairs [] = refl
@@ -136,7 +137,7 @@ event_of_live s w v n change fits outlives live names =
     let found = live_class w.units.layout n (get w.units.units n) live (fits.units.units n) in
     let count = ap (λ (l : Layout). length l.slots) fits.layout in
     let given = (fits.units.numbers n live).1 in
-    event_of s v n (class_at w n) change (omega (arith, given, outlives.next)) (still s w.units v outlives n (class_at w n) (below n w.units.next given) (of_if_live w.units n (class_at w n) found.0))
+    event_of s v n (class_at w n) change (omega (arith, given, outlives.next)) (still s w.units v outlives n (class_at w n) (nat_lt_below n w.units.next given) (of_if_live w.units n (class_at w n) found.0))
     (omega (arith, found.1, count, length-map s.classes (λ (k : Class). k.slots))) names
 
 -- the class of a live unit is there
@@ -169,7 +170,7 @@ set_keeps s w n slot value fits u live takes_it = record {
       let within = slot_within s w n slot value fits takes_is in
       noted_more s (with_value w.units n slot value) w.notes (event n (class_at w n) (Update slot))
       (notes_kept s w.units (with_value w.units n slot value) (set_outlives w.units n slot value) w.notes fits.notes)
-      (event_of_live s w (with_value w.units n slot value) n (Update slot) fits (set_outlives w.units n slot value) (search (rules, live)) (below slot (length s.slots) within));
+      (event_of_live s w (with_value w.units n slot value) n (Update slot) fits (set_outlives w.units n slot value) (search (rules, live)) (nat_lt_below slot (length s.slots) within));
 }
 
 -- the numbers of spaces are short

@@ -8,6 +8,7 @@ use Rattle.std.specs.Cmp.{nat_cmp_total}
 use Rattle.std.specs.FinMap.{empty, get, insert, get-empty, get-insert, get-remove}
 use Rattle.std.proofs.lemmas.List.{length-map}
 use Rattle.std.proofs.lemmas.Option.{slice_get-map}
+use Rattle.bb_basis.proofs.NumberLemmas.{eq_by_cmp_same}
 use Rattle.bb_schema_classes.specs.declared.value.Value.{Value}
 use Rattle.bb_schema.specs.declared.space.Space.{Space}
 use Rattle.bb_schema.specs.Schema.{Schema, slot_named, dims_of}
@@ -24,7 +25,7 @@ use Rattle.bb_query.specs.Knows.{Knows}
 use Rattle.bb_space.specs.Spaces.{spaces_of}
 use Rattle.bb_board_state.specs.Told.{values_for, told_again}
 use Rattle.bb_board_state.proofs.ClassLemmas.{same_class_of}
-use Rattle.bb_board_state.proofs.MemberLemmas.{same_number, changed_length, from_enter, from_leave, from_forget, moves_length, moves_other, moves_none, moves_told, among_filter, among_range, member_within}
+use Rattle.bb_board_state.proofs.MemberLemmas.{changed_length, from_enter, from_leave, from_forget, moves_length, moves_other, moves_none, moves_told, among_filter, among_range, member_within}
 
 abbrev held : Option Membership → Membership
 held o = option_map_or (λ m. m) o empty
@@ -65,7 +66,7 @@ module _ (s : Schema) (u : Units) (t : Spaces) (knows : Knows s u t) where
 
   -- a unit more
   other_number : (n k : ℕ) (b : Bool) → eq_by_cmp nat_cmp n k ≡ b → n < k → b ≡ false
-  other_number n k true same lt = absurd (let e = same_number n k same in omega (arith, e, lt))
+  other_number n k true same lt = absurd (let e = eq_by_cmp_same n k same in omega (arith, e, lt))
   other_number n k false other lt = refl
 
   pub knows_created : (class : ℕ) → units.Fits u → Knows s (after_create u class) t
@@ -161,7 +162,7 @@ module _ (s : Schema) (u : Units) (t : Spaces) (knows : Knows s u t) where
 
     stays_by : (q k : ℕ) (v : List DimValue) (b : Bool) → eq_by_cmp nat_cmp k n ≡ b → values_in again q k ≡ Some v → Stays q k v
     stays_by q k v true same is =
-        let e = same_number k n same in
+        let e = eq_by_cmp_same k n same in
         subst (λ y. values_in again q y ≡ Some v → Stays q y v) (sym e) (λ here. some_old q n v (values_in t q n) refl (own q v here).0 (own q v here).1) is
     stays_by q k v false other is =
         let was = sym (moves_other n (values_for s set n (spaces_of t n)) t q k other) ∙ is in

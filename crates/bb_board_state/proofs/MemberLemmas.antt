@@ -1,20 +1,19 @@
 -- Which values members of spaces have after each change, and where they come from.
-use Rattle.std.proofs.Common.{◌≡◌, ◌≢◌, ℕ, zero, suc, ◌+◌, ◌<◌, ◌≤◌, ◌⊎◌, inl, inr, Bool, true, false, cond, List, [], ◌∷◌, ◌++◌, map, length, Option, Some, None, refl, sym, ap, subst, ◌∙◌, arith}
+use Rattle.std.proofs.Common.{◌≡◌, ◌≢◌, ℕ, zero, suc, ◌+◌, ◌<◌, ◌≤◌, ◌⊎◌, inl, inr, Bool, true, false, cond, List, [], ◌∷◌, map, length, Option, Some, None, refl, sym, ap, subst, ◌∙◌, arith}
 use Rattle.std.specs.Prelude.{eqb, ◌||◌, is_some, option_map, slice_get, slice_set}
 use Rattle.std.specs.List.{filter, list_any, range_with_len}
 use Rattle.std.specs.Option.{option_map_or}
 use Rattle.std.specs.Ordering.{nat_cmp, eq_by_cmp}
-use Rattle.std.specs.Cmp.{nat_cmp_total, eq_by_cmp_equiv, Equal-is}
-use Rattle.std.specs.FinMap.{empty, get, insert, remove, contains_key, get-empty, get-insert, get-remove, nat_cmp-IsAntisymmetric}
+use Rattle.std.specs.Cmp.{nat_cmp_total, eq_by_cmp_equiv}
+use Rattle.std.specs.FinMap.{empty, get, insert, remove, contains_key, get-empty, get-insert, get-remove}
 use Rattle.std.proofs.lemmas.List.{length-set}
 use Rattle.std.proofs.lemmas.Option.{slice_get-map, slice_get_within}
 use Rattle.std.proofs.lemmas.Bool.Decides.{eqb_tells}
+use Rattle.std.proofs.lemmas.Bool.{or_right}
+use Rattle.bb_basis.proofs.NumberLemmas.{eq_by_cmp_same}
 use Rattle.bb_pattern.specs.declared.value.DimValue.{DimValue}
 use Rattle.bb_space.specs.Spaces.{Membership, Spaces, membership, values_in, entered, left, moved, changed}
 use Rattle.bb_space.specs.Spaces.{after_enter, after_leave, after_moved, after_moves, after_forget}
-
-pub same_number : (n k : ℕ) → eq_by_cmp nat_cmp n k ≡ true → n ≡ k
-same_number n k e = nat_cmp-IsAntisymmetric n k ((Equal-is (nat_cmp n k)).0 e)
 
 -- a list with one thing changed
 set_same : {X : Type 0} (xs : List X) (i : ℕ) (y : X) → i < length xs → slice_get (slice_set xs i y) i ≡ Some y
@@ -76,7 +75,7 @@ module _ (change : Membership → Membership) (t : Spaces) (x : ℕ) where
 -- a unit enters
 module _ (n : ℕ) (values : List DimValue) where
   inserted_by : (m : Membership) (k : ℕ) (v : List DimValue) (b : Bool) → eq_by_cmp nat_cmp k n ≡ b → cond b (Some values) (get m k) ≡ Some v → (get m k ≡ Some v) ⊎ ((k ≡ n) × (values ≡ v))
-  inserted_by m k v true same is = let e : values ≡ v = cc in inr (same_number k n same, e)
+  inserted_by m k v true same is = let e : values ≡ v = cc in inr (eq_by_cmp_same k n same, e)
   inserted_by m k v false other is = inl is
 
   entered_by : (m : Membership) (k : ℕ) (v : List DimValue) (b : Bool) → get (cond b m (insert m n values)) k ≡ Some v → (get m k ≡ Some v) ⊎ ((k ≡ n) × (values ≡ v))
@@ -215,12 +214,8 @@ module _ (n : ℕ) where
 
 -- ---- the spaces of a unit
 
-or_true : (a b : Bool) → b ≡ true → (a || b) ≡ true
-or_true true b is = refl
-or_true false b is = is
-
 among_rest : (p : ℕ → Bool) (x q : ℕ) (xs : List ℕ) (b : Bool) → list_any (λ y. eqb y q) (filter p xs) ≡ true → list_any (λ y. eqb y q) (cond b (x ∷ filter p xs) (filter p xs)) ≡ true
-among_rest p x q xs true rest = or_true (eqb x q) _ rest
+among_rest p x q xs true rest = or_right (eqb x q) _ rest
 among_rest p x q xs false rest = rest
 
 among_next : (p : ℕ → Bool) (x q : ℕ) (xs : List ℕ) → (list_any (λ y. eqb y q) xs ≡ true → list_any (λ y. eqb y q) (filter p xs) ≡ true) → p q ≡ true → list_any (λ y. eqb y q) (x ∷ xs) ≡ true
@@ -250,13 +245,3 @@ member_within_by t q n v (Some m) is there = slice_get_within t.spaces q m is
 
 pub member_within : (t : Spaces) (q n : ℕ) (v : List DimValue) → values_in t q n ≡ Some v → q < length t.spaces
 member_within t q n v there = member_within_by t q n v (slice_get t.spaces q) refl there
-
--- one number more of those that pass
-pub filter_more : (p : ℕ → Bool) (n a j : ℕ) → a + n ≡ j → filter p (range_with_len a (suc n)) ≡ filter p (range_with_len a n) ++ cond (p j) (j ∷ []) []
-filter_more p zero a j e = ap (λ i. cond (p i) (i ∷ []) []) (let same : a ≡ j = omega (arith, e) in same)
-filter_more p (suc n) a j e = one (p a) (filter_more p n (a + 1) j (omega (arith, e)))
-  where
-    one : (b : Bool) → filter p (range_with_len (a + 1) (suc n)) ≡ filter p (range_with_len (a + 1) n) ++ cond (p j) (j ∷ []) []
-        → cond b (a ∷ filter p (range_with_len (a + 1) (suc n))) (filter p (range_with_len (a + 1) (suc n))) ≡ cond b (a ∷ filter p (range_with_len (a + 1) n)) (filter p (range_with_len (a + 1) n)) ++ cond (p j) (j ∷ []) []
-    one true more = ap (λ ns. a ∷ ns) more
-    one false more = more

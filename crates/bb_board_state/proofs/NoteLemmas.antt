@@ -4,8 +4,8 @@ use Rattle.std.specs.Prelude.{◌&&◌, ◌==◌}
 use Rattle.std.specs.List.{list_all}
 use Rattle.std.specs.Option.{option_map_or}
 use Rattle.std.proofs.lemmas.Bool.{and_parts, and_from}
-use Rattle.std.proofs.lemmas.Bool.Decides.{nat_tests}
 use Rattle.std.proofs.lemmas.List.Folds.{list_all-append}
+use Rattle.bb_basis.proofs.NumberLemmas.{nat_lt_true, nat_lt_below}
 use Rattle.bb_schema.specs.Schema.{Schema}
 use Rattle.bb_units.specs.Units.{Units, class_of}
 use Rattle.bb_board_state.specs.declared.event.Change.{Change}
@@ -16,19 +16,13 @@ use Rattle.bb_board_state.specs.declared.note.Note.TheVariants as notes
 use Rattle.bb_board_state.specs.Fits.{names_slot_of, is_of_if_live, is_event_of, is_noted}
 use Rattle.bb_board_state.specs.Outlives.{Outlives}
 
-pub below : (n m : ℕ) → n < m → nat_lt n m ≡ true
-below n m lt = grind (arith, nat_tests)
-
-pub is_below : (n m : ℕ) → nat_lt n m ≡ true → n < m
-is_below n m lt = grind (arith, nat_tests)
-
 same_class : (class : ℕ) (old new : Option ℕ) → ((c : ℕ) → new ≡ Some c → old ≡ Some c) → option_map_or (λ c. c == class) old true ≡ true → option_map_or (λ c. c == class) new true ≡ true
 same_class class old None from is = refl
 same_class class old (Some c) from is = rw (from c refl) at is
 
 module _ (s : Schema) (u v : Units) (outlives : Outlives u v) where
   pub still : (n class : ℕ) → nat_lt n u.next ≡ true → is_of_if_live u n class ≡ true → is_of_if_live v n class ≡ true
-  still n class lt is = same_class class (class_of u n) (class_of v n) (λ c. outlives.classes n c (is_below n u.next lt)) is
+  still n class lt is = same_class class (class_of u n) (class_of v n) (λ c. outlives.classes n c (nat_lt_true n u.next lt)) is
 
   event_kept : (e : Event) → is_event_of s u e ≡ true → is_event_of s v e ≡ true
   event_kept (events.Change n class change) is =
@@ -38,7 +32,7 @@ module _ (s : Schema) (u v : Units) (outlives : Outlives u v) where
       and_from _ (names_slot_of s change)
       (and_from _ (nat_lt class (length s.classes))
       (and_from (nat_lt n v.next) (is_of_if_live v n class)
-      (let lt = is_below n u.next r.0 in below n v.next (omega (arith, lt, outlives.next))) (still n class r.0 r.1)) q.1) p.1
+      (let lt = nat_lt_true n u.next r.0 in nat_lt_below n v.next (omega (arith, lt, outlives.next))) (still n class r.0 r.1)) q.1) p.1
   event_kept events.Quiescence is = refl
 
   note_kept : (note : Note) → is_noted s u note ≡ true → is_noted s v note ≡ true
@@ -63,4 +57,4 @@ pub event_of : (s : Schema) (u : Units) (n class : ℕ) (change : Change) → n 
 event_of s u n class change given is there names =
     and_from _ (names_slot_of s change)
     (and_from _ (nat_lt class (length s.classes))
-    (and_from (nat_lt n u.next) (is_of_if_live u n class) (below n u.next given) is) (below class (length s.classes) there)) names
+    (and_from (nat_lt n u.next) (is_of_if_live u n class) (nat_lt_below n u.next given) is) (nat_lt_below class (length s.classes) there)) names

@@ -1,26 +1,23 @@
 -- A space whose values of a unit stay as they are need not be told them.
-use Rattle.std.proofs.Common.{◌≡◌, ℕ, zero, suc, Bool, true, false, cond, List, [], ◌∷◌, map, Option, Some, None, option_map, refl, sym, ap, ◌∙◌}
+use Rattle.std.proofs.Common.{◌≡◌, ℕ, Bool, true, false, cond, List, [], ◌∷◌, map, Option, Some, None, option_map, refl, sym, ap, ◌∙◌}
 use Rattle.std.specs.Prelude.{slice_get, slice_set, is_some}
 use Rattle.std.specs.List.{filter, filter_map, cons_option}
 use Rattle.std.specs.Option.{option_map_or}
 use Rattle.std.specs.Ordering.{nat_cmp, eq_by_cmp}
 use Rattle.std.specs.Cmp.{nat_cmp_total}
 use Rattle.std.specs.FinMap.{empty, get, insert, get-insert, same_map, nat_cmp-IsAntisymmetric}
+use Rattle.bb_basis.proofs.ListLemmas.{slice_set-itself}
+use Rattle.bb_basis.proofs.NumberLemmas.{eq_by_cmp_same}
 use Rattle.bb_pattern.specs.declared.value.DimValue.{DimValue}
 use Rattle.bb_space.specs.Spaces.{Membership, Spaces, values_in, moved, after_moved, after_moves}
-use Rattle.bb_board_state.proofs.MemberLemmas.{same_number, apart_same}
-
-set_itself : {X : Type 0} (xs : List X) (i : ℕ) (x : X) → slice_get xs i ≡ Some x → slice_set xs i x ≡ xs
-set_itself [] i x is = absurd cc
-set_itself (y ∷ ys) zero x is = let e : y ≡ x = cc in ap (λ z. z ∷ ys) (sym e)
-set_itself (y ∷ ys) (suc i) x is = ap (λ zs. y ∷ zs) (set_itself ys i x is)
+use Rattle.bb_board_state.proofs.MemberLemmas.{apart_same}
 
 abbrev held : Option Membership → Membership
 held o = option_map_or (λ m. m) o empty
 
 module _ (n : ℕ) (values : List DimValue) where
   inserted_by : (m : Membership) (k : ℕ) (b : Bool) → eq_by_cmp nat_cmp k n ≡ b → get m n ≡ Some values → cond b (Some values) (get m k) ≡ get m k
-  inserted_by m k true same is = sym (ap (get m) (same_number k n same) ∙ is)
+  inserted_by m k true same is = sym (ap (get m) (eq_by_cmp_same k n same) ∙ is)
   inserted_by m k false other is = refl
 
   insert_itself : (m : Membership) → get m n ≡ Some values → insert m n values ≡ m
@@ -32,7 +29,7 @@ module _ (n : ℕ) (values : List DimValue) where
   itself_by : (t : Spaces) (x : ℕ) (o : Option Membership) → slice_get t.spaces x ≡ o → get (held o) n ≡ Some values → option_map_or (λ m. record { spaces = slice_set t.spaces x (moved n values m) }) o t ≡ t
   itself_by t x None there is = refl
   itself_by t x (Some m) there is =
-      ap (λ ms. let u : Spaces = record { spaces = ms } in u) (ap (slice_set t.spaces x) (moved_itself m is) ∙ set_itself t.spaces x m there)
+      ap (λ ms. let u : Spaces = record { spaces = ms } in u) (ap (slice_set t.spaces x) (moved_itself m is) ∙ slice_set-itself t.spaces x m there)
 
   -- a space that is told what it was told stays as it is
   moved_nothing : (t : Spaces) (x : ℕ) → values_in t x n ≡ Some values → after_moved t x n values ≡ t

@@ -4,6 +4,7 @@ use Rattle.std.specs.Prelude.{slice_get}
 use Rattle.std.specs.List.{list_any}
 use Rattle.std.specs.Option.{option_map_or}
 use Rattle.std.proofs.lemmas.Option.{slice_get_within}
+use Rattle.bb_basis.proofs.NumberLemmas.{nat_lt_below}
 use Rattle.bb_schema_classes.specs.Inheritance.{descends_in}
 use Rattle.bb_schema.specs.declared.space.Space.{Space}
 use Rattle.bb_schema.specs.Schema.{Schema}
@@ -19,7 +20,7 @@ use Rattle.bb_board_state.specs.State.{World}
 use Rattle.bb_board_state.specs.World.{event, class_at}
 use Rattle.bb_board_state.specs.Spaces.{may_enter, after_enter, after_leave}
 use Rattle.bb_board_state.specs.Fits.{is_noted, names_slot_of, Fits}
-use Rattle.bb_board_state.proofs.NoteLemmas.{below, noted_more}
+use Rattle.bb_board_state.proofs.NoteLemmas.{noted_more}
 use Rattle.bb_board_state.proofs.KeepLemmas.{event_of_live}
 use Rattle.bb_board_state.proofs.OutliveLemmas.{outlives_same}
 use Rattle.bb_board_state.proofs.KnowLemmas.{knows_entered, knows_left}
@@ -65,7 +66,7 @@ module _ (s : Schema) (w : World) (fits : Fits s w) (n space : ℕ) where
         singular = fits.singular;
         pairs = fits.pairs;
         spaces = knows_entered s w.units w.spaces fits.spaces n space asked.live asked.admitted;
-        notes = noted_more s w.units w.notes (event n (class_at w n) (Enter space)) fits.notes (more_noted (Enter space) asked.live (below space (length s.spaces) asked.there));
+        notes = noted_more s w.units w.notes (event n (class_at w n) (Enter space)) fits.notes (more_noted (Enter space) asked.live (nat_lt_below space (length s.spaces) asked.there));
       }
 
   pub leave_keeps : is_live w.units n ≡ true → space < length s.spaces → Fits s (after_leave w n space)
@@ -86,5 +87,5 @@ module _ (s : Schema) (w : World) (fits : Fits s w) (n space : ℕ) where
         singular = fits.singular;
         pairs = fits.pairs;
         spaces = knows_left s w.units w.spaces fits.spaces n space;
-        notes = noted_more s w.units w.notes (event n (class_at w n) (Leave space)) fits.notes (more_noted (Leave space) live (below space (length s.spaces) there));
+        notes = noted_more s w.units w.notes (event n (class_at w n) (Leave space)) fits.notes (more_noted (Leave space) live (nat_lt_below space (length s.spaces) there));
       }

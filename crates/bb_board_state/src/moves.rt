@@ -10,6 +10,13 @@ use bb_schema::{Dim, Schema, SlotId, SpaceId, UnitId, Value};
 use bb_space::Spaces;
 use std::alloc::Global;
 
+/// A slot of a unit, and the value that it is set to.
+#[derive(Clone, Copy)]
+pub(crate) struct Setting<'a> {
+    pub(crate) slot: SlotId,
+    pub(crate) value: &'a Value,
+}
+
 // The place of the dimension of a name.
 fn place_of(dims: &[Dim], name: &str) -> Option<usize>
     ensures { result ≡ position (λ d. bytes_eq d.name name.now) dims.now }
@@ -49,21 +56,21 @@ fn values_anew(
     schema: &Schema,
     spaces: &Spaces,
     unit: UnitId,
-    slot: SlotId,
-    value: &Value,
+    set: &Setting,
     space: SpaceId,
 ) -> Result<Option<Items<DimValue>>, Memory>
     requires told { space < length spaces.now.spaces }
     requires space { space < length schema.now.spaces }
-    ensures { IfOk result (λ values. values ≡ values_anew schema.now spaces.now unit slot value.now space) }
+    ensures { IfOk result (λ values.
+        values ≡ values_anew schema.now spaces.now unit set.now.slot set.now.value.now space) }
 {
     let Some(told) = spaces.values(space, unit) else {
         return Ok(None);
     };
-    let Some(place) = reading(schema, slot, space) else {
+    let Some(place) = reading(schema, set.slot, space) else {
         return Ok(None);
     };
-    let Some(new) = DimValue::of(value) else {
+    let Some(new) = DimValue::of(set.value) else {
         return Ok(None);
     };
     Ok(Some(with_value(alloc, told, place, new)?))
@@ -75,17 +82,16 @@ pub(crate) fn moves_of(
     schema: &Schema,
     spaces: &Spaces,
     unit: UnitId,
-    slot: SlotId,
-    value: &Value,
+    set: &Setting,
 ) -> Result<Vec<(SpaceId, Items<DimValue>)>, Memory>
     requires spaces { length spaces.now.spaces ≡ length schema.now.spaces }
     requires few { length schema.now.spaces < 2 ^ 16 }
-    ensures { IfOk result (λ moves. moves.items ≡ moves_for schema.now spaces.now unit slot value.now) }
+    ensures { IfOk result (λ moves. moves.items ≡ moves_for schema.now spaces.now unit set.now.slot set.now.value.now) }
 {
     let mut moves = Vec::new(alloc);
     let own = spaces.spaces_of(unit);
     for space in own {
-        let values = values_anew(alloc, schema, spaces, unit, slot, value, *space)?;
+        let values = values_anew(alloc, schema, spaces, unit, set, *space)?;
         let Some(values) = values else {
             continue;
         };

@@ -12,7 +12,7 @@ ghost use Rattle.bb_board_state.specs.Fits.{Fits};
 ghost use Rattle.bb_board_state.specs.World.{empty_world, event, after_note, after_create, after_set, after_say, after_take};
 
 use crate::event::{Change, Event};
-use crate::moves::moves_of;
+use crate::moves::{Setting, moves_of};
 use crate::note::{Note, Said};
 use bb_basis::{Items, Memory};
 use bb_links::Couples;
@@ -61,6 +61,7 @@ impl State {
         ensures units { units.Fits self.now.units }
         ensures links { links.Fits self.now.links }
     {
+        // For the proof: what holds of the units and the links.
         self.units.fits();
         self.links.fits();
     }
@@ -121,7 +122,11 @@ impl State {
         ensures ok { OnOk result (self.new ≡ after_set schema.now self.old unit slot value) }
         ensures err { OnErr result (self.new ≡ self.old) }
     {
-        let moves = moves_of(alloc, schema, &self.spaces, unit, slot, &value)?;
+        let set = Setting {
+            slot,
+            value: &value,
+        };
+        let moves = moves_of(alloc, schema, &self.spaces, unit, &set)?;
         // The note comes first: it can be taken back.
         let noted = self.notes.len();
         let class = self.units.class_of(unit);

@@ -68,6 +68,7 @@ impl World {
         ensures { IfOk result (λ world. world ≡ new_world schema) }
     {
         let state = State::new(alloc, schema.get())?;
+        // For the proof: what holds of every schema and the state.
         schema.get().fits();
         state.fits();
         Ok(World {

@@ -10,7 +10,7 @@ use Rattle.bb_bundle.specs.declared.fault.BundleFault.{BundleFault}
 use Rattle.bb_bundle.specs.declared.fault.BundleFault.TheVariants.{Line}
 use Rattle.bb_bundle.specs.declared.keyword.Keyword.{Keyword}
 use Rattle.bb_bundle.specs.declared.partial.PartialSource.{PartialSource}
-use Rattle.bb_bundle.specs.declared.source_code.SourceDraft.{SourceDraft}
+use Rattle.bb_bundle.specs.declared.draft.SourceDraft.{SourceDraft}
 use Rattle.bb_bundle.specs.Keywords.{keyword_of}
 use Rattle.bb_bundle.specs.Partial.{may_come}
 use Rattle.bb_bundle.specs.Bundle.{Parser, after_keyword, after_further, after_words, after_line}

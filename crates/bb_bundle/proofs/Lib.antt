@@ -1,6 +1,5 @@
 pub mod LineLemmas
 pub mod RateLemmas
-pub mod PartialLemmas
 pub mod ParserLemmas
 pub mod WordLemmas
 pub mod LinesLemmas

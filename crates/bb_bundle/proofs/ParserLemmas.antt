@@ -9,16 +9,17 @@ use Rattle.bb_basis.proofs.TryFoldLemmas.{try_fold_next, try_fold_error, try_fol
 use Rattle.bb_code.specs.Code.{Code}
 use Rattle.bb_bundle.specs.declared.keyword.Keyword.{Keyword}
 use Rattle.bb_bundle.specs.declared.keyword.Keyword.TheVariants.{When, Require, Obviate, Retrigger, Revalidate, Do, Native}
-use Rattle.bb_bundle.specs.declared.source_code.ActDraft.{ActDraft}
-use Rattle.bb_bundle.specs.declared.source_code.ActDraft.TheVariants as acts
+use Rattle.bb_bundle.specs.declared.draft.ActDraft.{ActDraft}
+use Rattle.bb_bundle.specs.declared.draft.ActDraft.TheVariants as acts
 use Rattle.bb_bundle.specs.declared.partial.PartialSource.{PartialSource}
 use Rattle.bb_bundle.specs.declared.fault.BundleFault.{BundleFault}
 use Rattle.bb_bundle.specs.declared.fault.BundleFault.TheVariants.{Line, Memory}
+use Rattle.bb_bundle.specs.Drafts.{no_parts, with_require, with_obviate, with_retrigger, with_revalidate}
 use Rattle.bb_bundle.specs.Spelled.{if_spelled}
 use Rattle.bb_bundle.specs.Clauses.{clause_of}
 use Rattle.bb_bundle.specs.Keywords.{keyword_of}
 use Rattle.bb_bundle.specs.Line.{words_of, header_of}
-use Rattle.bb_bundle.specs.Partial.{may_come, with_clause, with_act}
+use Rattle.bb_bundle.specs.Partial.{may_come, with_clause, with_act, with_parts}
 use Rattle.bb_bundle.specs.Bundle.{Parser, new_parser, with_source, with_whole, code_of_words, reaction_of_words, after_first, after_when, after_require, after_obviate, after_retrigger, after_revalidate, after_do, after_native, after_keyword, after_further, after_words, after_line, at_end, sources_of}
 
 -- one line more leaves a parser that counted one line more
@@ -34,7 +35,7 @@ goes_on p t source e = counted (with_source p source) t e
 
 first_counts : (p t : Parser) (ws : List (List ℕ)) → after_first p ws ≡ Ok t → t.lines ≡ p.lines
 unfolding after_first
-first_counts p t ws e = binds_count (ok_or (header_of ws) (Line p.lines)) (λ source. Ok (with_source p source)) t p.lines (goes_on p t) e
+first_counts p t ws e = binds_count (ok_or (header_of ws) (Line p.lines)) (λ header. Ok (with_source p (record { header = header; parts = no_parts }))) t p.lines (λ header. goes_on p t (record { header = header; parts = no_parts })) e
 
 whole_counts : (p t : Parser) (source : PartialSource) (act : ActDraft Code) → with_whole p source act ≡ Ok t → t.lines ≡ p.lines
 unfolding with_whole
@@ -49,10 +50,10 @@ ends p t source false e = absurd cc
 keyword_counts : (p t : Parser) (source : PartialSource) (keyword : Keyword) (ws : List (List ℕ)) → after_keyword p source keyword ws ≡ Ok t → t.lines ≡ p.lines
 unfolding after_keyword after_when after_require after_obviate after_retrigger after_revalidate after_do after_native
 keyword_counts p t source When ws e = binds_count (ok_or (clause_of ws) (Line p.lines)) (λ clause. Ok (with_source p (with_clause source clause))) t p.lines (λ clause. goes_on p t (with_clause source clause)) e
-keyword_counts p t source Require ws e = binds_count (code_of_words p.lines ws) (λ code. Ok (with_source p (record source { require = Some code }))) t p.lines (λ code. goes_on p t (record source { require = Some code })) e
-keyword_counts p t source Obviate ws e = binds_count (reaction_of_words p.lines ws) (λ reaction. Ok (with_source p (record source { obviate = Some reaction }))) t p.lines (λ reaction. goes_on p t (record source { obviate = Some reaction })) e
-keyword_counts p t source Retrigger ws e = binds_count (reaction_of_words p.lines ws) (λ reaction. Ok (with_source p (record source { retrigger = Some reaction }))) t p.lines (λ reaction. goes_on p t (record source { retrigger = Some reaction })) e
-keyword_counts p t source Revalidate ws e = binds_count (code_of_words p.lines ws) (λ code. Ok (with_source p (record source { revalidate = Some code }))) t p.lines (λ code. goes_on p t (record source { revalidate = Some code })) e
+keyword_counts p t source Require ws e = binds_count (code_of_words p.lines ws) (λ code. Ok (with_source p (with_parts source (with_require source.parts (Some code))))) t p.lines (λ code. goes_on p t (with_parts source (with_require source.parts (Some code)))) e
+keyword_counts p t source Obviate ws e = binds_count (reaction_of_words p.lines ws) (λ reaction. Ok (with_source p (with_parts source (with_obviate source.parts (Some reaction))))) t p.lines (λ reaction. goes_on p t (with_parts source (with_obviate source.parts (Some reaction)))) e
+keyword_counts p t source Retrigger ws e = binds_count (reaction_of_words p.lines ws) (λ reaction. Ok (with_source p (with_parts source (with_retrigger source.parts (Some reaction))))) t p.lines (λ reaction. goes_on p t (with_parts source (with_retrigger source.parts (Some reaction)))) e
+keyword_counts p t source Revalidate ws e = binds_count (code_of_words p.lines ws) (λ code. Ok (with_source p (with_parts source (with_revalidate source.parts (Some code))))) t p.lines (λ code. goes_on p t (with_parts source (with_revalidate source.parts (Some code)))) e
 keyword_counts p t source Do ws e = binds_count (code_of_words p.lines ws) (λ code. with_whole p source (acts.Do code)) t p.lines (λ code. whole_counts p t source (acts.Do code)) e
 keyword_counts p t source Native ws e = ends p t source (length ws == 0) e
 

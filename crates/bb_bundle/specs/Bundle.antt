@@ -9,18 +9,18 @@ use Rattle.bb_code.specs.Reading.{code_of}
 use Rattle.bb_bundle.specs.declared.keyword.Keyword.{Keyword}
 use Rattle.bb_bundle.specs.declared.keyword.Keyword.TheVariants as keywords
 use Rattle.bb_bundle.specs.declared.partial.PartialSource.{PartialSource}
-use Rattle.bb_bundle.specs.declared.source_code.ActDraft.{ActDraft}
-use Rattle.bb_bundle.specs.declared.source_code.ActDraft.TheVariants.{Do, Native}
-use Rattle.bb_bundle.specs.declared.source_code.ReactionDraft.{ReactionDraft}
-use Rattle.bb_bundle.specs.declared.source_code.SourceDraft.{SourceDraft}
+use Rattle.bb_bundle.specs.declared.draft.ActDraft.{ActDraft}
+use Rattle.bb_bundle.specs.declared.draft.ActDraft.TheVariants.{Do, Native}
+use Rattle.bb_bundle.specs.declared.draft.ReactionDraft.{ReactionDraft}
+use Rattle.bb_bundle.specs.declared.draft.SourceDraft.{SourceDraft}
 use Rattle.bb_bundle.specs.declared.fault.BundleFault.{BundleFault}
 use Rattle.bb_bundle.specs.declared.fault.BundleFault.TheVariants.{Line, Hex, Code as NoCode}
 use Rattle.bb_bundle.specs.Spelled.{if_spelled}
 use Rattle.bb_bundle.specs.Clauses.{clause_of}
 use Rattle.bb_bundle.specs.Keywords.{keyword_of}
 use Rattle.bb_bundle.specs.Line.{words_of, header_of, digits_of, class_and_digits_of}
-use Rattle.bb_bundle.specs.Partial.{may_come, with_clause, with_require, with_obviate, with_retrigger}
-use Rattle.bb_bundle.specs.Partial.{with_revalidate, with_act}
+use Rattle.bb_bundle.specs.Drafts.{no_parts, with_require, with_obviate, with_retrigger, with_revalidate}
+use Rattle.bb_bundle.specs.Partial.{may_come, with_act, with_clause, with_parts}
 
 -- what was read so far
 pub record Parser : Type 0 where
@@ -67,8 +67,8 @@ reaction_of_words line ws = do
 -- after the first line of a source
 unfoldable pub after_first : Parser → List (List ℕ) → Result Parser BundleFault
 after_first p ws = do
-  source ← ok_or (header_of ws) (Line p.lines)
-  Ok (with_source p source)
+  header ← ok_or (header_of ws) (Line p.lines)
+  Ok (with_source p (record { header = header; parts = no_parts }))
 
 -- after one more clause
 unfoldable pub after_when : Parser → PartialSource → List (List ℕ) → Result Parser BundleFault
@@ -80,25 +80,25 @@ after_when p source ws = do
 unfoldable pub after_require : Parser → PartialSource → List (List ℕ) → Result Parser BundleFault
 after_require p source ws = do
   code ← code_of_words p.lines ws
-  Ok (with_source p (with_require source code))
+  Ok (with_source p (with_parts source (with_require source.parts (Some code))))
 
 -- after the beginning of the reaction that ends activations
 unfoldable pub after_obviate : Parser → PartialSource → List (List ℕ) → Result Parser BundleFault
 after_obviate p source ws = do
   reaction ← reaction_of_words p.lines ws
-  Ok (with_source p (with_obviate source reaction))
+  Ok (with_source p (with_parts source (with_obviate source.parts (Some reaction))))
 
 -- after the beginning of the reaction that rates activations again
 unfoldable pub after_retrigger : Parser → PartialSource → List (List ℕ) → Result Parser BundleFault
 after_retrigger p source ws = do
   reaction ← reaction_of_words p.lines ws
-  Ok (with_source p (with_retrigger source reaction))
+  Ok (with_source p (with_parts source (with_retrigger source.parts (Some reaction))))
 
 -- after the code that says whether an activation may still act
 unfoldable pub after_revalidate : Parser → PartialSource → List (List ℕ) → Result Parser BundleFault
 after_revalidate p source ws = do
   code ← code_of_words p.lines ws
-  Ok (with_source p (with_revalidate source code))
+  Ok (with_source p (with_parts source (with_revalidate source.parts (Some code))))
 
 -- after a code as the act
 unfoldable pub after_do : Parser → PartialSource → List (List ℕ) → Result Parser BundleFault

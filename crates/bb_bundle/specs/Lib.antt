@@ -1,5 +1,7 @@
 -- the number of each fault of a bundle
 pub mod Faults
+-- the parts of a source, put one after another
+pub mod Drafts
 -- which sources a bundle can spell
 pub mod Spelled
 -- which digits write a rate

@@ -5,27 +5,18 @@ use Rattle.std.specs.List.{slice_split}
 use Rattle.std.specs.Str.{bytes_eq}
 use Rattle.bb_basis.specs.Names.{is_name}
 use Rattle.bb_bundle.specs.declared.line.TheConstants.{WORD_LIMIT}
-use Rattle.bb_bundle.specs.declared.partial.PartialSource.{PartialSource}
+use Rattle.bb_bundle.specs.declared.draft.Header.{Header}
 use Rattle.bb_bundle.specs.Rate.{rate_of}
 
 -- the first words of a line: a space separates each two
 abbrev pub words_of : List ℕ → List (List ℕ)
 words_of line = take WORD_LIMIT (slice_split (λ b. b == 32) line)
 
--- `source NAME CLASS RATE`: what is read of a source at first
-unfoldable pub header_of : List (List ℕ) → Option PartialSource
+-- `source NAME CLASS RATE`: a header whose triggers are still to come
+unfoldable pub header_of : List (List ℕ) → Option Header
 header_of (keyword ∷ name ∷ class ∷ rate ∷ []) =
     if bytes_eq keyword (codes "source") && is_name name && is_name class
-    then option_map (λ r. record {
-      name = name;
-      class = class;
-      rate = r;
-      triggers = [];
-      require = None;
-      obviate = None;
-      retrigger = None;
-      revalidate = None;
-    }) (rate_of rate) else None
+    then option_map (λ r. record { name = name; class = class; rate = r; triggers = [] }) (rate_of rate) else None
 header_of _ = None
 
 -- `HEX`: its digits, of which there is one or more

@@ -6,10 +6,12 @@ use Rattle.bb_bundle.specs.declared.keyword.Keyword.{Keyword}
 use Rattle.bb_bundle.specs.declared.keyword.Keyword.TheVariants.{When, Require, Obviate, Retrigger, Revalidate, Do}
 use Rattle.bb_bundle.specs.declared.keyword.Keyword.TheVariants.{Native}
 use Rattle.bb_bundle.specs.declared.partial.PartialSource.{PartialSource}
-use Rattle.bb_bundle.specs.declared.source_code.ActDraft.{ActDraft}
 use Rattle.bb_lang_tree.specs.declared.source_text.ClauseText.{ClauseText}
-use Rattle.bb_bundle.specs.declared.source_code.ReactionDraft.{ReactionDraft}
-use Rattle.bb_bundle.specs.declared.source_code.SourceDraft.{SourceDraft}
+use Rattle.bb_bundle.specs.declared.draft.ActDraft.{ActDraft}
+use Rattle.bb_bundle.specs.declared.draft.Parts.{Parts}
+use Rattle.bb_bundle.specs.declared.draft.ReactionDraft.{ReactionDraft}
+use Rattle.bb_bundle.specs.declared.draft.SourceDraft.{SourceDraft}
+use Rattle.bb_bundle.specs.Drafts.{with_obviate, with_retrigger}
 
 -- whether a reaction, where it was begun, has a clause
 abbrev pub has_clause : Option (ReactionDraft Code) → Bool
@@ -18,27 +20,27 @@ has_clause (Some reaction) = nat_le 1 (length reaction.clauses)
 
 -- whether each list of clauses that was begun has one
 unfoldable pub has_clauses : PartialSource → Bool
-has_clauses s = nat_le 1 (length s.triggers) && has_clause s.obviate && has_clause s.retrigger
+has_clauses s = nat_le 1 (length s.header.triggers) && has_clause s.parts.obviate && has_clause s.parts.retrigger
 
 -- whether the part that was begun last is the triggers or a reaction
 unfoldable pub takes_clause : PartialSource → Bool
-takes_clause s = is_none s.revalidate && (is_none s.require || is_some s.obviate || is_some s.retrigger)
+takes_clause s = is_none s.parts.revalidate && (is_none s.parts.require || is_some s.parts.obviate || is_some s.parts.retrigger)
 
 -- whether `revalidate` may still come: no list of clauses is empty, and it is not there
 abbrev pub before_revalidate : PartialSource → Bool
-before_revalidate s = has_clauses s && is_none s.revalidate
+before_revalidate s = has_clauses s && is_none s.parts.revalidate
 
 -- whether `retrigger` may still come: it comes before `revalidate`
 abbrev pub before_retrigger : PartialSource → Bool
-before_retrigger s = before_revalidate s && is_none s.retrigger
+before_retrigger s = before_revalidate s && is_none s.parts.retrigger
 
 -- whether `obviate` may still come: it comes before `retrigger`
 abbrev pub before_obviate : PartialSource → Bool
-before_obviate s = before_retrigger s && is_none s.obviate
+before_obviate s = before_retrigger s && is_none s.parts.obviate
 
 -- whether `require` may still come: it comes before `obviate`
 abbrev pub before_require : PartialSource → Bool
-before_require s = before_obviate s && is_none s.require
+before_require s = before_obviate s && is_none s.parts.require
 
 -- whether a line may come next
 unfoldable pub may_come : PartialSource → Keyword → Bool
@@ -50,6 +52,10 @@ may_come s Revalidate = before_revalidate s
 may_come s Do = has_clauses s
 may_come s Native = has_clauses s
 
+-- the source with these parts
+abbrev pub with_parts : PartialSource → Parts Code → PartialSource
+with_parts s parts = record s { parts = parts }
+
 -- a reaction with one more clause
 abbrev pub one_more : ReactionDraft Code → ClauseText → ReactionDraft Code
 one_more reaction clause = record reaction { clauses = reaction.clauses ++ clause ∷ [] }
@@ -57,37 +63,15 @@ one_more reaction clause = record reaction { clauses = reaction.clauses ++ claus
 -- the source with one more clause of the last of these reactions that was begun, or one more trigger
 abbrev pub with_clause_of : PartialSource → (obviate retrigger : Option (ReactionDraft Code)) → ClauseText
     → PartialSource
-with_clause_of s obviate (Some reaction) clause = record s { retrigger = Some (one_more reaction clause) }
-with_clause_of s (Some reaction) None clause = record s { obviate = Some (one_more reaction clause) }
-with_clause_of s None None clause = record s { triggers = s.triggers ++ clause ∷ [] }
+with_clause_of s obviate (Some reaction) clause = with_parts s (with_retrigger s.parts (Some (one_more reaction clause)))
+with_clause_of s (Some reaction) None clause = with_parts s (with_obviate s.parts (Some (one_more reaction clause)))
+with_clause_of s None None clause =
+    record s { header = record s.header { triggers = s.header.triggers ++ clause ∷ [] } }
 
 -- the source with one more clause of the part that was begun last
 unfoldable pub with_clause : PartialSource → ClauseText → PartialSource
-with_clause s clause = with_clause_of s s.obviate s.retrigger clause
-
--- the source with one more part
-abbrev pub with_require : PartialSource → Code → PartialSource
-with_require s code = record s { require = Some code }
-
-abbrev pub with_obviate : PartialSource → ReactionDraft Code → PartialSource
-with_obviate s reaction = record s { obviate = Some reaction }
-
-abbrev pub with_retrigger : PartialSource → ReactionDraft Code → PartialSource
-with_retrigger s reaction = record s { retrigger = Some reaction }
-
-abbrev pub with_revalidate : PartialSource → Code → PartialSource
-with_revalidate s code = record s { revalidate = Some code }
+with_clause s clause = with_clause_of s s.parts.obviate s.parts.retrigger clause
 
 -- the source that an act completes
 abbrev pub with_act : PartialSource → ActDraft Code → SourceDraft Code
-with_act s act = record {
-  name = s.name;
-  class = s.class;
-  rate = s.rate;
-  triggers = s.triggers;
-  require = s.require;
-  obviate = s.obviate;
-  retrigger = s.retrigger;
-  revalidate = s.revalidate;
-  act = act;
-}
+with_act s act = record { header = s.header; parts = s.parts; act = act }

@@ -7,8 +7,8 @@ use Rattle.bb_lang_tree.specs.declared.source_text.ChangeText.TheVariants.{Creat
 use Rattle.bb_lang_tree.specs.declared.source_text.ChangeText.TheVariants.{Enter, Leave}
 use Rattle.bb_lang_tree.specs.declared.source_text.ClauseText.{ClauseText}
 use Rattle.bb_lang_tree.specs.declared.source_text.ClauseText.TheVariants.{Change, Quiescence}
-use Rattle.bb_bundle.specs.declared.source_code.ReactionDraft.{ReactionDraft}
-use Rattle.bb_bundle.specs.declared.source_code.SourceDraft.{SourceDraft}
+use Rattle.bb_bundle.specs.declared.draft.ReactionDraft.{ReactionDraft}
+use Rattle.bb_bundle.specs.declared.draft.SourceDraft.{SourceDraft}
 
 -- whether the slot or space of a change has a name that a schema may have
 abbrev pub is_change : ChangeText → Bool
@@ -37,8 +37,8 @@ is_reaction (Some reaction) = is_name reaction.class && are_clauses reaction.cla
 -- whether a bundle can spell the source: all names are names, it has a trigger, and each reaction has a clause
 unfoldable pub is_spelled : {C : Type 0} → SourceDraft C → Bool
 is_spelled draft =
-    is_name draft.name && is_name draft.class && are_clauses draft.triggers && is_reaction draft.obviate
-    && is_reaction draft.retrigger
+    is_name draft.header.name && is_name draft.header.class && are_clauses draft.header.triggers
+    && is_reaction draft.parts.obviate && is_reaction draft.parts.retrigger
 
 -- a bundle can spell the source
 abbrev pub IsSpelled : {C : Type 0} → SourceDraft C → Type 0

@@ -5,15 +5,16 @@ use Rattle.std.specs.Fmt.{signed_decimal}
 use Rattle.hex.specs.Hex.{encode_lower}
 use Rattle.bb_code.specs.Code.{Code}
 use Rattle.bb_code.specs.Spelling.{spelling}
-use Rattle.bb_bundle.specs.declared.source_code.ActDraft.{ActDraft}
-use Rattle.bb_bundle.specs.declared.source_code.ActDraft.TheVariants.{Do, Native}
+use Rattle.bb_bundle.specs.declared.draft.ActDraft.{ActDraft}
+use Rattle.bb_bundle.specs.declared.draft.ActDraft.TheVariants.{Do, Native}
 use Rattle.bb_lang_tree.specs.declared.source_text.ChangeText.{ChangeText}
 use Rattle.bb_lang_tree.specs.declared.source_text.ChangeText.TheVariants.{Create, Delete, Update, Link, Unlink}
 use Rattle.bb_lang_tree.specs.declared.source_text.ChangeText.TheVariants.{Enter, Leave}
 use Rattle.bb_lang_tree.specs.declared.source_text.ClauseText.{ClauseText}
 use Rattle.bb_lang_tree.specs.declared.source_text.ClauseText.TheVariants.{Change, Quiescence}
-use Rattle.bb_bundle.specs.declared.source_code.ReactionDraft.{ReactionDraft}
-use Rattle.bb_bundle.specs.declared.source_code.SourceDraft.{SourceDraft}
+use Rattle.bb_bundle.specs.declared.draft.Header.{Header}
+use Rattle.bb_bundle.specs.declared.draft.ReactionDraft.{ReactionDraft}
+use Rattle.bb_bundle.specs.declared.draft.SourceDraft.{SourceDraft}
 
 -- the words of a line, of which there are four at most
 abbrev pub Words : Type 0
@@ -63,15 +64,16 @@ act_words (Do code) = codes "do" ∷ code_digits code ∷ []
 act_words Native = codes "native" ∷ []
 
 -- the first line of a source
-abbrev pub header_words : SourceDraft Code → Words
-header_words s = codes "source" ∷ s.name ∷ s.class ∷ signed_decimal s.rate ∷ []
+abbrev pub header_words : Header → Words
+header_words h = codes "source" ∷ h.name ∷ h.class ∷ signed_decimal h.rate ∷ []
 
 -- the lines of a source
 abbrev pub source_lines : SourceDraft Code → List Words
 source_lines s =
-    (header_words s ∷ []) ++ (map clause_words s.triggers ++ (code_lines (codes "require") s.require
-    ++ (reaction_lines (codes "obviate") s.obviate ++ (reaction_lines (codes "retrigger") s.retrigger
-    ++ (code_lines (codes "revalidate") s.revalidate ++ act_words s.act ∷ [])))))
+    (header_words s.header ∷ []) ++ (map clause_words s.header.triggers
+    ++ (code_lines (codes "require") s.parts.require ++ (reaction_lines (codes "obviate") s.parts.obviate
+    ++ (reaction_lines (codes "retrigger") s.parts.retrigger
+    ++ (code_lines (codes "revalidate") s.parts.revalidate ++ act_words s.act ∷ [])))))
 
 -- the text of lines
 unfoldable pub text_of : List Words → List ℕ

@@ -8,6 +8,7 @@
 #![tactic(auto)]
 
 mod clause;
+mod draft;
 mod fault;
 mod keyword;
 mod line;
@@ -19,7 +20,8 @@ mod spelled;
 mod writer;
 
 pub use bb_lang_tree::{ChangeText, ClauseText};
+pub use draft::{ActDraft, Header, Parts, ReactionDraft, SourceDraft};
 pub use fault::BundleFault;
 pub use parser::unbundle;
-pub use source_code::{ActDraft, ReactionDraft, SourceCode, SourceDraft};
+pub use source_code::SourceCode;
 pub use writer::bundle;

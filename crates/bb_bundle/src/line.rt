@@ -3,7 +3,7 @@
 ghost use Rattle.std.specs.Prelude.{◌≡◌, map, option_map, IfOk};
 ghost use Rattle.bb_bundle.specs.Line.{words_of, header_of, digits_of, class_and_digits_of};
 
-use crate::partial::PartialSource;
+use crate::draft::Header;
 use crate::rate::rate_of;
 use bb_basis::{Items, Text, is_name};
 use std::alloc::{AllocError, Global};
@@ -20,10 +20,7 @@ pub(crate) fn split_words(alloc: Global, line: &str) -> Result<Vec<&str>, AllocE
 
 /// `source NAME CLASS RATE`
 #[tactic(auto, unfolding(crate::specs::Line::header_of))]
-pub(crate) fn read_header(
-    alloc: Global,
-    words: &[&str],
-) -> Result<Option<PartialSource>, AllocError>
+pub(crate) fn read_header(alloc: Global, words: &[&str]) -> Result<Option<Header>, AllocError>
     ensures { IfOk result (λ h. h ≡ header_of (map (λ w. w.now) words.now)) }
 {
     let [keyword, name, class, rate] = words else {
@@ -35,15 +32,11 @@ pub(crate) fn read_header(
     let Some(rate) = rate_of(rate) else {
         return Ok(None);
     };
-    Ok(Some(PartialSource {
+    Ok(Some(Header {
         name: Text::from_str(alloc, name)?,
         class: Text::from_str(alloc, class)?,
         rate,
         triggers: Items::new(alloc),
-        require: None,
-        obviate: None,
-        retrigger: None,
-        revalidate: None,
     }))
 }
 

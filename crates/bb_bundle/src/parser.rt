@@ -18,11 +18,12 @@ ghost use Rattle.bb_bundle.specs.Bundle.{after_further, after_words, after_line}
 ghost use Rattle.bb_bundle.specs.Bundle.{at_end, sources_of};
 
 use crate::clause::read_clause;
+use crate::draft::{ActDraft, Parts, ReactionDraft};
 use crate::fault::BundleFault;
 use crate::keyword::{Keyword, keyword_of};
 use crate::line::{read_class_and_digits, read_digits, read_header, split_words};
 use crate::partial::PartialSource;
-use crate::source_code::{ActDraft, ReactionDraft, SourceCode};
+use crate::source_code::SourceCode;
 use bb_basis::{Items, Text};
 use bb_code::{Code, CodeFault};
 use hex::FromHexError;
@@ -141,8 +142,9 @@ impl BundleParser {
         ensures { Gives OutOfMemory (λ _. self.new) result (after_first self.old (map (λ w. w.now) words.now)) }
     {
         let line = self.lines;
-        let source = read_header(alloc, words)?.ok_or(BundleFault::Line { line })?;
-        self.begin(source);
+        let header = read_header(alloc, words)?.ok_or(BundleFault::Line { line })?;
+        let parts = Parts::none();
+        self.begin(PartialSource { header, parts });
         Ok(())
     }
 
@@ -196,14 +198,15 @@ impl BundleParser {
     fn read_require(
         &mut self,
         alloc: Global,
-        source: PartialSource,
+        mut source: PartialSource,
         words: &[&str],
     ) -> Result<(), BundleFault>
         ensures { Gives OutOfMemory (λ _. self.new) result
             (after_require self.old source (map (λ w. w.now) words.now)) }
     {
         let code = read_code(alloc, self.lines, words)?;
-        self.begin(source.with_require(code));
+        source.parts.put_require(Some(code));
+        self.begin(source);
         Ok(())
     }
 
@@ -212,14 +215,15 @@ impl BundleParser {
     fn read_obviate(
         &mut self,
         alloc: Global,
-        source: PartialSource,
+        mut source: PartialSource,
         words: &[&str],
     ) -> Result<(), BundleFault>
         ensures { Gives OutOfMemory (λ _. self.new) result
             (after_obviate self.old source (map (λ w. w.now) words.now)) }
     {
         let reaction = read_reaction(alloc, self.lines, words)?;
-        self.begin(source.with_obviate(reaction));
+        source.parts.put_obviate(Some(reaction));
+        self.begin(source);
         Ok(())
     }
 
@@ -228,14 +232,15 @@ impl BundleParser {
     fn read_retrigger(
         &mut self,
         alloc: Global,
-        source: PartialSource,
+        mut source: PartialSource,
         words: &[&str],
     ) -> Result<(), BundleFault>
         ensures { Gives OutOfMemory (λ _. self.new) result
             (after_retrigger self.old source (map (λ w. w.now) words.now)) }
     {
         let reaction = read_reaction(alloc, self.lines, words)?;
-        self.begin(source.with_retrigger(reaction));
+        source.parts.put_retrigger(Some(reaction));
+        self.begin(source);
         Ok(())
     }
 
@@ -244,14 +249,15 @@ impl BundleParser {
     fn read_revalidate(
         &mut self,
         alloc: Global,
-        source: PartialSource,
+        mut source: PartialSource,
         words: &[&str],
     ) -> Result<(), BundleFault>
         ensures { Gives OutOfMemory (λ _. self.new) result
             (after_revalidate self.old source (map (λ w. w.now) words.now)) }
     {
         let code = read_code(alloc, self.lines, words)?;
-        self.begin(source.with_revalidate(code));
+        source.parts.put_revalidate(Some(code));
+        self.begin(source);
         Ok(())
     }
 

@@ -2,12 +2,10 @@
 
 ghost use Rattle.std.specs.Prelude.{◌≡◌, OnOk};
 ghost use Rattle.bb_bundle.specs.Partial.{has_clause, has_clauses, takes_clause, before_revalidate, before_retrigger};
-ghost use Rattle.bb_bundle.specs.Partial.{before_obviate, before_require, may_come, with_clause, with_require};
-ghost use Rattle.bb_bundle.specs.Partial.{with_obviate, with_retrigger, with_revalidate, with_act};
+ghost use Rattle.bb_bundle.specs.Partial.{before_obviate, before_require, may_come, with_act, with_clause};
 
+use crate::draft::{ActDraft, Header, Parts, ReactionDraft, SourceDraft};
 use crate::keyword::Keyword;
-use crate::source_code::{ActDraft, ReactionDraft, SourceDraft};
-use bb_basis::{Items, Text};
 use bb_code::Code;
 use bb_lang_tree::ClauseText;
 use std::alloc::AllocError;
@@ -15,14 +13,8 @@ use std::alloc::AllocError;
 /// What was read so far of a source. A part that is there was begun, and the last of them may get more clauses.
 #[derive(Drop)]
 pub(crate) struct PartialSource {
-    pub(crate) name: Text,
-    pub(crate) class: Text,
-    pub(crate) rate: i64,
-    pub(crate) triggers: Items<ClauseText>,
-    pub(crate) require: Option<Code>,
-    pub(crate) obviate: Option<ReactionDraft<Code>>,
-    pub(crate) retrigger: Option<ReactionDraft<Code>>,
-    pub(crate) revalidate: Option<Code>,
+    pub(crate) header: Header,
+    pub(crate) parts: Parts<Code>,
 }
 
 fn has_clause(reaction: &Option<ReactionDraft<Code>>) -> bool
@@ -40,7 +32,9 @@ impl PartialSource {
     fn has_clauses(&self) -> bool
         ensures { result ≡ has_clauses self.now }
     {
-        self.triggers.len() > 0 && has_clause(&self.obviate) && has_clause(&self.retrigger)
+        self.header.triggers.len() > 0
+            && has_clause(&self.parts.obviate)
+            && has_clause(&self.parts.retrigger)
     }
 
     // Whether the part that was begun last has clauses.
@@ -48,36 +42,38 @@ impl PartialSource {
     fn takes_clause(&self) -> bool
         ensures { result ≡ takes_clause self.now }
     {
-        self.revalidate.is_none()
-            && (self.require.is_none() || self.obviate.is_some() || self.retrigger.is_some())
+        self.parts.revalidate.is_none()
+            && (self.parts.require.is_none()
+                || self.parts.obviate.is_some()
+                || self.parts.retrigger.is_some())
     }
 
     // Whether `revalidate` may still come.
     fn before_revalidate(&self) -> bool
         ensures { result ≡ before_revalidate self.now }
     {
-        self.has_clauses() && self.revalidate.is_none()
+        self.has_clauses() && self.parts.revalidate.is_none()
     }
 
     // Whether `retrigger` may still come.
     fn before_retrigger(&self) -> bool
         ensures { result ≡ before_retrigger self.now }
     {
-        self.before_revalidate() && self.retrigger.is_none()
+        self.before_revalidate() && self.parts.retrigger.is_none()
     }
 
     // Whether `obviate` may still come.
     fn before_obviate(&self) -> bool
         ensures { result ≡ before_obviate self.now }
     {
-        self.before_retrigger() && self.obviate.is_none()
+        self.before_retrigger() && self.parts.obviate.is_none()
     }
 
     // Whether `require` may still come.
     fn before_require(&self) -> bool
         ensures { result ≡ before_require self.now }
     {
-        self.before_obviate() && self.require.is_none()
+        self.before_obviate() && self.parts.require.is_none()
     }
 
     /// Whether a line with this keyword may come next.
@@ -101,45 +97,13 @@ impl PartialSource {
     pub(crate) fn add_clause(&mut self, clause: ClauseText) -> Result<(), AllocError>
         ensures { OnOk result (self.new ≡ with_clause self.old clause) }
     {
-        if let Some(reaction) = &mut self.retrigger {
+        if let Some(reaction) = &mut self.parts.retrigger {
             return reaction.clauses.push(clause);
         }
-        if let Some(reaction) = &mut self.obviate {
+        if let Some(reaction) = &mut self.parts.obviate {
             return reaction.clauses.push(clause);
         }
-        self.triggers.push(clause)
-    }
-
-    /// The source with a code that says whether an activation is made.
-    pub(crate) fn with_require(mut self, code: Code) -> PartialSource
-        ensures { result ≡ with_require self code }
-    {
-        self.require = Some(code);
-        self
-    }
-
-    /// The source with a reaction that ends activations.
-    pub(crate) fn with_obviate(mut self, reaction: ReactionDraft<Code>) -> PartialSource
-        ensures { result ≡ with_obviate self reaction }
-    {
-        self.obviate = Some(reaction);
-        self
-    }
-
-    /// The source with a reaction that rates activations again.
-    pub(crate) fn with_retrigger(mut self, reaction: ReactionDraft<Code>) -> PartialSource
-        ensures { result ≡ with_retrigger self reaction }
-    {
-        self.retrigger = Some(reaction);
-        self
-    }
-
-    /// The source with a code that says whether an activation may still act.
-    pub(crate) fn with_revalidate(mut self, code: Code) -> PartialSource
-        ensures { result ≡ with_revalidate self code }
-    {
-        self.revalidate = Some(code);
-        self
+        self.header.triggers.push(clause)
     }
 
     /// The source that an act completes.
@@ -147,14 +111,8 @@ impl PartialSource {
         ensures { result ≡ with_act self act }
     {
         SourceDraft {
-            name: self.name,
-            class: self.class,
-            rate: self.rate,
-            triggers: self.triggers,
-            require: self.require,
-            obviate: self.obviate,
-            retrigger: self.retrigger,
-            revalidate: self.revalidate,
+            header: self.header,
+            parts: self.parts,
             act,
         }
     }

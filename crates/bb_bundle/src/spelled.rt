@@ -4,7 +4,7 @@ ghost use Rattle.std.specs.Prelude.{◌≡◌};
 ghost use Rattle.std.specs.List.{list_all};
 ghost use Rattle.bb_bundle.specs.Spelled.{is_change, is_clause, are_clauses, is_reaction, is_spelled};
 
-use crate::source_code::{ReactionDraft, SourceDraft};
+use crate::draft::{ReactionDraft, SourceDraft};
 use bb_basis::is_name;
 use bb_code::Code;
 use bb_lang_tree::{ChangeText, ClauseText};
@@ -57,9 +57,9 @@ fn is_reaction(reaction: &Option<ReactionDraft<Code>>) -> bool
 pub(crate) fn is_spelled(draft: &SourceDraft<Code>) -> bool
     ensures { result ≡ is_spelled draft.now }
 {
-    is_name(draft.name.as_str())
-        && is_name(draft.class.as_str())
-        && are_clauses(draft.triggers.as_slice())
-        && is_reaction(&draft.obviate)
-        && is_reaction(&draft.retrigger)
+    is_name(draft.header.name.as_str())
+        && is_name(draft.header.class.as_str())
+        && are_clauses(draft.header.triggers.as_slice())
+        && is_reaction(&draft.parts.obviate)
+        && is_reaction(&draft.parts.retrigger)
 }

@@ -9,7 +9,8 @@ ghost use Rattle.bb_bundle.specs.Written.{reaction_lines, act_words, header_word
 ghost use Rattle.bb_bundle.specs.proving.Again.{IsAgain, IsRate, AreAgain, IsReactionAgain, IsActAgain};
 ghost use Rattle.bb_bundle.specs.proving.Again.{IsSourceAgain, IsSpelledAgain};
 
-use crate::source_code::{ActDraft, ReactionDraft, SourceCode, SourceDraft};
+use crate::draft::{ActDraft, Header, ReactionDraft, SourceDraft};
+use crate::source_code::SourceCode;
 use bb_code::Code;
 use bb_lang_tree::{ChangeText, ClauseText};
 use std::alloc::{AllocError, Global};
@@ -137,14 +138,14 @@ fn put_act(alloc: Global, out: &mut String, act: &ActDraft<Code>) -> Result<(), 
     }
 }
 
-fn put_header(out: &mut String, source: &SourceDraft<Code>) -> Result<(), AllocError>
+fn put_header(out: &mut String, header: &Header) -> Result<(), AllocError>
     ensures written { OnOk result (string_bytes out.new
-        ≡ string_bytes out.old ++ line_text (header_words source.now)) }
-    ensures rate { IsRate source.now.rate }
+        ≡ string_bytes out.old ++ line_text (header_words header.now)) }
+    ensures rate { IsRate header.now.rate }
 {
-    let name = source.name.as_str();
-    let class = source.class.as_str();
-    let rate = source.rate;
+    let name = header.name.as_str();
+    let class = header.class.as_str();
+    let rate = header.rate;
     writeln!(out, "source {name} {class} {rate}")
 }
 
@@ -153,12 +154,12 @@ fn put_draft(alloc: Global, out: &mut String, source: &SourceDraft<Code>) -> Res
         ≡ string_bytes out.old ++ text_of (source_lines source.now)) }
     ensures again { OnOk result (IsSourceAgain source.now) }
 {
-    put_header(out, source)?;
-    put_clauses(out, source.triggers.as_slice())?;
-    put_code(alloc, out, "require", &source.require)?;
-    put_reaction(alloc, out, "obviate", &source.obviate)?;
-    put_reaction(alloc, out, "retrigger", &source.retrigger)?;
-    put_code(alloc, out, "revalidate", &source.revalidate)?;
+    put_header(out, &source.header)?;
+    put_clauses(out, source.header.triggers.as_slice())?;
+    put_code(alloc, out, "require", &source.parts.require)?;
+    put_reaction(alloc, out, "obviate", &source.parts.obviate)?;
+    put_reaction(alloc, out, "retrigger", &source.parts.retrigger)?;
+    put_code(alloc, out, "revalidate", &source.parts.revalidate)?;
     put_act(alloc, out, &source.act)
 }
 

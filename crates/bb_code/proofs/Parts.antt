@@ -1,8 +1,5 @@
 -- The parts of a node, and how many there are.
-use Rattle.std.proofs.Common.{◌≡◌, ℕ, suc, ◌-◌, ◌<◌, ◌≤◌, leb, inl, inr, List, [], ◌∷◌, length, Some, None, refl, sym, ap, ◌∙◌, arith}
-use Rattle.std.proofs.lemmas.Bool.{leb-true, leb-false, cases_Bool}
-use Rattle.std.proofs.lemmas.Option.{cond_some, none-some}
-use Rattle.bb_code_ops.specs.Fits.{left_of}
+use Rattle.std.proofs.Common.{◌≡◌, suc, ◌-◌, ◌<◌, ◌≤◌, List, [], ◌∷◌, length, refl, ap, arith}
 use Rattle.bb_code_ops.specs.Trees.{Tree, all, and_of, or_of, not_of, ordered, is_label, node_count, nodes_count}
 use Rattle.bb_code_ops.specs.View.{trees_of}
 use Rattle.bb_code.specs.Spelling.{part_count}
@@ -31,13 +28,3 @@ some_nodes (is_label dim operand) = omega arith
 pub few_parts : (parts : List Tree) → length parts ≤ nodes_count (trees_of parts)
 few_parts [] = omega arith
 few_parts (p ∷ ps) = omega (arith, some_nodes p, few_parts ps)
-
-pub room_for : (n room left : ℕ) → Some left ≡ left_of room n → n ≤ room
-room_for n room left e = leb-true n room (cond_some (leb n room) (room - n) left (sym e)).0
-
-pub no_room_for : (n room : ℕ) → None ≡ left_of room n → room < n
-no_room_for n room e =
-    elim (cases_Bool (leb n room)) [
-      | inl fits ↦ absurd (none-some (room - n) (e ∙ rw fits refl))
-      | inr not_fits ↦ leb-false n room not_fits
-    ]

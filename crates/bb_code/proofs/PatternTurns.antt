@@ -1,8 +1,7 @@
 -- The turns of reading a pattern.
-use Rattle.std.proofs.Common.{◌≡◌, ◌≢◌, ℕ, zero, suc, ◌-◌, List, Ok, Err, refl, arith}
+use Rattle.std.proofs.Common.{◌≡◌, ◌≢◌, ℕ, zero, suc, ◌-◌, List, Err, refl, arith}
 use Rattle.bb_code.specs.declared.fault.CodeFault.TheVariants.{Limit}
-use Rattle.bb_code.specs.Fields.{repeated, byte_at}
-use Rattle.bb_code.specs.Patterns.{Reader, parts_at, node_at, pattern_at}
+use Rattle.bb_code.specs.Patterns.{node_at, pattern_at}
 
 pub too_deep : (depth room : ℕ) (bytes : List ℕ) → depth ≡ 0 → pattern_at depth (room, bytes) ≡ Err Limit
 unfolding pattern_at
@@ -21,8 +20,3 @@ one_node (suc depth) (suc room) bytes some more =
     let d : suc depth - 1 ≡ depth = omega arith in
     let r : suc room - 1 ≡ room = omega arith in
     rw (d, r) refl
-
-pub parts_start : (part : Reader) (room : ℕ) (bytes : List ℕ) (count : ℕ) (rest : List ℕ) → byte_at bytes ≡ Ok (count, rest)
-    → parts_at part (room, bytes) ≡ repeated part count (room, rest)
-unfolding parts_at
-parts_start part room bytes count rest is = rw is refl

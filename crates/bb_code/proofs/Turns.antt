@@ -38,12 +38,3 @@ is_done A S one front count i at total reached so_far =
     let left : count - i ≡ 0 = omega arith in
     let done : with_front front (repeated one (count - i) at) ≡ Ok (front, at) = rw left (ap (λ (xs : List A). Ok (xs, at)) (append-nil front)) in
     sym so_far ∙ done
-
-with_front_nothing : (A S : Type 0) (read : Result (List A × S) CodeFault) → with_front [] read ≡ read
-with_front_nothing A S (Ok x) = refl
-with_front_nothing A S (Err fault) = refl
-
-pub starts : (A S : Type 0) (one : S → Result (A × S) CodeFault) (count : ℕ) (at : S) → with_front [] (repeated one (count - 0) at) ≡ repeated one count at
-starts A S one count at =
-    let left : count - 0 ≡ count = omega arith in
-    rw left (with_front_nothing A S (repeated one count at))

@@ -17,13 +17,13 @@ use Rattle.bb_compile_scope.specs.declared.fault.CompileFault.{CompileFault}
 use Rattle.bb_compile_scope.specs.declared.fault.CompileFault.TheVariants.{At}
 use Rattle.bb_compile_scope.specs.Ending.{block_ends}
 use Rattle.bb_compile_emit.specs.Parts.{part_code}
-use Rattle.bb_bundle.specs.declared.source_code.ActDraft.{ActDraft}
-use Rattle.bb_bundle.specs.declared.source_code.ActDraft.TheVariants as drafts
-use Rattle.bb_bundle.specs.declared.source_code.ReactionDraft.{ReactionDraft}
-use Rattle.bb_bundle.specs.declared.source_code.SourceDraft.{SourceDraft}
+use Rattle.bb_bundle.specs.declared.draft.ActDraft.{ActDraft}
+use Rattle.bb_bundle.specs.declared.draft.ActDraft.TheVariants as drafts
+use Rattle.bb_bundle.specs.declared.draft.Header.{Header}
+use Rattle.bb_bundle.specs.declared.draft.Parts.{Parts}
+use Rattle.bb_bundle.specs.declared.draft.ReactionDraft.{ReactionDraft}
+use Rattle.bb_bundle.specs.declared.draft.SourceDraft.{SourceDraft}
 use Rattle.bb_bundle.specs.Spelled.{if_spelled}
-use Rattle.bb_compile.specs.declared.part_codes.PartCodes.{PartCodes}
-use Rattle.bb_compile.specs.declared.source.Head.{Head}
 
 -- ---- parts
 
@@ -60,59 +60,31 @@ abbrev pub act_of : Schema → (class : ℕ) → ActText → Result (ActDraft Co
 act_of schema class acts.Native = Ok drafts.Native
 act_of schema class (acts.Do text) = part_code schema (Do class) text.place text.block >>= λ code. Ok (drafts.Do code)
 
--- ---- the parts besides the act, one after another
-
-abbrev pub no_codes : PartCodes
-no_codes = record { require = None; obviate = None; retrigger = None; revalidate = None }
-
-abbrev pub with_require : Schema → (class : ℕ) → Option PartText → PartCodes → Result PartCodes CompileFault
-with_require schema class text codes = part_of schema (Require class) text >>= λ code. Ok (record codes { require = code })
-
-abbrev pub with_obviate : Schema → (class : ℕ) → Option ReactionText → PartCodes → Result PartCodes CompileFault
-with_obviate schema class text codes = reaction_if schema (Obviate class) text >>= λ r. Ok (record codes { obviate = r })
-
-abbrev pub with_retrigger : Schema → (class : ℕ) → Option ReactionText → PartCodes → Result PartCodes CompileFault
-with_retrigger schema class text codes = reaction_if schema (Retrigger class) text >>= λ r. Ok (record codes { retrigger = r })
-
-abbrev pub with_revalidate : Schema → (class : ℕ) → Option PartText → PartCodes → Result PartCodes CompileFault
-with_revalidate schema class text codes = part_of schema (Revalidate class) text >>= λ code. Ok (record codes { revalidate = code })
-
-unfoldable pub codes_of : Schema → (class : ℕ) → PartTexts → Result PartCodes CompileFault
-codes_of schema class parts = do
-  a ← with_require schema class parts.require no_codes
-  b ← with_obviate schema class parts.obviate a
-  c ← with_retrigger schema class parts.retrigger b
-  with_revalidate schema class parts.revalidate c
+-- the parts besides the act, one after another
+unfoldable pub parts_of : Schema → (class : ℕ) → PartTexts → Result (Parts Code) CompileFault
+parts_of schema class texts = do
+  require ← part_of schema (Require class) texts.require
+  obviate ← reaction_if schema (Obviate class) texts.obviate
+  retrigger ← reaction_if schema (Retrigger class) texts.retrigger
+  revalidate ← part_of schema (Revalidate class) texts.revalidate
+  Ok (record { require = require; obviate = obviate; retrigger = retrigger; revalidate = revalidate })
 
 -- ---- the source: its name, class, rate and clauses are those of the tree, and so is which parts it has
 
-abbrev pub head_of : SourceText → Head
-head_of text = record {
+abbrev pub header_of : SourceText → Header
+header_of text = record {
   name = text.header.name;
   class = text.header.class;
   rate = text.rate;
   triggers = text.clauses;
 }
 
-abbrev pub assembled : Head → PartCodes → ActDraft Code → SourceDraft Code
-assembled head codes act = record {
-  name = head.name;
-  class = head.class;
-  rate = head.rate;
-  triggers = head.triggers;
-  require = codes.require;
-  obviate = codes.obviate;
-  retrigger = codes.retrigger;
-  revalidate = codes.revalidate;
-  act = act;
-}
-
 unfoldable pub draft_of : Schema → SourceText → Result (SourceDraft Code) CompileFault
 draft_of schema text = do
   class ← class_on schema text.header.class text.header.on
-  codes ← codes_of schema class text.parts
+  parts ← parts_of schema class text.parts
   act ← act_of schema class text.act
-  Ok (assembled (head_of text) codes act)
+  Ok (record { header = header_of text; parts = parts; act = act })
 
 -- the source of a tree, where all of its names are names, and it has clauses
 unfoldable pub compiled : Schema → SourceText → Result (SourceDraft Code) CompileFault

@@ -10,7 +10,7 @@
 //!   bb_rules_tests.
 #![tactic(auto)]
 
-mod part_codes;
+mod parts;
 mod source;
 
 pub use bb_bundle::{

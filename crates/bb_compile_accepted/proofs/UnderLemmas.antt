@@ -2,7 +2,7 @@
 use Rattle.std.proofs.Common.{◌≡◌, ◌≢◌, ◌⊎◌, inl, inr, ℕ, zero, suc, ◌<◌, Bool, true, false, cond, List, [], ◌∷◌, ◌++◌, length, map, Option, Some, None, Ok, refl, subst, sym, ap, ◌∙◌, arith}
 use Rattle.std.specs.Prelude.{◌==◌, ◌||◌, option_and_then, option_map, set, find, get_or}
 use Rattle.std.specs.Str.{bytes_eq}
-use Rattle.std.proofs.lemmas.Bool.{eqb-true, eq-eqb}
+use Rattle.std.proofs.lemmas.Bool.{eqb-true, eq-eqb, or_left, or_right}
 use Rattle.std.proofs.lemmas.List.{get_or-set_same, get_or-set_other, length-set, length-map}
 use Rattle.std.proofs.Math.ListN.{get_or-map}
 use Rattle.std.proofs.lemmas.Option.{unwrap_or-slice_get}
@@ -55,13 +55,6 @@ one_line (itself a) other = inl other
 one_line (through_parent a p c is up) (itself b) = inr (through_parent a p c is up)
 one_line {classes} {a} {c} {d} (through_parent x p y is up) (through_parent z q w is_q up_q) =
     one_line up (subst (λ (k : ℕ). Descends classes k d) (let e : Some q ≡ Some p = sym is_q ∙ is in let same : q ≡ p = cc in same) up_q)
-
-or_left : (a b : Bool) → a ≡ true → (a || b) ≡ true
-or_left a b h = rw h refl
-
-or_right : (a b : Bool) → b ≡ true → (a || b) ≡ true
-or_right true b h = refl
-or_right false b h = h
 
 module _ (s : Schema) (sf : schemas.Fits s) where
   pub descends_on : (a b c : ℕ) → descends s a b ≡ true → descends s b c ≡ true → descends s a c ≡ true

@@ -22,8 +22,9 @@ use bb_verify_frame::Schema;
 pub fn compiled_code_is_accepted(schema: &Schema)
     ensures accepted { (part : Part) (place : Place) (block : BlockTree) (code : AnyCode) →
         is_plain block ≡ true → part_code schema.now part place block ≡ Ok code →
-        (frames : List Frame) × (checked schema.now part code ≡ Ok (record { code = code; part = part; frames = frames })) }
+        (frames : List Frame) ×
+        (checked schema.now part code ≡ Ok (record { code = code; part = part; frames = frames })) }
 {
-    // What holds of any schema.
+    // For the proof: what holds of every schema.
     schema.fits();
 }

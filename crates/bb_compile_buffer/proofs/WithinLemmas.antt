@@ -1,10 +1,9 @@
 -- The test tells which codes are within their limits.
-use Rattle.std.proofs.Common.{◌≡◌, ℕ, zero, suc, ◌+◌, ◌^◌, ◌<◌, ◌≤◌, Bool, true, false, ◌&&◌, List, [], ◌∷◌, length, Option, Some, None, Result, Ok, Err, cond, refl, sym, ap, ◌∙◌, arith}
-use Rattle.std.specs.Prelude.{ℤ, pos, negsuc, nat_le, nat_lt, nat_eq, int_le, All, IsUtf8, FitsSigned, ◌≤ℤ◌, ◌↔◌, IsSome, IfSome}
+use Rattle.std.proofs.Common.{◌≡◌, ℕ, ◌^◌, ◌<◌, ◌≤◌, Bool, true, false, ◌&&◌, List, [], ◌∷◌, length, Option, Some, None, Result, Ok, Err, cond, refl, ap, arith}
+use Rattle.std.specs.Prelude.{ℤ, pos, negsuc, nat_le, nat_lt, nat_eq, int_le, All, FitsSigned, ◌≤ℤ◌, ◌↔◌, IsSome, IfSome}
 use Rattle.std.specs.Int.{w64}
 use Rattle.std.specs.List.{list_all}
-use Rattle.std.specs.Str.{is_utf8}
-use Rattle.std.proofs.lemmas.Bool.{lt-ltb, ltb-true, le-leb, leb-true, eqb-true, eq-eqb}
+use Rattle.std.proofs.lemmas.Bool.{lt-ltb, ltb-true, le-leb, leb-true, eqb-true, eq-eqb, and_parts, and_from}
 use Rattle.std.proofs.lemmas.Int.{ints}
 use Rattle.std.proofs.lemmas.Str.{IsUtf8-from_is_utf8, is_utf8-from_IsUtf8}
 use Rattle.std.proofs.lemmas.List.Elements.{All-nil, All-cons, All-head, All-tail}
@@ -40,18 +39,10 @@ by t f g = record { yes = λ h. f (t.yes h); no = λ q. t.no (g q) }
 always : Tells true (Unit {0})
 always = record { yes = λ _. tt; no = λ _. refl }
 
-parts : (b c : Bool) → (b && c) ≡ true → (b ≡ true) × (c ≡ true)
-parts true c h = (refl, h)
-parts false c h = absurd cc
-
-whole : (b c : Bool) → b ≡ true → c ≡ true → (b && c) ≡ true
-whole true c h g = g
-whole false c h g = h
-
 both : {P Q : Type 0} (b c : Bool) → Tells b P → Tells c Q → Tells (b && c) (P × Q)
 both b c t u = record {
-  yes = λ h. (t.yes (parts b c h).0, u.yes (parts b c h).1);
-  no = λ p. whole b c (t.no p.0) (u.no p.1);
+  yes = λ h. (t.yes (and_parts b c h).0, u.yes (and_parts b c h).1);
+  no = λ p. and_from b c (t.no p.0) (u.no p.1);
 }
 
 at_most : (m n : ℕ) → Tells (nat_le m n) (m ≤ n)
@@ -68,8 +59,8 @@ every f P each [] = record { yes = λ _. All-nil P; no = λ _. refl }
 every f P each (x ∷ xs) =
     let rest = every f P each xs in
     record {
-      yes = λ h. let p = parts (f x) (list_all f xs) h in All-cons P x xs ((each x).yes p.0) (rest.yes p.1);
-      no = λ a. whole (f x) (list_all f xs) ((each x).no (All-head P x xs a)) (rest.no (All-tail P x xs a));
+      yes = λ h. let p = and_parts (f x) (list_all f xs) h in All-cons P x xs ((each x).yes p.0) (rest.yes p.1);
+      no = λ a. and_from (f x) (list_all f xs) ((each x).no (All-head P x xs a)) (rest.no (All-tail P x xs a));
     }
 
 -- ---- numbers
@@ -181,7 +172,7 @@ op ops.Rate = always
 op ops.Decline = always
 op ops.Answer = always
 
--- ---- the whole
+-- ---- the and_from
 
 listed : {X : Type 0} (n : ℕ) (f : X → Bool) (P : X → Type 0) → ((x : X) → Tells (f x) (P x)) → (xs : List X) → Tells (tests.list_within n f xs) ((length xs ≤ n) × All P xs)
 listed n f P each xs = both _ _ (at_most (length xs) n) (every f P each xs)
@@ -218,24 +209,24 @@ within_tells c =
       ),
     ))
 
--- ---- a code that is made where its parts are within the limits
+-- ---- a code that is made where its and_parts are within the limits
 
 past : {P : Type 0} (b : Bool) → Tells b P → (P → ⊥) → b ≡ false
 past true t never = absurd (never (t.yes refl))
 past false t never = refl
 
-chosen : (start : Place) (parts code : codes.Code) (b : Bool) → b ≡ true → code ≡ parts → (let r : Result codes.Code CompileFault = Ok code in r) ≡ cond b (Ok parts) (Err (At Limit start))
-chosen start parts code true h same_code = ap (λ c. Ok c) same_code
-chosen start parts code false h same_code = absurd cc
+chosen : (start : Place) (and_parts code : codes.Code) (b : Bool) → b ≡ true → code ≡ and_parts → (let r : Result codes.Code CompileFault = Ok code in r) ≡ cond b (Ok and_parts) (Err (At Limit start))
+chosen start and_parts code true h same_code = ap (λ c. Ok c) same_code
+chosen start and_parts code false h same_code = absurd cc
 
-refused : (start : Place) (parts : codes.Code) (b : Bool) → b ≡ false → (let r : Result codes.Code CompileFault = Err (At Limit start) in r) ≡ cond b (Ok parts) (Err (At Limit start))
-refused start parts true h = absurd cc
-refused start parts false h = refl
+refused : (start : Place) (and_parts : codes.Code) (b : Bool) → b ≡ false → (let r : Result codes.Code CompileFault = Err (At Limit start) in r) ≡ cond b (Ok and_parts) (Err (At Limit start))
+refused start and_parts true h = absurd cc
+refused start and_parts false h = refl
 
 none_made : (let o : Option codes.Code = None in IsSome o) → ⊥
 none_made h = cc
 
-pub checked_is : (start : Place) (parts : codes.Code) (made : Option codes.Code) → IsSome made ↔ codes.IsCode parts → IfSome made (λ c. c ≡ parts) → ok_or made (At Limit start) ≡ if_within start parts
+pub checked_is : (start : Place) (and_parts : codes.Code) (made : Option codes.Code) → IsSome made ↔ codes.IsCode and_parts → IfSome made (λ c. c ≡ and_parts) → ok_or made (At Limit start) ≡ if_within start and_parts
 unfolding if_within
-checked_is start parts (Some code) says same_code = chosen start parts code (tests.is_within parts) ((within_tells parts).no (says.0 refl)) same_code
-checked_is start parts None says same_code = refused start parts (tests.is_within parts) (past (tests.is_within parts) (within_tells parts) (λ h. none_made (says.1 h)))
+checked_is start and_parts (Some code) says same_code = chosen start and_parts code (tests.is_within and_parts) ((within_tells and_parts).no (says.0 refl)) same_code
+checked_is start and_parts None says same_code = refused start and_parts (tests.is_within and_parts) (past (tests.is_within and_parts) (within_tells and_parts) (λ h. none_made (says.1 h)))

@@ -13,7 +13,6 @@ use bb_compile_scope::{
     ClassId, CompileFault, Flaw, Kind, Op, Schema, Variable, class_of, is_live, name_of, value_slot,
 };
 use bb_lang::Atom;
-use std::alloc::Global;
 
 // An op that pushes a value of a kind.
 #[tactic(auto, unfolding(crate::specs::Atoms::pushed))]
@@ -108,16 +107,11 @@ fn check_text(sheet: &mut Sheet, text: &Text)
 
 // A text.
 #[tactic(auto, unfolding(crate::specs::Atoms::text_code))]
-fn emit_text(
-    alloc: Global,
-    sheet: &mut Sheet,
-    text: &Text,
-    room: usize,
-) -> Result<Option<Kind>, CompileFault>
+fn emit_text(sheet: &mut Sheet, text: &Text, room: usize) -> Result<Option<Kind>, CompileFault>
     ensures { Gives OutOfMemory (λ kind. (kind, sheet.new)) result (text_code text.now room sheet.old) }
 {
     check_text(sheet, text);
-    let index = sheet.text(alloc, text.as_str())?;
+    let index = sheet.text(text.as_str())?;
     emit_pushed(sheet, Op::PushText(index), Kind::Text, room)
 }
 
@@ -147,7 +141,6 @@ fn emit_label(
 /// An expression without parts, where the stack has room for `room` values. Returns its kind, as far as it is known.
 #[tactic(auto, unfolding(crate::specs::Atoms::atom_code))]
 pub fn emit_atom(
-    alloc: Global,
     schema: &Schema,
     sheet: &mut Sheet,
     atom: &Atom,
@@ -157,7 +150,7 @@ pub fn emit_atom(
 {
     match atom {
         Atom::Int(number) => emit_pushed(sheet, Op::PushInt(*number), Kind::Int, room),
-        Atom::Text(text) => emit_text(alloc, sheet, text, room),
+        Atom::Text(text) => emit_text(sheet, text, room),
         Atom::Bool(truth) => emit_pushed(sheet, Op::PushBool(*truth), Kind::Bool, room),
         Atom::Label { set, label } => emit_label(schema, sheet, set, label, room),
         Atom::Variable(variable) => emit_variable(sheet, variable, room),

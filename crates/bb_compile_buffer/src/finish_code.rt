@@ -77,9 +77,10 @@ fn checked(parts: CodeParts, place: Place) -> Result<Code, CompileFault>
 }
 
 /// The code that a sheet has.
-pub fn finish(alloc: Global, sheet: Sheet) -> Result<Code, CompileFault>
+pub fn finish(sheet: Sheet) -> Result<Code, CompileFault>
     ensures { Gives OutOfMemory (λ code. code) result (if_within sheet.start (code_of sheet)) }
 {
+    let alloc = sheet.alloc();
     let frames = frames_of(alloc, sheet.labels.as_slice(), &sheet.last, sheet.locals)?;
     let place = sheet.start;
     let parts = CodeParts {

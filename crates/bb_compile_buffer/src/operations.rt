@@ -177,6 +177,7 @@ pub fn emit_operator(
     }
 }
 
+// The op of a division.
 fn division_op(division: Division) -> OpDivision
     ensures { result ≡ division_op division }
 {

@@ -73,6 +73,11 @@ impl Sheet {
         })
     }
 
+    /// The allocator of the sheet. Whoever lays code out on it takes memory from it too.
+    pub fn alloc(&self) -> Global {
+        self.texts.alloc()
+    }
+
     // ---- flaws
 
     /// Notes a flaw of this statement.
@@ -157,7 +162,7 @@ impl Sheet {
 
     /// The index of a text.
     #[tactic(auto, unfolding(crate::specs::Sheets::text_index))]
-    pub fn text(&mut self, alloc: Global, text: &str) -> Result<u16, CompileFault>
+    pub fn text(&mut self, text: &str) -> Result<u16, CompileFault>
         ensures { Gives OutOfMemory (λ index. (index, self.new)) result (text_index text.now self.old) }
     {
         if let Some(index) = self.texts.index_of(text) {
@@ -171,7 +176,7 @@ impl Sheet {
                 place,
             });
         }
-        self.texts.push(alloc, text)?;
+        self.texts.push(text)?;
         Ok(index)
     }
 
@@ -244,10 +249,11 @@ impl Sheet {
 
     /// Declares a name for the value on the stack, which is of this kind.
     #[tactic(auto, unfolding(crate::specs::Sheets::declare))]
-    pub fn declare(&mut self, alloc: Global, name: &Text, kind: Kind) -> Result<(), CompileFault>
+    pub fn declare(&mut self, name: &Text, kind: Kind) -> Result<(), CompileFault>
         ensures { Gives OutOfMemory (λ _. self.new) result (declare name.now kind self.old) }
     {
         let local = self.take_local(kind)?;
+        let alloc = self.alloc();
         self.scope.name_local(alloc, name.as_str(), local, kind)?;
         self.put(Op::Store(local))
     }

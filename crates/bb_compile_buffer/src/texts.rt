@@ -12,6 +12,7 @@ use std::marker::Model;
 /// At most `TEXT_COUNT_LIMIT` different texts in the order of their first use, each found without a scan. Contracts see
 /// them as their list.
 pub struct Texts {
+    alloc: Global,
     texts: Vec<Text>,
     names: Names,
 }
@@ -19,7 +20,11 @@ pub struct Texts {
 // By hand, so that a proof meets one call where texts are dropped, and not the parts of an index.
 impl Drop for Texts {
     fn drop(self) {
-        let Texts { texts: _, names: _ } = self;
+        let Texts {
+            alloc: _,
+            texts: _,
+            names: _,
+        } = self;
     }
 }
 
@@ -39,9 +44,15 @@ impl Texts {
         ensures { result ≡ [] }
     {
         Texts {
+            alloc,
             texts: Vec::new(alloc),
             names: Names::new(alloc),
         }
+    }
+
+    /// The allocator of the texts.
+    pub fn alloc(&self) -> Global {
+        self.alloc
     }
 
     /// The number of texts.
@@ -60,14 +71,14 @@ impl Texts {
     }
 
     /// Appends a text that is not there yet, where there is room.
-    pub fn push(&mut self, alloc: Global, text: &str) -> Result<(), AllocError>
+    pub fn push(&mut self, text: &str) -> Result<(), AllocError>
         requires room { length self.old < TEXT_COUNT_LIMIT }
         requires fresh { position (bytes_eq text.now) self.old ≡ None }
         ensures { OnOk result (self.new ≡ self.old ++ text.now ∷ []) }
     {
-        let copy = Text::from_str(alloc, text)?;
+        let copy = Text::from_str(self.alloc, text)?;
         self.texts.reserve(1)?;
-        self.names.insert(alloc, text)?;
+        self.names.insert(self.alloc, text)?;
         self.texts.push_reserved(copy);
         Ok(())
     }
@@ -76,7 +87,11 @@ impl Texts {
     pub fn into_items(self) -> Items<Text>
         ensures { result ≡ self }
     {
-        let Texts { texts, names: _ } = self;
+        let Texts {
+            alloc: _,
+            texts,
+            names: _,
+        } = self;
         Items::from(texts)
     }
 }

@@ -1,5 +1,6 @@
 -- Loops over steps, patterns and statements lay out what their definitions say of the whole.
-use Rattle.std.proofs.Common.{◌≡◌, ◌⊎◌, inl, inr, ℕ, zero, suc, ◌+◌, ◌-◌, ◌<◌, ◌≤◌, Bool, false, ◌||◌, List, [], ◌∷◌, ◌++◌, length, get_or, drop, Option, Result, Ok, Err, refl, sym, ap, ◌∙◌, arith, drop-cons}
+use Rattle.std.proofs.Common.{◌≡◌, ◌⊎◌, inl, inr, ℕ, zero, suc, ◌+◌, ◌-◌, ◌<◌, ◌≤◌, Bool, false, ◌||◌, List, [], ◌∷◌, ◌++◌, length, get_or, drop, Option, Result, Ok, Err, refl, sym, ap, ◌∙◌, arith}
+use Rattle.bb_basis.proofs.IntoMapLemmas.{next_one}
 use Rattle.bb_basis.specs.Results.{◌>>=◌}
 use Rattle.bb_basis.proofs.ResultLemmas.{same_ok}
 use Rattle.bb_code_ops.specs.Trees.{Tree, Trees, no_more, more}
@@ -15,7 +16,7 @@ use Rattle.bb_lang.specs.BlockView.{block_of, statement_of}
 use Rattle.bb_compile_scope.specs.declared.fault.CompileFault.{CompileFault}
 use Rattle.bb_compile_emit.specs.declared.asked.Asked.{Asked}
 use Rattle.bb_compile_buffer.specs.declared.sheet.Sheet.{Sheet}
-use Rattle.bb_compile_buffer.specs.Operations.{Made, operator_code, division_code}
+use Rattle.bb_compile_buffer.specs.Operations.{Made, operator_code}
 use Rattle.bb_compile_emit.specs.Queries.{Patterned}
 use Rattle.bb_compile_emit.specs.Expressions.{expr_code, step_code, steps_code, pattern_code, patterns_code}
 use Rattle.bb_compile_buffer.specs.Sheets.{leave}
@@ -25,9 +26,6 @@ use Rattle.bb_lang.specs.Blocks.{BlockTree}
 use Rattle.bb_compile_emit.specs.proving.Fronts.{behind, with_front}
 
 -- ---- what is left of a list
-
-here : {X : Type 0} (xs : List X) (i : ℕ) (x : X) → i < length xs → x ≡ get_or xs i x → drop i xs ≡ x ∷ drop (i + 1) xs
-here xs i x lt at = drop-cons xs i x lt ∙ ap (λ y. y ∷ drop (suc i) xs) (sym at) ∙ ap (λ n. x ∷ drop n xs) (let e : suc i ≡ i + 1 = omega arith in e)
 
 none_left : {X : Type 0} (xs : List X) (i : ℕ) → length xs ≤ i → drop i xs ≡ []
 none_left [] zero le = refl
@@ -68,13 +66,13 @@ module _ (schema : Schema) (room : ℕ) where
     pub steps_next : (s : OneStep) (kind : Made) (u : Sheet) → i < length steps → s ≡ get_or steps i s → step_code schema room left s t ≡ Ok (kind, u)
         → steps_code schema room left (steps_of (drop i steps)) t ≡ total → steps_code schema room kind (steps_of (drop (i + 1) steps)) u ≡ total
     steps_next s kind u lt at now so_far =
-        sym (step_ok left s (drop (i + 1) steps) t (kind, u) now) ∙ ap (λ l. steps_code schema room left (steps_of l) t) (sym (here steps i s lt at)) ∙ so_far
+        sym (step_ok left s (drop (i + 1) steps) t (kind, u) now) ∙ ap (λ l. steps_code schema room left (steps_of l) t) (sym (next_one steps i s lt at)) ∙ so_far
 
     pub steps_fail : (s : OneStep) (out e : CompileFault) → i < length steps → s ≡ get_or steps i s → (e ≡ out) ⊎ (step_code schema room left s t ≡ Err e)
         → steps_code schema room left (steps_of (drop i steps)) t ≡ total → (e ≡ out) ⊎ (total ≡ Err e)
     steps_fail s out e lt at (inl h) so_far = inl h
     steps_fail s out e lt at (inr h) so_far =
-        inr (sym so_far ∙ ap (λ l. steps_code schema room left (steps_of l) t) (here steps i s lt at) ∙ step_err left s (drop (i + 1) steps) t e h)
+        inr (sym so_far ∙ ap (λ l. steps_code schema room left (steps_of l) t) (next_one steps i s lt at) ∙ step_err left s (drop (i + 1) steps) t e h)
 
     pub steps_end : length steps ≤ i → steps_code schema room left (steps_of (drop i steps)) t ≡ total → total ≡ Ok (left, t)
     unfolding steps_code
@@ -117,7 +115,7 @@ module _ (schema : Schema) (room : ℕ) (space : Option ℕ) (ps : List PatternT
 
   more_is : (p : PatternTree) → i < length ps → p ≡ get_or ps i p → patterns_code schema room space (patterns_of (drop i ps)) a s ≡ (pattern_code schema room space p a s >>= others)
   unfolding patterns_code
-  more_is p lt at = ap (λ l. patterns_code schema room space (patterns_of l) a s) (here ps i p lt at)
+  more_is p lt at = ap (λ l. patterns_code schema room space (patterns_of l) a s) (next_one ps i p lt at)
 
   pub patterns_next : (p : PatternTree) (new : List Tree) (t : Tree) (b : Asked) (u : Sheet) → i < length ps → p ≡ get_or ps i p → new ≡ made ++ t ∷ [] → pattern_code schema room space p a s ≡ Ok (t, b, u)
       → with_front made (patterns_code schema room space (patterns_of (drop i ps)) a s) ≡ total → with_front new (patterns_code schema room space (patterns_of (drop (i + 1) ps)) b u) ≡ total
@@ -156,7 +154,7 @@ module _ (schema : Schema) (part : Part) (loops : ℕ) (ps : List Placed) (i : �
 
   statements_is : (p : Placed) → i < length ps → p ≡ get_or ps i p → statements_code schema part loops ended (block_of (drop i ps)) s ≡ (statement_code schema part loops p.place (statement_of p.statement) (after_end ended s) >>= λ x. behind_it (ended || x.0) x.1)
   unfolding statements_code
-  statements_is p lt at = ap (λ l. statements_code schema part loops ended (block_of l) s) (here ps i p lt at)
+  statements_is p lt at = ap (λ l. statements_code schema part loops ended (block_of l) s) (next_one ps i p lt at)
 
   pub block_next : (p : Placed) (now : Bool) (u : Sheet) → i < length ps → p ≡ get_or ps i p → placed_code schema part loops ended p s ≡ Ok (now, u)
       → statements_code schema part loops ended (block_of (drop i ps)) s ≡ total → statements_code schema part loops now (block_of (drop (i + 1) ps)) u ≡ total

@@ -3,3 +3,5 @@
 pub mod Sizes
 -- what a loop over patterns has made
 pub mod Fronts
+-- what a call leaves of an emitter
+pub mod Laying

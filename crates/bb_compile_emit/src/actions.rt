@@ -1,12 +1,12 @@
 //! Statements without blocks, laid out and judged: a function for each. The layout of statements calls `emit_action`.
 
 ghost use Rattle.std.specs.Prelude.{◌≡◌};
-ghost use Rattle.bb_basis.specs.Results.{Gives};
-ghost use Rattle.bb_compile_scope.specs.declared.fault.CompileFault.TheVariants.{Memory as OutOfMemory};
 ghost use Rattle.bb_compile_emit.specs.Actions.{effect_noted, end_noted, let_code, assign_code, new_code, set_code, link_noted};
 ghost use Rattle.bb_compile_emit.specs.Actions.{relinked_in, relink_code, space_noted, enter_code, leave_code, delete_code};
 ghost use Rattle.bb_compile_emit.specs.Actions.{values_code, say_code, end_code, change_code, action_code};
+ghost use Rattle.bb_compile_emit.specs.proving.Laying.{Lays};
 
+use crate::emitter::Emitter;
 use crate::expressions::{emit_expr, space_named};
 use bb_basis::Text;
 use bb_code::{LinkChange, SAID_LIMIT, STACK_LIMIT};
@@ -16,7 +16,6 @@ use bb_compile_scope::{
     value_slot,
 };
 use bb_lang::{Action, Expr};
-use std::alloc::Global;
 
 // Notes the flaw of a change in a part that may make none.
 fn check_effect(part: Part, sheet: &mut Sheet)
@@ -30,96 +29,76 @@ fn check_effect(part: Part, sheet: &mut Sheet)
 
 // `let`
 #[tactic(auto, unfolding(crate::specs::Actions::let_code))]
-fn emit_let(
-    alloc: Global,
-    schema: &Schema,
-    sheet: &mut Sheet,
-    name: &Text,
-    value: &Expr,
-) -> Result<(), CompileFault>
-    ensures { Gives OutOfMemory (λ _. sheet.new) result (let_code schema.now name.now value.now sheet.old) }
+fn emit_let(emitter: &mut Emitter, name: &Text, value: &Expr) -> Result<(), CompileFault>
+    ensures { Lays emitter.old emitter.new result (let_code emitter.old.schema.now name.now value.now) }
 {
-    let Some(kind) = emit_expr(alloc, schema, sheet, value, STACK_LIMIT)? else {
+    let Some(kind) = emit_expr(emitter, value, STACK_LIMIT)? else {
         return Ok(());
     };
-    sheet.declare(alloc, name, kind)
+    emitter.sheet.declare(name, kind)
 }
 
 // An assignment.
 #[tactic(auto, unfolding(crate::specs::Actions::assign_code))]
-fn emit_assign(
-    alloc: Global,
-    schema: &Schema,
-    sheet: &mut Sheet,
-    name: &Text,
-    value: &Expr,
-) -> Result<(), CompileFault>
-    ensures { Gives OutOfMemory (λ _. sheet.new) result (assign_code schema.now name.now value.now sheet.old) }
+fn emit_assign(emitter: &mut Emitter, name: &Text, value: &Expr) -> Result<(), CompileFault>
+    ensures { Lays emitter.old emitter.new result (assign_code emitter.old.schema.now name.now value.now) }
 {
-    let kind = emit_expr(alloc, schema, sheet, value, STACK_LIMIT)?;
-    let Some(local) = sheet.scope.local_of(name.as_str()) else {
-        sheet.note(Flaw::Unknown);
+    let kind = emit_expr(emitter, value, STACK_LIMIT)?;
+    let Some(local) = emitter.sheet.scope.local_of(name.as_str()) else {
+        emitter.sheet.note(Flaw::Unknown);
         return Ok(());
     };
     let Some(kind) = kind else {
         return Ok(());
     };
-    match assigned(schema, sheet.scope.kinds.get(local), kind) {
+    match assigned(emitter.schema, emitter.sheet.scope.kinds.get(local), kind) {
         None => {
-            sheet.note(Flaw::Kind);
+            emitter.sheet.note(Flaw::Kind);
             Ok(())
         }
         Some(kind) => {
-            sheet.scope.kinds.put(local, kind);
-            sheet.put(Op::Store(local))
+            emitter.sheet.scope.kinds.put(local, kind);
+            emitter.sheet.put(Op::Store(local))
         }
     }
 }
 
 // `new`
 #[tactic(auto, unfolding(crate::specs::Actions::new_code))]
-fn emit_new(
-    alloc: Global,
-    schema: &Schema,
-    sheet: &mut Sheet,
-    name: &Text,
-    class: &Text,
-) -> Result<(), CompileFault>
-    ensures { Gives OutOfMemory (λ _. sheet.new) result (new_code schema.now name.now class.now sheet.old) }
+fn emit_new(emitter: &mut Emitter, name: &Text, class: &Text) -> Result<(), CompileFault>
+    ensures { Lays emitter.old emitter.new result (new_code emitter.old.schema.now name.now class.now) }
 {
-    let Some(class) = schema.class(class.as_str()) else {
-        sheet.note(Flaw::Unknown);
+    let Some(class) = emitter.schema.class(class.as_str()) else {
+        emitter.sheet.note(Flaw::Unknown);
         return Ok(());
     };
-    sheet.put(Op::New(class))?;
-    sheet.declare(alloc, name, Kind::Ref(class))
+    emitter.sheet.put(Op::New(class))?;
+    emitter.sheet.declare(name, Kind::Ref(class))
 }
 
 // `set`
 #[tactic(auto, unfolding(crate::specs::Actions::set_code))]
 fn emit_set(
-    alloc: Global,
-    schema: &Schema,
-    sheet: &mut Sheet,
+    emitter: &mut Emitter,
     unit: &Variable,
     slot: &Text,
     value: &Expr,
 ) -> Result<(), CompileFault>
-    ensures { Gives OutOfMemory (λ _. sheet.new) result (set_code schema.now unit.now slot.now value.now sheet.old) }
+    ensures { Lays emitter.old emitter.new result (set_code emitter.old.schema.now unit.now slot.now value.now) }
 {
-    let class = emit_unit(sheet, unit, STACK_LIMIT)?;
-    let kind = emit_expr(alloc, schema, sheet, value, STACK_LIMIT - 1)?;
+    let class = emit_unit(&mut emitter.sheet, unit, STACK_LIMIT)?;
+    let kind = emit_expr(emitter, value, STACK_LIMIT - 1)?;
     let Some(class) = class else {
         return Ok(());
     };
-    match value_slot(schema, class, slot.as_str()) {
+    match value_slot(emitter.schema, class, slot.as_str()) {
         Err(flaw) => {
-            sheet.note(flaw);
+            emitter.sheet.note(flaw);
             Ok(())
         }
         Ok((slot, due)) => {
-            sheet.due(kind, due);
-            sheet.put(Op::Set(slot))
+            emitter.sheet.due(kind, due);
+            emitter.sheet.put(Op::Set(slot))
         }
     }
 }
@@ -139,27 +118,26 @@ fn check_link(schema: &Schema, sheet: &mut Sheet, to: ClassId, other: Option<Cla
 
 // The op that links or unlinks two units, which lie on the stack.
 fn emit_change_of(
-    schema: &Schema,
-    sheet: &mut Sheet,
+    emitter: &mut Emitter,
     change: LinkChange,
     class: Option<ClassId>,
     slot: &Text,
     other: Option<ClassId>,
 ) -> Result<(), CompileFault>
-    ensures { Gives OutOfMemory (λ _. sheet.new) result
-        (relinked_in schema.now change class slot.now other sheet.old) }
+    ensures { Lays emitter.old emitter.new result
+        (relinked_in emitter.old.schema.now change class slot.now other) }
 {
     let Some(class) = class else {
         return Ok(());
     };
-    match link_slot(schema, class, slot.as_str()) {
+    match link_slot(emitter.schema, class, slot.as_str()) {
         Err(flaw) => {
-            sheet.note(flaw);
+            emitter.sheet.note(flaw);
             Ok(())
         }
         Ok((slot, link)) => {
-            check_link(schema, sheet, link.to, other);
-            sheet.put(Op::Relink(change, slot))
+            check_link(emitter.schema, &mut emitter.sheet, link.to, other);
+            emitter.sheet.put(Op::Relink(change, slot))
         }
     }
 }
@@ -167,19 +145,18 @@ fn emit_change_of(
 // `link` and `unlink`
 #[tactic(auto, unfolding(crate::specs::Actions::relink_code))]
 fn emit_relink(
-    schema: &Schema,
-    sheet: &mut Sheet,
+    emitter: &mut Emitter,
     change: LinkChange,
     unit: &Variable,
     slot: &Text,
     other: &Variable,
 ) -> Result<(), CompileFault>
-    ensures { Gives OutOfMemory (λ _. sheet.new) result
-        (relink_code schema.now change unit.now slot.now other.now sheet.old) }
+    ensures { Lays emitter.old emitter.new result
+        (relink_code emitter.old.schema.now change unit.now slot.now other.now) }
 {
-    let class = emit_unit(sheet, unit, STACK_LIMIT)?;
-    let of = emit_unit(sheet, other, STACK_LIMIT - 1)?;
-    emit_change_of(schema, sheet, change, class, slot, of)
+    let class = emit_unit(&mut emitter.sheet, unit, STACK_LIMIT)?;
+    let of = emit_unit(&mut emitter.sheet, other, STACK_LIMIT - 1)?;
+    emit_change_of(emitter, change, class, slot, of)
 }
 
 // Notes a space that does not admit units of a class.
@@ -194,70 +171,55 @@ fn check_space(schema: &Schema, sheet: &mut Sheet, space: SpaceId, class: ClassI
 
 // `enter`
 #[tactic(auto, unfolding(crate::specs::Actions::enter_code))]
-fn emit_enter(
-    schema: &Schema,
-    sheet: &mut Sheet,
-    unit: &Variable,
-    space: &Text,
-) -> Result<(), CompileFault>
-    ensures { Gives OutOfMemory (λ _. sheet.new) result (enter_code schema.now unit.now space.now sheet.old) }
+fn emit_enter(emitter: &mut Emitter, unit: &Variable, space: &Text) -> Result<(), CompileFault>
+    ensures { Lays emitter.old emitter.new result (enter_code emitter.old.schema.now unit.now space.now) }
 {
-    let class = emit_unit(sheet, unit, STACK_LIMIT)?;
-    let space = space_named(schema, sheet, space);
+    let class = emit_unit(&mut emitter.sheet, unit, STACK_LIMIT)?;
+    let space = space_named(emitter.schema, &mut emitter.sheet, space);
     let Some(class) = class else {
         return Ok(());
     };
     let Some(space) = space else {
         return Ok(());
     };
-    check_space(schema, sheet, space, class);
-    sheet.put(Op::Enter(space))
+    check_space(emitter.schema, &mut emitter.sheet, space, class);
+    emitter.sheet.put(Op::Enter(space))
 }
 
 // `leave`
 #[tactic(auto, unfolding(crate::specs::Actions::leave_code))]
-fn emit_leave(
-    schema: &Schema,
-    sheet: &mut Sheet,
-    unit: &Variable,
-    space: &Text,
-) -> Result<(), CompileFault>
-    ensures { Gives OutOfMemory (λ _. sheet.new) result (leave_code schema.now unit.now space.now sheet.old) }
+fn emit_leave(emitter: &mut Emitter, unit: &Variable, space: &Text) -> Result<(), CompileFault>
+    ensures { Lays emitter.old emitter.new result (leave_code emitter.old.schema.now unit.now space.now) }
 {
-    let _class = emit_unit(sheet, unit, STACK_LIMIT)?;
-    let Some(space) = schema.space(space.as_str()) else {
-        sheet.note(Flaw::Unknown);
+    let _class = emit_unit(&mut emitter.sheet, unit, STACK_LIMIT)?;
+    let Some(space) = emitter.schema.space(space.as_str()) else {
+        emitter.sheet.note(Flaw::Unknown);
         return Ok(());
     };
-    sheet.put(Op::Leave(space))
+    emitter.sheet.put(Op::Leave(space))
 }
 
 // `delete`
 #[tactic(auto, unfolding(crate::specs::Actions::delete_code))]
-fn emit_delete(schema: &Schema, sheet: &mut Sheet, unit: &Variable) -> Result<(), CompileFault>
-    ensures { Gives OutOfMemory (λ _. sheet.new) result (delete_code schema.now unit.now sheet.old) }
+fn emit_delete(emitter: &mut Emitter, unit: &Variable) -> Result<(), CompileFault>
+    ensures { Lays emitter.old emitter.new result (delete_code emitter.old.schema.now unit.now) }
 {
-    let Some(class) = emit_unit(sheet, unit, STACK_LIMIT)? else {
+    let Some(class) = emit_unit(&mut emitter.sheet, unit, STACK_LIMIT)? else {
         return Ok(());
     };
-    sheet.put(Op::Delete)?;
-    sheet.scope.kinds.strike(schema, class);
+    emitter.sheet.put(Op::Delete)?;
+    emitter.sheet.scope.kinds.strike(emitter.schema, class);
     Ok(())
 }
 
 // Expressions in order.
 #[tactic(auto, unfolding(crate::specs::Actions::values_code))]
-fn emit_values(
-    alloc: Global,
-    schema: &Schema,
-    sheet: &mut Sheet,
-    values: &[Expr],
-) -> Result<(), CompileFault>
-    ensures { Gives OutOfMemory (λ _. sheet.new) result (values_code schema.now STACK_LIMIT values.now sheet.old) }
+fn emit_values(emitter: &mut Emitter, values: &[Expr]) -> Result<(), CompileFault>
+    ensures { Lays emitter.old emitter.new result (values_code emitter.old.schema.now STACK_LIMIT values.now) }
 {
     let mut room = STACK_LIMIT;
     for value in values {
-        let _kind = emit_expr(alloc, schema, sheet, value, room)?;
+        let _kind = emit_expr(emitter, value, room)?;
         room = room.saturating_sub(1);
     }
     Ok(())
@@ -265,37 +227,25 @@ fn emit_values(
 
 // `say`
 #[tactic(auto, unfolding(crate::specs::Actions::say_code))]
-fn emit_say(
-    alloc: Global,
-    schema: &Schema,
-    sheet: &mut Sheet,
-    values: &[Expr],
-) -> Result<(), CompileFault>
-    ensures { Gives OutOfMemory (λ _. sheet.new) result (say_code schema.now values.now sheet.old) }
+fn emit_say(emitter: &mut Emitter, values: &[Expr]) -> Result<(), CompileFault>
+    ensures { Lays emitter.old emitter.new result (say_code emitter.old.schema.now values.now) }
 {
-    emit_values(alloc, schema, sheet, values)?;
+    emit_values(emitter, values)?;
     if values.len() > SAID_LIMIT as usize {
-        sheet.note(Flaw::Limit);
+        emitter.sheet.note(Flaw::Limit);
         return Ok(());
     }
-    sheet.put(Op::Say(values.len() as u8))
+    emitter.sheet.put(Op::Say(values.len() as u8))
 }
 
 // An end with a value of a kind.
 #[tactic(auto, unfolding(crate::specs::Actions::end_code))]
-fn emit_end(
-    alloc: Global,
-    schema: &Schema,
-    sheet: &mut Sheet,
-    value: &Expr,
-    due: Kind,
-    op: Op,
-) -> Result<(), CompileFault>
-    ensures { Gives OutOfMemory (λ _. sheet.new) result (end_code schema.now value.now due op sheet.old) }
+fn emit_end(emitter: &mut Emitter, value: &Expr, due: Kind, op: Op) -> Result<(), CompileFault>
+    ensures { Lays emitter.old emitter.new result (end_code emitter.old.schema.now value.now due op) }
 {
-    let kind = emit_expr(alloc, schema, sheet, value, STACK_LIMIT)?;
-    sheet.due(kind, due);
-    sheet.put(op)
+    let kind = emit_expr(emitter, value, STACK_LIMIT)?;
+    emitter.sheet.due(kind, due);
+    emitter.sheet.put(op)
 }
 
 // Notes the flaw of an end that the part does not have.
@@ -309,60 +259,50 @@ fn check_end(right: bool, sheet: &mut Sheet)
 }
 
 // A change of a unit.
-fn emit_change(
-    alloc: Global,
-    schema: &Schema,
-    sheet: &mut Sheet,
-    action: &Action,
-) -> Result<(), CompileFault>
-    ensures { Gives OutOfMemory (λ _. sheet.new) result (change_code schema.now action.now sheet.old) }
+fn emit_change(emitter: &mut Emitter, action: &Action) -> Result<(), CompileFault>
+    ensures { Lays emitter.old emitter.new result (change_code emitter.old.schema.now action.now) }
 {
     match action {
-        Action::New { name, class } => emit_new(alloc, schema, sheet, name, class),
-        Action::Set { unit, slot, value } => emit_set(alloc, schema, sheet, unit, slot, value),
+        Action::New { name, class } => emit_new(emitter, name, class),
+        Action::Set { unit, slot, value } => emit_set(emitter, unit, slot, value),
         Action::Link { unit, slot, other } => {
-            emit_relink(schema, sheet, LinkChange::Link, unit, slot, other)
+            emit_relink(emitter, LinkChange::Link, unit, slot, other)
         }
         Action::Unlink { unit, slot, other } => {
-            emit_relink(schema, sheet, LinkChange::Unlink, unit, slot, other)
+            emit_relink(emitter, LinkChange::Unlink, unit, slot, other)
         }
-        Action::Enter { unit, space } => emit_enter(schema, sheet, unit, space),
-        Action::Leave { unit, space } => emit_leave(schema, sheet, unit, space),
-        Action::Delete { unit } => emit_delete(schema, sheet, unit),
-        Action::Say(values) => emit_say(alloc, schema, sheet, values.as_slice()),
+        Action::Enter { unit, space } => emit_enter(emitter, unit, space),
+        Action::Leave { unit, space } => emit_leave(emitter, unit, space),
+        Action::Delete { unit } => emit_delete(emitter, unit),
+        Action::Say(values) => emit_say(emitter, values.as_slice()),
         _ => Ok(()),
     }
 }
 
 /// A statement without blocks.
 #[tactic(auto, unfolding(crate::specs::Actions::action_code))]
-pub(crate) fn emit_action(
-    alloc: Global,
-    schema: &Schema,
-    part: Part,
-    sheet: &mut Sheet,
-    action: &Action,
-) -> Result<(), CompileFault>
-    ensures { Gives OutOfMemory (λ _. sheet.new) result (action_code schema.now part action.now sheet.old) }
+pub(crate) fn emit_action(emitter: &mut Emitter, action: &Action) -> Result<(), CompileFault>
+    ensures { Lays emitter.old emitter.new result
+        (action_code emitter.old.schema.now emitter.old.part action.now) }
 {
     match action {
-        Action::Let { name, value } => emit_let(alloc, schema, sheet, name, value),
-        Action::Assign { name, value } => emit_assign(alloc, schema, sheet, name, value),
+        Action::Let { name, value } => emit_let(emitter, name, value),
+        Action::Assign { name, value } => emit_assign(emitter, name, value),
         Action::Rate(value) => {
-            check_end(part.ends_rated().is_ok(), sheet);
-            emit_end(alloc, schema, sheet, value, Kind::Int, Op::Rate)
+            check_end(emitter.part.ends_rated().is_ok(), &mut emitter.sheet);
+            emit_end(emitter, value, Kind::Int, Op::Rate)
         }
         Action::Decline => {
-            check_end(part.ends_rated().is_ok(), sheet);
-            sheet.put(Op::Decline)
+            check_end(emitter.part.ends_rated().is_ok(), &mut emitter.sheet);
+            emitter.sheet.put(Op::Decline)
         }
         Action::Answer(value) => {
-            check_end(part.ends_answered().is_ok(), sheet);
-            emit_end(alloc, schema, sheet, value, Kind::Bool, Op::Answer)
+            check_end(emitter.part.ends_answered().is_ok(), &mut emitter.sheet);
+            emit_end(emitter, value, Kind::Bool, Op::Answer)
         }
         _ => {
-            check_effect(part, sheet);
-            emit_change(alloc, schema, sheet, action)
+            check_effect(emitter.part, &mut emitter.sheet);
+            emit_change(emitter, action)
         }
     }
 }

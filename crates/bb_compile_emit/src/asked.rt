@@ -46,6 +46,7 @@ pub(crate) fn test_node(relation: Relation, dim: u8, operand: u8) -> Node
     }
 }
 
+// A test by an operand, where the dimension has an order.
 fn ordered(relation: PatternRelation, dim: u8, operand: u8) -> Node
     ensures { result ≡ Ordered relation dim operand }
 {

@@ -6,7 +6,9 @@ ghost use Rattle.bb_compile_scope.specs.declared.fault.CompileFault.TheVariants.
 ghost use Rattle.bb_compile_emit.specs.Bindings.{tells_more, is_test, is_class, as_code, alive_code, test_code, bound_as};
 ghost use Rattle.bb_compile_emit.specs.Bindings.{with_as};
 ghost use Rattle.bb_compile_emit.specs.Bindings.{with_partner, binding_code};
+ghost use Rattle.bb_compile_emit.specs.proving.Laying.{Makes};
 
+use crate::emitter::Emitter;
 use crate::exits::Exits;
 use crate::expressions::class_named;
 use bb_basis::Text;
@@ -16,7 +18,6 @@ use bb_compile_scope::{
     ClassId, CompileFault, Flaw, Kind, Op, Schema, Variable, class_of, is_live, partner_slot,
 };
 use bb_lang::Binding;
-use std::alloc::Global;
 
 // Whether a unit of a class, live or not, may be tested to be of another.
 fn tells_more(schema: &Schema, live: bool, own: ClassId, class: ClassId) -> bool
@@ -41,6 +42,7 @@ fn is_test(schema: &Schema, held: Kind, class: ClassId) -> bool
     }
 }
 
+// Whether the class of a unit, where it is known, is this one.
 fn is_class(own: Option<ClassId>, class: ClassId) -> bool
     ensures { result ≡ is_class own class }
 {
@@ -90,74 +92,68 @@ fn emit_test(sheet: &mut Sheet, held: Kind, class: ClassId) -> Result<Exits, Com
 
 // A name for a unit, which lies on the stack, if it is live and of a class.
 fn emit_bound(
-    alloc: Global,
-    schema: &Schema,
-    sheet: &mut Sheet,
+    emitter: &mut Emitter,
     name: &Text,
     held: Kind,
     class: ClassId,
 ) -> Result<Option<Exits>, CompileFault>
-    ensures { Gives OutOfMemory (λ exits. (exits, sheet.new)) result
-        (bound_as schema.now name.now held class sheet.old) }
+    ensures { Makes emitter.old emitter.new result
+        (bound_as emitter.old.schema.now name.now held class) }
 {
-    if !is_test(schema, held, class) {
-        sheet.note(Flaw::Kind);
+    if !is_test(emitter.schema, held, class) {
+        emitter.sheet.note(Flaw::Kind);
         return Ok(None);
     }
-    let exits = emit_test(sheet, held, class)?;
-    sheet.declare(alloc, name, Kind::Ref(class))?;
+    let exits = emit_test(&mut emitter.sheet, held, class)?;
+    emitter.sheet.declare(name, Kind::Ref(class))?;
     Ok(Some(exits))
 }
 
 // `name = unit as class`
 #[tactic(auto, unfolding(crate::specs::Bindings::with_as))]
 fn emit_as(
-    alloc: Global,
-    schema: &Schema,
-    sheet: &mut Sheet,
+    emitter: &mut Emitter,
     name: &Text,
     unit: &Variable,
     class: &Text,
 ) -> Result<Option<Exits>, CompileFault>
-    ensures { Gives OutOfMemory (λ exits. (exits, sheet.new)) result
-        (with_as schema.now name.now unit.now class.now sheet.old) }
+    ensures { Makes emitter.old emitter.new result
+        (with_as emitter.old.schema.now name.now unit.now class.now) }
 {
-    let held = emit_variable(sheet, unit, STACK_LIMIT)?;
-    let class = class_named(schema, sheet, class);
+    let held = emit_variable(&mut emitter.sheet, unit, STACK_LIMIT)?;
+    let class = class_named(emitter.schema, &mut emitter.sheet, class);
     let Some(held) = held else {
         return Ok(None);
     };
     let Some(class) = class else {
         return Ok(None);
     };
-    emit_bound(alloc, schema, sheet, name, held, class)
+    emit_bound(emitter, name, held, class)
 }
 
 // `name = unit.slot`
 #[tactic(auto, unfolding(crate::specs::Bindings::with_partner))]
 fn emit_partner(
-    alloc: Global,
-    schema: &Schema,
-    sheet: &mut Sheet,
+    emitter: &mut Emitter,
     name: &Text,
     unit: &Variable,
     slot: &Text,
 ) -> Result<Option<Exits>, CompileFault>
-    ensures { Gives OutOfMemory (λ exits. (exits, sheet.new)) result
-        (with_partner schema.now name.now unit.now slot.now sheet.old) }
+    ensures { Makes emitter.old emitter.new result
+        (with_partner emitter.old.schema.now name.now unit.now slot.now) }
 {
-    let Some(class) = emit_unit(sheet, unit, STACK_LIMIT)? else {
+    let Some(class) = emit_unit(&mut emitter.sheet, unit, STACK_LIMIT)? else {
         return Ok(None);
     };
-    match partner_slot(schema, class, slot.as_str()) {
+    match partner_slot(emitter.schema, class, slot.as_str()) {
         Err(flaw) => {
-            sheet.note(flaw);
+            emitter.sheet.note(flaw);
             Ok(None)
         }
         Ok((slot, to)) => {
-            let at = sheet.ops.here();
-            sheet.put(Op::One(slot, 0))?;
-            sheet.declare(alloc, name, Kind::Ref(to))?;
+            let at = emitter.sheet.ops.here();
+            emitter.sheet.put(Op::One(slot, 0))?;
+            emitter.sheet.declare(name, Kind::Ref(to))?;
             Ok(Some(Exits::one(at)))
         }
     }
@@ -165,17 +161,13 @@ fn emit_partner(
 
 /// What a `with` tests and declares. Returns the exits of its test, or `None` where it has a flaw.
 pub(crate) fn emit_binding(
-    alloc: Global,
-    schema: &Schema,
-    sheet: &mut Sheet,
+    emitter: &mut Emitter,
     binding: &Binding,
 ) -> Result<Option<Exits>, CompileFault>
-    ensures { Gives OutOfMemory (λ exits. (exits, sheet.new)) result (binding_code schema.now binding.now sheet.old) }
+    ensures { Makes emitter.old emitter.new result (binding_code emitter.old.schema.now binding.now) }
 {
     match binding {
-        Binding::As { name, unit, class } => emit_as(alloc, schema, sheet, name, unit, class),
-        Binding::Linked { name, unit, slot } => {
-            emit_partner(alloc, schema, sheet, name, unit, slot)
-        }
+        Binding::As { name, unit, class } => emit_as(emitter, name, unit, class),
+        Binding::Linked { name, unit, slot } => emit_partner(emitter, name, unit, slot),
     }
 }

@@ -11,8 +11,10 @@ ghost use Rattle.bb_compile_buffer.specs.Sheets.{known};
 ghost use Rattle.bb_compile_emit.specs.Queries.{links_code, query_code, test_code};
 ghost use Rattle.bb_compile_emit.specs.Expressions.{expr_code, steps_code, step_code, sequence_code, pattern_code};
 ghost use Rattle.bb_compile_emit.specs.Expressions.{patterns_code};
+ghost use Rattle.bb_compile_emit.specs.proving.Laying.{Makes, Asks};
 
 use crate::asked::{Asked, test_node};
+use crate::emitter::Emitter;
 use bb_basis::Text;
 use bb_code::{Node, Pattern as CodePattern, Query};
 use bb_compile_buffer::{
@@ -22,30 +24,28 @@ use bb_compile_scope::{
     ClassId, CompileFault, Flaw, Kind, Op, Schema, SpaceId, Variable, dimension, link_slot,
 };
 use bb_lang::{Expr, ExprNode, Pattern, PatternNode, Relation, Sequence, Step};
-use std::alloc::Global;
 
 // The sequence of the units that a unit is linked to, and their class.
 #[tactic(auto, unfolding(crate::specs::Queries::links_code))]
 fn emit_links(
-    schema: &Schema,
-    sheet: &mut Sheet,
+    emitter: &mut Emitter,
     unit: &Variable,
     slot: &Text,
     room: usize,
 ) -> Result<Option<ClassId>, CompileFault>
-    ensures { Gives OutOfMemory (λ class. (class, sheet.new)) result
-        (links_code schema.now unit.now slot.now room sheet.old) }
+    ensures { Makes emitter.old emitter.new result
+        (links_code emitter.old.schema.now unit.now slot.now room) }
 {
-    let Some(class) = emit_unit(sheet, unit, room)? else {
+    let Some(class) = emit_unit(&mut emitter.sheet, unit, room)? else {
         return Ok(None);
     };
-    match link_slot(schema, class, slot.as_str()) {
+    match link_slot(emitter.schema, class, slot.as_str()) {
         Err(flaw) => {
-            sheet.note(flaw);
+            emitter.sheet.note(flaw);
             Ok(None)
         }
         Ok((slot, link)) => {
-            sheet.put(Op::Links(slot))?;
+            emitter.sheet.put(Op::Links(slot))?;
             Ok(Some(link.to))
         }
     }
@@ -104,26 +104,25 @@ fn emit_query(
 // A test, after its operand.
 #[tactic(auto, unfolding(crate::specs::Queries::test_code))]
 fn emit_test(
-    schema: &Schema,
-    sheet: &mut Sheet,
+    emitter: &mut Emitter,
     asked: &mut Asked,
     space: Option<SpaceId>,
     dim: &Text,
     relation: Relation,
     operand: Option<Kind>,
 ) -> Result<CodePattern, CompileFault>
-    ensures { Gives OutOfMemory (λ p. (p, asked.new, sheet.new)) result
-        (Ok (test_code schema.now space dim.now relation operand asked.old sheet.old)) }
+    ensures { Asks (λ p. p) asked.new emitter.old emitter.new result
+        (Ok (test_code emitter.old.schema.now space dim.now relation operand asked.old emitter.old.sheet)) }
 {
     let Some(space) = space else {
         return Ok(CodePattern::new(Node::All));
     };
-    let Some((dim, due)) = dimension(schema, space, dim.as_str(), relation) else {
-        sheet.note(Flaw::Unknown);
+    let Some((dim, due)) = dimension(emitter.schema, space, dim.as_str(), relation) else {
+        emitter.sheet.note(Flaw::Unknown);
         return Ok(CodePattern::new(Node::All));
     };
-    sheet.due(operand, due);
-    let number = asked.add_operand(sheet, due)?;
+    emitter.sheet.due(operand, due);
+    let number = asked.add_operand(&mut emitter.sheet, due)?;
     Ok(CodePattern::new(test_node(relation, dim, number)))
 }
 
@@ -131,20 +130,18 @@ fn emit_test(
 #[cycle(emitting)]
 #[tactic(auto, unfolding(crate::specs::Expressions::patterns_code))]
 fn emit_patterns(
-    alloc: Global,
-    schema: &Schema,
-    sheet: &mut Sheet,
+    emitter: &mut Emitter,
     asked: &mut Asked,
     space: Option<SpaceId>,
     patterns: &[Pattern],
     room: usize,
 ) -> Result<Vec<CodePattern>, CompileFault>
-    ensures { Gives OutOfMemory (λ v. (trees_of v.items, asked.new, sheet.new)) result
-        (patterns_code schema.now room space (patterns_of patterns.now) asked.old sheet.old) }
+    ensures { Asks (λ v. trees_of v.items) asked.new emitter.old emitter.new result
+        (patterns_code emitter.old.schema.now room space (patterns_of patterns.now) asked.old emitter.old.sheet) }
 {
-    let mut made = Vec::new(alloc);
+    let mut made = Vec::new(emitter.sheet.alloc());
     for pattern in patterns {
-        made.push(emit_pattern(alloc, schema, sheet, asked, space, pattern, room)?)?;
+        made.push(emit_pattern(emitter, asked, space, pattern, room)?)?;
     }
     Ok(made)
 }
@@ -153,31 +150,29 @@ fn emit_patterns(
 #[cycle(emitting)]
 #[tactic(auto, unfolding(crate::specs::Expressions::pattern_code))]
 fn emit_pattern(
-    alloc: Global,
-    schema: &Schema,
-    sheet: &mut Sheet,
+    emitter: &mut Emitter,
     asked: &mut Asked,
     space: Option<SpaceId>,
     pattern: &Pattern,
     room: usize,
 ) -> Result<CodePattern, CompileFault>
-    ensures { Gives OutOfMemory (λ p. (p, asked.new, sheet.new)) result
-        (pattern_code schema.now room space pattern.now asked.old sheet.old) }
+    ensures { Asks (λ p. p) asked.new emitter.old emitter.new result
+        (pattern_code emitter.old.schema.now room space pattern.now asked.old emitter.old.sheet) }
 {
-    asked.count_node(sheet);
+    asked.count_node(&mut emitter.sheet);
     match pattern.node() {
         PatternNode::All => Ok(CodePattern::new(Node::All)),
         PatternNode::And(parts) => {
-            let parts = emit_patterns(alloc, schema, sheet, asked, space, parts.as_slice(), room)?;
+            let parts = emit_patterns(emitter, asked, space, parts.as_slice(), room)?;
             Ok(CodePattern::new(Node::And(parts)))
         }
         PatternNode::Or(parts) => {
-            let parts = emit_patterns(alloc, schema, sheet, asked, space, parts.as_slice(), room)?;
+            let parts = emit_patterns(emitter, asked, space, parts.as_slice(), room)?;
             Ok(CodePattern::new(Node::Or(parts)))
         }
         PatternNode::Not(part) => {
-            let part = emit_pattern(alloc, schema, sheet, asked, space, part, room)?;
-            Ok(CodePattern::new(Node::Not(Box::new(alloc, part)?)))
+            let part = emit_pattern(emitter, asked, space, part, room)?;
+            Ok(CodePattern::new(Node::Not(Box::new(emitter.sheet.alloc(), part)?)))
         }
         PatternNode::Test {
             dimension,
@@ -185,8 +180,8 @@ fn emit_pattern(
             operand,
         } => {
             let left = room.saturating_sub(asked.kinds.len());
-            let kind = emit_expr(alloc, schema, sheet, operand, left)?;
-            emit_test(schema, sheet, asked, space, dimension, *relation, kind)
+            let kind = emit_expr(emitter, operand, left)?;
+            emit_test(emitter, asked, space, dimension, *relation, kind)
         }
     }
 }
@@ -195,27 +190,25 @@ fn emit_pattern(
 #[cycle(emitting)]
 #[tactic(auto, unfolding(crate::specs::Expressions::sequence_code))]
 pub(crate) fn emit_sequence(
-    alloc: Global,
-    schema: &Schema,
-    sheet: &mut Sheet,
+    emitter: &mut Emitter,
     sequence: &Sequence,
     room: usize,
 ) -> Result<Option<ClassId>, CompileFault>
-    ensures { Gives OutOfMemory (λ class. (class, sheet.new)) result
-        (sequence_code schema.now room (sequence_of sequence.now) sheet.old) }
+    ensures { Makes emitter.old emitter.new result
+        (sequence_code emitter.old.schema.now room (sequence_of sequence.now)) }
 {
     match sequence {
-        Sequence::Links { unit, slot } => emit_links(schema, sheet, unit, slot, room),
+        Sequence::Links { unit, slot } => emit_links(emitter, unit, slot, room),
         Sequence::Find {
             class,
             space,
             pattern,
         } => {
-            let class = class_named(schema, sheet, class);
-            let space = space_named(schema, sheet, space);
-            let mut asked = Asked::new(alloc);
-            let pattern = emit_pattern(alloc, schema, sheet, &mut asked, space, pattern, room)?;
-            emit_query(sheet, class, space, asked, pattern, room)
+            let class = class_named(emitter.schema, &mut emitter.sheet, class);
+            let space = space_named(emitter.schema, &mut emitter.sheet, space);
+            let mut asked = Asked::new(emitter.sheet.alloc());
+            let pattern = emit_pattern(emitter, &mut asked, space, pattern, room)?;
+            emit_query(&mut emitter.sheet, class, space, asked, pattern, room)
         }
     }
 }
@@ -224,21 +217,24 @@ pub(crate) fn emit_sequence(
 #[cycle(emitting)]
 #[tactic(auto, unfolding(crate::specs::Expressions::step_code))]
 fn emit_step(
-    alloc: Global,
-    schema: &Schema,
-    sheet: &mut Sheet,
+    emitter: &mut Emitter,
     step: &Step,
     left: Option<Kind>,
     room: usize,
 ) -> Result<Option<Kind>, CompileFault>
-    ensures { Gives OutOfMemory (λ kind. (kind, sheet.new)) result (step_code schema.now room left step.now sheet.old) }
+    ensures { Makes emitter.old emitter.new result (step_code emitter.old.schema.now room left step.now) }
 {
     match step {
         Step::Apply { operator, operand } => {
-            let right = emit_expr(alloc, schema, sheet, operand, room.saturating_sub(1))?;
-            emit_operator(sheet, *operator, left, right)
+            let right = emit_expr(emitter, operand, room.saturating_sub(1))?;
+            emit_operator(&mut emitter.sheet, *operator, left, right)
         }
-        Step::Divide { division, divisor } => emit_division(sheet, *division, *divisor, left),
+        Step::Divide { division, divisor } => emit_division(
+            &mut emitter.sheet,
+            *division,
+            *divisor,
+            left,
+        ),
     }
 }
 
@@ -246,19 +242,17 @@ fn emit_step(
 #[cycle(emitting)]
 #[tactic(auto, unfolding(crate::specs::Expressions::steps_code))]
 fn emit_steps(
-    alloc: Global,
-    schema: &Schema,
-    sheet: &mut Sheet,
+    emitter: &mut Emitter,
     steps: &[Step],
     first: Option<Kind>,
     room: usize,
 ) -> Result<Option<Kind>, CompileFault>
-    ensures { Gives OutOfMemory (λ kind. (kind, sheet.new)) result
-        (steps_code schema.now room first (steps_of steps.now) sheet.old) }
+    ensures { Makes emitter.old emitter.new result
+        (steps_code emitter.old.schema.now room first (steps_of steps.now)) }
 {
     let mut kind = first;
     for step in steps {
-        kind = emit_step(alloc, schema, sheet, step, kind, room)?;
+        kind = emit_step(emitter, step, kind, room)?;
     }
     Ok(kind)
 }
@@ -267,36 +261,34 @@ fn emit_steps(
 #[cycle(emitting)]
 #[tactic(auto, unfolding(crate::specs::Expressions::expr_code))]
 pub(crate) fn emit_expr(
-    alloc: Global,
-    schema: &Schema,
-    sheet: &mut Sheet,
+    emitter: &mut Emitter,
     expr: &Expr,
     room: usize,
 ) -> Result<Option<Kind>, CompileFault>
-    ensures { Gives OutOfMemory (λ kind. (kind, sheet.new)) result (expr_code schema.now room expr.now sheet.old) }
+    ensures { Makes emitter.old emitter.new result (expr_code emitter.old.schema.now room expr.now) }
 {
     match expr.node() {
-        ExprNode::Atom(atom) => emit_atom(alloc, schema, sheet, atom, room),
+        ExprNode::Atom(atom) => emit_atom(emitter.schema, &mut emitter.sheet, atom, room),
         ExprNode::Unary { operation, operand } => {
-            let kind = emit_expr(alloc, schema, sheet, operand, room)?;
-            emit_unary(sheet, *operation, kind)
+            let kind = emit_expr(emitter, operand, room)?;
+            emit_unary(&mut emitter.sheet, *operation, kind)
         }
         ExprNode::Binary {
             operation,
             left,
             right,
         } => {
-            let first = emit_expr(alloc, schema, sheet, left, room)?;
-            let second = emit_expr(alloc, schema, sheet, right, room.saturating_sub(1))?;
-            emit_binary(sheet, *operation, first, second)
+            let first = emit_expr(emitter, left, room)?;
+            let second = emit_expr(emitter, right, room.saturating_sub(1))?;
+            emit_binary(&mut emitter.sheet, *operation, first, second)
         }
         ExprNode::Chain { first, steps } => {
-            let kind = emit_expr(alloc, schema, sheet, first, room)?;
-            emit_steps(alloc, schema, sheet, steps.as_slice(), kind, room)
+            let kind = emit_expr(emitter, first, room)?;
+            emit_steps(emitter, steps.as_slice(), kind, room)
         }
         ExprNode::Size(sequence) => {
-            let _class = emit_sequence(alloc, schema, sheet, sequence, room)?;
-            sheet.put(Op::Size)?;
+            let _class = emit_sequence(emitter, sequence, room)?;
+            emitter.sheet.put(Op::Size)?;
             Ok(Some(Kind::Int))
         }
     }

@@ -6,6 +6,7 @@ mod actions;
 mod asked;
 mod bindings;
 mod branches;
+mod emitter;
 mod exits;
 mod expressions;
 mod looping;

@@ -4,7 +4,9 @@ ghost use Rattle.std.specs.Prelude.{◌≡◌, IfOk};
 ghost use Rattle.bb_basis.specs.Results.{Gives};
 ghost use Rattle.bb_compile_scope.specs.declared.fault.CompileFault.TheVariants.{Memory as OutOfMemory};
 ghost use Rattle.bb_compile_emit.specs.Statements.{loop_noted, for_code, loop_begun, at_back, loop_ended};
+ghost use Rattle.bb_compile_emit.specs.proving.Laying.{Makes};
 
+use crate::emitter::Emitter;
 use crate::expressions::emit_sequence;
 use bb_basis::Text;
 use bb_code::STACK_LIMIT;
@@ -13,7 +15,7 @@ use bb_compile_scope::{
     Block, ClassId, CompileFault, Flaw, Kind, LocalId, Mark, Op, Place, Schema, wear_under,
 };
 use bb_lang::Sequence;
-use std::alloc::{AllocError, Global};
+use std::alloc::AllocError;
 
 /// A loop that has begun: its index, the place of its head, and the scope there.
 #[derive(Drop)]
@@ -35,47 +37,51 @@ fn check_nesting(sheet: &mut Sheet, loops: usize)
 /// The sequence of a `for`: its class, and the local that holds it.
 #[tactic(auto, unfolding(crate::specs::Statements::for_code))]
 pub(crate) fn emit_over(
-    alloc: Global,
-    schema: &Schema,
-    sheet: &mut Sheet,
+    emitter: &mut Emitter,
     sequence: &Sequence,
     place: Place,
     loops: usize,
 ) -> Result<(ClassId, LocalId), CompileFault>
-    ensures { Gives OutOfMemory (λ over. (over, sheet.new)) result
-        (for_code schema.now sequence.now place loops sheet.old) }
+    ensures { Makes emitter.old emitter.new result
+        (for_code emitter.old.schema.now sequence.now place loops) }
 {
-    let found = emit_sequence(alloc, schema, sheet, sequence, STACK_LIMIT)?;
-    check_nesting(sheet, loops);
-    sheet.settle(place)?;
+    let found = emit_sequence(emitter, sequence, STACK_LIMIT)?;
+    check_nesting(&mut emitter.sheet, loops);
+    emitter.sheet.settle(place)?;
     let flaw = Flaw::Unknown;
     let class = found.ok_or(CompileFault::At { flaw, place })?;
-    let local = sheet.take_local(Kind::Seq(class))?;
-    sheet.put(Op::Store(local))?;
+    let local = emitter.sheet.take_local(Kind::Seq(class))?;
+    emitter.sheet.put(Op::Store(local))?;
     Ok((class, local))
 }
 
 /// The head of a loop over the sequence in a local, and the name for its units.
 #[tactic(auto, unfolding(crate::specs::Statements::loop_begun))]
 pub(crate) fn begin_loop(
-    alloc: Global,
-    schema: &Schema,
-    sheet: &mut Sheet,
+    emitter: &mut Emitter,
     name: &Text,
     class: ClassId,
     local: LocalId,
     body: &Block,
 ) -> Result<Begun, CompileFault>
-    ensures { Gives OutOfMemory (λ begun. (begun, sheet.new)) result
-        (loop_begun schema.now name.now class local body.now sheet.old) }
+    ensures { Makes emitter.old emitter.new result
+        (loop_begun emitter.old.schema.now name.now class local body.now) }
 {
-    wear_under(alloc, schema, &mut sheet.scope, name, Some(class), body)?;
-    sheet.label()?;
-    let index = sheet.begin_loop()?;
-    let head = sheet.ops.here();
-    let start = sheet.scope.mark();
-    sheet.put(Op::Next(local, 0))?;
-    sheet.declare(alloc, name, Kind::Ref(class))?;
+    let alloc = emitter.sheet.alloc();
+    wear_under(
+        alloc,
+        emitter.schema,
+        &mut emitter.sheet.scope,
+        name,
+        Some(class),
+        body,
+    )?;
+    emitter.sheet.label()?;
+    let index = emitter.sheet.begin_loop()?;
+    let head = emitter.sheet.ops.here();
+    let start = emitter.sheet.scope.mark();
+    emitter.sheet.put(Op::Next(local, 0))?;
+    emitter.sheet.declare(name, Kind::Ref(class))?;
     Ok(Begun { index, head, start })
 }
 

@@ -5,6 +5,7 @@ ghost use Rattle.bb_basis.specs.Results.{Gives};
 ghost use Rattle.bb_compile_scope.specs.declared.fault.CompileFault.TheVariants.{Memory as OutOfMemory};
 ghost use Rattle.bb_compile_emit.specs.Parts.{has_no_end, done, part_code};
 
+use crate::emitter::Emitter;
 use crate::statements::emit_block;
 use bb_code::Code;
 use bb_compile_buffer::{Sheet, finish};
@@ -47,8 +48,13 @@ pub fn emit_part(
         let flaw = Flaw::NoEnd;
         return Err(CompileFault::At { flaw, place });
     }
-    let mut sheet = Sheet::new(alloc, part, place)?;
-    let _ended = emit_block(alloc, schema, part, &mut sheet, block, LOOP_NESTING)?;
-    put_done(part, &mut sheet)?;
-    finish(alloc, sheet)
+    let sheet = Sheet::new(alloc, part, place)?;
+    let mut emitter = Emitter {
+        schema,
+        part,
+        sheet,
+    };
+    let _ended = emit_block(&mut emitter, block, LOOP_NESTING)?;
+    put_done(part, &mut emitter.sheet)?;
+    finish(emitter.sheet)
 }

@@ -1,59 +1,45 @@
 //! Statements and blocks, laid out and judged. The layout of parts calls `emit_block`.
 
 ghost use Rattle.std.specs.Prelude.{◌≡◌};
-ghost use Rattle.bb_basis.specs.Results.{Gives};
-ghost use Rattle.bb_compile_scope.specs.declared.fault.CompileFault.TheVariants.{Memory as OutOfMemory};
 ghost use Rattle.bb_lang.specs.Blocks.{for_of};
 ghost use Rattle.bb_lang.specs.BlockView.{statement_of, otherwise_of};
 ghost use Rattle.bb_compile_emit.specs.Statements.{if_code, with_code, after_end, placed_code, statement_code, otherwise_code};
 ghost use Rattle.bb_compile_emit.specs.Statements.{block_code, branches_code, action_of};
+ghost use Rattle.bb_compile_emit.specs.proving.Laying.{Makes};
 
 use crate::actions::emit_action;
 use crate::bindings::emit_binding;
 use crate::branches::Branch;
+use crate::emitter::Emitter;
 use crate::exits::Exits;
 use crate::expressions::emit_expr;
 use crate::looping::{begin_loop, emit_over};
-use bb_basis::Text;
 use bb_code::STACK_LIMIT;
 use bb_compile_buffer::Sheet;
-use bb_compile_scope::{Block, CompileFault, Flaw, Kind, Mark, Op, Part, Place, Schema, ends};
-use bb_lang::{Action, Binding, Expr, Placed, Sequence, Statement};
-use std::alloc::Global;
+use bb_compile_scope::{Block, CompileFault, Flaw, Kind, Mark, Op, Place, ends};
+use bb_lang::{Action, Binding, Branches, Expr, ForLoop, Placed, Statement};
 
 // The test of an `if`.
 #[tactic(auto, unfolding(crate::specs::Statements::if_code))]
-fn emit_test(
-    alloc: Global,
-    schema: &Schema,
-    sheet: &mut Sheet,
-    test: &Expr,
-    place: Place,
-) -> Result<Exits, CompileFault>
-    ensures { Gives OutOfMemory (λ exits. (exits, sheet.new)) result (if_code schema.now test.now place sheet.old) }
+fn emit_test(emitter: &mut Emitter, test: &Expr, place: Place) -> Result<Exits, CompileFault>
+    ensures { Makes emitter.old emitter.new result (if_code emitter.old.schema.now test.now place) }
 {
-    let kind = emit_expr(alloc, schema, sheet, test, STACK_LIMIT)?;
-    let first = sheet.ops.here();
-    sheet.due(kind, Kind::Bool);
-    sheet.put(Op::Unless(0))?;
-    sheet.settle(place)?;
+    let kind = emit_expr(emitter, test, STACK_LIMIT)?;
+    let first = emitter.sheet.ops.here();
+    emitter.sheet.due(kind, Kind::Bool);
+    emitter.sheet.put(Op::Unless(0))?;
+    emitter.sheet.settle(place)?;
     Ok(Exits::one(first))
 }
 
 // The test of a `with`.
 #[tactic(auto, unfolding(crate::specs::Statements::with_code))]
-fn emit_bound(
-    alloc: Global,
-    schema: &Schema,
-    sheet: &mut Sheet,
-    binding: &Binding,
-    place: Place,
-) -> Result<Exits, CompileFault>
-    ensures { Gives OutOfMemory (λ exits. (exits, sheet.new)) result
-        (with_code schema.now binding.now place sheet.old) }
+fn emit_bound(emitter: &mut Emitter, binding: &Binding, place: Place) -> Result<Exits, CompileFault>
+    ensures { Makes emitter.old emitter.new result
+        (with_code emitter.old.schema.now binding.now place) }
 {
-    let found = emit_binding(alloc, schema, sheet, binding)?;
-    sheet.settle(place)?;
+    let found = emit_binding(emitter, binding)?;
+    emitter.sheet.settle(place)?;
     let flaw = Flaw::Unknown;
     found.ok_or(CompileFault::At { flaw, place })
 }
@@ -68,61 +54,47 @@ fn check_after_end(sheet: &mut Sheet, ended: bool)
 }
 
 // A statement without blocks. Returns whether it ends.
-fn emit_plain(
-    alloc: Global,
-    schema: &Schema,
-    part: Part,
-    sheet: &mut Sheet,
-    action: &Action,
-    place: Place,
-) -> Result<bool, CompileFault>
-    ensures { Gives OutOfMemory (λ ended. (ended, sheet.new)) result
-        (action_of schema.now part place action.now sheet.old) }
+fn emit_plain(emitter: &mut Emitter, action: &Action, place: Place) -> Result<bool, CompileFault>
+    ensures { Makes emitter.old emitter.new result
+        (action_of emitter.old.schema.now emitter.old.part place action.now) }
 {
-    emit_action(alloc, schema, part, sheet, action)?;
-    sheet.settle(place)?;
+    emit_action(emitter, action)?;
+    emitter.sheet.settle(place)?;
     Ok(ends(action))
 }
 
 // A statement of a block, where one before it may have ended. Returns whether one has ended now.
 #[cycle(statements)]
 fn emit_placed(
-    alloc: Global,
-    schema: &Schema,
-    part: Part,
-    sheet: &mut Sheet,
+    emitter: &mut Emitter,
     placed: &Placed,
     ended: bool,
     loops: usize,
 ) -> Result<bool, CompileFault>
-    ensures { Gives OutOfMemory (λ now. (now, sheet.new)) result
-        (placed_code schema.now part loops ended placed.now sheet.old) }
+    ensures { Makes emitter.old emitter.new result
+        (placed_code emitter.old.schema.now emitter.old.part loops ended placed.now) }
 {
-    check_after_end(sheet, ended);
-    let place = placed.place;
-    let now = emit_statement(alloc, schema, part, sheet, &placed.statement, place, loops)?;
+    check_after_end(&mut emitter.sheet, ended);
+    let now = emit_statement(emitter, &placed.statement, placed.place, loops)?;
     Ok(ended || now)
 }
 
 /// A block, in which `loops` loops may be nested. Returns whether it always ends.
 #[cycle(statements)]
 pub(crate) fn emit_block(
-    alloc: Global,
-    schema: &Schema,
-    part: Part,
-    sheet: &mut Sheet,
+    emitter: &mut Emitter,
     block: &Block,
     loops: usize,
 ) -> Result<bool, CompileFault>
-    ensures { Gives OutOfMemory (λ ended. (ended, sheet.new)) result
-        (block_code schema.now part loops block.now sheet.old) }
+    ensures { Makes emitter.old emitter.new result
+        (block_code emitter.old.schema.now emitter.old.part loops block.now) }
 {
-    let mark = sheet.scope.mark();
+    let mark = emitter.sheet.scope.mark();
     let mut ended = false;
     for placed in block.statements() {
-        ended = emit_placed(alloc, schema, part, sheet, placed, ended, loops)?;
+        ended = emit_placed(emitter, placed, ended, loops)?;
     }
-    sheet.scope.leave(&mark);
+    emitter.sheet.scope.leave(&mark);
     Ok(ended)
 }
 
@@ -130,78 +102,73 @@ pub(crate) fn emit_block(
 #[cycle(statements)]
 #[tactic(auto, unfolding(crate::specs::Statements::otherwise_code))]
 fn emit_otherwise(
-    alloc: Global,
-    schema: &Schema,
-    part: Part,
-    sheet: &mut Sheet,
+    emitter: &mut Emitter,
     branch: Branch,
     otherwise: &Option<Block>,
     loops: usize,
 ) -> Result<bool, CompileFault>
-    ensures { Gives OutOfMemory (λ ended. (ended, sheet.new)) result
-        (otherwise_code schema.now part loops branch (otherwise_of otherwise.now) sheet.old) }
+    ensures { Makes emitter.old emitter.new result
+        (otherwise_code emitter.old.schema.now emitter.old.part loops branch (otherwise_of otherwise.now)) }
 {
     let Some(block) = otherwise else {
-        branch.end_if(sheet)?;
+        branch.end_if(&mut emitter.sheet)?;
         return Ok(false);
     };
-    let kinds = sheet.scope.kinds.copied();
-    let jump = branch.begin_else(sheet)?;
-    let ended = emit_block(alloc, schema, part, sheet, block, loops)?;
-    branch.end_else(sheet, jump, kinds, ended)?;
+    let kinds = emitter.sheet.scope.kinds.copied();
+    let jump = branch.begin_else(&mut emitter.sheet)?;
+    let ended = emit_block(emitter, block, loops)?;
+    branch.end_else(&mut emitter.sheet, jump, kinds, ended)?;
     Ok(branch.ended && ended)
 }
 
 // The blocks of an `if` or a `with`, after its test. `before` is the scope to go back to.
 #[cycle(statements)]
 fn emit_branches(
-    alloc: Global,
-    schema: &Schema,
-    part: Part,
-    sheet: &mut Sheet,
+    emitter: &mut Emitter,
     before: Mark,
     exits: Exits,
-    then: &Block,
-    otherwise: &Option<Block>,
+    branches: &Branches,
     loops: usize,
 ) -> Result<bool, CompileFault>
-    ensures { Gives OutOfMemory (λ ended. (ended, sheet.new)) result
-        (branches_code schema.now part loops before exits then.now (otherwise_of otherwise.now) sheet.old) }
+    ensures { Makes emitter.old emitter.new result
+        (branches_code emitter.old.schema.now emitter.old.part loops before exits branches.now.then
+        (otherwise_of branches.now.otherwise)) }
 {
-    let ended = emit_block(alloc, schema, part, sheet, then, loops)?;
-    sheet.scope.leave(&before);
+    let ended = emit_block(emitter, &branches.then, loops)?;
+    emitter.sheet.scope.leave(&before);
     let branch = Branch {
         before,
         exits,
         ended,
     };
-    emit_otherwise(alloc, schema, part, sheet, branch, otherwise, loops)
+    emit_otherwise(emitter, branch, &branches.otherwise, loops)
 }
 
 // `for`
 #[cycle(statements)]
 #[tactic(auto, unfolding(crate::specs::Statements::statement_code))]
 fn emit_for(
-    alloc: Global,
-    schema: &Schema,
-    part: Part,
-    sheet: &mut Sheet,
-    name: &Text,
-    sequence: &Sequence,
-    body: &Block,
+    emitter: &mut Emitter,
+    for_loop: &ForLoop,
     place: Place,
     loops: usize,
 ) -> Result<bool, CompileFault>
-    ensures { Gives OutOfMemory (λ ended. (ended, sheet.new)) result
-        (statement_code schema.now part loops place (for_of name.now sequence.now body.now) sheet.old) }
+    ensures { Makes emitter.old emitter.new result
+        (statement_code emitter.old.schema.now emitter.old.part loops place
+        (for_of for_loop.now.name for_loop.now.sequence for_loop.now.body)) }
 {
-    let before = sheet.scope.mark();
-    let (class, local) = emit_over(alloc, schema, sheet, sequence, place, loops)?;
-    let begun = begin_loop(alloc, schema, sheet, name, class, local, body)?;
-    let ended = emit_block(alloc, schema, part, sheet, body, loops.saturating_sub(1))?;
-    begun.end(sheet, ended)?;
-    sheet.scope.leave(&before);
-    sheet.label()?;
+    let ForLoop {
+        name,
+        sequence,
+        body,
+    } = for_loop;
+    let before = emitter.sheet.scope.mark();
+    let (class, local) = emit_over(emitter, sequence, place, loops)?;
+    let begun = begin_loop(emitter, name, class, local, body)?;
+    let ended = emit_block(emitter, body, loops.saturating_sub(1))?;
+    begun.end(&mut emitter.sheet, ended)?;
+    emitter.sheet.scope.leave(&before);
+    emitter.sheet.label()?;
     Ok(false)
 }
 
@@ -209,47 +176,26 @@ fn emit_for(
 #[cycle(statements)]
 #[tactic(auto, unfolding(crate::specs::Statements::statement_code))]
 fn emit_statement(
-    alloc: Global,
-    schema: &Schema,
-    part: Part,
-    sheet: &mut Sheet,
+    emitter: &mut Emitter,
     statement: &Statement,
     place: Place,
     loops: usize,
 ) -> Result<bool, CompileFault>
-    ensures { Gives OutOfMemory (λ ended. (ended, sheet.new)) result
-        (statement_code schema.now part loops place (statement_of statement.now) sheet.old) }
+    ensures { Makes emitter.old emitter.new result
+        (statement_code emitter.old.schema.now emitter.old.part loops place (statement_of statement.now)) }
 {
     match statement {
-        Statement::Action(action) => emit_plain(alloc, schema, part, sheet, action, place),
-        Statement::If {
-            test,
-            then,
-            otherwise,
-        } => {
-            let exits = emit_test(alloc, schema, sheet, test, place)?;
-            let before = sheet.scope.mark();
-            emit_branches(
-                alloc, schema, part, sheet, before, exits, then, otherwise, loops,
-            )
+        Statement::Action(action) => emit_plain(emitter, action, place),
+        Statement::If { test, branches } => {
+            let exits = emit_test(emitter, test, place)?;
+            let before = emitter.sheet.scope.mark();
+            emit_branches(emitter, before, exits, branches, loops)
         }
-        Statement::With {
-            binding,
-            then,
-            otherwise,
-        } => {
-            let before = sheet.scope.mark();
-            let exits = emit_bound(alloc, schema, sheet, binding, place)?;
-            emit_branches(
-                alloc, schema, part, sheet, before, exits, then, otherwise, loops,
-            )
+        Statement::With { binding, branches } => {
+            let before = emitter.sheet.scope.mark();
+            let exits = emit_bound(emitter, binding, place)?;
+            emit_branches(emitter, before, exits, branches, loops)
         }
-        Statement::For {
-            name,
-            sequence,
-            body,
-        } => emit_for(
-            alloc, schema, part, sheet, name, sequence, body, place, loops,
-        ),
+        Statement::For(for_loop) => emit_for(emitter, for_loop, place, loops),
     }
 }

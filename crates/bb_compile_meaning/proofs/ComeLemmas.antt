@@ -39,14 +39,6 @@ leaves_on P Q r f (halts.Full, b) h = ap (λ r. r >>= f) h
 leaves_on P Q r f (halts.Stuck reason, b) h = tt
 leaves_on P Q r f (halts.Memory, b) h = h
 
--- a meaning may be replaced by an equal one, and what is left by a fact that follows from it
-pub leaves_as : {X : Type 0} (P Q : X → State → Type 0) (r s : Meaning X) (came : Came) → r ≡ s → ((x : X) (next : State) → P x next → Q x next) → Leaves P r came → Leaves Q s came
-leaves_as P Q r s (Ok next) same more h = (h.0, sym same ∙ h.1, more h.0 next h.2)
-leaves_as P Q r s (Err (halts.Answered a, b)) same more h = sym same ∙ h
-leaves_as P Q r s (Err (halts.Full, b)) same more h = sym same ∙ h
-leaves_as P Q r s (Err (halts.Stuck reason, b)) same more h = tt
-leaves_as P Q r s (Err (halts.Memory, b)) same more h = h
-
 module _ (code : Code) (start : State) where
   -- what came of the first n ops, however many are still to come
   abbrev pub Comes : ℕ → Came → Type 0

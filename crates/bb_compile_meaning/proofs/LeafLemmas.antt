@@ -36,10 +36,10 @@ use Rattle.bb_machine_step.specs.Stuck.TheVariants as reasons
 use Rattle.bb_machine_step.specs.Value.{stuck, unit_of, int_of, bool_of, slot_value_of, said_of}
 use Rattle.bb_machine_step.specs.Values.{Value}
 use Rattle.bb_machine_step.specs.Values.TheVariants.{Int, Text, Bool as Truth, Label, Interval, Unit as One, Seq}
-use Rattle.bb_compile_meaning.specs.Meaning.{Meaning, Name, meaningless, nothing}
+use Rattle.bb_compile_meaning.specs.Meaning.{Meaning, Name, meaningless}
 use Rattle.bb_compile_meaning.specs.Meaning as ends
 use Rattle.bb_compile_meaning.specs.Values.{number, truth}
-use Rattle.bb_compile_meaning.specs.Units.{live_value, slot_of}
+use Rattle.bb_compile_meaning.specs.Units.{slot_of}
 use Rattle.bb_compile_meaning.specs.Statements as says
 use Rattle.bb_compile_meaning.specs.Statements.{Scene, in_world, set_to, relinked, moved, deleted}
 use Rattle.bb_compile_meaning.proofs.ComeLemmas.{Leaves, done_on}
@@ -47,10 +47,6 @@ use Rattle.bb_compile_meaning.proofs.NameLemmas.{AreHeld}
 use Rattle.bb_compile_meaning.proofs.AtomLemmas.{Good, live_cases}
 use Rattle.bb_compile_meaning.proofs.ActLemmas.{IsScene, OneLeaf, TwoLeaf}
 use Rattle.bb_compile_meaning.proofs.SlotLemmas.{slot_same, has_among, link_among}
-
--- a live unit is what its value says
-live_is : (b : Board) (k : ℕ) → units.is_live b.world.units k ≡ true → live_value b (One k) ≡ Ok k
-live_is b k live = rw live refl
 
 module _ (code : Code) (start : State) (ns : List NamedLocal) where
   -- the blackboard changes, and the stack is empty

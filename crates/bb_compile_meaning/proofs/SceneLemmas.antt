@@ -1,9 +1,10 @@
 -- Names and locals, where one is declared or gets another value.
-use Rattle.std.proofs.Common.{◌≡◌, ℕ, zero, suc, ◌<◌, Bool, true, false, cond, List, [], ◌∷◌, ◌++◌, length, map, Option, Some, refl, subst, sym, ap, ◌∙◌, arith}
+use Rattle.std.proofs.Common.{◌≡◌, ℕ, zero, suc, ◌<◌, Bool, true, false, cond, List, [], ◌∷◌, ◌++◌, length, map, Option, Some, refl, subst, sym, ap, ◌∙◌}
 use Rattle.std.specs.Prelude.{slice_get, set, find, position, option_map, unwrap_or}
 use Rattle.std.specs.Str.{bytes_eq}
 use Rattle.std.proofs.lemmas.List.Quantifiers.{position-Some}
 use Rattle.std.proofs.lemmas.Option.{unwrap_or-slice_get}
+use Rattle.bb_basis.proofs.ListLemmas.{slice_get-set}
 use Rattle.bb_verify_frame.specs.Kind.{Kind}
 use Rattle.bb_verify_frame.specs.Kind.TheVariants as kinds
 use Rattle.bb_verify_frame.specs.Kinds.{struck, related}
@@ -15,11 +16,6 @@ use Rattle.bb_compile_meaning.specs.Meaning.{Name, with_name, assigned}
 use Rattle.bb_compile_meaning.proofs.NameLemmas.{AreHeld, AreTaken, local_among}
 
 -- ---- lists in which one element is set
-
-pub set_there : {A : Type 0} (xs : List A) (i : ℕ) (x : A) → i < length xs → slice_get (set xs i x) i ≡ Some x
-set_there [] i x lt = absurd (omega arith)
-set_there (y ∷ ys) zero x lt = refl
-set_there (y ∷ ys) (suc i) x lt = set_there ys i x (omega arith)
 
 pub set_apart : {A : Type 0} (xs : List A) (i j : ℕ) (x : A) → (i ≡ j → ⊥) → slice_get (set xs i x) j ≡ slice_get xs j
 set_apart [] i j x apart = refl
@@ -48,7 +44,7 @@ known_set (l ∷ ls) (suc i) zero k known was = was
 known_set (l ∷ ls) (suc i) (suc j) k known was = known_set ls i j k known was
 
 pub known_new : (ks : List Kind) (i : ℕ) (k : Kind) → is_free k ≡ false → i < length ks → is_free (kind_at (set ks i k) i) ≡ false
-known_new ks i k known lt = ap (λ o. is_free (unwrap_or o kinds.Any)) (set_there ks i k lt) ∙ known
+known_new ks i k known lt = ap (λ o. is_free (unwrap_or o kinds.Any)) (slice_get-set ks i k lt) ∙ known
 
 pub all_known : (ns : List NamedLocal) (ks : List Kind) (i : ℕ) (k : Kind) → is_free k ≡ false → AreTaken ks ns → AreTaken (set ks i k) ns
 all_known [] ks i k known taken = tt
@@ -120,7 +116,7 @@ held_more locals (k ∷ ks) (j ∷ js) n m held name value = (held.0, held.1, he
 pub held_declared : (locals : List (Option Value)) (ns : List NamedLocal) (ms : List Name) (name : List ℕ) (local : ℕ) (v : Value) → AreOthers local ns → AreHeld locals ns ms → local < length locals
     → AreHeld (set locals local (Some v)) (ns ++ record { name = name; local = local } ∷ []) (with_name name v ms)
 held_declared locals ns ms name local v others held lt =
-    held_more (set locals local (Some v)) ns ms (record { name = name; local = local }) (record { name = name; value = v }) (held_apart locals local (Some v) ns ms others held) refl (set_there locals local (Some v) lt)
+    held_more (set locals local (Some v)) ns ms (record { name = name; local = local }) (record { name = name; value = v }) (held_apart locals local (Some v) ns ms others held) refl (slice_get-set locals local (Some v) lt)
 
 -- the local of a name is another than those of other names
 found_other : (i : ℕ) (name : List ℕ) (local : ℕ) (ns : List NamedLocal) → AreOthers i ns → local_among name ns ≡ Some local → local ≡ i → ⊥
@@ -143,6 +139,6 @@ held_assigned locals (n ∷ ns) (m ∷ ms) name local v apart held h lt =
     by_name : (local_among name ns ≡ Some local → AreHeld (set locals local (Some v)) ns (assigned name v ms)) → (b : Bool) → option_map (λ n. n.local) (cond b (Some n) (find (λ n. bytes_eq n.name name) ns)) ≡ Some local → AreHeld (set locals local (Some v)) (n ∷ ns) (cond b (record { name = m.name; value = v } ∷ ms) (m ∷ assigned name v ms))
     by_name more true h =
         let same : n.local ≡ local = cc in
-        (held.0, ap (slice_get (set locals local (Some v))) same ∙ set_there locals local (Some v) lt, subst (λ l. AreHeld (set locals l (Some v)) ns ms) same (held_apart locals n.local (Some v) ns ms apart.0 held.2))
+        (held.0, ap (slice_get (set locals local (Some v))) same ∙ slice_get-set locals local (Some v) lt, subst (λ l. AreHeld (set locals l (Some v)) ns ms) same (held_apart locals n.local (Some v) ns ms apart.0 held.2))
     by_name more false h =
         (held.0, set_apart locals local n.local (Some v) (λ e. found_other n.local name local ns apart.0 h e) ∙ held.1, more h)

@@ -7,10 +7,10 @@ use Rattle.bb_lang.specs.ActText.TheVariants as acts
 use Rattle.bb_lang.specs.PartText.{PartText}
 use Rattle.bb_lang.specs.ReactionText.{ReactionText}
 use Rattle.bb_lang.specs.SourceText.{SourceText}
-use Rattle.bb_bundle.specs.declared.source_code.ActDraft.{ActDraft}
-use Rattle.bb_bundle.specs.declared.source_code.ActDraft.TheVariants as drafts
-use Rattle.bb_bundle.specs.declared.source_code.ReactionDraft.{ReactionDraft}
-use Rattle.bb_bundle.specs.declared.source_code.SourceDraft.{SourceDraft}
+use Rattle.bb_bundle.specs.declared.draft.ActDraft.{ActDraft}
+use Rattle.bb_bundle.specs.declared.draft.ActDraft.TheVariants as drafts
+use Rattle.bb_bundle.specs.declared.draft.ReactionDraft.{ReactionDraft}
+use Rattle.bb_bundle.specs.declared.draft.SourceDraft.{SourceDraft}
 use Rattle.bb_verify.specs.FrameType.{Frame}
 use Rattle.bb_verify.specs.PartType.{Part}
 use Rattle.bb_verify.specs.PartType.TheVariants.{Require, Obviate, Retrigger, Revalidate, Do}
@@ -54,9 +54,9 @@ IsAcceptedAct s class (drafts.Do code) = IsAccepted s (Do class) code
 -- the codes of a source are accepted for their parts, for units of its class
 pub record AreAccepted (s : Schema) (draft : SourceDraft Code) : Type 0 where
   pub class : ℕ
-  pub named : class_named s draft.class ≡ Some class
-  pub require : IfSome draft.require (IsAccepted s (Require class))
-  pub obviate : IfSome draft.obviate (IsAcceptedFor s (Obviate class))
-  pub retrigger : IfSome draft.retrigger (IsAcceptedFor s (Retrigger class))
-  pub revalidate : IfSome draft.revalidate (IsAccepted s (Revalidate class))
+  pub named : class_named s draft.header.class ≡ Some class
+  pub require : IfSome draft.parts.require (IsAccepted s (Require class))
+  pub obviate : IfSome draft.parts.obviate (IsAcceptedFor s (Obviate class))
+  pub retrigger : IfSome draft.parts.retrigger (IsAcceptedFor s (Retrigger class))
+  pub revalidate : IfSome draft.parts.revalidate (IsAccepted s (Revalidate class))
   pub act : IsAcceptedAct s class draft.act

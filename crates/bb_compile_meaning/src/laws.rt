@@ -5,7 +5,7 @@ ghost use Rattle.std.specs.Prelude.{◌≡◌, ◌≤◌, ℕ, true, length, Ok}
 ghost use Rattle.bb_code.specs.Code.{Code as AnyCode};
 ghost use Rattle.bb_lang.specs.Blocks.{BlockTree};
 ghost use Rattle.bb_lang.specs.SourceText.{SourceText};
-ghost use Rattle.bb_bundle.specs.declared.source_code.SourceDraft.{SourceDraft};
+ghost use Rattle.bb_bundle.specs.declared.draft.SourceDraft.{SourceDraft};
 ghost use Rattle.bb_compile.specs.Compiled.{compiled};
 ghost use Rattle.bb_compile_scope.specs.Place.{Place};
 ghost use Rattle.bb_compile_accepted.specs.Parts.{part_code};
@@ -30,7 +30,7 @@ pub fn compiled_source_is_accepted(schema: &Schema)
     ensures accepted { (text : SourceText) (draft : SourceDraft AnyCode) →
         is_plain_source text ≡ true → compiled schema.now text ≡ Ok draft → AreAccepted schema.now draft }
 {
-    // What holds of any schema.
+    // For the proof: what holds of every schema.
     schema.fits();
 }
 
@@ -48,7 +48,7 @@ pub fn compiled_code_means_its_text(code: &Code, board: &Board)
         EntryFits board.now.schema board.now.world part entry → length code.now.ops ≤ limit →
         IsTold (meaning part block entry board.now) (activation limit code.now entry board.now) }
 {
-    // What holds of any code, schema and blackboard.
+    // For the proof: what holds of every code, schema and blackboard.
     let _ = code.ops();
     board.schema().fits();
     board.fits();

@@ -38,17 +38,13 @@ fn always_ends(statement: &Statement) -> bool
 {
     match statement {
         Statement::Action(action) => ends(action),
-        Statement::If {
-            then,
-            otherwise,
-            ..
-        } => block_ends(then) && otherwise_ends(otherwise),
-        Statement::With {
-            then,
-            otherwise,
-            ..
-        } => block_ends(then) && otherwise_ends(otherwise),
-        Statement::For { .. } => false,
+        Statement::If { branches, .. } => {
+            block_ends(&branches.then) && otherwise_ends(&branches.otherwise)
+        }
+        Statement::With { branches, .. } => {
+            block_ends(&branches.then) && otherwise_ends(&branches.otherwise)
+        }
+        Statement::For(_) => false,
     }
 }
 

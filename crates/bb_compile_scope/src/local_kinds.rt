@@ -7,7 +7,7 @@ ghost use Rattle.bb_compile_scope.specs.LocalKinds.{is_free, all_free, kind_at, 
 
 use crate::kinds::is_live;
 use bb_code::LOCAL_LIMIT;
-use bb_verify_frame::{ClassId, Kind, LocalId, Schema};
+use bb_verify_frame::{ClassId, Kind, LocalId, Schema, mark_stale};
 use std::marker::Model;
 
 /// What each of the locals that a code may have holds: `Any` where it is free. Contracts see it as a list.
@@ -27,6 +27,7 @@ impl Model for LocalKinds {
     ghost invariant = { λ l. length l.kinds ≡ 32 };
 }
 
+// Whether a local of this kind is free.
 fn is_free(kind: Kind) -> bool
     ensures { result ≡ is_free kind }
 {
@@ -50,24 +51,6 @@ fn met_kind(other: Kind, one: Kind) -> Kind
     if is_live(one) { other } else { one }
 }
 
-#[tactic(auto, unfolding(bb_verify_frame::specs::Kinds::struck))]
-fn struck(schema: &Schema, deleted: ClassId, kind: Kind) -> Kind
-    ensures { result ≡ struck schema.now deleted kind }
-{
-    match kind {
-        Kind::Ref(class) => {
-            if schema.descends(class, deleted) {
-                return Kind::Old(class);
-            }
-            if schema.descends(deleted, class) {
-                return Kind::Old(class);
-            }
-            kind
-        }
-        _ => kind,
-    }
-}
-
 // The index of the first free local.
 fn first_free(kinds: &[Kind]) -> Option<usize>
     ensures value { result ≡ position is_free kinds.now }
@@ -76,14 +59,7 @@ fn first_free(kinds: &[Kind]) -> Option<usize>
     kinds.iter().position(|kind| is_free(*kind))
 }
 
-fn strike_each(schema: &Schema, deleted: ClassId, kinds: &mut [Kind])
-    ensures { kinds.new ≡ map (struck schema.now deleted) kinds.old }
-{
-    for i in 0..kinds.len() {
-        kinds[i] = struck(schema, deleted, kinds[i]);
-    }
-}
-
+// Frees the locals that were free before.
 fn leave_each(before: &[Kind], kinds: &mut [Kind])
     requires { length before.now ≡ length kinds.old }
     ensures { kinds.new ≡ kinds_left before.now kinds.old }
@@ -93,6 +69,7 @@ fn leave_each(before: &[Kind], kinds: &mut [Kind])
     }
 }
 
+// Keeps what is known after another branch too.
 fn meet_each(other: &[Kind], kinds: &mut [Kind])
     requires { length other.now ≡ length kinds.old }
     ensures { kinds.new ≡ kinds_met other.now kinds.old }
@@ -158,7 +135,7 @@ impl LocalKinds {
     pub fn strike(&mut self, schema: &Schema, deleted: ClassId)
         ensures { self.new ≡ map (struck schema.now deleted) self.old }
     {
-        strike_each(schema, deleted, &mut self.kinds);
+        mark_stale(schema, deleted, &mut self.kinds);
     }
 
     /// Frees the locals that were free before.

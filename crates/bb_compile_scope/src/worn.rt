@@ -110,6 +110,7 @@ fn wear_name(scope: &mut Scope, name: &Text)
     }
 }
 
+// Goes over a statement without blocks.
 #[tactic(auto, unfolding(crate::specs::Worn::worn_action))]
 fn wear_action(
     alloc: Global,
@@ -142,6 +143,7 @@ fn wear_action(
     }
 }
 
+// Goes over the block of an `else`, where there is one.
 #[cycle(wear)]
 #[tactic(auto, unfolding(crate::specs::Worn::worn_otherwise))]
 fn wear_otherwise(
@@ -178,6 +180,7 @@ pub fn wear_under(
     Ok(())
 }
 
+// Goes over a statement.
 #[cycle(wear)]
 #[tactic(auto, unfolding(crate::specs::Worn::worn_statement))]
 fn wear_statement(
@@ -190,30 +193,25 @@ fn wear_statement(
 {
     match statement {
         Statement::Action(action) => wear_action(alloc, schema, scope, action),
-        Statement::If {
-            then,
-            otherwise,
-            ..
-        } => {
-            wear(alloc, schema, scope, then)?;
-            wear_otherwise(alloc, schema, scope, otherwise)
+        Statement::If { branches, .. } => {
+            wear(alloc, schema, scope, &branches.then)?;
+            wear_otherwise(alloc, schema, scope, &branches.otherwise)
         }
-        Statement::With {
-            binding,
-            then,
-            otherwise,
-        } => {
+        Statement::With { binding, branches } => {
             let class = bound_class(schema, scope, binding);
-            wear_under(alloc, schema, scope, bound_name(binding), class, then)?;
-            wear_otherwise(alloc, schema, scope, otherwise)
+            wear_under(
+                alloc,
+                schema,
+                scope,
+                bound_name(binding),
+                class,
+                &branches.then,
+            )?;
+            wear_otherwise(alloc, schema, scope, &branches.otherwise)
         }
-        Statement::For {
-            name,
-            sequence,
-            body,
-        } => {
-            let class = sequence_class(schema, scope, sequence);
-            wear_under(alloc, schema, scope, name, class, body)
+        Statement::For(for_loop) => {
+            let class = sequence_class(schema, scope, &for_loop.sequence);
+            wear_under(alloc, schema, scope, &for_loop.name, class, &for_loop.body)
         }
     }
 }

@@ -39,12 +39,12 @@ fn ops_and_loops(rt: HostRuntime) -> Result<(), Fail> {
 #[test]
 fn texts_with_their_indices(rt: HostRuntime) -> Result<(), Fail> {
     let mut texts = Texts::new(rt.alloc());
-    texts.push(rt.alloc(), "a")?;
+    texts.push("a")?;
     assert_eq!(rt; texts.index_of("a"), Some(0));
     let mut sheet = empty(rt.alloc())?;
-    assert_eq!(rt; sheet.text(rt.alloc(), "a")?, 0);
-    assert_eq!(rt; sheet.text(rt.alloc(), "b")?, 1);
-    assert_eq!(rt; sheet.text(rt.alloc(), "a")?, 0);
+    assert_eq!(rt; sheet.text("a")?, 0);
+    assert_eq!(rt; sheet.text("b")?, 1);
+    assert_eq!(rt; sheet.text("a")?, 0);
     Ok(())
 }
 
@@ -56,10 +56,10 @@ fn values(rt: HostRuntime) -> Result<(), Fail> {
     let mut sheet = empty(rt.alloc())?;
     let it = emit_variable(&mut sheet, &Variable::It, ROOM)?;
     assert_eq!(rt; it, Some(Kind::Old(1)));
-    sheet.declare(rt.alloc(), &name, Kind::Ref(1))?;
+    sheet.declare(&name, Kind::Ref(1))?;
     let class = emit_unit(&mut sheet, &Variable::Named(name), ROOM)?;
     assert_eq!(rt; class, Some(1));
-    let seven = emit_atom(rt.alloc(), &schema, &mut sheet, &Atom::Int(7), ROOM)?;
+    let seven = emit_atom(&schema, &mut sheet, &Atom::Int(7), ROOM)?;
     assert_eq!(rt; seven, Some(Kind::Int));
     let ops = [Op::Load(0), Op::Store(1), Op::Load(1), Op::PushInt(7)];
     assert_eq!(rt; sheet.ops.into_vec().as_slice(), ops.as_slice());
@@ -123,7 +123,7 @@ fn laid_out(alloc: Global) -> Result<Code, Fail> {
     sheet.put_value(Op::PushBool(true), ROOM)?;
     sheet.label()?;
     sheet.put(Op::Done)?;
-    Ok(finish(alloc, sheet)?)
+    Ok(finish(sheet)?)
 }
 
 fn has_its_tables(code: &Code) -> bool {

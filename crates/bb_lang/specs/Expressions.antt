@@ -214,20 +214,19 @@ grouped inside s = do
   v ← skip (codes ")") u
   Ok (e, v)
 
--- expr "," expr, and a closing bracket
-unfoldable pub pair_of : Binary → (close : List ℕ) → Reader ExprTree → Reader ExprTree
-pair_of operation close expr s = do
-  (l, t) ← expr s
-  u ← skip (codes ",") t
-  (r, v) ← expr u
-  w ← skip close v
-  Ok (binary operation l r, w)
+-- an opening bracket, expr "," expr, and a closing bracket
+unfoldable pub pair_of : Binary → (opening closing : List ℕ) → Option Inner → Reader ExprTree
+pair_of operation opening closing inside s = do
+  (inner, t) ← opened opening inside s
+  (l, u) ← inner.expr t
+  v ← skip (codes ",") u
+  (r, w) ← inner.expr v
+  x ← skip closing w
+  Ok (binary operation l r, x)
 
 -- "[" expr "," expr "]"
 unfoldable pub interval : Option Inner → Reader ExprTree
-interval inside s = do
-  (inner, t) ← opened (codes "[") inside s
-  pair_of binaries.Interval (codes "]") inner.expr t
+interval inside s = pair_of binaries.Interval (codes "[") (codes "]") inside s
 
 -- "size" "(" seq ")"
 unfoldable pub sized : Option Inner → Reader ExprTree
@@ -246,8 +245,7 @@ applied (Some operation) two inside s = do
   Ok (unary operation e, u)
 applied None (Some operation) inside s = do
   t ← next s
-  (inner, u) ← opened (codes "(") inside t
-  pair_of operation (codes ")") inner.expr u
+  pair_of operation (codes "(") (codes ")") inside t
 applied None None inside s = do
   (a, t) ← atom_of s
   Ok (atom a, t)

@@ -21,6 +21,8 @@ use Rattle.bb_lang_token.specs.State.{State, Reader, before, next, at, skip}
 use Rattle.bb_lang_token.specs.Tokens.{is_end}
 use Rattle.bb_lang_token.specs.Words.{name_at, name, member}
 use Rattle.bb_lang_token.specs.Literals.{int}
+use Rattle.bb_lang.specs.declared.clauses.ClassSlot.{ClassSlot}
+use Rattle.bb_lang.specs.declared.clauses.ClassSpace.{ClassSpace}
 use Rattle.bb_lang.specs.Repeats.{as_many}
 use Rattle.bb_lang.specs.Statements.{block}
 
@@ -34,40 +36,40 @@ unit_event kind s = do
   Ok (Change kind class, u)
 
 -- NAME "." NAME, after a word
-unfoldable pub slot_event : Reader (List ℕ × List ℕ)
+unfoldable pub slot_event : Reader ClassSlot
 slot_event s = do
   t ← next s
   (class, u) ← name t
   v ← skip (codes ".") u
   (slot, w) ← member v
-  Ok ((class, slot), w)
+  Ok (record { class = class; slot = slot }, w)
 
 -- NAME NAME, after a word
-unfoldable pub space_event : Reader (List ℕ × List ℕ)
+unfoldable pub space_event : Reader ClassSpace
 space_event s = do
   t ← next s
   (class, u) ← name t
   (space, v) ← name u
-  Ok ((class, space), v)
+  Ok (record { class = class; space = space }, v)
 
 -- ( "update" | "link" | "unlink" ) NAME "." NAME | ( "enter" | "leave" ) NAME NAME
 unfoldable pub change_event : Reader ClauseText
 change_event s =
     if at (codes "update") s then (do
       (of, t) ← slot_event s
-      Ok (Change (Update of.1) of.0, t))
+      Ok (Change (Update of.slot) of.class, t))
     else if at (codes "link") s then (do
       (of, t) ← slot_event s
-      Ok (Change (Link of.1) of.0, t))
+      Ok (Change (Link of.slot) of.class, t))
     else if at (codes "unlink") s then (do
       (of, t) ← slot_event s
-      Ok (Change (Unlink of.1) of.0, t))
+      Ok (Change (Unlink of.slot) of.class, t))
     else if at (codes "enter") s then (do
       (of, t) ← space_event s
-      Ok (Change (Enter of.1) of.0, t))
+      Ok (Change (Enter of.space) of.class, t))
     else if at (codes "leave") s then (do
       (of, t) ← space_event s
-      Ok (Change (Leave of.1) of.0, t))
+      Ok (Change (Leave of.space) of.class, t))
     else Err (Token s.place)
 
 -- event

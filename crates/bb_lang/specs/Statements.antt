@@ -14,25 +14,27 @@ use Rattle.bb_lang_token.specs.State.{State, Reader, next, at, skip}
 use Rattle.bb_lang_token.specs.Words.{name, member, declared}
 use Rattle.bb_lang_tree.specs.Blocks.{BlockTree}
 use Rattle.bb_lang_tree.specs.BlockView.{block_of}
+use Rattle.bb_lang.specs.declared.actions.UnitSlot.{UnitSlot}
+use Rattle.bb_lang.specs.declared.actions.UnitSpace.{UnitSpace}
 use Rattle.bb_lang.specs.Repeats.{as_many, items}
 use Rattle.bb_lang.specs.Expressions.{variable, expr, pattern, sequence}
 
 -- ---- statements without blocks, up to their ";"
 
 -- var "." NAME
-unfoldable pub slot_of : Reader (Variable × List ℕ)
+unfoldable pub slot_of : Reader UnitSlot
 slot_of s = do
   (unit, t) ← variable s
   u ← skip (codes ".") t
   (slot, v) ← member u
-  Ok ((unit, slot), v)
+  Ok (record { unit = unit; slot = slot }, v)
 
 -- var NAME
-unfoldable pub space_of : Reader (Variable × List ℕ)
+unfoldable pub space_of : Reader UnitSpace
 space_of s = do
   (unit, t) ← variable s
   (space, u) ← name t
-  Ok ((unit, space), u)
+  Ok (record { unit = unit; space = space }, u)
 
 -- "let" NAME "=" expr
 unfoldable pub let_of : (nesting : ℕ) → Reader Action
@@ -67,7 +69,7 @@ set_of nesting s = do
   (of, u) ← slot_of t
   v ← skip (codes "=") u
   (e, w) ← expr nesting v
-  Ok (actions.Set of.0 of.1 e, w)
+  Ok (actions.Set of.unit of.slot e, w)
 
 -- "link" var "." NAME var
 unfoldable pub link_of : Reader Action
@@ -75,7 +77,7 @@ link_of s = do
   t ← next s
   (of, u) ← slot_of t
   (other, v) ← variable u
-  Ok (actions.Link of.0 of.1 other, v)
+  Ok (actions.Link of.unit of.slot other, v)
 
 -- "unlink" var "." NAME var
 unfoldable pub unlink_of : Reader Action
@@ -83,21 +85,21 @@ unlink_of s = do
   t ← next s
   (of, u) ← slot_of t
   (other, v) ← variable u
-  Ok (actions.Unlink of.0 of.1 other, v)
+  Ok (actions.Unlink of.unit of.slot other, v)
 
 -- "enter" var NAME
 unfoldable pub enter_of : Reader Action
 enter_of s = do
   t ← next s
   (of, u) ← space_of t
-  Ok (actions.Enter of.0 of.1, u)
+  Ok (actions.Enter of.unit of.space, u)
 
 -- "leave" var NAME
 unfoldable pub leave_of : Reader Action
 leave_of s = do
   t ← next s
   (of, u) ← space_of t
-  Ok (actions.Leave of.0 of.1, u)
+  Ok (actions.Leave of.unit of.space, u)
 
 -- "delete" var
 unfoldable pub delete_of : Reader Action
@@ -184,7 +186,7 @@ if_in nesting block s = do
   (test, u) ← expr nesting t
   (b, v) ← block u
   (other, w) ← otherwise_in block v
-  Ok (statements.If test b other, w)
+  Ok (statements.If test (record { then = b; otherwise = other }), w)
 
 -- "as" NAME | "." NAME
 unfoldable pub bound : (name : List ℕ) → Variable → Reader Binding
@@ -214,7 +216,7 @@ with_in block s = do
   (found, u) ← binding t
   (b, v) ← block u
   (other, w) ← otherwise_in block (leave_scope s v)
-  Ok (statements.With found b other, w)
+  Ok (statements.With found (record { then = b; otherwise = other }), w)
 
 -- "for" NAME "in" seq block
 unfoldable pub for_in : (nesting : ℕ) → Reader BlockTree → Reader Statement
@@ -224,7 +226,7 @@ for_in nesting block s = do
   v ← skip (codes "in") u
   (q, w) ← sequence (pattern nesting) v
   (b, y) ← block w
-  Ok (statements.For x q b, leave_scope s y)
+  Ok (statements.For (record { name = x; sequence = q; body = b }), leave_scope s y)
 
 -- stmt
 unfoldable pub statement_in : (nesting : ℕ) → Reader BlockTree → Reader Statement

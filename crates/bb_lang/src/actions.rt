@@ -1,6 +1,6 @@
 //! Statements without blocks, as they are read: a function for each. The reader of statements calls `read_action`.
 
-ghost use Rattle.std.specs.Prelude.{◌≡◌, ◌<◌, codes};
+ghost use Rattle.std.specs.Prelude.{◌≡◌, ◌<◌, codes, OnOk};
 ghost use Rattle.bb_basis.specs.Results.{Gives};
 ghost use Rattle.bb_lang_token.specs.declared.fault.LangFault.TheVariants.{Memory as OutOfMemory};
 ghost use Rattle.bb_lang.specs.Expressions.{expr};
@@ -13,130 +13,148 @@ use crate::expressions::read_expr;
 use bb_basis::{Items, Text};
 use bb_lang_token::{LangFault, Parser};
 use bb_lang_tree::{Action, Expr, Variable};
-use std::alloc::Global;
 
 // A unit and one of its slots.
-#[tactic(auto, unfolding(crate::specs::Statements::slot_of))]
-fn read_slot(alloc: Global, parser: &mut Parser<'_>) -> Result<(Variable, Text), LangFault>
-    ensures { Gives OutOfMemory (λ p. (p, parser.new)) result (slot_of parser.old) }
-{
-    let unit = read_variable(alloc, parser)?;
-    parser.skip(".")?;
-    let slot = parser.read_member(alloc)?;
-    Ok((unit, slot))
+#[derive(Drop)]
+struct UnitSlot {
+    unit: Variable,
+    slot: Text,
 }
 
 // A unit and a space.
-#[tactic(auto, unfolding(crate::specs::Statements::space_of))]
-fn read_space(alloc: Global, parser: &mut Parser<'_>) -> Result<(Variable, Text), LangFault>
-    ensures { Gives OutOfMemory (λ p. (p, parser.new)) result (space_of parser.old) }
+#[derive(Drop)]
+struct UnitSpace {
+    unit: Variable,
+    space: Text,
+}
+
+// `unit.slot`
+#[tactic(auto, unfolding(crate::specs::Statements::slot_of))]
+fn read_slot(parser: &mut Parser<'_>) -> Result<UnitSlot, LangFault>
+    ensures read { Gives OutOfMemory (λ u. (u, parser.new.state)) result (slot_of parser.old.state) }
+    ensures nesting { OnOk result (parser.new.nesting ≡ parser.old.nesting) }
 {
-    let unit = read_variable(alloc, parser)?;
-    let space = parser.read_name(alloc)?;
-    Ok((unit, space))
+    let unit = read_variable(parser)?;
+    parser.skip(".")?;
+    let slot = parser.read_member()?;
+    Ok(UnitSlot { unit, slot })
+}
+
+// `unit space`
+#[tactic(auto, unfolding(crate::specs::Statements::space_of))]
+fn read_space(parser: &mut Parser<'_>) -> Result<UnitSpace, LangFault>
+    ensures read { Gives OutOfMemory (λ u. (u, parser.new.state)) result (space_of parser.old.state) }
+    ensures nesting { OnOk result (parser.new.nesting ≡ parser.old.nesting) }
+{
+    let unit = read_variable(parser)?;
+    let space = parser.read_name()?;
+    Ok(UnitSpace { unit, space })
 }
 
 // `let`
 #[tactic(auto, unfolding(crate::specs::Statements::let_of))]
-fn read_let(alloc: Global, parser: &mut Parser<'_>, nesting: usize) -> Result<Action, LangFault>
-    ensures { Gives OutOfMemory (λ a. (a, parser.new)) result (let_of nesting parser.old) }
+fn read_let(parser: &mut Parser<'_>) -> Result<Action, LangFault>
+    ensures read { Gives OutOfMemory (λ a. (a, parser.new.state)) result (let_of parser.old.nesting parser.old.state) }
+    ensures nesting { OnOk result (parser.new.nesting ≡ parser.old.nesting) }
 {
     parser.advance()?;
-    let name = parser.read_declared(alloc)?;
+    let name = parser.read_declared()?;
     parser.skip("=")?;
-    let value = read_expr(alloc, parser, nesting)?;
+    let value = read_expr(parser)?;
     Ok(Action::Let { name, value })
 }
 
 // An assignment.
 #[tactic(auto, unfolding(crate::specs::Statements::assign_of))]
-fn read_assign(alloc: Global, parser: &mut Parser<'_>, nesting: usize) -> Result<Action, LangFault>
-    ensures { Gives OutOfMemory (λ a. (a, parser.new)) result (assign_of nesting parser.old) }
+fn read_assign(parser: &mut Parser<'_>) -> Result<Action, LangFault>
+    ensures read { Gives OutOfMemory (λ a. (a, parser.new.state)) result
+        (assign_of parser.old.nesting parser.old.state) }
+    ensures nesting { OnOk result (parser.new.nesting ≡ parser.old.nesting) }
 {
-    let name = parser.read_name(alloc)?;
+    let name = parser.read_name()?;
     parser.skip("=")?;
-    let value = read_expr(alloc, parser, nesting)?;
+    let value = read_expr(parser)?;
     Ok(Action::Assign { name, value })
 }
 
 // `new`
 #[tactic(auto, unfolding(crate::specs::Statements::new_of))]
-fn read_new(alloc: Global, parser: &mut Parser<'_>) -> Result<Action, LangFault>
-    ensures { Gives OutOfMemory (λ a. (a, parser.new)) result (new_of parser.old) }
+fn read_new(parser: &mut Parser<'_>) -> Result<Action, LangFault>
+    ensures read { Gives OutOfMemory (λ a. (a, parser.new.state)) result (new_of parser.old.state) }
+    ensures nesting { OnOk result (parser.new.nesting ≡ parser.old.nesting) }
 {
     parser.advance()?;
-    let name = parser.read_declared(alloc)?;
+    let name = parser.read_declared()?;
     parser.skip(":")?;
-    let class = parser.read_name(alloc)?;
+    let class = parser.read_name()?;
     Ok(Action::New { name, class })
 }
 
 // `set`
 #[tactic(auto, unfolding(crate::specs::Statements::set_of))]
-fn read_set(alloc: Global, parser: &mut Parser<'_>, nesting: usize) -> Result<Action, LangFault>
-    ensures { Gives OutOfMemory (λ a. (a, parser.new)) result (set_of nesting parser.old) }
+fn read_set(parser: &mut Parser<'_>) -> Result<Action, LangFault>
+    ensures read { Gives OutOfMemory (λ a. (a, parser.new.state)) result (set_of parser.old.nesting parser.old.state) }
+    ensures nesting { OnOk result (parser.new.nesting ≡ parser.old.nesting) }
 {
     parser.advance()?;
-    let (unit, slot) = read_slot(alloc, parser)?;
+    let UnitSlot { unit, slot } = read_slot(parser)?;
     parser.skip("=")?;
-    let value = read_expr(alloc, parser, nesting)?;
+    let value = read_expr(parser)?;
     Ok(Action::Set { unit, slot, value })
 }
 
 // `link`
 #[tactic(auto, unfolding(crate::specs::Statements::link_of))]
-fn read_link(alloc: Global, parser: &mut Parser<'_>) -> Result<Action, LangFault>
-    ensures { Gives OutOfMemory (λ a. (a, parser.new)) result (link_of parser.old) }
+fn read_link(parser: &mut Parser<'_>) -> Result<Action, LangFault>
+    ensures read { Gives OutOfMemory (λ a. (a, parser.new.state)) result (link_of parser.old.state) }
+    ensures nesting { OnOk result (parser.new.nesting ≡ parser.old.nesting) }
 {
     parser.advance()?;
-    let (unit, slot) = read_slot(alloc, parser)?;
-    let other = read_variable(alloc, parser)?;
+    let UnitSlot { unit, slot } = read_slot(parser)?;
+    let other = read_variable(parser)?;
     Ok(Action::Link { unit, slot, other })
 }
 
 // `unlink`
 #[tactic(auto, unfolding(crate::specs::Statements::unlink_of))]
-fn read_unlink(alloc: Global, parser: &mut Parser<'_>) -> Result<Action, LangFault>
-    ensures { Gives OutOfMemory (λ a. (a, parser.new)) result (unlink_of parser.old) }
+fn read_unlink(parser: &mut Parser<'_>) -> Result<Action, LangFault>
+    ensures read { Gives OutOfMemory (λ a. (a, parser.new.state)) result (unlink_of parser.old.state) }
+    ensures nesting { OnOk result (parser.new.nesting ≡ parser.old.nesting) }
 {
     parser.advance()?;
-    let (unit, slot) = read_slot(alloc, parser)?;
-    let other = read_variable(alloc, parser)?;
+    let UnitSlot { unit, slot } = read_slot(parser)?;
+    let other = read_variable(parser)?;
     Ok(Action::Unlink { unit, slot, other })
 }
 
 // One more expression after a comma, if one comes.
 #[tactic(auto, unfolding(crate::specs::Repeats::next_item))]
-fn read_next_expr(
-    alloc: Global,
-    parser: &mut Parser<'_>,
-    nesting: usize,
-) -> Result<Option<Expr>, LangFault>
-    ensures { Gives OutOfMemory (λ o. (o, parser.new)) result (next_item (expr nesting) parser.old) }
+fn read_next_expr(parser: &mut Parser<'_>) -> Result<Option<Expr>, LangFault>
+    ensures read { Gives OutOfMemory (λ o. (o, parser.new.state)) result
+        (next_item (expr parser.old.nesting) parser.old.state) }
+    ensures nesting { OnOk result (parser.new.nesting ≡ parser.old.nesting) }
 {
     if !parser.at(",") {
         return Ok(None);
     }
     parser.advance()?;
-    Ok(Some(read_expr(alloc, parser, nesting)?))
+    Ok(Some(read_expr(parser)?))
 }
 
 // Expressions with commas between them, up to `;`.
 #[tactic(auto, unfolding(crate::specs::Repeats::items))]
-fn read_exprs(
-    alloc: Global,
-    parser: &mut Parser<'_>,
-    nesting: usize,
-) -> Result<Vec<Expr>, LangFault>
-    ensures { Gives OutOfMemory (λ v. (v.items, parser.new)) result (items (codes ";") (expr nesting) parser.old) }
+fn read_exprs(parser: &mut Parser<'_>) -> Result<Vec<Expr>, LangFault>
+    ensures read { Gives OutOfMemory (λ v. (v.items, parser.new.state)) result
+        (items (codes ";") (expr parser.old.nesting) parser.old.state) }
+    ensures nesting { OnOk result (parser.new.nesting ≡ parser.old.nesting) }
 {
-    let mut exprs = Vec::new(alloc);
+    let mut exprs = Vec::new(parser.alloc());
     if parser.at(";") {
         return Ok(exprs);
     }
-    exprs.push(read_expr(alloc, parser, nesting)?)?;
+    exprs.push(read_expr(parser)?)?;
     for _turn in 0..parser.left() {
-        let Some(expr) = read_next_expr(alloc, parser, nesting)? else {
+        let Some(expr) = read_next_expr(parser)? else {
             return Ok(exprs);
         };
         exprs.push(expr)?;
@@ -146,59 +164,59 @@ fn read_exprs(
 
 // What changes a unit, or a name.
 #[tactic(auto, unfolding(crate::specs::Statements::change_of, crate::specs::Statements::enter_of, crate::specs::Statements::leave_of, crate::specs::Statements::delete_of))]
-fn read_change(alloc: Global, parser: &mut Parser<'_>, nesting: usize) -> Result<Action, LangFault>
-    ensures { Gives OutOfMemory (λ a. (a, parser.new)) result (change_of nesting parser.old) }
+fn read_change(parser: &mut Parser<'_>) -> Result<Action, LangFault>
+    ensures read { Gives OutOfMemory (λ a. (a, parser.new.state)) result
+        (change_of parser.old.nesting parser.old.state) }
+    ensures nesting { OnOk result (parser.new.nesting ≡ parser.old.nesting) }
 {
     if parser.at("set") {
-        return read_set(alloc, parser, nesting);
+        return read_set(parser);
     }
     if parser.at("link") {
-        return read_link(alloc, parser);
+        return read_link(parser);
     }
     if parser.at("unlink") {
-        return read_unlink(alloc, parser);
+        return read_unlink(parser);
     }
     if parser.at("enter") {
         parser.advance()?;
-        let (unit, space) = read_space(alloc, parser)?;
+        let UnitSpace { unit, space } = read_space(parser)?;
         return Ok(Action::Enter { unit, space });
     }
     if parser.at("leave") {
         parser.advance()?;
-        let (unit, space) = read_space(alloc, parser)?;
+        let UnitSpace { unit, space } = read_space(parser)?;
         return Ok(Action::Leave { unit, space });
     }
     if parser.at("delete") {
         parser.advance()?;
-        let unit = read_variable(alloc, parser)?;
+        let unit = read_variable(parser)?;
         return Ok(Action::Delete { unit });
     }
-    read_assign(alloc, parser, nesting)
+    read_assign(parser)
 }
 
 /// A statement without blocks, up to its `;`.
 #[tactic(auto, unfolding(crate::specs::Statements::action_of, crate::specs::Statements::say_of, crate::specs::Statements::rate_of, crate::specs::Statements::decline_of, crate::specs::Statements::answer_of))]
-pub(crate) fn read_action(
-    alloc: Global,
-    parser: &mut Parser<'_>,
-    nesting: usize,
-) -> Result<Action, LangFault>
-    ensures { Gives OutOfMemory (λ a. (a, parser.new)) result (action_of nesting parser.old) }
+pub(crate) fn read_action(parser: &mut Parser<'_>) -> Result<Action, LangFault>
+    ensures read { Gives OutOfMemory (λ a. (a, parser.new.state)) result
+        (action_of parser.old.nesting parser.old.state) }
+    ensures nesting { OnOk result (parser.new.nesting ≡ parser.old.nesting) }
 {
     if parser.at("let") {
-        return read_let(alloc, parser, nesting);
+        return read_let(parser);
     }
     if parser.at("new") {
-        return read_new(alloc, parser);
+        return read_new(parser);
     }
     if parser.at("say") {
         parser.advance()?;
-        let exprs = read_exprs(alloc, parser, nesting)?;
+        let exprs = read_exprs(parser)?;
         return Ok(Action::Say(Items::from(exprs)));
     }
     if parser.at("rate") {
         parser.advance()?;
-        return Ok(Action::Rate(read_expr(alloc, parser, nesting)?));
+        return Ok(Action::Rate(read_expr(parser)?));
     }
     if parser.at("decline") {
         parser.advance()?;
@@ -206,7 +224,7 @@ pub(crate) fn read_action(
     }
     if parser.at("answer") {
         parser.advance()?;
-        return Ok(Action::Answer(read_expr(alloc, parser, nesting)?));
+        return Ok(Action::Answer(read_expr(parser)?));
     }
-    read_change(alloc, parser, nesting)
+    read_change(parser)
 }

@@ -1,17 +1,17 @@
 //! Expressions without parts, as they are read. The reader of expressions calls it where no bracket opens.
 
+ghost use Rattle.std.specs.Prelude.{◌≡◌, OnOk};
 ghost use Rattle.bb_basis.specs.Results.{Gives};
 ghost use Rattle.bb_lang_token.specs.declared.fault.LangFault.TheVariants.{Memory as OutOfMemory};
 ghost use Rattle.bb_lang.specs.Expressions.{variable_at, variable, label_or_variable, named, atom_of};
 
 use bb_lang_token::{LangFault, Parser};
 use bb_lang_tree::{Atom, Variable};
-use std::alloc::Global;
 
 // `it`, `ev`, or the name that the token is.
 #[tactic(auto, unfolding(crate::specs::Expressions::variable_at))]
-fn variable_at(alloc: Global, parser: &Parser<'_>) -> Result<Variable, LangFault>
-    ensures { Gives OutOfMemory (λ v. v) result (variable_at parser.now) }
+fn variable_at(parser: &Parser<'_>) -> Result<Variable, LangFault>
+    ensures { Gives OutOfMemory (λ v. v) result (variable_at parser.now.state) }
 {
     if parser.at("it") {
         return Ok(Variable::It);
@@ -19,23 +19,25 @@ fn variable_at(alloc: Global, parser: &Parser<'_>) -> Result<Variable, LangFault
     if parser.at("ev") {
         return Ok(Variable::Ev);
     }
-    Ok(Variable::Named(parser.name_at(alloc)?))
+    Ok(Variable::Named(parser.name_at()?))
 }
 
 /// A unit or a value by its name.
 #[tactic(auto, unfolding(crate::specs::Expressions::variable))]
-pub(crate) fn read_variable(alloc: Global, parser: &mut Parser<'_>) -> Result<Variable, LangFault>
-    ensures { Gives OutOfMemory (λ v. (v, parser.new)) result (variable parser.old) }
+pub(crate) fn read_variable(parser: &mut Parser<'_>) -> Result<Variable, LangFault>
+    ensures read { Gives OutOfMemory (λ v. (v, parser.new.state)) result (variable parser.old.state) }
+    ensures nesting { OnOk result (parser.new.nesting ≡ parser.old.nesting) }
 {
-    let variable = variable_at(alloc, parser)?;
+    let variable = variable_at(parser)?;
     parser.advance()?;
     Ok(variable)
 }
 
 // After a variable: the label of a set, or the variable alone.
 #[tactic(auto, unfolding(crate::specs::Expressions::label_or_variable))]
-fn read_label(alloc: Global, parser: &mut Parser<'_>, variable: Variable) -> Result<Atom, LangFault>
-    ensures { Gives OutOfMemory (λ a. (a, parser.new)) result (label_or_variable variable parser.old) }
+fn read_label(parser: &mut Parser<'_>, variable: Variable) -> Result<Atom, LangFault>
+    ensures read { Gives OutOfMemory (λ a. (a, parser.new.state)) result (label_or_variable variable parser.old.state) }
+    ensures nesting { OnOk result (parser.new.nesting ≡ parser.old.nesting) }
 {
     let Variable::Named(set) = variable else {
         return Ok(Atom::Variable(variable));
@@ -44,34 +46,36 @@ fn read_label(alloc: Global, parser: &mut Parser<'_>, variable: Variable) -> Res
         return Ok(Atom::Variable(Variable::Named(set)));
     }
     parser.advance()?;
-    let label = parser.read_name(alloc)?;
+    let label = parser.read_name()?;
     Ok(Atom::Label { set, label })
 }
 
 // What begins with a name.
 #[tactic(auto, unfolding(crate::specs::Expressions::named))]
-fn read_named(alloc: Global, parser: &mut Parser<'_>) -> Result<Atom, LangFault>
-    ensures { Gives OutOfMemory (λ a. (a, parser.new)) result (named parser.old) }
+fn read_named(parser: &mut Parser<'_>) -> Result<Atom, LangFault>
+    ensures read { Gives OutOfMemory (λ a. (a, parser.new.state)) result (named parser.old.state) }
+    ensures nesting { OnOk result (parser.new.nesting ≡ parser.old.nesting) }
 {
-    let unit = read_variable(alloc, parser)?;
+    let unit = read_variable(parser)?;
     if !parser.at(".") {
-        return read_label(alloc, parser, unit);
+        return read_label(parser, unit);
     }
     parser.advance()?;
-    let slot = parser.read_member(alloc)?;
+    let slot = parser.read_member()?;
     Ok(Atom::Slot { unit, slot })
 }
 
 /// An expression without parts.
 #[tactic(auto, unfolding(crate::specs::Expressions::atom_of))]
-pub(crate) fn read_atom(alloc: Global, parser: &mut Parser<'_>) -> Result<Atom, LangFault>
-    ensures { Gives OutOfMemory (λ a. (a, parser.new)) result (atom_of parser.old) }
+pub(crate) fn read_atom(parser: &mut Parser<'_>) -> Result<Atom, LangFault>
+    ensures read { Gives OutOfMemory (λ a. (a, parser.new.state)) result (atom_of parser.old.state) }
+    ensures nesting { OnOk result (parser.new.nesting ≡ parser.old.nesting) }
 {
     if parser.kind().is_int() || parser.at("-") {
         return Ok(Atom::Int(parser.read_int()?));
     }
     if parser.kind().is_text() {
-        return Ok(Atom::Text(parser.read_text(alloc)?));
+        return Ok(Atom::Text(parser.read_text()?));
     }
     if parser.at("true") {
         parser.advance()?;
@@ -81,5 +85,5 @@ pub(crate) fn read_atom(alloc: Global, parser: &mut Parser<'_>) -> Result<Atom, 
         parser.advance()?;
         return Ok(Atom::Bool(false));
     }
-    read_named(alloc, parser)
+    read_named(parser)
 }

@@ -9,72 +9,81 @@ ghost use Rattle.bb_lang.specs.Sources.{clauses};
 use bb_basis::Text;
 use bb_lang_token::{LangFault, Parser};
 use bb_lang_tree::{ChangeText, ClauseText};
-use std::alloc::Global;
+
+// A class and a slot of its units.
+#[derive(Drop)]
+struct ClassSlot {
+    class: Text,
+    slot: Text,
+}
+
+// A class and a space.
+#[derive(Drop)]
+struct ClassSpace {
+    class: Text,
+    space: Text,
+}
 
 // A change of units, at its word.
 #[tactic(auto, unfolding(crate::specs::Sources::unit_event))]
-fn read_unit_event(
-    alloc: Global,
-    parser: &mut Parser<'_>,
-    kind: ChangeText,
-) -> Result<ClauseText, LangFault>
-    ensures { Gives OutOfMemory (λ c. (c, parser.new)) result (unit_event kind parser.old) }
+fn read_unit_event(parser: &mut Parser<'_>, kind: ChangeText) -> Result<ClauseText, LangFault>
+    ensures { Gives OutOfMemory (λ c. (c, parser.new.state)) result (unit_event kind parser.old.state) }
 {
     parser.advance()?;
-    let class = parser.read_name(alloc)?;
+    let class = parser.read_name()?;
     Ok(ClauseText::Change { kind, class })
 }
 
-// A class and a slot, after a word.
+// `class.slot`, after a word.
 #[tactic(auto, unfolding(crate::specs::Sources::slot_event))]
-fn read_slot_event(alloc: Global, parser: &mut Parser<'_>) -> Result<(Text, Text), LangFault>
-    ensures { Gives OutOfMemory (λ p. (p, parser.new)) result (slot_event parser.old) }
+fn read_slot_event(parser: &mut Parser<'_>) -> Result<ClassSlot, LangFault>
+    ensures { Gives OutOfMemory (λ c. (c, parser.new.state)) result (slot_event parser.old.state) }
 {
     parser.advance()?;
-    let class = parser.read_name(alloc)?;
+    let class = parser.read_name()?;
     parser.skip(".")?;
-    let slot = parser.read_member(alloc)?;
-    Ok((class, slot))
+    let slot = parser.read_member()?;
+    Ok(ClassSlot { class, slot })
 }
 
-// A class and a space, after a word.
+// `class space`, after a word.
 #[tactic(auto, unfolding(crate::specs::Sources::space_event))]
-fn read_space_event(alloc: Global, parser: &mut Parser<'_>) -> Result<(Text, Text), LangFault>
-    ensures { Gives OutOfMemory (λ p. (p, parser.new)) result (space_event parser.old) }
+fn read_space_event(parser: &mut Parser<'_>) -> Result<ClassSpace, LangFault>
+    ensures { Gives OutOfMemory (λ c. (c, parser.new.state)) result (space_event parser.old.state) }
 {
     parser.advance()?;
-    let class = parser.read_name(alloc)?;
-    let space = parser.read_name(alloc)?;
-    Ok((class, space))
+    let class = parser.read_name()?;
+    let space = parser.read_name()?;
+    Ok(ClassSpace { class, space })
 }
 
 // A change of slots, links or spaces, at its word.
 #[tactic(auto, unfolding(crate::specs::Sources::change_event))]
-fn read_change_event(alloc: Global, parser: &mut Parser<'_>) -> Result<ClauseText, LangFault>
-    ensures { Gives OutOfMemory (λ c. (c, parser.new)) result (change_event parser.old) }
+fn read_change_event(parser: &mut Parser<'_>) -> Result<ClauseText, LangFault>
+    ensures { Gives OutOfMemory (λ c. (c, parser.new.state)) result (change_event parser.old.state) }
 {
     if parser.at("update") {
-        let (class, slot) = read_slot_event(alloc, parser)?;
+        let ClassSlot { class, slot } = read_slot_event(parser)?;
         let kind = ChangeText::Update(slot);
         return Ok(ClauseText::Change { kind, class });
     }
     if parser.at("link") {
-        let (class, slot) = read_slot_event(alloc, parser)?;
+        let ClassSlot { class, slot } = read_slot_event(parser)?;
         let kind = ChangeText::Link(slot);
         return Ok(ClauseText::Change { kind, class });
     }
     if parser.at("unlink") {
-        let (class, slot) = read_slot_event(alloc, parser)?;
+        let ClassSlot { class, slot } = read_slot_event(parser)?;
         let kind = ChangeText::Unlink(slot);
         return Ok(ClauseText::Change { kind, class });
     }
     if parser.at("enter") {
-        let (class, space) = read_space_event(alloc, parser)?;
+        let ClassSpace { class, space } = read_space_event(parser)?;
         let kind = ChangeText::Enter(space);
         return Ok(ClauseText::Change { kind, class });
     }
     if parser.at("leave") {
-        let (class, space) = read_space_event(alloc, parser)?;
+        let ClassSpace { class, space } = read_space_event(parser)?;
         let kind = ChangeText::Leave(space);
         return Ok(ClauseText::Change { kind, class });
     }
@@ -85,56 +94,53 @@ fn read_change_event(alloc: Global, parser: &mut Parser<'_>) -> Result<ClauseTex
 
 // An event.
 #[tactic(auto, unfolding(crate::specs::Sources::event))]
-fn read_event(alloc: Global, parser: &mut Parser<'_>) -> Result<ClauseText, LangFault>
-    ensures { Gives OutOfMemory (λ c. (c, parser.new)) result (event parser.old) }
+fn read_event(parser: &mut Parser<'_>) -> Result<ClauseText, LangFault>
+    ensures { Gives OutOfMemory (λ c. (c, parser.new.state)) result (event parser.old.state) }
 {
     if parser.at("create") {
-        return read_unit_event(alloc, parser, ChangeText::Create);
+        return read_unit_event(parser, ChangeText::Create);
     }
     if parser.at("delete") {
-        return read_unit_event(alloc, parser, ChangeText::Delete);
+        return read_unit_event(parser, ChangeText::Delete);
     }
     if parser.at("quiescence") {
         parser.advance()?;
         return Ok(ClauseText::Quiescence);
     }
-    read_change_event(alloc, parser)
+    read_change_event(parser)
 }
 
 // A clause.
 #[tactic(auto, unfolding(crate::specs::Sources::clause))]
-fn read_clause(alloc: Global, parser: &mut Parser<'_>) -> Result<ClauseText, LangFault>
-    ensures { Gives OutOfMemory (λ c. (c, parser.new)) result (clause parser.old) }
+fn read_clause(parser: &mut Parser<'_>) -> Result<ClauseText, LangFault>
+    ensures { Gives OutOfMemory (λ c. (c, parser.new.state)) result (clause parser.old.state) }
 {
     parser.skip("when")?;
-    let event = read_event(alloc, parser)?;
+    let event = read_event(parser)?;
     parser.skip(";")?;
     Ok(event)
 }
 
 // One more clause, if one comes.
 #[tactic(auto, unfolding(crate::specs::Sources::next_clause))]
-fn read_next_clause(alloc: Global, parser: &mut Parser<'_>) -> Result<Option<ClauseText>, LangFault>
-    ensures { Gives OutOfMemory (λ o. (o, parser.new)) result (next_clause parser.old) }
+fn read_next_clause(parser: &mut Parser<'_>) -> Result<Option<ClauseText>, LangFault>
+    ensures { Gives OutOfMemory (λ o. (o, parser.new.state)) result (next_clause parser.old.state) }
 {
     if !parser.at("when") {
         return Ok(None);
     }
-    Ok(Some(read_clause(alloc, parser)?))
+    Ok(Some(read_clause(parser)?))
 }
 
 /// One clause and as many more as come.
 #[tactic(auto, unfolding(crate::specs::Sources::clauses))]
-pub(crate) fn read_clauses(
-    alloc: Global,
-    parser: &mut Parser<'_>,
-) -> Result<Vec<ClauseText>, LangFault>
-    ensures { Gives OutOfMemory (λ v. (v.items, parser.new)) result (clauses parser.old) }
+pub(crate) fn read_clauses(parser: &mut Parser<'_>) -> Result<Vec<ClauseText>, LangFault>
+    ensures { Gives OutOfMemory (λ v. (v.items, parser.new.state)) result (clauses parser.old.state) }
 {
-    let mut clauses = Vec::new(alloc);
-    clauses.push(read_clause(alloc, parser)?)?;
+    let mut clauses = Vec::new(parser.alloc());
+    clauses.push(read_clause(parser)?)?;
     for _turn in 0..parser.left() {
-        let Some(clause) = read_next_clause(alloc, parser)? else {
+        let Some(clause) = read_next_clause(parser)? else {
             return Ok(clauses);
         };
         clauses.push(clause)?;

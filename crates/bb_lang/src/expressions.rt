@@ -1,10 +1,11 @@
 //! Expressions, sequences and patterns, as they are read: a function for each production. The reader of statements
 //! calls `read_expr` and `read_sequence`.
 
-ghost use Rattle.std.specs.Prelude.{◌≡◌, ◌+◌, IfOk, codes};
+ghost use Rattle.std.specs.Prelude.{◌≡◌, ◌+◌, IfOk, OnOk, codes};
 ghost use Rattle.bb_basis.specs.Results.{Gives};
 ghost use Rattle.bb_lang_token.specs.declared.fault.LangFault.TheVariants.{Memory as OutOfMemory};
 ghost use Rattle.bb_lang_tree.specs.Trees.{binary as tree_binary};
+ghost use Rattle.bb_lang_token.specs.State.{skip};
 ghost use Rattle.bb_lang.specs.Repeats.{as_many, items, next_item};
 ghost use Rattle.bb_lang.specs.Expressions.{opened, inside, inner_of, chained, step, operand_of, chain_at, comparison};
 ghost use Rattle.bb_lang.specs.Expressions.{factor, grouped, pair_of, linked_to, sequence, expr, pattern};
@@ -41,68 +42,71 @@ fn binary(alloc: Global, operation: Binary, left: Expr, right: Expr) -> Result<E
     }))
 }
 
-/// An opening bracket. Returns how many more may be opened in it.
+/// An opening bracket, in which one less may be opened. Returns how many may be opened behind the closing one.
 #[tactic(auto, unfolding(crate::specs::Expressions::opened))]
-pub(crate) fn open(
-    parser: &mut Parser<'_>,
-    bracket: &str,
-    nesting: usize,
-) -> Result<usize, LangFault>
-    ensures inner { Gives OutOfMemory (λ n. (inner_of n, parser.new)) result
-        (opened bracket.now (inside nesting) parser.old) }
-    ensures one { IfOk result (λ n. n + 1 ≡ nesting) }
+pub(crate) fn open(parser: &mut Parser<'_>, bracket: &str) -> Result<usize, LangFault>
+    ensures inner { Gives OutOfMemory (λ _. (inner_of parser.new.nesting, parser.new.state)) result
+        (opened bracket.now (inside parser.old.nesting) parser.old.state) }
+    ensures one { OnOk result (parser.new.nesting + 1 ≡ parser.old.nesting) }
+    ensures outer { IfOk result (λ outer. outer ≡ parser.old.nesting) }
 {
     let place = parser.place();
     if !parser.at(bracket) {
         return Err(LangFault::Token { place });
     }
+    let nesting = parser.nesting();
     if nesting == 0 {
         return Err(LangFault::Nesting { place });
     }
     parser.advance()?;
-    Ok(nesting - 1)
+    parser.set_nesting(nesting - 1);
+    Ok(nesting)
+}
+
+/// A closing bracket, behind which `outer` brackets may be opened.
+pub(crate) fn close(parser: &mut Parser<'_>, bracket: &str, outer: usize) -> Result<(), LangFault>
+    ensures read { Gives OutOfMemory (λ _. parser.new.state) result (skip bracket.now parser.old.state) }
+    ensures outer { OnOk result (parser.new.nesting ≡ outer) }
+{
+    parser.skip(bracket)?;
+    parser.set_nesting(outer);
+    Ok(())
 }
 
 // The units that a unit is linked to.
 #[tactic(auto, unfolding(crate::specs::Expressions::linked_to))]
-fn read_links(alloc: Global, parser: &mut Parser<'_>) -> Result<Sequence, LangFault>
-    ensures { Gives OutOfMemory (λ q. (q, parser.new)) result (linked_to parser.old) }
+fn read_links(parser: &mut Parser<'_>) -> Result<Sequence, LangFault>
+    ensures read { Gives OutOfMemory (λ q. (q, parser.new.state)) result (linked_to parser.old.state) }
+    ensures nesting { OnOk result (parser.new.nesting ≡ parser.old.nesting) }
 {
-    let unit = read_variable(alloc, parser)?;
+    let unit = read_variable(parser)?;
     parser.skip(".")?;
-    let slot = parser.read_member(alloc)?;
+    let slot = parser.read_member()?;
     Ok(Sequence::Links { unit, slot })
 }
 
 // An operand of a level.
 #[cycle(reading)]
-fn read_operand(
-    alloc: Global,
-    parser: &mut Parser<'_>,
-    level: Level,
-    nesting: usize,
-) -> Result<Expr, LangFault>
-    ensures { Gives OutOfMemory (λ e. (e, parser.new)) result (operand_of level (inside nesting) parser.old) }
+fn read_operand(parser: &mut Parser<'_>, level: Level) -> Result<Expr, LangFault>
+    ensures read { Gives OutOfMemory (λ e. (e, parser.new.state)) result
+        (operand_of level (inside parser.old.nesting) parser.old.state) }
+    ensures nesting { OnOk result (parser.new.nesting ≡ parser.old.nesting) }
 {
     match level {
-        Level::Or => read_chain(alloc, parser, Level::And, nesting),
-        Level::And => read_comparison(alloc, parser, nesting),
-        Level::Sum => read_chain(alloc, parser, Level::Term, nesting),
-        Level::Term => read_factor(alloc, parser, nesting),
+        Level::Or => read_chain(parser, Level::And),
+        Level::And => read_comparison(parser),
+        Level::Sum => read_chain(parser, Level::Term),
+        Level::Term => read_factor(parser),
     }
 }
 
 // One more operator of a level with its operand, if one comes.
 #[cycle(reading)]
 #[tactic(auto, unfolding(crate::specs::Expressions::step, crate::specs::Expressions::step_by))]
-fn read_step(
-    alloc: Global,
-    parser: &mut Parser<'_>,
-    level: Level,
-    nesting: usize,
-) -> Result<Option<Step>, LangFault>
-    ensures { Gives OutOfMemory (λ o. (o, parser.new)) result
-        (step level (operand_of level (inside nesting)) parser.old) }
+fn read_step(parser: &mut Parser<'_>, level: Level) -> Result<Option<Step>, LangFault>
+    ensures read { Gives OutOfMemory (λ o. (o, parser.new.state)) result
+        (step level (operand_of level (inside parser.old.nesting)) parser.old.state) }
+    ensures nesting { OnOk result (parser.new.nesting ≡ parser.old.nesting) }
 {
     if let Some(division) = division_at(parser, level) {
         parser.advance()?;
@@ -113,25 +117,21 @@ fn read_step(
         return Ok(None);
     };
     parser.advance()?;
-    let operand = read_operand(alloc, parser, level, nesting)?;
+    let operand = read_operand(parser, level)?;
     Ok(Some(Step::Apply { operator, operand }))
 }
 
 // As many steps of a level as come.
 #[cycle(reading)]
 #[tactic(auto, unfolding(crate::specs::Repeats::as_many))]
-fn read_steps(
-    alloc: Global,
-    parser: &mut Parser<'_>,
-    level: Level,
-    nesting: usize,
-) -> Result<Vec<Step>, LangFault>
-    ensures { Gives OutOfMemory (λ v. (v.items, parser.new)) result
-        (as_many (step level (operand_of level (inside nesting))) parser.old) }
+fn read_steps(parser: &mut Parser<'_>, level: Level) -> Result<Vec<Step>, LangFault>
+    ensures read { Gives OutOfMemory (λ v. (v.items, parser.new.state)) result
+        (as_many (step level (operand_of level (inside parser.old.nesting))) parser.old.state) }
+    ensures nesting { OnOk result (parser.new.nesting ≡ parser.old.nesting) }
 {
-    let mut steps = Vec::new(alloc);
+    let mut steps = Vec::new(parser.alloc());
     for _turn in 0..parser.left() {
-        let Some(step) = read_step(alloc, parser, level, nesting)? else {
+        let Some(step) = read_step(parser, level)? else {
             return Ok(steps);
         };
         steps.push(step)?;
@@ -141,122 +141,119 @@ fn read_steps(
 
 // Operands with the operators of a level between them.
 #[cycle(reading)]
-fn read_chain(
-    alloc: Global,
-    parser: &mut Parser<'_>,
-    level: Level,
-    nesting: usize,
-) -> Result<Expr, LangFault>
-    ensures { Gives OutOfMemory (λ e. (e, parser.new)) result (chain_at level (inside nesting) parser.old) }
+fn read_chain(parser: &mut Parser<'_>, level: Level) -> Result<Expr, LangFault>
+    ensures read { Gives OutOfMemory (λ e. (e, parser.new.state)) result
+        (chain_at level (inside parser.old.nesting) parser.old.state) }
+    ensures nesting { OnOk result (parser.new.nesting ≡ parser.old.nesting) }
 {
-    let first = read_operand(alloc, parser, level, nesting)?;
-    let steps = read_steps(alloc, parser, level, nesting)?;
-    Ok(chained(alloc, first, steps)?)
+    let first = read_operand(parser, level)?;
+    let steps = read_steps(parser, level)?;
+    Ok(chained(parser.alloc(), first, steps)?)
 }
 
 // A sum, or a comparison of two.
 #[cycle(reading)]
 #[tactic(auto, unfolding(crate::specs::Expressions::comparison, crate::specs::Expressions::compared))]
-fn read_comparison(
-    alloc: Global,
-    parser: &mut Parser<'_>,
-    nesting: usize,
-) -> Result<Expr, LangFault>
-    ensures { Gives OutOfMemory (λ e. (e, parser.new)) result (comparison (inside nesting) parser.old) }
+fn read_comparison(parser: &mut Parser<'_>) -> Result<Expr, LangFault>
+    ensures read { Gives OutOfMemory (λ e. (e, parser.new.state)) result
+        (comparison (inside parser.old.nesting) parser.old.state) }
+    ensures nesting { OnOk result (parser.new.nesting ≡ parser.old.nesting) }
 {
-    let left = read_chain(alloc, parser, Level::Sum, nesting)?;
+    let left = read_chain(parser, Level::Sum)?;
     let Some(operation) = comparison_at(parser) else {
         return Ok(left);
     };
     parser.advance()?;
-    let right = read_chain(alloc, parser, Level::Sum, nesting)?;
-    Ok(binary(alloc, operation, left, right)?)
+    let right = read_chain(parser, Level::Sum)?;
+    Ok(binary(parser.alloc(), operation, left, right)?)
 }
 
 // An expression in parentheses.
 #[cycle(reading)]
 #[tactic(auto, unfolding(crate::specs::Expressions::grouped))]
-fn read_group(alloc: Global, parser: &mut Parser<'_>, nesting: usize) -> Result<Expr, LangFault>
-    ensures { Gives OutOfMemory (λ e. (e, parser.new)) result (grouped (inside nesting) parser.old) }
+fn read_group(parser: &mut Parser<'_>) -> Result<Expr, LangFault>
+    ensures read { Gives OutOfMemory (λ e. (e, parser.new.state)) result
+        (grouped (inside parser.old.nesting) parser.old.state) }
+    ensures nesting { OnOk result (parser.new.nesting ≡ parser.old.nesting) }
 {
-    let nesting = open(parser, "(", nesting)?;
-    let expr = read_chain(alloc, parser, Level::Or, nesting)?;
-    parser.skip(")")?;
+    let outer = open(parser, "(")?;
+    let expr = read_chain(parser, Level::Or)?;
+    close(parser, ")", outer)?;
     Ok(expr)
 }
 
-// Two expressions with a comma between them, and a closing bracket.
+// Two expressions with a comma between them, in brackets.
 #[cycle(reading)]
 #[tactic(auto, unfolding(crate::specs::Expressions::pair_of))]
 fn read_pair(
-    alloc: Global,
     parser: &mut Parser<'_>,
     operation: Binary,
-    close: &str,
-    nesting: usize,
+    opening: &str,
+    closing: &str,
 ) -> Result<Expr, LangFault>
-    ensures { Gives OutOfMemory (λ e. (e, parser.new)) result (pair_of operation close.now (expr nesting) parser.old) }
+    ensures read { Gives OutOfMemory (λ e. (e, parser.new.state)) result
+        (pair_of operation opening.now closing.now (inside parser.old.nesting) parser.old.state) }
+    ensures nesting { OnOk result (parser.new.nesting ≡ parser.old.nesting) }
 {
-    let left = read_chain(alloc, parser, Level::Or, nesting)?;
+    let outer = open(parser, opening)?;
+    let left = read_chain(parser, Level::Or)?;
     parser.skip(",")?;
-    let right = read_chain(alloc, parser, Level::Or, nesting)?;
-    parser.skip(close)?;
-    Ok(binary(alloc, operation, left, right)?)
+    let right = read_chain(parser, Level::Or)?;
+    close(parser, closing, outer)?;
+    Ok(binary(parser.alloc(), operation, left, right)?)
 }
 
 // An operand of `*`: what is in brackets, an operation, or an expression without parts.
 #[cycle(reading)]
 #[tactic(auto, unfolding(crate::specs::Expressions::factor, crate::specs::Expressions::interval, crate::specs::Expressions::sized, crate::specs::Expressions::applied))]
-fn read_factor(alloc: Global, parser: &mut Parser<'_>, nesting: usize) -> Result<Expr, LangFault>
-    ensures { Gives OutOfMemory (λ e. (e, parser.new)) result (factor (inside nesting) parser.old) }
+fn read_factor(parser: &mut Parser<'_>) -> Result<Expr, LangFault>
+    ensures read { Gives OutOfMemory (λ e. (e, parser.new.state)) result
+        (factor (inside parser.old.nesting) parser.old.state) }
+    ensures nesting { OnOk result (parser.new.nesting ≡ parser.old.nesting) }
 {
     if parser.at("(") {
-        return read_group(alloc, parser, nesting);
+        return read_group(parser);
     }
     if parser.at("[") {
-        let nesting = open(parser, "[", nesting)?;
-        return read_pair(alloc, parser, Binary::Interval, "]", nesting);
+        return read_pair(parser, Binary::Interval, "[", "]");
     }
     if parser.at("size") {
         parser.advance()?;
-        let nesting = open(parser, "(", nesting)?;
-        let sequence = read_sequence(alloc, parser, nesting)?;
-        parser.skip(")")?;
-        let sequence = Box::new(alloc, sequence)?;
+        let outer = open(parser, "(")?;
+        let sequence = read_sequence(parser)?;
+        close(parser, ")", outer)?;
+        let sequence = Box::new(parser.alloc(), sequence)?;
         return Ok(Expr::new(ExprNode::Size(sequence)));
     }
     if let Some(operation) = unary_at(parser) {
         parser.advance()?;
-        let operand = read_group(alloc, parser, nesting)?;
-        let operand = Box::new(alloc, operand)?;
+        let operand = read_group(parser)?;
+        let operand = Box::new(parser.alloc(), operand)?;
         return Ok(Expr::new(ExprNode::Unary { operation, operand }));
     }
     if let Some(operation) = binary_at(parser) {
         parser.advance()?;
-        let nesting = open(parser, "(", nesting)?;
-        return read_pair(alloc, parser, operation, ")", nesting);
+        return read_pair(parser, operation, "(", ")");
     }
-    let atom = read_atom(alloc, parser)?;
+    let atom = read_atom(parser)?;
     Ok(Expr::new(ExprNode::Atom(atom)))
 }
 
 /// What a loop goes over.
 #[cycle(reading)]
 #[tactic(auto, unfolding(crate::specs::Expressions::sequence, crate::specs::Expressions::found_in, crate::specs::Expressions::condition))]
-pub(crate) fn read_sequence(
-    alloc: Global,
-    parser: &mut Parser<'_>,
-    nesting: usize,
-) -> Result<Sequence, LangFault>
-    ensures { Gives OutOfMemory (λ q. (q, parser.new)) result (sequence (pattern nesting) parser.old) }
+pub(crate) fn read_sequence(parser: &mut Parser<'_>) -> Result<Sequence, LangFault>
+    ensures read { Gives OutOfMemory (λ q. (q, parser.new.state)) result
+        (sequence (pattern parser.old.nesting) parser.old.state) }
+    ensures nesting { OnOk result (parser.new.nesting ≡ parser.old.nesting) }
 {
     if !parser.at("find") {
-        return read_links(alloc, parser);
+        return read_links(parser);
     }
     parser.skip("find")?;
-    let class = parser.read_name(alloc)?;
+    let class = parser.read_name()?;
     parser.skip("in")?;
-    let space = parser.read_name(alloc)?;
+    let space = parser.read_name()?;
     if !parser.at("where") {
         return Ok(Sequence::Find {
             class,
@@ -265,7 +262,7 @@ pub(crate) fn read_sequence(
         });
     }
     parser.advance()?;
-    let pattern = read_pattern(alloc, parser, nesting)?;
+    let pattern = read_pattern(parser)?;
     Ok(Sequence::Find {
         class,
         space,
@@ -276,37 +273,33 @@ pub(crate) fn read_sequence(
 // One more pattern after a comma, if one comes.
 #[cycle(reading)]
 #[tactic(auto, unfolding(crate::specs::Repeats::next_item))]
-fn read_next_pattern(
-    alloc: Global,
-    parser: &mut Parser<'_>,
-    nesting: usize,
-) -> Result<Option<Pattern>, LangFault>
-    ensures { Gives OutOfMemory (λ o. (o, parser.new)) result (next_item (pattern nesting) parser.old) }
+fn read_next_pattern(parser: &mut Parser<'_>) -> Result<Option<Pattern>, LangFault>
+    ensures read { Gives OutOfMemory (λ o. (o, parser.new.state)) result
+        (next_item (pattern parser.old.nesting) parser.old.state) }
+    ensures nesting { OnOk result (parser.new.nesting ≡ parser.old.nesting) }
 {
     if !parser.at(",") {
         return Ok(None);
     }
     parser.advance()?;
-    Ok(Some(read_pattern(alloc, parser, nesting)?))
+    Ok(Some(read_pattern(parser)?))
 }
 
 // Patterns with commas between them, up to `)`.
 #[cycle(reading)]
 #[tactic(auto, unfolding(crate::specs::Repeats::items, crate::specs::Repeats::as_many))]
-fn read_patterns(
-    alloc: Global,
-    parser: &mut Parser<'_>,
-    nesting: usize,
-) -> Result<Vec<Pattern>, LangFault>
-    ensures { Gives OutOfMemory (λ v. (v.items, parser.new)) result (items (codes ")") (pattern nesting) parser.old) }
+fn read_patterns(parser: &mut Parser<'_>) -> Result<Vec<Pattern>, LangFault>
+    ensures read { Gives OutOfMemory (λ v. (v.items, parser.new.state)) result
+        (items (codes ")") (pattern parser.old.nesting) parser.old.state) }
+    ensures nesting { OnOk result (parser.new.nesting ≡ parser.old.nesting) }
 {
-    let mut patterns = Vec::new(alloc);
+    let mut patterns = Vec::new(parser.alloc());
     if parser.at(")") {
         return Ok(patterns);
     }
-    patterns.push(read_pattern(alloc, parser, nesting)?)?;
+    patterns.push(read_pattern(parser)?)?;
     for _turn in 0..parser.left() {
-        let Some(pattern) = read_next_pattern(alloc, parser, nesting)? else {
+        let Some(pattern) = read_next_pattern(parser)? else {
             return Ok(patterns);
         };
         patterns.push(pattern)?;
@@ -317,12 +310,9 @@ fn read_patterns(
 // A pattern.
 #[cycle(reading)]
 #[tactic(auto, unfolding(crate::specs::Expressions::pattern_in, crate::specs::Expressions::parts, crate::specs::Expressions::part, crate::specs::Expressions::tested))]
-fn read_pattern(
-    alloc: Global,
-    parser: &mut Parser<'_>,
-    nesting: usize,
-) -> Result<Pattern, LangFault>
-    ensures { Gives OutOfMemory (λ p. (p, parser.new)) result (pattern nesting parser.old) }
+fn read_pattern(parser: &mut Parser<'_>) -> Result<Pattern, LangFault>
+    ensures read { Gives OutOfMemory (λ p. (p, parser.new.state)) result (pattern parser.old.nesting parser.old.state) }
+    ensures nesting { OnOk result (parser.new.nesting ≡ parser.old.nesting) }
 {
     if parser.at("all") {
         parser.advance()?;
@@ -330,30 +320,30 @@ fn read_pattern(
     }
     if parser.at("and") {
         parser.advance()?;
-        let nesting = open(parser, "(", nesting)?;
-        let parts = read_patterns(alloc, parser, nesting)?;
-        parser.skip(")")?;
+        let outer = open(parser, "(")?;
+        let parts = read_patterns(parser)?;
+        close(parser, ")", outer)?;
         return Ok(Pattern::new(PatternNode::And(parts)));
     }
     if parser.at("or") {
         parser.advance()?;
-        let nesting = open(parser, "(", nesting)?;
-        let parts = read_patterns(alloc, parser, nesting)?;
-        parser.skip(")")?;
+        let outer = open(parser, "(")?;
+        let parts = read_patterns(parser)?;
+        close(parser, ")", outer)?;
         return Ok(Pattern::new(PatternNode::Or(parts)));
     }
     if parser.at("not") {
         parser.advance()?;
-        let nesting = open(parser, "(", nesting)?;
-        let part = read_pattern(alloc, parser, nesting)?;
-        parser.skip(")")?;
-        return Ok(Pattern::new(PatternNode::Not(Box::new(alloc, part)?)));
+        let outer = open(parser, "(")?;
+        let part = read_pattern(parser)?;
+        close(parser, ")", outer)?;
+        return Ok(Pattern::new(PatternNode::Not(Box::new(parser.alloc(), part)?)));
     }
-    let dimension = parser.read_name(alloc)?;
+    let dimension = parser.read_name()?;
     let place = parser.place();
     let relation = relation_at(parser).ok_or(LangFault::Token { place })?;
     parser.advance()?;
-    let operand = read_chain(alloc, parser, Level::Or, nesting)?;
+    let operand = read_chain(parser, Level::Or)?;
     Ok(Pattern::new(PatternNode::Test {
         dimension,
         relation,
@@ -361,13 +351,10 @@ fn read_pattern(
     }))
 }
 
-/// An expression, where `nesting` brackets may still be opened.
-pub(crate) fn read_expr(
-    alloc: Global,
-    parser: &mut Parser<'_>,
-    nesting: usize,
-) -> Result<Expr, LangFault>
-    ensures { Gives OutOfMemory (λ e. (e, parser.new)) result (expr nesting parser.old) }
+/// An expression.
+pub(crate) fn read_expr(parser: &mut Parser<'_>) -> Result<Expr, LangFault>
+    ensures read { Gives OutOfMemory (λ e. (e, parser.new.state)) result (expr parser.old.nesting parser.old.state) }
+    ensures nesting { OnOk result (parser.new.nesting ≡ parser.old.nesting) }
 {
-    read_chain(alloc, parser, Level::Or, nesting)
+    read_chain(parser, Level::Or)
 }

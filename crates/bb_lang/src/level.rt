@@ -22,7 +22,7 @@ pub(crate) enum Level {
 /// The operator of a level that the token is.
 #[tactic(auto, unfolding(crate::specs::Expressions::operator_at))]
 pub(crate) fn operator_at(parser: &Parser<'_>, level: Level) -> Option<Operator>
-    ensures { result ≡ operator_at level parser.now }
+    ensures { result ≡ operator_at level parser.now.state }
 {
     match level {
         Level::Or if parser.at("or") => Some(Operator::Or),
@@ -37,7 +37,7 @@ pub(crate) fn operator_at(parser: &Parser<'_>, level: Level) -> Option<Operator>
 /// The division that the token is, among terms.
 #[tactic(auto, unfolding(crate::specs::Expressions::division_at))]
 pub(crate) fn division_at(parser: &Parser<'_>, level: Level) -> Option<Division>
-    ensures { result ≡ division_at level parser.now }
+    ensures { result ≡ division_at level parser.now.state }
 {
     match level {
         Level::Term if parser.at("/") => Some(Division::Quotient),
@@ -49,7 +49,7 @@ pub(crate) fn division_at(parser: &Parser<'_>, level: Level) -> Option<Division>
 /// The operation on one operand that the token names.
 #[tactic(auto, unfolding(crate::specs::Expressions::unary_at))]
 pub(crate) fn unary_at(parser: &Parser<'_>) -> Option<Unary>
-    ensures { result ≡ unary_at parser.now }
+    ensures { result ≡ unary_at parser.now.state }
 {
     if parser.at("not") {
         return Some(Unary::Not);
@@ -66,7 +66,7 @@ pub(crate) fn unary_at(parser: &Parser<'_>) -> Option<Unary>
 /// The operation on two operands that the token names.
 #[tactic(auto, unfolding(crate::specs::Expressions::binary_at))]
 pub(crate) fn binary_at(parser: &Parser<'_>) -> Option<Binary>
-    ensures { result ≡ binary_at parser.now }
+    ensures { result ≡ binary_at parser.now.state }
 {
     if parser.at("min") {
         return Some(Binary::Min);
@@ -80,7 +80,7 @@ pub(crate) fn binary_at(parser: &Parser<'_>) -> Option<Binary>
 /// The comparison that the token is.
 #[tactic(auto, unfolding(crate::specs::Expressions::comparison_at))]
 pub(crate) fn comparison_at(parser: &Parser<'_>) -> Option<Binary>
-    ensures { result ≡ comparison_at parser.now }
+    ensures { result ≡ comparison_at parser.now.state }
 {
     if parser.at("<") {
         return Some(Binary::Less);
@@ -97,7 +97,7 @@ pub(crate) fn comparison_at(parser: &Parser<'_>) -> Option<Binary>
 /// The relation of a test that the token names.
 #[tactic(auto, unfolding(crate::specs::Expressions::relation_at))]
 pub(crate) fn relation_at(parser: &Parser<'_>) -> Option<Relation>
-    ensures { result ≡ relation_at parser.now }
+    ensures { result ≡ relation_at parser.now.state }
 {
     if parser.at("within") {
         return Some(Relation::Within);

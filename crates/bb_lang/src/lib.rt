@@ -17,8 +17,8 @@ mod statements;
 
 pub use bb_lang_token::{LangFault, Place, TEXT_LIMIT};
 pub use bb_lang_tree::{
-    ActText, Action, Atom, Binary, Binding, Block, ChangeText, ClauseText, Division, Expr,
-    ExprNode, HeaderText, Operator, PartText, PartTexts, Pattern, PatternNode, Placed,
-    ReactionText, Relation, Sequence, SourceText, Statement, Step, Unary, Variable,
+    ActText, Action, Atom, Binary, Binding, Block, Branches, ChangeText, ClauseText, Division,
+    Expr, ExprNode, ForLoop, HeaderText, Operator, PartText, PartTexts, Pattern, PatternNode,
+    Placed, ReactionText, Relation, Sequence, SourceText, Statement, Step, Unary, Variable,
 };
 pub use sources::{NESTING_LIMIT, SOURCE_LIMIT, parse};

@@ -4,6 +4,7 @@ ghost use Rattle.std.specs.Prelude.{◌≡◌, ◌<◌, codes};
 ghost use Rattle.bb_basis.specs.Results.{Gives};
 ghost use Rattle.bb_lang_token.specs.declared.fault.LangFault.TheVariants.{Memory as OutOfMemory};
 ghost use Rattle.bb_lang.specs.Repeats.{as_many};
+ghost use Rattle.bb_lang.specs.Statements.{block};
 ghost use Rattle.bb_lang.specs.Sources.{part, part_if, reaction, reaction_if, parts, act, source_word, source_name};
 ghost use Rattle.bb_lang.specs.Sources.{header, rating, source, next_source, sources_of};
 
@@ -11,7 +12,7 @@ use crate::clauses::read_clauses;
 use crate::statements::read_block;
 use bb_basis::{Items, Text};
 use bb_lang_token::{LangFault, Parser};
-use bb_lang_tree::{ActText, HeaderText, PartText, PartTexts, ReactionText, SourceText};
+use bb_lang_tree::{ActText, Block, HeaderText, PartText, PartTexts, ReactionText, SourceText};
 use std::alloc::Global;
 
 /// The greatest number of sources.
@@ -23,44 +24,48 @@ pub const NESTING_LIMIT: usize = 64;
 /// How many may still be opened in the bracket of a source.
 pub(crate) const BLOCK_NESTING: usize = NESTING_LIMIT - 1;
 
+// The block of a part, in the bracket of its source.
+fn read_part_block(parser: &mut Parser<'_>) -> Result<Block, LangFault>
+    ensures { Gives OutOfMemory (λ b. (b, parser.new.state)) result (block BLOCK_NESTING parser.old.state) }
+{
+    parser.set_nesting(BLOCK_NESTING);
+    read_block(parser)
+}
+
 // A part that is a block, at its word.
 #[tactic(auto, unfolding(crate::specs::Sources::part))]
-fn read_part(alloc: Global, parser: &mut Parser<'_>) -> Result<PartText, LangFault>
-    ensures { Gives OutOfMemory (λ p. (p, parser.new)) result (part parser.old) }
+fn read_part(parser: &mut Parser<'_>) -> Result<PartText, LangFault>
+    ensures { Gives OutOfMemory (λ p. (p, parser.new.state)) result (part parser.old.state) }
 {
     let place = parser.place();
     parser.advance()?;
-    let block = read_block(alloc, parser, BLOCK_NESTING)?;
+    let block = read_part_block(parser)?;
     Ok(PartText { place, block })
 }
 
 // A part that is a block, if it comes.
 #[tactic(auto, unfolding(crate::specs::Sources::part_if))]
-fn read_part_if(
-    alloc: Global,
-    parser: &mut Parser<'_>,
-    word: &str,
-) -> Result<Option<PartText>, LangFault>
-    ensures { Gives OutOfMemory (λ p. (p, parser.new)) result (part_if word.now parser.old) }
+fn read_part_if(parser: &mut Parser<'_>, word: &str) -> Result<Option<PartText>, LangFault>
+    ensures { Gives OutOfMemory (λ p. (p, parser.new.state)) result (part_if word.now parser.old.state) }
 {
     if !parser.at(word) {
         return Ok(None);
     }
-    Ok(Some(read_part(alloc, parser)?))
+    Ok(Some(read_part(parser)?))
 }
 
 // A reaction, at its word.
 #[tactic(auto, unfolding(crate::specs::Sources::reaction))]
-fn read_reaction(alloc: Global, parser: &mut Parser<'_>) -> Result<ReactionText, LangFault>
-    ensures { Gives OutOfMemory (λ r. (r, parser.new)) result (reaction parser.old) }
+fn read_reaction(parser: &mut Parser<'_>) -> Result<ReactionText, LangFault>
+    ensures { Gives OutOfMemory (λ r. (r, parser.new.state)) result (reaction parser.old.state) }
 {
     let place = parser.place();
     parser.advance()?;
     let on = parser.place();
     parser.skip("on")?;
-    let class = parser.read_name(alloc)?;
-    let clauses = read_clauses(alloc, parser)?;
-    let block = read_block(alloc, parser, BLOCK_NESTING)?;
+    let class = parser.read_name()?;
+    let clauses = read_clauses(parser)?;
+    let block = read_part_block(parser)?;
     Ok(ReactionText {
         place,
         on,
@@ -72,28 +77,24 @@ fn read_reaction(alloc: Global, parser: &mut Parser<'_>) -> Result<ReactionText,
 
 // A reaction, if it comes.
 #[tactic(auto, unfolding(crate::specs::Sources::reaction_if))]
-fn read_reaction_if(
-    alloc: Global,
-    parser: &mut Parser<'_>,
-    word: &str,
-) -> Result<Option<ReactionText>, LangFault>
-    ensures { Gives OutOfMemory (λ r. (r, parser.new)) result (reaction_if word.now parser.old) }
+fn read_reaction_if(parser: &mut Parser<'_>, word: &str) -> Result<Option<ReactionText>, LangFault>
+    ensures { Gives OutOfMemory (λ r. (r, parser.new.state)) result (reaction_if word.now parser.old.state) }
 {
     if !parser.at(word) {
         return Ok(None);
     }
-    Ok(Some(read_reaction(alloc, parser)?))
+    Ok(Some(read_reaction(parser)?))
 }
 
 // The parts besides the act.
 #[tactic(auto, unfolding(crate::specs::Sources::parts))]
-fn read_parts(alloc: Global, parser: &mut Parser<'_>) -> Result<PartTexts, LangFault>
-    ensures { Gives OutOfMemory (λ p. (p, parser.new)) result (parts parser.old) }
+fn read_parts(parser: &mut Parser<'_>) -> Result<PartTexts, LangFault>
+    ensures { Gives OutOfMemory (λ p. (p, parser.new.state)) result (parts parser.old.state) }
 {
-    let require = read_part_if(alloc, parser, "require")?;
-    let obviate = read_reaction_if(alloc, parser, "obviate")?;
-    let retrigger = read_reaction_if(alloc, parser, "retrigger")?;
-    let revalidate = read_part_if(alloc, parser, "revalidate")?;
+    let require = read_part_if(parser, "require")?;
+    let obviate = read_reaction_if(parser, "obviate")?;
+    let retrigger = read_reaction_if(parser, "retrigger")?;
+    let revalidate = read_part_if(parser, "revalidate")?;
     Ok(PartTexts {
         require,
         obviate,
@@ -104,11 +105,11 @@ fn read_parts(alloc: Global, parser: &mut Parser<'_>) -> Result<PartTexts, LangF
 
 // What an activation does.
 #[tactic(auto, unfolding(crate::specs::Sources::act))]
-fn read_act(alloc: Global, parser: &mut Parser<'_>) -> Result<ActText, LangFault>
-    ensures { Gives OutOfMemory (λ a. (a, parser.new)) result (act parser.old) }
+fn read_act(parser: &mut Parser<'_>) -> Result<ActText, LangFault>
+    ensures { Gives OutOfMemory (λ a. (a, parser.new.state)) result (act parser.old.state) }
 {
     if parser.at("do") {
-        return Ok(ActText::Do(read_part(alloc, parser)?));
+        return Ok(ActText::Do(read_part(parser)?));
     }
     parser.skip("native")?;
     parser.skip(";")?;
@@ -118,7 +119,7 @@ fn read_act(alloc: Global, parser: &mut Parser<'_>) -> Result<ActText, LangFault
 // The word `source`.
 #[tactic(auto, unfolding(crate::specs::Sources::source_word))]
 fn read_source_word(parser: &mut Parser<'_>) -> Result<(), LangFault>
-    ensures { Gives OutOfMemory (λ _. parser.new) result (source_word parser.old) }
+    ensures { Gives OutOfMemory (λ _. parser.new.state) result (source_word parser.old.state) }
 {
     let place = parser.place();
     if !parser.at("source") {
@@ -132,37 +133,37 @@ fn read_source_word(parser: &mut Parser<'_>) -> Result<(), LangFault>
 
 // The name of a source.
 #[tactic(auto, unfolding(crate::specs::Sources::source_name))]
-fn read_source_name(alloc: Global, parser: &mut Parser<'_>) -> Result<Text, LangFault>
-    ensures { Gives OutOfMemory (λ t. (t, parser.new)) result (source_name parser.old) }
+fn read_source_name(parser: &mut Parser<'_>) -> Result<Text, LangFault>
+    ensures { Gives OutOfMemory (λ t. (t, parser.new.state)) result (source_name parser.old.state) }
 {
-    let name = parser.name_at(alloc)?;
+    let name = parser.name_at()?;
     if parser.has_source(name.as_str()) {
         return Err(LangFault::Twice {
             place: parser.place(),
         });
     }
-    parser.add_source(alloc, name.as_str())?;
+    parser.add_source(name.as_str())?;
     parser.advance()?;
     Ok(name)
 }
 
 // The name and the class of a source.
 #[tactic(auto, unfolding(crate::specs::Sources::header))]
-fn read_header(alloc: Global, parser: &mut Parser<'_>) -> Result<HeaderText, LangFault>
-    ensures { Gives OutOfMemory (λ h. (h, parser.new)) result (header parser.old) }
+fn read_header(parser: &mut Parser<'_>) -> Result<HeaderText, LangFault>
+    ensures { Gives OutOfMemory (λ h. (h, parser.new.state)) result (header parser.old.state) }
 {
     read_source_word(parser)?;
-    let name = read_source_name(alloc, parser)?;
+    let name = read_source_name(parser)?;
     let on = parser.place();
     parser.skip("on")?;
-    let class = parser.read_name(alloc)?;
+    let class = parser.read_name()?;
     Ok(HeaderText { name, on, class })
 }
 
 // The base rating.
 #[tactic(auto, unfolding(crate::specs::Sources::rating))]
 fn read_rating(parser: &mut Parser<'_>) -> Result<i64, LangFault>
-    ensures { Gives OutOfMemory (λ n. (n, parser.new)) result (rating parser.old) }
+    ensures { Gives OutOfMemory (λ n. (n, parser.new.state)) result (rating parser.old.state) }
 {
     parser.skip("rate")?;
     let rate = parser.read_int()?;
@@ -172,15 +173,15 @@ fn read_rating(parser: &mut Parser<'_>) -> Result<i64, LangFault>
 
 // A source.
 #[tactic(auto, unfolding(crate::specs::Sources::source))]
-fn read_source(alloc: Global, parser: &mut Parser<'_>) -> Result<SourceText, LangFault>
-    ensures { Gives OutOfMemory (λ s. (s, parser.new)) result (source parser.old) }
+fn read_source(parser: &mut Parser<'_>) -> Result<SourceText, LangFault>
+    ensures { Gives OutOfMemory (λ s. (s, parser.new.state)) result (source parser.old.state) }
 {
-    let header = read_header(alloc, parser)?;
+    let header = read_header(parser)?;
     parser.skip("{")?;
-    let clauses = read_clauses(alloc, parser)?;
+    let clauses = read_clauses(parser)?;
     let rate = read_rating(parser)?;
-    let parts = read_parts(alloc, parser)?;
-    let act = read_act(alloc, parser)?;
+    let parts = read_parts(parser)?;
+    let act = read_act(parser)?;
     parser.skip("}")?;
     Ok(SourceText {
         header,
@@ -193,23 +194,23 @@ fn read_source(alloc: Global, parser: &mut Parser<'_>) -> Result<SourceText, Lan
 
 // One more source, if the text does not end.
 #[tactic(auto, unfolding(crate::specs::Sources::next_source))]
-fn read_next_source(alloc: Global, parser: &mut Parser<'_>) -> Result<Option<SourceText>, LangFault>
-    ensures { Gives OutOfMemory (λ o. (o, parser.new)) result (next_source parser.old) }
+fn read_next_source(parser: &mut Parser<'_>) -> Result<Option<SourceText>, LangFault>
+    ensures { Gives OutOfMemory (λ o. (o, parser.new.state)) result (next_source parser.old.state) }
 {
     if parser.kind().is_end() {
         return Ok(None);
     }
-    Ok(Some(read_source(alloc, parser)?))
+    Ok(Some(read_source(parser)?))
 }
 
 // As many sources as come.
 #[tactic(auto, unfolding(crate::specs::Repeats::as_many))]
-fn read_sources(alloc: Global, parser: &mut Parser<'_>) -> Result<Vec<SourceText>, LangFault>
-    ensures { Gives OutOfMemory (λ v. (v.items, parser.new)) result (as_many next_source parser.old) }
+fn read_sources(parser: &mut Parser<'_>) -> Result<Vec<SourceText>, LangFault>
+    ensures { Gives OutOfMemory (λ v. (v.items, parser.new.state)) result (as_many next_source parser.old.state) }
 {
-    let mut sources = Vec::new(alloc);
+    let mut sources = Vec::new(parser.alloc());
     for _turn in 0..parser.left() {
-        let Some(source) = read_next_source(alloc, parser)? else {
+        let Some(source) = read_next_source(parser)? else {
             return Ok(sources);
         };
         sources.push(source)?;
@@ -225,5 +226,5 @@ pub fn parse(alloc: Global, text: &str) -> Result<Vec<SourceText>, LangFault>
 {
     let mut parser = Parser::new(alloc, text.as_bytes());
     parser.advance()?;
-    read_sources(alloc, &mut parser)
+    read_sources(&mut parser)
 }

@@ -1,6 +1,6 @@
 //! Statements and blocks, as they are read: a function for each production. The reader of sources calls `read_block`.
 
-ghost use Rattle.std.specs.Prelude.{◌≡◌, ◌<◌, Some, None};
+ghost use Rattle.std.specs.Prelude.{◌≡◌, ◌<◌, Some, None, OnOk};
 ghost use Rattle.bb_basis.specs.Results.{Gives};
 ghost use Rattle.bb_lang_token.specs.declared.fault.LangFault.TheVariants.{Memory as OutOfMemory};
 ghost use Rattle.bb_lang.specs.Repeats.{as_many};
@@ -9,185 +9,168 @@ ghost use Rattle.bb_lang.specs.Statements.{next_statement, block};
 
 use crate::actions::read_action;
 use crate::atoms::read_variable;
-use crate::expressions::{open, read_expr, read_sequence};
+use crate::expressions::{close, open, read_expr, read_sequence};
 use bb_basis::Text;
 use bb_lang_token::{LangFault, Parser};
-use bb_lang_tree::{Binding, Block, Placed, Statement, Variable};
-use std::alloc::Global;
+use bb_lang_tree::{Binding, Block, Branches, ForLoop, Placed, Statement, Variable};
 
 // A statement without blocks.
 #[tactic(auto, unfolding(crate::specs::Statements::plain))]
-fn read_plain(
-    alloc: Global,
-    parser: &mut Parser<'_>,
-    nesting: usize,
-) -> Result<Statement, LangFault>
-    ensures { Gives OutOfMemory (λ s. (s, parser.new)) result (plain nesting parser.old) }
+fn read_plain(parser: &mut Parser<'_>) -> Result<Statement, LangFault>
+    ensures read { Gives OutOfMemory (λ s. (s, parser.new.state)) result (plain parser.old.nesting parser.old.state) }
+    ensures nesting { OnOk result (parser.new.nesting ≡ parser.old.nesting) }
 {
-    let action = read_action(alloc, parser, nesting)?;
+    let action = read_action(parser)?;
     parser.skip(";")?;
     Ok(Statement::Action(action))
 }
 
 // The test of a `with`.
 #[tactic(auto, unfolding(crate::specs::Statements::bound))]
-fn read_bound(
-    alloc: Global,
-    parser: &mut Parser<'_>,
-    name: Text,
-    unit: Variable,
-) -> Result<Binding, LangFault>
-    ensures { Gives OutOfMemory (λ b. (b, parser.new)) result (bound name unit parser.old) }
+fn read_bound(parser: &mut Parser<'_>, name: Text, unit: Variable) -> Result<Binding, LangFault>
+    ensures read { Gives OutOfMemory (λ b. (b, parser.new.state)) result (bound name unit parser.old.state) }
+    ensures nesting { OnOk result (parser.new.nesting ≡ parser.old.nesting) }
 {
     if parser.at("as") {
         parser.advance()?;
-        let class = parser.read_name(alloc)?;
+        let class = parser.read_name()?;
         return Ok(Binding::As { name, unit, class });
     }
     parser.skip(".")?;
-    let slot = parser.read_member(alloc)?;
+    let slot = parser.read_member()?;
     Ok(Binding::Linked { name, unit, slot })
 }
 
 // What a `with` declares.
 #[tactic(auto, unfolding(crate::specs::Statements::binding))]
-fn read_binding(alloc: Global, parser: &mut Parser<'_>) -> Result<Binding, LangFault>
-    ensures { Gives OutOfMemory (λ b. (b, parser.new)) result (binding parser.old) }
+fn read_binding(parser: &mut Parser<'_>) -> Result<Binding, LangFault>
+    ensures read { Gives OutOfMemory (λ b. (b, parser.new.state)) result (binding parser.old.state) }
+    ensures nesting { OnOk result (parser.new.nesting ≡ parser.old.nesting) }
 {
-    let name = parser.read_declared(alloc)?;
+    let name = parser.read_declared()?;
     parser.skip("=")?;
-    let unit = read_variable(alloc, parser)?;
-    read_bound(alloc, parser, name, unit)
+    let unit = read_variable(parser)?;
+    read_bound(parser, name, unit)
 }
 
 // The block of an `else`, if one comes.
 #[cycle(statements)]
 #[tactic(auto, unfolding(crate::specs::Statements::otherwise_in))]
-fn read_otherwise(
-    alloc: Global,
-    parser: &mut Parser<'_>,
-    nesting: usize,
-) -> Result<Option<Block>, LangFault>
-    ensures { Gives OutOfMemory (λ o. (o, parser.new)) result (otherwise_in (block nesting) parser.old) }
+fn read_otherwise(parser: &mut Parser<'_>) -> Result<Option<Block>, LangFault>
+    ensures read { Gives OutOfMemory (λ o. (o, parser.new.state)) result
+        (otherwise_in (block parser.old.nesting) parser.old.state) }
+    ensures nesting { OnOk result (parser.new.nesting ≡ parser.old.nesting) }
 {
     if !parser.at("else") {
         return Ok(None);
     }
     parser.advance()?;
-    Ok(Some(read_block(alloc, parser, nesting)?))
+    Ok(Some(read_block(parser)?))
 }
 
 // `if`
 #[cycle(statements)]
 #[tactic(auto, unfolding(crate::specs::Statements::if_in))]
-fn read_if(alloc: Global, parser: &mut Parser<'_>, nesting: usize) -> Result<Statement, LangFault>
-    ensures { Gives OutOfMemory (λ s. (s, parser.new)) result (if_in nesting (block nesting) parser.old) }
+fn read_if(parser: &mut Parser<'_>) -> Result<Statement, LangFault>
+    ensures read { Gives OutOfMemory (λ s. (s, parser.new.state)) result
+        (if_in parser.old.nesting (block parser.old.nesting) parser.old.state) }
+    ensures nesting { OnOk result (parser.new.nesting ≡ parser.old.nesting) }
 {
     parser.advance()?;
-    let test = read_expr(alloc, parser, nesting)?;
-    let then = read_block(alloc, parser, nesting)?;
-    let otherwise = read_otherwise(alloc, parser, nesting)?;
-    Ok(Statement::If {
-        test,
-        then,
-        otherwise,
-    })
+    let test = read_expr(parser)?;
+    let then = read_block(parser)?;
+    let otherwise = read_otherwise(parser)?;
+    let branches = Branches { then, otherwise };
+    Ok(Statement::If { test, branches })
 }
 
 // `with`
 #[cycle(statements)]
 #[tactic(auto, unfolding(crate::specs::Statements::with_in))]
-fn read_with(alloc: Global, parser: &mut Parser<'_>, nesting: usize) -> Result<Statement, LangFault>
-    ensures { Gives OutOfMemory (λ s. (s, parser.new)) result (with_in (block nesting) parser.old) }
+fn read_with(parser: &mut Parser<'_>) -> Result<Statement, LangFault>
+    ensures read { Gives OutOfMemory (λ s. (s, parser.new.state)) result
+        (with_in (block parser.old.nesting) parser.old.state) }
+    ensures nesting { OnOk result (parser.new.nesting ≡ parser.old.nesting) }
 {
     let scope = parser.scope_len();
     parser.advance()?;
-    let binding = read_binding(alloc, parser)?;
-    let then = read_block(alloc, parser, nesting)?;
+    let binding = read_binding(parser)?;
+    let then = read_block(parser)?;
     parser.leave_scope(scope);
-    let otherwise = read_otherwise(alloc, parser, nesting)?;
-    Ok(Statement::With {
-        binding,
-        then,
-        otherwise,
-    })
+    let otherwise = read_otherwise(parser)?;
+    let branches = Branches { then, otherwise };
+    Ok(Statement::With { binding, branches })
 }
 
 // `for`
 #[cycle(statements)]
 #[tactic(auto, unfolding(crate::specs::Statements::for_in))]
-fn read_for(alloc: Global, parser: &mut Parser<'_>, nesting: usize) -> Result<Statement, LangFault>
-    ensures { Gives OutOfMemory (λ s. (s, parser.new)) result (for_in nesting (block nesting) parser.old) }
+fn read_for(parser: &mut Parser<'_>) -> Result<Statement, LangFault>
+    ensures read { Gives OutOfMemory (λ s. (s, parser.new.state)) result
+        (for_in parser.old.nesting (block parser.old.nesting) parser.old.state) }
+    ensures nesting { OnOk result (parser.new.nesting ≡ parser.old.nesting) }
 {
     let scope = parser.scope_len();
     parser.advance()?;
-    let name = parser.read_declared(alloc)?;
+    let name = parser.read_declared()?;
     parser.skip("in")?;
-    let sequence = read_sequence(alloc, parser, nesting)?;
-    let body = read_block(alloc, parser, nesting)?;
+    let sequence = read_sequence(parser)?;
+    let body = read_block(parser)?;
     parser.leave_scope(scope);
-    Ok(Statement::For {
+    Ok(Statement::For(ForLoop {
         name,
         sequence,
         body,
-    })
+    }))
 }
 
 // A statement.
 #[cycle(statements)]
 #[tactic(auto, unfolding(crate::specs::Statements::statement_in))]
-fn read_statement(
-    alloc: Global,
-    parser: &mut Parser<'_>,
-    nesting: usize,
-) -> Result<Statement, LangFault>
-    ensures { Gives OutOfMemory (λ s. (s, parser.new)) result (statement_in nesting (block nesting) parser.old) }
+fn read_statement(parser: &mut Parser<'_>) -> Result<Statement, LangFault>
+    ensures read { Gives OutOfMemory (λ s. (s, parser.new.state)) result
+        (statement_in parser.old.nesting (block parser.old.nesting) parser.old.state) }
+    ensures nesting { OnOk result (parser.new.nesting ≡ parser.old.nesting) }
 {
     if parser.at("if") {
-        return read_if(alloc, parser, nesting);
+        return read_if(parser);
     }
     if parser.at("with") {
-        return read_with(alloc, parser, nesting);
+        return read_with(parser);
     }
     if parser.at("for") {
-        return read_for(alloc, parser, nesting);
+        return read_for(parser);
     }
-    read_plain(alloc, parser, nesting)
+    read_plain(parser)
 }
 
 // One more statement of a block, if one comes.
 #[cycle(statements)]
 #[tactic(auto, unfolding(crate::specs::Statements::next_statement))]
-fn read_next_statement(
-    alloc: Global,
-    parser: &mut Parser<'_>,
-    nesting: usize,
-) -> Result<Option<Placed>, LangFault>
-    ensures { Gives OutOfMemory (λ o. (o, parser.new)) result
-        (next_statement nesting (block nesting) parser.old) }
+fn read_next_statement(parser: &mut Parser<'_>) -> Result<Option<Placed>, LangFault>
+    ensures read { Gives OutOfMemory (λ o. (o, parser.new.state)) result
+        (next_statement parser.old.nesting (block parser.old.nesting) parser.old.state) }
+    ensures nesting { OnOk result (parser.new.nesting ≡ parser.old.nesting) }
 {
     if parser.at("}") {
         return Ok(None);
     }
     let place = parser.place();
-    let statement = read_statement(alloc, parser, nesting)?;
+    let statement = read_statement(parser)?;
     Ok(Some(Placed { place, statement }))
 }
 
 // As many statements as come.
 #[cycle(statements)]
 #[tactic(auto, unfolding(crate::specs::Repeats::as_many))]
-fn read_statements(
-    alloc: Global,
-    parser: &mut Parser<'_>,
-    nesting: usize,
-) -> Result<Vec<Placed>, LangFault>
-    ensures { Gives OutOfMemory (λ v. (v.items, parser.new)) result
-        (as_many (next_statement nesting (block nesting)) parser.old) }
+fn read_statements(parser: &mut Parser<'_>) -> Result<Vec<Placed>, LangFault>
+    ensures read { Gives OutOfMemory (λ v. (v.items, parser.new.state)) result
+        (as_many (next_statement parser.old.nesting (block parser.old.nesting)) parser.old.state) }
+    ensures nesting { OnOk result (parser.new.nesting ≡ parser.old.nesting) }
 {
-    let mut statements = Vec::new(alloc);
+    let mut statements = Vec::new(parser.alloc());
     for _turn in 0..parser.left() {
-        let Some(statement) = read_next_statement(alloc, parser, nesting)? else {
+        let Some(statement) = read_next_statement(parser)? else {
             return Ok(statements);
         };
         statements.push(statement)?;
@@ -197,17 +180,14 @@ fn read_statements(
 
 /// A block: the names that are declared in it are in scope up to its end.
 #[cycle(statements)]
-pub(crate) fn read_block(
-    alloc: Global,
-    parser: &mut Parser<'_>,
-    nesting: usize,
-) -> Result<Block, LangFault>
-    ensures { Gives OutOfMemory (λ b. (b, parser.new)) result (block nesting parser.old) }
+pub(crate) fn read_block(parser: &mut Parser<'_>) -> Result<Block, LangFault>
+    ensures read { Gives OutOfMemory (λ b. (b, parser.new.state)) result (block parser.old.nesting parser.old.state) }
+    ensures nesting { OnOk result (parser.new.nesting ≡ parser.old.nesting) }
 {
     let scope = parser.scope_len();
-    let nesting = open(parser, "{", nesting)?;
-    let statements = read_statements(alloc, parser, nesting)?;
-    parser.skip("}")?;
+    let outer = open(parser, "{")?;
+    let statements = read_statements(parser)?;
+    close(parser, "}", outer)?;
     parser.leave_scope(scope);
     Ok(Block::new(statements))
 }

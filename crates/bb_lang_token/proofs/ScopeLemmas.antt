@@ -80,12 +80,6 @@ forgotten names name found new scope updates =
       distinct = rest.0;
     }
 
-pub take_take : {X : Type 0} (n m : ℕ) (xs : List X) → n ≤ m → take n (take m xs) ≡ take n xs
-take_take zero m xs le = refl
-take_take (suc n) zero xs le = absurd (omega arith)
-take_take (suc n) (suc m) [] le = refl
-take_take (suc n) (suc m) (x ∷ xs) le = ap (λ l. x ∷ l) (take_take n m xs (omega arith))
-
 -- with one more name, of the strings that the code keeps
 pub declared_strings : {Y : Type 0} (items new_items : List (String Y)) (listed key : String Y) (name : List ℕ) (found new : BTreeSet (String Y)) → IsScope (map string_bytes items) found → list_any (bytes_eq name) (map string_bytes items) ≡ false
     → string_bytes listed ≡ name → string_bytes key ≡ name → new_items ≡ items ++ listed ∷ [] → UpdatesBy string_cmp (λ k. slice_cmp nat_cmp (string_bytes key) (string_bytes k)) found new true → IsScope (map string_bytes new_items) new

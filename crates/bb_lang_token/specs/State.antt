@@ -60,3 +60,10 @@ skip word s = if at word s then next s else Err (Token s.place)
 -- how many bytes are left, with those of the token
 abbrev pub left : State → ℕ
 left s = length s.token + length s.rest
+
+-- what a parser goes by
+pub record Parsing : Type 0 where
+  -- what is read
+  pub state : State
+  -- how many brackets may still be opened
+  pub nesting : ℕ

@@ -1,6 +1,6 @@
 //! What numbers and text constants stand for. Readers of the grammar call these where one has to come.
 
-ghost use Rattle.std.specs.Prelude.{◌≡◌, ◌≤◌, ◌<◌, ◌^◌, pos, neg_ℤ, nat_le, drop, Some, None, if◌then◌else◌, false, IfOk, IfSome};
+ghost use Rattle.std.specs.Prelude.{◌≡◌, ◌≤◌, ◌<◌, ◌^◌, pos, neg_ℤ, nat_le, drop, Some, None, if◌then◌else◌, false, IfOk, IfSome, OnOk};
 ghost use Rattle.std.specs.Str.Lossy.{utf8_lossy};
 ghost use Rattle.bb_basis.specs.Results.{Gives};
 ghost use Rattle.bb_lang_token.specs.declared.fault.LangFault.TheVariants.{Memory as OutOfMemory};
@@ -95,7 +95,7 @@ impl<'a> Parser<'a> {
     // INT, of a number up to a limit.
     #[tactic(auto, unfolding(crate::specs::Literals::number_at))]
     fn number_at(&self, limit: u64) -> Result<u64, LangFault>
-        ensures number { Gives OutOfMemory (λ n. n) result (number_at limit self.now) }
+        ensures number { Gives OutOfMemory (λ n. n) result (number_at limit self.now.state) }
         ensures within { IfOk result (λ n. n ≤ limit) }
     {
         let place = self.place();
@@ -108,7 +108,8 @@ impl<'a> Parser<'a> {
     // INT, of a number up to a limit.
     #[tactic(auto, unfolding(crate::specs::Literals::number))]
     fn read_number(&mut self, limit: u64) -> Result<u64, LangFault>
-        ensures number { Gives OutOfMemory (λ n. (n, self.new)) result (number limit self.old) }
+        ensures read { Gives OutOfMemory (λ n. (n, self.new.state)) result (number limit self.old.state) }
+        ensures nesting { OnOk result (self.new.nesting ≡ self.old.nesting) }
         ensures within { IfOk result (λ n. n ≤ limit) }
     {
         let number = self.number_at(limit)?;
@@ -119,7 +120,8 @@ impl<'a> Parser<'a> {
     /// A whole number, which may have a `-`.
     #[tactic(auto, unfolding(crate::specs::Literals::int))]
     pub fn read_int(&mut self) -> Result<i64, LangFault>
-        ensures { Gives OutOfMemory (λ n. (n, self.new)) result (int self.old) }
+        ensures read { Gives OutOfMemory (λ n. (n, self.new.state)) result (int self.old.state) }
+        ensures nesting { OnOk result (self.new.nesting ≡ self.old.nesting) }
     {
         if self.at("-") {
             self.advance()?;
@@ -133,7 +135,8 @@ impl<'a> Parser<'a> {
     /// INT as a divisor.
     #[tactic(auto, unfolding(crate::specs::Literals::divisor))]
     pub fn read_divisor(&mut self) -> Result<i64, LangFault>
-        ensures { Gives OutOfMemory (λ n. (n, self.new)) result (divisor self.old) }
+        ensures read { Gives OutOfMemory (λ n. (n, self.new.state)) result (divisor self.old.state) }
+        ensures nesting { OnOk result (self.new.nesting ≡ self.old.nesting) }
     {
         let number = self.number_at((1 << 63) - 1)?;
         if number == 0 {
@@ -147,26 +150,27 @@ impl<'a> Parser<'a> {
 
     // What a text constant stands for.
     #[tactic(auto, unfolding(crate::specs::Literals::text_at))]
-    fn text_at(&self, alloc: Global) -> Result<Text, LangFault>
-        ensures { Gives OutOfMemory (λ t. t) result (text_at self.now) }
+    fn text_at(&self) -> Result<Text, LangFault>
+        ensures { Gives OutOfMemory (λ t. t) result (text_at self.now.state) }
     {
         let place = self.place();
         if !self.kind().is_text() {
             return Err(LangFault::Token { place });
         }
-        let bytes = text_bytes(alloc, behind_first(self.token()))?;
+        let bytes = text_bytes(self.alloc(), behind_first(self.token()))?;
         if bytes.len() > TEXT_LIMIT {
             return Err(LangFault::Limit { place });
         }
-        Ok(Text::new(alloc, String::from_utf8_lossy(alloc, &bytes)?)?)
+        Ok(Text::new(self.alloc(), String::from_utf8_lossy(self.alloc(), &bytes)?)?)
     }
 
     /// A text constant.
     #[tactic(auto, unfolding(crate::specs::Literals::text))]
-    pub fn read_text(&mut self, alloc: Global) -> Result<Text, LangFault>
-        ensures { Gives OutOfMemory (λ t. (t, self.new)) result (text self.old) }
+    pub fn read_text(&mut self) -> Result<Text, LangFault>
+        ensures read { Gives OutOfMemory (λ t. (t, self.new.state)) result (text self.old.state) }
+        ensures nesting { OnOk result (self.new.nesting ≡ self.old.nesting) }
     {
-        let text = self.text_at(alloc)?;
+        let text = self.text_at()?;
         self.advance()?;
         Ok(text)
     }

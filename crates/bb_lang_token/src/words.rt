@@ -1,6 +1,6 @@
 //! Names, and the words that are none. Readers of the grammar call these where a name has to come.
 
-ghost use Rattle.std.specs.Prelude.{◌≡◌, true, IfOk};
+ghost use Rattle.std.specs.Prelude.{◌≡◌, true, IfOk, OnOk};
 ghost use Rattle.std.specs.List.{list_all};
 ghost use Rattle.bb_basis.specs.Names.{is_name, is_name_byte, starts_with_letter};
 ghost use Rattle.bb_basis.specs.Results.{Gives};
@@ -58,8 +58,8 @@ fn name_text(alloc: Global, bytes: &[u8]) -> Result<Text, AllocError>
 impl<'a> Parser<'a> {
     // The name that the token is after a `.`, where each word is a name.
     #[tactic(auto, unfolding(crate::specs::Words::member_at))]
-    fn member_at(&self, alloc: Global) -> Result<Text, LangFault>
-        ensures { Gives OutOfMemory (λ t. t) result (member_at self.now) }
+    fn member_at(&self) -> Result<Text, LangFault>
+        ensures { Gives OutOfMemory (λ t. t) result (member_at self.now.state) }
     {
         let place = self.place();
         if !self.kind().is_word() {
@@ -69,54 +69,57 @@ impl<'a> Parser<'a> {
         if !is_name(token) {
             return Err(LangFault::Limit { place });
         }
-        Ok(name_text(alloc, token)?)
+        Ok(name_text(self.alloc(), token)?)
     }
 
     /// The name that the token is.
     #[tactic(auto, unfolding(crate::specs::Words::name_at))]
-    pub fn name_at(&self, alloc: Global) -> Result<Text, LangFault>
-        ensures { Gives OutOfMemory (λ t. t) result (name_at self.now) }
+    pub fn name_at(&self) -> Result<Text, LangFault>
+        ensures { Gives OutOfMemory (λ t. t) result (name_at self.now.state) }
     {
         if is_reserved(self.token()) {
             return Err(LangFault::Token {
                 place: self.place(),
             });
         }
-        self.member_at(alloc)
+        self.member_at()
     }
 
     /// A name after a `.`.
     #[tactic(auto, unfolding(crate::specs::Words::member))]
-    pub fn read_member(&mut self, alloc: Global) -> Result<Text, LangFault>
-        ensures { Gives OutOfMemory (λ t. (t, self.new)) result (member self.old) }
+    pub fn read_member(&mut self) -> Result<Text, LangFault>
+        ensures read { Gives OutOfMemory (λ t. (t, self.new.state)) result (member self.old.state) }
+        ensures nesting { OnOk result (self.new.nesting ≡ self.old.nesting) }
     {
-        let member = self.member_at(alloc)?;
+        let member = self.member_at()?;
         self.advance()?;
         Ok(member)
     }
 
     /// NAME.
     #[tactic(auto, unfolding(crate::specs::Words::name))]
-    pub fn read_name(&mut self, alloc: Global) -> Result<Text, LangFault>
-        ensures { Gives OutOfMemory (λ t. (t, self.new)) result (name self.old) }
+    pub fn read_name(&mut self) -> Result<Text, LangFault>
+        ensures read { Gives OutOfMemory (λ t. (t, self.new.state)) result (name self.old.state) }
+        ensures nesting { OnOk result (self.new.nesting ≡ self.old.nesting) }
     {
-        let name = self.name_at(alloc)?;
+        let name = self.name_at()?;
         self.advance()?;
         Ok(name)
     }
 
     /// NAME where it is declared: from now on it is in scope.
     #[tactic(auto, unfolding(crate::specs::Words::declared))]
-    pub fn read_declared(&mut self, alloc: Global) -> Result<Text, LangFault>
-        ensures { Gives OutOfMemory (λ t. (t, self.new)) result (declared self.old) }
+    pub fn read_declared(&mut self) -> Result<Text, LangFault>
+        ensures read { Gives OutOfMemory (λ t. (t, self.new.state)) result (declared self.old.state) }
+        ensures nesting { OnOk result (self.new.nesting ≡ self.old.nesting) }
     {
-        let name = self.name_at(alloc)?;
+        let name = self.name_at()?;
         if self.in_scope(name.as_str()) {
             return Err(LangFault::Twice {
                 place: self.place(),
             });
         }
-        self.declare(alloc, name.as_str())?;
+        self.declare(name.as_str())?;
         self.advance()?;
         Ok(name)
     }

@@ -11,9 +11,9 @@ otherwise_of (Some b) = otherwise b
 
 abbrev pub statement_of : Statement → StatementTree
 statement_of (Action a) = action a
-statement_of (If test then other) = if_of test then (otherwise_of other)
-statement_of (With binding then other) = with_of binding then (otherwise_of other)
-statement_of (For name sequence body) = for_of name sequence body
+statement_of (If test branches) = if_of test branches.then (otherwise_of branches.otherwise)
+statement_of (With binding branches) = with_of binding branches.then (otherwise_of branches.otherwise)
+statement_of (For l) = for_of l.name l.sequence l.body
 
 -- the statements, in order
 abbrev pub block_of : List Placed → BlockTree

@@ -107,21 +107,34 @@ pub enum Statement {
     /// `if test { .. } else { .. }`
     If {
         test: Expr,
-        then: Block,
-        otherwise: Option<Block>,
+        branches: Branches,
     },
     /// `with .. { .. } else { .. }`
     With {
         binding: Binding,
-        then: Block,
-        otherwise: Option<Block>,
+        branches: Branches,
     },
     /// `for name in sequence { .. }`
-    For {
-        name: Text,
-        sequence: Sequence,
-        body: Block,
-    },
+    For(ForLoop),
+}
+
+/// The blocks of an `if` or a `with`.
+#[cycle(block)]
+#[derive(Debug, Drop)]
+pub struct Branches {
+    /// Where the test holds.
+    pub then: Block,
+    /// Where it does not, if there is an `else`.
+    pub otherwise: Option<Block>,
+}
+
+/// A block for each unit of a sequence, which has a name in it.
+#[cycle(block)]
+#[derive(Debug, Drop)]
+pub struct ForLoop {
+    pub name: Text,
+    pub sequence: Sequence,
+    pub body: Block,
 }
 
 impl Model for Block {

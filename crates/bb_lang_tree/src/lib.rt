@@ -7,7 +7,7 @@ mod source_text;
 mod tree;
 
 pub use atom::{Atom, Binary, Division, Operator, Relation, Unary, Variable};
-pub use block::{Action, Binding, Block, Placed, Statement};
+pub use block::{Action, Binding, Block, Branches, ForLoop, Placed, Statement};
 pub use source_text::{
     ActText, ChangeText, ClauseText, HeaderText, PartText, PartTexts, ReactionText, SourceText,
 };

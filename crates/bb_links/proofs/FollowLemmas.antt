@@ -6,13 +6,14 @@ use Rattle.std.specs.Ordering.{nat_cmp, is_eq}
 use Rattle.std.specs.BTreeMap.{is_at}
 use Rattle.std.proofs.lemmas.Bool.{eqb-true, eqb-false, eq-eqb}
 use Rattle.std.specs.FinMap.{nat_cmp-IsAntisymmetric}
+use Rattle.bb_basis.proofs.NumberLemmas.{nat_cmp_itself}
 use Rattle.bb_schema.specs.declared.couple.Side.{Side}
 use Rattle.bb_links.specs.declared.partners.Partners.{Partners}
 use Rattle.bb_links.specs.Pairs.{near, far, same_pair}
 use Rattle.bb_links.specs.proving.Partners.{partner_at, pair_under, partner_in, IsPut, IsTaken, Follow}
 use Rattle.bb_links.specs.proving.Stamps.{Rising}
 use Rattle.bb_links.proofs.FitLemmas.{is_same}
-use Rattle.bb_links.proofs.StampLemmas.{Entries, has, stamp_in, above, itself, found_above}
+use Rattle.bb_links.proofs.StampLemmas.{Entries, has, stamp_in, above, found_above}
 use Rattle.bb_links.proofs.RowLemmas.{under_last, equal}
 
 -- ---- the pair under a stamp
@@ -25,7 +26,7 @@ under_found p k (e ∷ es) rising is = at (has p e) refl is (under_found p k es 
     at : (b : Bool) → has p e ≡ b → option_map (λ (f : ℕ × (ℕ × ℕ)). f.0) (cond b (Some e) (find (has p) es)) ≡ Some k → (stamp_in p es ≡ Some k → pair_under es k ≡ Some p) → pair_under (e ∷ es) k ≡ Some p
     at true h is rest =
         let same : e.0 ≡ k = cc in
-        let here : is_eq (nat_cmp k e.0) ≡ true = subst (λ n. is_eq (nat_cmp k n) ≡ true) (sym same) (itself k) in
+        let here : is_eq (nat_cmp k e.0) ≡ true = subst (λ n. is_eq (nat_cmp k n) ≡ true) (sym same) (nat_cmp_itself k) in
         rw here (ap (λ q. Some q) (is_same p e.1 h))
     at false h is rest = rw (above k e.0 (found_above e.0 k (has p) es rising.0 is)) (rest is)
 
@@ -39,7 +40,7 @@ under_put next s pair [] apart = by (is_eq (nat_cmp s next)) refl
 under_put next s pair (e ∷ es) apart = ap (cond (is_eq (nat_cmp s e.0)) (Some e.1)) (under_put next s pair es apart)
 
 under_new : (next : ℕ) (pair : ℕ × ℕ) (es : Entries) → AllByRecursion (λ e. e.0 < next) es → pair_under (es ++ (next, pair) ∷ []) next ≡ Some pair
-under_new next pair [] below = rw (itself next) refl
+under_new next pair [] below = rw (nat_cmp_itself next) refl
 under_new next pair (e ∷ es) below = rw (above next e.0 below.0) (under_new next pair es below.1)
 
 module _ (es : Entries) (p : Partners) (follow : Follow es p) where
@@ -90,7 +91,7 @@ module _ (es : Entries) (p : Partners) (follow : Follow es p) where
         at : (b : Bool) → same_pair (near side pair, stamp) key ≡ b → cond b None (partner_at side p key) ≡ option_and_then (partner_in side key.0) (cond (is_at (nat_cmp stamp) key.1) None (pair_under es key.1))
         at true h =
             subst (λ k. None ≡ option_and_then (partner_in side k.0) (cond (is_at (nat_cmp stamp) k.1) None (pair_under es k.1))) (sym (is_same (near side pair, stamp) key h))
-            (rw (itself stamp) refl)
+            (rw (nat_cmp_itself stamp) refl)
         at false h = old (is_at (nat_cmp stamp) key.1) refl h
 
     -- a pair that was put, and is taken again

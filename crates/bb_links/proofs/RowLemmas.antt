@@ -16,6 +16,7 @@ use Rattle.std.specs.FinMap.Entries.{below_all, same_entries}
 use Rattle.std.proofs.lemmas.Bool.{eqb-true, eq-eqb, ne_eqb, le-ltb, lt-ltb, ltb-true, ltb-false}
 use Rattle.std.proofs.lemmas.List.Kept.{IsStrictlySortedBy-filter}
 use Rattle.std.proofs.lemmas.Map.Entries.{lookup-filter-keys}
+use Rattle.bb_basis.proofs.BoolLemmas.{T_and}
 use Rattle.bb_schema.specs.declared.couple.Side.{Side}
 use Rattle.bb_links.specs.declared.partners.Partners.{Partners}
 use Rattle.bb_links.specs.Pairs.{near, far}
@@ -24,10 +25,6 @@ use Rattle.bb_links.specs.proving.Maps.{pair_cmp}
 use Rattle.bb_links.specs.proving.Partners.{map_of, listed_at, pair_under, partner_in, Follow}
 use Rattle.bb_links.specs.proving.Stamps.{in_order, Rising}
 use Rattle.bb_links.proofs.StampLemmas.{Entries}
-
-both : (a b : Bool) → T a → T b → T (a && b)
-both true b h k = k
-both false b h k = absurd h
 
 pub equal : (o : Ordering) → is_eq o ≡ true → o ≡ Equal
 equal Less h = absurd cc
@@ -72,7 +69,7 @@ module _ (side : Side) (n : ℕ) where
       here = let less : nat_cmp k e.0 ≡ Less = rw (lt-ltb k e.0 all.0) refl in subst (λ o. T (is_lt o)) (sym less) tt
 
       at : (b : Bool) → T (below_all nat_cmp k (seen es)) → T (below_all nat_cmp k (map (λ f. (f.0, far side f.1)) (cond b (e ∷ filter (λ f. near side f.1 == n) es) (filter (λ f. near side f.1 == n) es))))
-      at true later = both _ _ here later
+      at true later = T_and _ _ here later
       at false later = later
 
   seen_rises : (es : Entries) → Rising es → T (is_sorted nat_cmp (seen es))
@@ -80,7 +77,7 @@ module _ (side : Side) (n : ℕ) where
   seen_rises (e ∷ es) rising = at (near side e.1 == n) (seen_rises es rising.1)
     where
       at : (b : Bool) → T (is_sorted nat_cmp (seen es)) → T (is_sorted nat_cmp (map (λ f. (f.0, far side f.1)) (cond b (e ∷ filter (λ f. near side f.1 == n) es) (filter (λ f. near side f.1 == n) es))))
-      at true later = both _ _ (seen_above e.0 es rising.0) later
+      at true later = T_and _ _ (seen_above e.0 es rising.0) later
       at false later = later
 
   find_seen : (es : Entries) → Rising es → (s : ℕ) → find nat_cmp s (seen es) ≡ option_and_then (partner_in side n) (pair_under es s)
@@ -129,12 +126,12 @@ module _ (n : ℕ) where
 
   short_above : (s : ℕ) (es : Keyed) → AreOf es → AllByRecursion (λ k. pair_cmp (n, s) k ≡ Less) (keys_of es) → T (below_all nat_cmp s (short es))
   short_above s [] of all = tt
-  short_above s (e ∷ es) of all = both _ _ (subst (λ o. T (is_lt o)) (sym (sym (by_second s e.0 of.0) ∙ all.0)) tt) (short_above s es of.1 all.1)
+  short_above s (e ∷ es) of all = T_and _ _ (subst (λ o. T (is_lt o)) (sym (sym (by_second s e.0 of.0) ∙ all.0)) tt) (short_above s es of.1 all.1)
 
   short_rises : (es : Keyed) → AreOf es → IsStrictlySortedBy pair_cmp (keys_of es) → T (is_sorted nat_cmp (short es))
   unfolding IsStrictlySortedBy
   short_rises [] of sorted = tt
-  short_rises (e ∷ es) of sorted = both _ _ (short_above e.0.1 es of.1 (subst (λ m. AllByRecursion (λ k. pair_cmp (m, e.0.1) k ≡ Less) (keys_of es)) of.0 sorted.0)) (short_rises es of.1 sorted.1)
+  short_rises (e ∷ es) of sorted = T_and _ _ (short_above e.0.1 es of.1 (subst (λ m. AllByRecursion (λ k. pair_cmp (m, e.0.1) k ≡ Less) (keys_of es)) of.0 sorted.0)) (short_rises es of.1 sorted.1)
 
   find_short : (es : Keyed) → AreOf es → (s : ℕ) → find nat_cmp s (short es) ≡ lookup (is_at (pair_cmp (n, s))) es
   find_short [] of s = refl

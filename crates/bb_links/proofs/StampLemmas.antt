@@ -5,8 +5,9 @@ use Rattle.std.specs.List.{AllByRecursion}
 use Rattle.std.specs.Ordering.{nat_cmp, is_eq}
 use Rattle.std.specs.Map.{remove_entry}
 use Rattle.std.specs.BTreeMap.{BTreeMap, is_at, insert_entry}
-use Rattle.std.proofs.lemmas.Bool.{le-ltb, ne_eqb, eq-eqb, or_parts}
+use Rattle.std.proofs.lemmas.Bool.{le-ltb, ne_eqb, or_parts}
 use Rattle.std.proofs.lemmas.List.{map-append}
+use Rattle.bb_basis.proofs.NumberLemmas.{nat_cmp_itself}
 use Rattle.bb_links.specs.Pairs.{same_pair, has_pair, without_pair}
 use Rattle.bb_links.specs.proving.Maps.{value_at}
 use Rattle.bb_links.specs.proving.Stamps.{in_order, Rising, AreStamped}
@@ -85,11 +86,8 @@ insert_last k p (e ∷ es) below =
     let lt : e.0 < k = below.0 in
     rw (le-ltb k e.0 (omega (arith, lt)), ne_eqb k e.0 (λ same. omega (arith, lt, same))) (ap (λ fs. e ∷ fs) (insert_last k p es below.1))
 
-pub itself : (k : ℕ) → is_eq (nat_cmp k k) ≡ true
-itself k = rw (le-ltb k k (omega arith), eq-eqb k k refl) refl
-
 pub remove_last : (k : ℕ) (p : ℕ × ℕ) (es : Entries) → AllByRecursion (λ e. e.0 < k) es → remove_entry (is_at (nat_cmp k)) (es ++ (k, p) ∷ []) ≡ es
-remove_last k p [] below = rw (itself k) refl
+remove_last k p [] below = rw (nat_cmp_itself k) refl
 remove_last k p (e ∷ es) below = rw (above k e.0 below.0) (ap (λ fs. e ∷ fs) (remove_last k p es below.1))
 
 rising_put : (k : ℕ) (p : ℕ × ℕ) (es : Entries) → Rising es → AllByRecursion (λ e. e.0 < k) es → Rising (es ++ (k, p) ∷ [])
@@ -160,7 +158,7 @@ module _ (p : ℕ × ℕ) (k : ℕ) where
           → in_order (less (e ∷ es)) ≡ without_pair p (in_order (e ∷ es))
       at true h is rest =
           let same : e.0 ≡ k = cc in
-          let here : is_eq (nat_cmp k e.0) ≡ true = subst (λ n. is_eq (nat_cmp k n) ≡ true) (sym same) (itself k) in
+          let here : is_eq (nat_cmp k e.0) ≡ true = subst (λ n. is_eq (nat_cmp k n) ≡ true) (sym same) (nat_cmp_itself k) in
           let more : length (filter (same_pair p) (in_order (e ∷ es))) ≡ length (e.1 ∷ filter (same_pair p) (in_order es)) = rw h refl in
           rw (here, h) (sym (without_absent p (in_order es) (none_there p (in_order es) (omega (arith, once, more)))))
       at false h is rest =
@@ -174,7 +172,7 @@ module _ (p : ℕ × ℕ) (k : ℕ) where
       at : (b : Bool) → has p e ≡ b → option_map (λ (f : ℕ × (ℕ × ℕ)). f.0) (cond b (Some e) (find (has p) es)) ≡ Some k → (stamp_in p es ≡ Some k → find (has q) (less es) ≡ find (has q) es) → find (has q) (less (e ∷ es)) ≡ find (has q) (e ∷ es)
       at true h is rest =
           let same : e.0 ≡ k = cc in
-          let here : is_eq (nat_cmp k e.0) ≡ true = subst (λ n. is_eq (nat_cmp k n) ≡ true) (sym same) (itself k) in
+          let here : is_eq (nat_cmp k e.0) ≡ true = subst (λ n. is_eq (nat_cmp k n) ≡ true) (sym same) (nat_cmp_itself k) in
           let other : same_pair q e.1 ≡ false = subst (λ r. same_pair q r ≡ false) (sym (is_same p e.1 h)) (turned p q apart) in
           rw (here, other) refl
       at false h is rest = rw (above k e.0 (found_above e.0 k (has p) es rising.0 is)) (ap (cond (has q e) (Some e)) (rest is))

@@ -171,13 +171,6 @@ all_forgotten couples n s t each less m i k is stands = at (slice_get couples i)
 abbrev pub Cleared : ℕ → List ℕ → List Couple → List Couple → Type 0
 Cleared n list old now = (i : ℕ) → slice_get now i ≡ option_map (forgotten_if n list i) (slice_get old i)
 
-pub cleared_none : (n : ℕ) (old : List Couple) → Cleared n [] old old
-cleared_none n old i = same (slice_get old i)
-  where
-    same : (o : Option Couple) → o ≡ option_map (forgotten_if n [] i) o
-    same None = refl
-    same (Some k) = refl
-
 module _ (n : ℕ) (list : List ℕ) (at d j : ℕ) (old now : List Couple) (within : at < length list) (is : j ≡ get_or list at d) (so_far : Cleared n (take at list) old now) where
   abbrev done : List ℕ
   done = take at list

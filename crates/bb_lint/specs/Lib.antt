@@ -8,7 +8,7 @@ pub mod Unused
 pub mod Warnings
 -- sources whose activations are never chosen
 pub mod Ratings
--- the codes of a source, in order
-pub mod Codes
+-- sources that are triggered without end, or never
+pub mod Triggered
 -- what only proofs speak of
 pub mod proving

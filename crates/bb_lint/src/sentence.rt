@@ -1,15 +1,16 @@
-//! Warnings as sentences, with the names of the schema. `advice` writes them.
+//! Warnings of the codes of a source as sentences, with the names of the schema. `advice` writes them.
 
 ghost use Rattle.std.specs.Prelude.{◌<◌, length};
 ghost use Rattle.bb_lint.specs.proving.Admitted.{AreAdmitted};
 
-use crate::codes::codes_of;
 use crate::finds::Admitted;
+use crate::mistaken::{Mistake, mistake_at};
 use crate::vain::held_class;
 use crate::warning::{Warning, code_warnings};
-use bb_basis::Memory;
+use bb_basis::{Memory, Names};
 use bb_code::{ClassId, Code, Op, Place, Schema};
-use bb_code_text::write_op;
+use bb_lint_events::Possible;
+use bb_lint_parts::{OpSites, Site};
 use bb_rules::Source;
 use bb_verify::Checked;
 use std::alloc::Global;
@@ -20,11 +21,30 @@ fn class_name(schema: &Schema, class: ClassId) -> &str {
     schema.class_name(class).unwrap_or("?")
 }
 
-// Appends the op of a place.
-fn write_place(text: &mut String, place: Place, op: Op) -> Result<(), Memory> {
-    write!(text, ", op {place} \"")?;
-    write_op(text, op)?;
-    text.push_str("\": ")
+/// A code of a source, with where its ops stand.
+#[derive(Clone, Copy)]
+pub(crate) struct Part<'a> {
+    pub(crate) source: &'a Source,
+    pub(crate) checked: &'a Checked,
+    pub(crate) sites: &'a OpSites<'a>,
+}
+
+impl<'a> Part<'a> {
+    // Begins a warning of the code, and appends where that stands which it is about.
+    fn begin(self, text: &mut String, site: Site<'_>) -> Result<(), Memory> {
+        let name = self.source.parts().name.as_str();
+        let part = self.checked.part().word();
+        write!(text, "warning: source {name}, {part}")?;
+        site.write_place(text)
+    }
+
+    // Where the op of a place stands; the part, if the code has no op there.
+    fn site(self, place: Place) -> Site<'a> {
+        match self.checked.code().op(place as usize) {
+            Some(op) => self.sites.at(place, op),
+            None => self.sites.part(),
+        }
+    }
 }
 
 // Appends that no unit of the known class is one of the class that is tested for.
@@ -37,54 +57,55 @@ fn write_test(
     let Some(op) = checked.code().op(place as usize) else {
         return Ok(());
     };
-    write_place(text, place, op)?;
     if let (Op::As(class, _), Some(held)) = (op, held_class(checked.frame(place))) {
         let held = class_name(schema, held);
         let class = class_name(schema, class);
         write!(text, "no {held} is a {class}, ")?;
     }
-    text.push_str("so the test never holds\n")
+    text.push_str("so the test never holds")
 }
 
-// Appends that no unit of the query's class can be in its space.
-fn write_find(text: &mut String, schema: &Schema, code: &Code, place: Place) -> Result<(), Memory> {
-    let Some(op) = code.op(place as usize) else {
-        return Ok(());
-    };
-    write_place(text, place, op)?;
-    if let Op::Find(index) = op {
+// Appends that no unit of the query's class can be in its space, or that none ever enters it.
+fn write_find(
+    text: &mut String,
+    schema: &Schema,
+    code: &Code,
+    place: Place,
+    why: &str,
+) -> Result<(), Memory> {
+    if let Some(Op::Find(index)) = code.op(place as usize) {
         if let Some(query) = code.queries().get(index as usize) {
             let class = class_name(schema, query.class);
             let space = schema.space_name(query.space).unwrap_or("?");
-            write!(text, "no {class} is in space {space}, ")?;
+            write!(text, "no {class} {why} space {space}, ")?;
         }
     }
-    text.push_str("so nothing is found\n")
+    text.push_str("so nothing is found")
 }
 
-// Appends a warning of a code, after the names of its source and its part.
+// Appends a warning of a code.
 fn write_slip(
     text: &mut String,
     schema: &Schema,
-    checked: &Checked,
+    part: Part<'_>,
     warning: Warning,
 ) -> Result<(), Memory> {
+    let checked = part.checked;
+    let site = match warning {
+        Warning::Test(place) | Warning::Find(place) => part.site(place),
+        Warning::Unused(_) => part.sites.part(),
+    };
+    part.begin(text, site)?;
     match warning {
-        Warning::Test(place) => write_test(text, schema, checked, place),
-        Warning::Find(place) => write_find(text, schema, checked.code(), place),
-        Warning::Unused(query) => writeln!(text, ": no op names query {query}"),
+        Warning::Test(place) => write_test(text, schema, checked, place)?,
+        Warning::Find(place) => write_find(text, schema, checked.code(), place, "is in")?,
+        Warning::Unused(query) => write!(text, "no op names query {query}")?,
     }
+    site.write_end(text)
 }
 
-// A code, and the name of its source.
-#[derive(Clone, Copy)]
-struct Part<'a> {
-    name: &'a str,
-    checked: &'a Checked,
-}
-
-// Appends the warnings of a code.
-fn write_code(
+/// Appends the warnings of a code.
+pub(crate) fn write_code(
     alloc: Global,
     text: &mut String,
     schema: &Schema,
@@ -93,43 +114,87 @@ fn write_code(
 ) -> Result<(), Memory>
     requires { AreAdmitted schema.now admitted.now.lists.items }
 {
-    let Part { name, checked } = part;
-    let warnings = code_warnings(alloc, schema, admitted, checked)?;
-    let part = checked.part().word();
+    let warnings = code_warnings(alloc, schema, admitted, part.checked)?;
     for warning in &warnings {
-        write!(text, "warning: source {name}, {part}")?;
-        write_slip(text, schema, checked, *warning)?;
+        write_slip(text, schema, part, *warning)?;
     }
     Ok(())
 }
 
-/// Appends the warnings of the codes of a source, part by part.
-pub(crate) fn write_codes(
-    alloc: Global,
+// Whether the op of a place searches a space that admits units of its class, but that none of them can enter.
+fn finds_none(schema: &Schema, possible: &Possible, code: &Code, place: Place) -> bool {
+    let Some(Op::Find(index)) = code.op(place as usize) else {
+        return false;
+    };
+    match code.queries().get(index as usize) {
+        None => false,
+        Some(query) => {
+            let count = schema.class_count() as ClassId;
+            let is_admitted = (0..count).any(|class| {
+                schema.descends(class, query.class) && schema.allowed(query.space, class)
+            });
+            is_admitted && !possible.can_enter(schema, query.space, query.class)
+        }
+    }
+}
+
+/// Appends the searches of a code in spaces that no unit of their class ever enters.
+pub(crate) fn write_empty_finds(
     text: &mut String,
     schema: &Schema,
-    admitted: &Admitted,
-    source: &Source,
-) -> Result<(), Memory>
-    requires { AreAdmitted schema.now admitted.now.lists.items }
-{
-    for code in codes_of(source) {
-        if let Some(checked) = code {
-            let name = source.parts().name.as_str();
-            write_code(alloc, text, schema, admitted, Part { name, checked })?;
+    possible: &Possible,
+    part: Part<'_>,
+) -> Result<(), Memory> {
+    let code = part.checked.code();
+    let count = code.ops().len() as Place;
+    for place in 0..count {
+        if finds_none(schema, possible, code, place) {
+            let site = part.site(place);
+            part.begin(text, site)?;
+            write_find(text, schema, code, place, "ever enters")?;
+            site.write_end(text)?;
         }
     }
     Ok(())
 }
 
-/// Appends that no activation of a source is chosen.
-pub(crate) fn write_rating(text: &mut String, source: &Source, floor: i64) -> Result<(), Memory> {
-    let parts = source.parts();
-    let name = parts.name.as_str();
-    let rate = parts.rate;
-    write!(
-        text,
-        "warning: source {name}: its rate {rate} is below the floor {floor}, and no source makes a focus; "
-    )?;
-    text.push_str("unless a first unit is one, it is never chosen\n")
+// Appends what follows from a slip that two ops show.
+fn write_mistake(text: &mut String, mistake: Mistake<'_>) -> Result<(), Memory> {
+    match mistake {
+        Mistake::NoSource(name) => {
+            write!(
+                text,
+                "there is no source \"{name}\", so the focus weighs nothing"
+            )
+        }
+        Mistake::NoArea(name) => {
+            write!(
+                text,
+                "there is no class \"{name}\", so the focus weighs nothing"
+            )
+        }
+        Mistake::NoUnit => text.push_str(
+            "quiescence alone triggers the source, and gives it no unit, so the test never holds",
+        ),
+    }
+}
+
+/// Appends the slips of a code that two ops in a row show, where the sources have these names.
+pub(crate) fn write_mistakes(
+    text: &mut String,
+    schema: &Schema,
+    names: &Names,
+    part: Part<'_>,
+) -> Result<(), Memory> {
+    let code = part.checked.code();
+    let count = code.ops().len() as Place;
+    for place in 0..count {
+        if let Some(mistake) = mistake_at(schema, names, part.source, code, place) {
+            let site = part.site(place);
+            part.begin(text, site)?;
+            write_mistake(text, mistake)?;
+            site.write_end(text)?;
+        }
+    }
+    Ok(())
 }

@@ -1,7 +1,8 @@
 -- What the tables of an accepted code say of an op.
-use Rattle.std.proofs.Common.{◌≡◌, ℕ, zero, suc, ◌<◌, Bool, true, false, List, [], ◌∷◌, length, Option, Some, None, Result, Ok, Err, refl, arith, cond}
-use Rattle.std.specs.Prelude.{nat_le, nat_lt, is_some, slice_get}
+use Rattle.std.proofs.Common.{◌≡◌, ℕ, ◌<◌, Bool, true, false, List, Option, Some, None, Result, Ok, Err, refl, arith, cond}
+use Rattle.std.specs.Prelude.{nat_le, nat_lt, is_some}
 use Rattle.std.proofs.lemmas.Bool.Decides.{nat_tests}
+use Rattle.bb_basis.proofs.NumberLemmas.{nat_lt_true}
 use Rattle.bb_schema.specs.Schema.{Schema, name_of_label}
 use Rattle.bb_verify.specs.Flaw.{Flaw}
 use Rattle.bb_verify.specs.Flaw.TheVariants as flaws
@@ -9,20 +10,12 @@ use Rattle.bb_verify.specs.Tables.{entry, known_label}
 
 -- ---- tables
 
-pub held : {A : Type 0} (xs : List A) (i : ℕ) → i < length xs → (x : A) × (slice_get xs i ≡ Some x)
-held [] i lt = absurd (omega (arith, lt))
-held (x ∷ xs) zero lt = (x, refl)
-held (x ∷ xs) (suc i) lt = held xs i (omega (arith, lt))
-
-below : (n count : ℕ) → nat_lt n count ≡ true → n < count
-below n count lt = grind (arith, nat_tests)
-
 ok_test : (b : Bool) (flaw : Flaw) → (let r : Result (Unit {0}) Flaw = cond b (Ok tt) (Err flaw) in r) ≡ Ok tt → b ≡ true
 ok_test true flaw h = refl
 ok_test false flaw h = absurd cc
 
 pub entry_below : (count n : ℕ) → entry count n ≡ Ok tt → n < count
-entry_below count n h = below n count (ok_test (nat_lt n count) flaws.Table h)
+entry_below count n h = nat_lt_true n count (ok_test (nat_lt n count) flaws.Table h)
 
 label_by : (name : Option (List ℕ)) → (let r : Result (Unit {0}) Flaw = elim name [ None ↦ Err flaws.Table | Some text ↦ Ok tt ] in r) ≡ Ok tt → is_some name ≡ true
 label_by None h = absurd cc

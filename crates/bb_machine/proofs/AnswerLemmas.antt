@@ -1,6 +1,7 @@
 -- An accepted code comes to an answer of its part.
 use Rattle.std.proofs.Common.{◌≡◌, ℕ, ℤ, zero, suc, ◌+◌, true, List, Option, Some, Result, Ok, Err, refl, sym, subst}
 use Rattle.std.specs.Prelude.{slice_get}
+use Rattle.bb_basis.proofs.AppendLemmas.{there_is}
 use Rattle.bb_basis.specs.Results.{◌>>=◌}
 use Rattle.bb_basis.proofs.ResultLemmas.{bind_ok}
 use Rattle.bb_schema.specs.Schema.{Schema}
@@ -31,7 +32,6 @@ use Rattle.bb_machine_step.specs.Activation.{Execution, steps_from}
 use Rattle.bb_machine_step.proofs.Laws.{after_op, by_op}
 use Rattle.bb_machine.specs.NeverWrong.{Stands, is_answer_of, AnswersAs}
 use Rattle.bb_machine.specs.Safe.{edges_of, can_answer}
-use Rattle.bb_machine.proofs.AheadLemmas.{held}
 use Rattle.bb_machine.proofs.RunLemmas.{inside}
 use Rattle.bb_machine.proofs.StandLemmas.{Advances, step_advances}
 
@@ -138,7 +138,7 @@ module _ (s : Schema) (part : Part) (code : Code) (fs : List Frame) (is : IsCode
   pub answers_from : (n steps : ℕ) (m : Machine) (b : Board) → Stands s code fs (m, b) → AnswersAs part (steps_from n steps code (m, b)).0
   answers_from zero steps m b stands = none_left steps m b
   answers_from (suc n) steps m b stands =
-      let op = held code.ops m.place (inside s part code fs is sf facts m b stands) in
+      let op = there_is code.ops m.place (inside s part code fs is sf facts m b stands) in
       subst (λ (e : Execution). AnswersAs part e.0) (sym (by_op n steps code m b (Some op.0) (sym op.1)))
       (answers_by n steps m b op.0 stands.frame (step code op.0 (go_to (m.place + 1) m, b)) op.1 stands.there (λ next there. answers_from n (steps + 1) next.0 next.1 there)
       (step_advances part code fs is s m b op.0 sf facts stands op.1))

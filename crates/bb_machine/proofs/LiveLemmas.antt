@@ -4,6 +4,8 @@ use Rattle.std.specs.Prelude.{◌==◌, ◌||◌, nat_lt, is_some, unwrap_or}
 use Rattle.std.specs.Option.{option_map_or}
 use Rattle.std.specs.FinMap.{get}
 use Rattle.std.proofs.lemmas.Bool.Decides.{nat_tests}
+use Rattle.bb_basis.proofs.NumberLemmas.{nat_lt_below}
+use Rattle.bb_basis.proofs.BoolLemmas.{or_right_and}
 use Rattle.bb_schema.specs.Schema.{Schema, descends}
 use Rattle.bb_units.specs.declared.unit.Unit.{Unit as OneUnit}
 use Rattle.bb_units.specs.Units.{is_live, class_of}
@@ -20,14 +22,6 @@ live_by (Some x) c is = refl
 class_by : (found : Option OneUnit) → is_some found ≡ true → (c : ℕ) × (option_map (λ y. y.class) found ≡ Some c)
 class_by None live = absurd cc
 class_by (Some x) live = (x.class, refl)
-
--- whether a number is 0 does not matter where it was given out and the class is right
-right : (none given a : Bool) → given ≡ true → a ≡ true → (none || (given && a)) ≡ true
-right true given a is all = refl
-right false given a is all = rw (is, all) refl
-
-given_out : (n next : ℕ) → n < next → nat_lt n next ≡ true
-given_out n next lt = grind (arith, nat_tests)
 
 no_unit : (n : ℕ) → 0 < n → (n == 0) ≡ false
 no_unit n some = grind (arith, nat_tests)
@@ -47,8 +41,8 @@ module _ (s : Schema) (w : World) (uf : units.Fits w.units) where
   pub was_of : (class n : ℕ) → IsOf s w class n → WasOf s w class n
   was_of class n h =
       let out = (uf.numbers n (is_live_of class n h)).1 in
-      right (n == 0) (nat_lt n w.units.next) (option_map_or (λ c. descends s c class) (class_of w.units n) true)
-      (given_out n w.units.next out) (ap (λ (o : Option ℕ). option_map_or (λ c. descends s c class) o true) h.is ∙ h.under)
+      or_right_and (n == 0) (nat_lt n w.units.next) (option_map_or (λ c. descends s c class) (class_of w.units n) true)
+      (nat_lt_below n w.units.next out) (ap (λ (o : Option ℕ). option_map_or (λ c. descends s c class) o true) h.is ∙ h.under)
 
   -- a live unit is still of the class that it was
   pub of_live : (class n : ℕ) → is_live w.units n ≡ true → WasOf s w class n → IsOf s w class n

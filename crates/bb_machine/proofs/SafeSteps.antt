@@ -2,6 +2,7 @@
 use Rattle.std.proofs.Common.{◌≡◌, ℕ, ◌≤◌, true, length, Option, Ok, arith}
 use Rattle.std.specs.Prelude.{nat_le, All}
 use Rattle.std.proofs.lemmas.Bool.Decides.{nat_tests}
+use Rattle.bb_basis.proofs.AppendLemmas.{there_is}
 use Rattle.bb_schema_classes.specs.declared.value.TheConstants.{TEXT_LIMIT}
 use Rattle.bb_schema_classes.proofs.Laws.{All-at}
 use Rattle.bb_schema.specs.Fits as schemas
@@ -19,7 +20,7 @@ use Rattle.bb_machine_step.specs.Step.{step}
 use Rattle.bb_verify.specs.Facts.{is_known}
 use Rattle.bb_machine.specs.Kinds.{Suits}
 use Rattle.bb_machine.specs.Safe.{edges_of, IsSafe}
-use Rattle.bb_machine.proofs.AheadLemmas.{held, entry_below, label_there, not_above}
+use Rattle.bb_machine.proofs.AheadLemmas.{entry_below, label_there, not_above}
 use Rattle.bb_machine.proofs.plain.PlainSteps.{push_int_safe, push_bool_safe, push_text_safe, push_label_safe, load_safe, store_safe, pop_safe, calculate_safe, divide_safe, compare_safe, eq_text_safe, not_safe, combine_safe, make_interval_safe, bound_safe}
 use Rattle.bb_machine.proofs.jumping.JumpSteps.{jump_safe, back_safe, done_safe, decline_safe, unless_safe, rate_safe, answer_safe, alive_safe}
 use Rattle.bb_machine.proofs.jumping.NextSteps.{next_safe}
@@ -41,7 +42,7 @@ module _ (part : Part) (code : Code) (b : Board) (sf : schemas.Fits b.schema) (f
   unfolding in_tables
   step_safe (ops.PushInt n) is op locals known there h = push_int_safe part code b fits m f suits e n op h
   step_safe (ops.PushText text) is op locals known there h =
-      let words = held code.texts text (entry_below (length code.texts) text there) in
+      let words = there_is code.texts text (entry_below (length code.texts) text there) in
       push_text_safe part code b fits m f suits e text words.0 words.1 (short (length words.0) (All-at IsText code.texts text words.0 words.1 is.texts.each).len) h
   step_safe (ops.PushBool truth) is op locals known there h = push_bool_safe part code b fits m f suits e truth h
   step_safe (ops.PushLabel set label) is op locals known there h = push_label_safe part code b fits m f suits e set label (label_there b.schema set label there) h
@@ -65,10 +66,10 @@ module _ (part : Part) (code : Code) (b : Board) (sf : schemas.Fits b.schema) (f
   step_safe ops.Size is op locals known there h = size_safe part code b fits m f suits e h
   step_safe (ops.Alive place) is op locals known there h = alive_safe part code b fits m f suits e place h
   step_safe (ops.As class place) is op locals known there h =
-      let kept = held b.schema.classes class (entry_below (length b.schema.classes) class there) in
+      let kept = there_is b.schema.classes class (entry_below (length b.schema.classes) class there) in
       as_safe part code b fits m f suits e class place kept.0 kept.1 h
   step_safe (ops.New class) is op locals known there h =
-      let kept = held b.schema.classes class (entry_below (length b.schema.classes) class there) in
+      let kept = there_is b.schema.classes class (entry_below (length b.schema.classes) class there) in
       new_safe part code b sf fits m f suits e class kept.0 kept.1 h
   step_safe (ops.Set slot) is op locals known there h = set_safe part code b sf fits m f suits e slot h
   step_safe (ops.Relink change slot) is op locals known there h = relink_safe part code b sf fits m f suits e change slot h

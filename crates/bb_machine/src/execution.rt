@@ -75,7 +75,7 @@ pub fn trial(
         after k code.now (entry_state code.now entry, board.old) ≡ Some state →
         activation (k + n) code.now entry board.old ≡ steps_from n k code.now state }
 {
-    // What holds of any code, schema and blackboard.
+    // For the proof: what holds of every code, schema and blackboard.
     let _ = code.ops();
     board.schema().fits();
     board.fits();

@@ -1,7 +1,7 @@
 -- the numbers of the reasons for being stuck
 pub mod Reasons
 -- the bytes of a text, wherever it lies
-pub mod Words
+pub mod TextRef
 -- a sequence of units
 pub mod Sequence
 -- the values that a code works with, and their sorts

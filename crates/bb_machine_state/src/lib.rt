@@ -5,8 +5,8 @@ mod halt;
 mod machine;
 mod outcome;
 mod sequence;
+mod text_ref;
 mod value;
-mod words;
 
 pub use bb_board::{Board, Reason, Said};
 pub use bb_units::CreateFault;
@@ -14,5 +14,5 @@ pub use halt::Halt;
 pub use machine::Machine;
 pub use outcome::{Answer, Entry, Outcome, Stop, Stuck};
 pub use sequence::Sequence;
+pub use text_ref::TextRef;
 pub use value::Value;
-pub use words::Words;

@@ -10,7 +10,7 @@ ghost use Rattle.bb_machine_state.specs.Value.{copy_of, value_from, slot_value_o
 use crate::halt::Halt;
 use crate::outcome::Stuck;
 use crate::sequence::Sequence;
-use crate::words::Words;
+use crate::text_ref::TextRef;
 use bb_basis::Memory;
 use bb_board::Said;
 use bb_schema::{LabelId, LabelSetId, UnitId, Value as SlotValue};
@@ -19,7 +19,7 @@ use bb_schema::{LabelId, LabelSetId, UnitId, Value as SlotValue};
 #[derive(Debug, Drop)]
 pub enum Value<'a> {
     Int(i64),
-    Text(Words<'a>),
+    Text(TextRef<'a>),
     Bool(bool),
     /// A label of a set.
     Label(LabelSetId, LabelId),
@@ -49,7 +49,7 @@ impl<'a> Value<'a> {
         ensures { map_ok (λ t. t.now) result ≡ text_of self.now }
     {
         match self {
-            Value::Text(words) => Ok(words.as_str()),
+            Value::Text(text) => Ok(text.as_str()),
             _ => Err(KIND),
         }
     }
@@ -120,7 +120,7 @@ impl<'a> Value<'a> {
     {
         Ok(match self {
             Value::Int(number) => Value::Int(*number),
-            Value::Text(words) => Value::Text(words.share()?),
+            Value::Text(text) => Value::Text(text.share()?),
             Value::Bool(truth) => Value::Bool(*truth),
             Value::Label(set, label) => Value::Label(*set, *label),
             Value::Interval(low, high) => Value::Interval(*low, *high),
@@ -135,7 +135,7 @@ impl<'a> Value<'a> {
     {
         Ok(match held {
             SlotValue::Int(number) => Value::Int(*number),
-            SlotValue::Text(text) => Value::Text(Words::shared(text)?),
+            SlotValue::Text(text) => Value::Text(TextRef::shared(text)?),
             SlotValue::Bool(truth) => Value::Bool(*truth),
             SlotValue::Label(set, label) => Value::Label(*set, *label),
             SlotValue::Interval(low, high) => Value::Interval(*low, *high),
@@ -148,7 +148,7 @@ impl<'a> Value<'a> {
     {
         Ok(Some(match self {
             Value::Int(number) => SlotValue::Int(*number),
-            Value::Text(words) => SlotValue::Text(words.to_text()?),
+            Value::Text(text) => SlotValue::Text(text.to_text()?),
             Value::Bool(truth) => SlotValue::Bool(*truth),
             Value::Label(set, label) => SlotValue::Label(*set, *label),
             Value::Interval(low, high) => SlotValue::Interval(*low, *high),

@@ -69,6 +69,7 @@ fn value_due(
         live(board, unit)?;
         return Err(Halt::Stuck(Stuck::Slot));
     }
+    // For the proof: what holds of the blackboard.
     board.fits();
     match value.to_slot()? {
         Some(held) if board.can_hold(slot, &held) => Ok(held),

@@ -13,7 +13,7 @@ ghost use Rattle.bb_machine_step.specs.Reading as def;
 use bb_code::{
     ClassId, Code, DimValue, LabelId, LabelSetId, LocalId, OperandKind, Place, Query, SlotId,
 };
-use bb_machine_state::{Board, Halt, Machine, Sequence, Stuck, Value, Words};
+use bb_machine_state::{Board, Halt, Machine, Sequence, Stuck, TextRef, Value};
 use bb_schema::{Kind, Schema, UnitId};
 use std::alloc::Global;
 
@@ -29,7 +29,7 @@ pub(crate) fn push_text<'a>(
     let Some(text) = code.texts().get(text as usize) else {
         return Err(Halt::Stuck(Stuck::Missing));
     };
-    machine.push(Value::Text(Words::lent(text)))
+    machine.push(Value::Text(TextRef::borrowed(text)))
 }
 
 /// Pushes a label of the schema.

@@ -47,9 +47,6 @@ pub record Passed (text rest : List ℕ) : Type 0 where
   pub before_is : before (lines text) ≡ passed ++ before (lines rest)
   pub parts_is : parts (lines text) ≡ parts (lines rest)
 
-pub passed-none : (text : List ℕ) → Passed text text
-passed-none text = record { passed = []; is = refl; before_is = refl; parts_is = refl }
-
 pub passed-more : (text rest line after : List ℕ) → Passed text rest → rest ≡ line ++ after → lines rest ≡ line ∷ lines after → header_of line ≡ None → Passed text after
 passed-more text rest line after so_far joined first none = record {
   passed = so_far.passed ++ line;

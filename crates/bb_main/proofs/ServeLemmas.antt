@@ -33,7 +33,6 @@ use Rattle.bb_main.specs.declared.serving.TheConstants.{MEMORY, REFUSED, WRITE}
 use Rattle.bb_main.specs.declared.section_fault.SectionFault.{SectionFault}
 use Rattle.bb_main.specs.declared.section_fault.SectionFault.TheVariants.{Limit}
 use Rattle.bb_main.specs.Input.{input_of}
-use Rattle.bb_main.specs.Reading.{HasTaken, TakesAtMost}
 use Rattle.bb_main.specs.Sections.{Texts}
 use Rattle.bb_main.specs.Serve.{Answer, CutShort, Delivers, Serves, answer, answer_to_check, answer_to_compile, answer_to_meaning, answer_to_run, answer_to_sections, done_status, end_status, limit_refusal, refusal, status_of, text_of}
 use Rattle.bb_main.proofs.InputLemmas.{is_long}
@@ -59,15 +58,6 @@ cut-nothing a taken status is = (is, (0, (λ _. refl), Appends-nil taken))
 pub serves-nothing : (natives : List Native) (mode : Mode) (limit : ℕ) (floor : ℤ) (read taken : Option (List ℕ)) (status : ℕ) → status ≡ MEMORY → Serves natives mode limit floor read taken taken status
 serves-nothing natives mode limit floor None taken status is = ([], tt, inr (cut-nothing (answer natives [] mode limit floor) taken status is))
 serves-nothing natives mode limit floor (Some xs) taken status is = (xs, refl, inr (cut-nothing (answer natives xs mode limit floor) taken status is))
-
--- a reader of which nothing was taken
-pub nothing-taken : (most : ℕ) (read : Option (List ℕ)) → TakesAtMost most read read
-nothing-taken most None = ([], tt, omega arith)
-nothing-taken most (Some xs) = ([], refl, omega arith)
-
-pub not-too-long : (n : ℕ) (read : Option (List ℕ)) → 0 < n → ¬ HasTaken n read read
-not-too-long n None some h = absurd h
-not-too-long n (Some xs) some h = omega (arith, h, some)
 
 -- the text of pieces
 pub text_of-map : {X : Type 0} (f : X → List ℕ) (xs : List X) → text_of (map f xs) ≡ flat_map f xs
@@ -147,10 +137,6 @@ pub served_compile : (given : Result (List (SourceDraft Code)) InputFault) (done
 served_compile (Err fault) done status old new is wrote = absurd wrote
 served_compile (Ok compiled) Written status old new is wrote = rw is (inl (wrote_whole (bundle_text compiled) 0 old new wrote))
 served_compile (Ok compiled) Write status old new is wrote = rw is (inl (wrote_front (bundle_text compiled) 0 wrote.0 old new wrote.1))
-
--- the line of a refusal, written in two parts
-pub wrote_line : (line : List ℕ) (old mid new : Option (List ℕ)) → Appends old mid line → Appends mid new (10 ∷ []) → Appends old new (text_of (refusal line).pieces)
-wrote_line line old mid new a b = subst (Appends old new) (sym (text_of-one (line ++ 10 ∷ []))) (Appends-trans old mid new line (10 ∷ []) a b)
 
 pub front_within : (count : ℕ) (line more : List ℕ) → (n : ℕ) × (take count line ≡ take n (line ++ more))
 front_within count line more = by (cases_lt (length line) count)

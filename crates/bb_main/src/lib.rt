@@ -9,6 +9,7 @@
 //! - Cases: `program`, `outputs`, `sentences`, `advice`, `limits`; tests here and in bb_shell_tests.
 #![tactic(auto)]
 
+mod advising;
 mod input;
 #[cfg(test)]
 mod long_run;
@@ -18,6 +19,7 @@ mod read;
 mod refusal_tests;
 mod refusing;
 mod section_fault;
+mod section_report;
 mod sections;
 mod served;
 mod serving;

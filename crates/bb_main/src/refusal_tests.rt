@@ -73,12 +73,12 @@ fn said_refusals(rt: HostRuntime) {
         (
             b"%schema\n{}\n%sources\n?\n".as_slice(),
             "refused lang 1:1 1\n",
-            "bb: sources, line 1, column 1: this begins no token: the language has no such character, or a text has no end in its line or another escape\n  | ?\n  | ^\n",
+            "bb: sources, line 1, column 1: \"?\" begins no token: write if .. { .. } else { .. }\n  | line 4 of the input\n  | ?\n  | ^\n",
         ),
         (
             b"{}".as_slice(),
             "refused input sections\n",
-            "bb: input: its first line is not `%schema`, or a header line is out of order or there twice\n",
+            "bb: input: its first line is not `%schema`, or a header line is out of order or there twice\n  | line 1: \"%schema\" is due there, not \"{}\"\n",
         ),
         (
             b"%schema\n\xff".as_slice(),

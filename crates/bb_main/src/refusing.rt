@@ -46,21 +46,27 @@ pub(crate) fn refuse<O: Out>(
 
 // The reason of a refusal: the sentence and the notes, or the sentence alone, or nothing, as memory allows.
 fn reason(alloc: Global, fault: &InputFault, sections: Sections<'_>) -> Option<String> {
+    match report(alloc, fault, input_of(sections)) {
+        Ok(text) => Some(text),
+        Err(_) => fault.to_string(alloc).ok(),
+    }
+}
+
+/// Sections, as reports take them.
+pub(crate) fn input_of(sections: Sections<'_>) -> Input<'_> {
     let Sections {
         schema,
         units,
         sources,
         bundle,
+        whole,
     } = sections;
-    let input = Input {
+    Input {
         schema,
         units,
         sources,
         bundle,
-    };
-    match report(alloc, fault, input) {
-        Ok(text) => Some(text),
-        Err(_) => fault.to_string(alloc).ok(),
+        whole: Some(whole),
     }
 }
 

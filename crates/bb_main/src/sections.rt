@@ -19,6 +19,28 @@ pub(crate) enum Header {
     Bundle,
 }
 
+impl Header {
+    /// The word of the header line.
+    pub(crate) fn word(self) -> &'static str {
+        match self {
+            Header::Schema => "%schema",
+            Header::Units => "%units",
+            Header::Sources => "%sources",
+            Header::Bundle => "%bundle",
+        }
+    }
+
+    /// The place of the section among the four, from 0.
+    pub(crate) fn rank(self) -> u8 {
+        match self {
+            Header::Schema => 0,
+            Header::Units => 1,
+            Header::Sources => 2,
+            Header::Bundle => 3,
+        }
+    }
+}
+
 /// The sections of an input, each the text between its header line and the next.
 #[derive(Clone, Copy, Debug, PartialEq, Eq)]
 pub(crate) struct Sections<'a> {
@@ -26,6 +48,8 @@ pub(crate) struct Sections<'a> {
     pub(crate) units: &'a str,
     pub(crate) sources: &'a str,
     pub(crate) bundle: &'a str,
+    /// The whole input.
+    pub(crate) whole: &'a str,
 }
 
 impl<'a> Sections<'a> {
@@ -58,6 +82,7 @@ impl<'a> Sections<'a> {
             units,
             sources,
             bundle,
+            whole: text,
         })
     }
 }
@@ -90,9 +115,9 @@ fn to_header(text: &str) -> (&str, &str)
     (&text[..text.len() - rest.len()], rest)
 }
 
-// The section that a line begins, if it is a header.
+/// The section that a line begins, if it is a header.
 #[tactic(auto, unfolding(crate::specs::Sections::header_of))]
-fn header_of(line: &str) -> Option<Header>
+pub(crate) fn header_of(line: &str) -> Option<Header>
     ensures { result ≡ header_of line.now }
 {
     if is_alone("%schema", line) {

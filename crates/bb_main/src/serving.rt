@@ -18,14 +18,15 @@ ghost use Rattle.bb_main.specs.Serve.{answer_to_compile, answer_to_meaning, done
 ghost use Rattle.bb_main.specs.Serve.{limit_refusal, read_refusal, refusal, status_of};
 ghost use Rattle.bb_main.specs.declared.serving.TheConstants.{REFUSED, WRITE};
 
+use crate::advising::advice_on;
 use crate::input::In;
 use crate::program_native::program_natives;
 use crate::read::{INPUT_LIMIT, ReadFault, read_input};
 use crate::refusing::{refuse, refuse_input};
 use crate::section_fault::SectionFault;
+use crate::section_report::SectionReport;
 use crate::sections::Sections;
 use crate::served::Served;
-use bb_lint::advice;
 use bb_main_options::{Mode, Options};
 use bb_shell::{
     Check, Done, Finish, InputFault, NativeSource, Out, check_sources, close_each, compile_texts,
@@ -206,7 +207,10 @@ fn serve_bytes<N: NativeSource, O: Out>(
 {
     match Sections::of_bytes(bytes) {
         Ok(sections) => serve_sections(alloc, options, natives, sections, writer),
-        Err(fault) => refuse_input(alloc, fault.line(), fault, natives, writer),
+        Err(fault) => {
+            let reason = SectionReport { fault, bytes };
+            refuse_input(alloc, fault.line(), reason, natives, writer)
+        }
     }
 }
 
@@ -263,6 +267,7 @@ fn run_sections<N: NativeSource, O: Out>(
         units,
         sources,
         bundle,
+        ..
     } = sections;
     let Options { limit, floor, .. } = options;
     match run_texts(
@@ -274,7 +279,7 @@ fn run_sections<N: NativeSource, O: Out>(
     }
 }
 
-// Checks an input of these sections. The units are not looked at.
+// Checks an input of these sections. The answer does not depend on the units; the advice does.
 fn check_sections<N: NativeSource, O: Out>(
     alloc: Global,
     floor: i64,
@@ -295,27 +300,26 @@ fn check_sections<N: NativeSource, O: Out>(
 {
     let Sections {
         schema,
-        units: _,
         sources,
         bundle,
+        ..
     } = sections;
     match check_sources(alloc, schema, sources, bundle, natives, writer) {
-        Ok(checked) => advise(alloc, &checked, floor),
+        Ok(checked) => advise(alloc, &checked, floor, sections),
         Err(InputFault::Memory) => Served::quiet(MEMORY),
         Err(fault) => refuse(alloc, &fault, sections, writer),
     }
 }
 
 // The status of an input that was checked, and the advice on it.
-fn advise(alloc: Global, checked: &Check, floor: i64) -> Served
+fn advise(alloc: Global, checked: &Check, floor: i64, sections: Sections<'_>) -> Served
     ensures status { result.status ≡ done_status checked.now.done }
     ensures silent { IsNone result.report }
 {
-    let sources = checked.sources.as_slice();
     Served {
         status: done_status(checked.done),
         report: None,
-        advice: advice(alloc, &checked.schema, sources, floor).ok(),
+        advice: advice_on(alloc, checked, floor, sections).ok(),
     }
 }
 
@@ -339,9 +343,8 @@ fn compile_sections<N: NativeSource, O: Out>(
 {
     let Sections {
         schema,
-        units: _,
         sources,
-        bundle: _,
+        ..
     } = sections;
     match compile_texts(alloc, schema, sources, natives, writer) {
         Ok(done) => Served::quiet(done_status(done)),

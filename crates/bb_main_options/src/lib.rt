@@ -7,6 +7,7 @@ mod fault;
 mod reading;
 #[cfg(test)]
 mod tests;
+mod tip;
 
 pub use choice::{CYCLE_LIMIT, FLOOR, Mode, Options};
 pub use command::VERSION;

@@ -8,6 +8,7 @@ ghost use Rattle.bb_main_options.specs.Answers.{Answers, IsRefusal};
 use crate::choice::{CYCLE_LIMIT, FLOOR, Mode, Options};
 use crate::command::{command, mode_values};
 use crate::fault::OptionsFault;
+use crate::tip::with_tip;
 use clap::error::ErrorKind;
 use clap::{ArgMatches, Error};
 use std::alloc::Global;
@@ -23,7 +24,7 @@ pub fn options<S: AsStr>(alloc: Global, words: &[S]) -> Result<Options, OptionsF
     let command = command(alloc, modes.as_slice())?;
     match command.try_get_matches_from(words) {
         Ok(matches) => Ok(chosen(&matches)),
-        Err(error) => Err(refusal(alloc, &error)),
+        Err(error) => Err(refusal(alloc, &error, words)),
     }
 }
 
@@ -68,8 +69,8 @@ fn floor(matches: &ArgMatches<'_>) -> i64
     matches.get_one::<i64>("floor").unwrap_or(FLOOR)
 }
 
-// Why `clap` gave no matches, with its text.
-fn refusal(alloc: Global, error: &Error) -> OptionsFault
+// Why `clap` gave no matches for these words, with its text, and a tip where one helps.
+fn refusal<S: AsStr>(alloc: Global, error: &Error, words: &[S]) -> OptionsFault
     ensures { IsRefusal error.now result }
 {
     let Ok(text) = format!(in alloc; "{error}") else {
@@ -78,6 +79,9 @@ fn refusal(alloc: Global, error: &Error) -> OptionsFault
     match error.kind() {
         ErrorKind::OutOfMemory => OptionsFault::Memory,
         ErrorKind::DisplayHelp | ErrorKind::DisplayVersion => OptionsFault::Help(text),
-        _ => OptionsFault::Words(text),
+        _ => match with_tip(alloc, text, words) {
+            Ok(text) => OptionsFault::Words(text),
+            Err(_) => OptionsFault::Memory,
+        },
     }
 }

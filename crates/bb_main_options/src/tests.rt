@@ -74,6 +74,39 @@ Exit status:
   6  The output took no more
 ";
 
+// Words that show what was meant, and what the end of the text says of it.
+const TIPS: &[(&[&str], &str)] = &[
+    (
+        &["--floor", "-5"],
+        "error: a negative floor is written '--floor=-5'\n",
+    ),
+    (
+        &["check", "--floor", "-12", "desk.bb"],
+        "error: a negative floor is written '--floor=-12'\n",
+    ),
+    (
+        &["desk.bb"],
+        "\n  tip: the input comes on standard input: bb < desk.bb\n",
+    ),
+    (
+        &["check", "runs/desk"],
+        "\n  tip: the input comes on standard input: bb < runs/desk\n",
+    ),
+    (&["--floor", "-x"], "For more information, try '--help'.\n"),
+    (&["verify"], "For more information, try '--help'.\n"),
+];
+
+#[test]
+fn tips(rt: HostRuntime) -> Result<(), Fail> {
+    for (words, end) in TIPS {
+        let Err(OptionsFault::Words(text)) = options(rt.alloc(), words) else {
+            return Err(Fail::from("taken"));
+        };
+        assert!(rt; text.as_str().ends_with(end), "{text}");
+    }
+    Ok(())
+}
+
 #[test]
 fn texts(rt: HostRuntime) -> Result<(), Fail> {
     let alloc = rt.alloc();

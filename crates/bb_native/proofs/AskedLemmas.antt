@@ -1,13 +1,14 @@
 -- What a blackboard is after an ask that is applied: it fits its schema still, its units outlive the ask, and what the
 -- ask's notes name nowhere is as it was.
 use Rattle.std.proofs.Common.{◌≡◌, ℕ, ◌<◌, ◌^◌, Bool, true, false, cond, not, List, [], ◌∷◌, length, Option, Some, None, option_map, Result, Ok, Err, refl, sym, ap, subst, ◌∙◌, arith}
-use Rattle.std.specs.Prelude.{nat_le, is_some, slice_get, ◌&&◌, if◌then◌else◌}
+use Rattle.std.specs.Prelude.{nat_le, is_some, slice_get, if◌then◌else◌}
 use Rattle.std.specs.Option.{option_map_or}
 use Rattle.std.specs.Ordering.{nat_cmp, eq_by_cmp}
 use Rattle.std.specs.Cmp.{nat_cmp_total, Equal-is}
 use Rattle.std.specs.FinMap.{get, len, get-insert, get-remove, nat_cmp-IsAntisymmetric}
 use Rattle.std.proofs.lemmas.Bool.{or_parts, leb-false}
 use Rattle.std.proofs.lemmas.List.{length-map}
+use Rattle.bb_basis.proofs.BoolLemmas.{and_second}
 use Rattle.bb_schema_classes.specs.declared.class.Class.{Class}
 use Rattle.bb_schema_classes.specs.declared.value.Value.{Value}
 use Rattle.bb_schema_classes.specs.declared.value.Value.TheVariants as values
@@ -43,9 +44,8 @@ use Rattle.bb_board.proofs.Laws.{same_class_of, create_keeps, set_keeps, may_lin
 use Rattle.bb_board.proofs.Laws.{may_enter_facts, enter_keeps, leave_keeps, delete_keeps, noted_more}
 use Rattle.bb_board.proofs.Laws.{create_named, set_named, link_named, unlink_named, enter_named, leave_named, delete_named, say_named}
 use Rattle.bb_native.specs.declared.ask.Ask.{Ask}
-use Rattle.bb_native.specs.declared.denial.Denial.{Denial}
 use Rattle.bb_native.specs.Applied.{applied}
-use Rattle.bb_native.proofs.AppliedLemmas.{After, after_ok, Cases, applied_after}
+use Rattle.bb_native.proofs.AppliedLemmas.{after_ok, Cases, applied_after}
 
 -- ---- units outlive each change
 
@@ -130,10 +130,6 @@ may_set_by true true false h = absurd cc
 may_set_by true false holds h = absurd cc
 may_set_by false has holds h = absurd cc
 
-both : (a b : Bool) → (a && b) ≡ true → b ≡ true
-both true b h = h
-both false b h = absurd cc
-
 changed_fit : (c : Couples) (change : Couple → Couple) (couple : ℕ) → ((k : Couple) → links.FitsCouple k → links.FitsCouple (change k)) → links.Fits c
     → (found : Option Couple) → slice_get c.couples couple ≡ found → links.Fits (option_map_or (λ k. with_couple c couple (change k)) found c)
 changed_fit c change couple keeps fits None is = fits
@@ -143,7 +139,7 @@ module _ (s : Schema) (w : World) (sf : schemas.Fits s) (fits : Fits s w) where
   set_fit : (n slot : ℕ) (value : Value) → may_set w n slot value ≡ Ok tt → Fits s (after_set s w n slot value)
   set_fit n slot value may =
       let p = may_set_by (is_live w.units n) (has_slot w.units n slot) (takes w.units n slot value) may in
-      set_keeps s w n slot value fits (updated_fit w.units fits.units n slot value (both (is_some (value_of w.units n slot)) _ p.1)) p.0 p.1
+      set_keeps s w n slot value fits (updated_fit w.units fits.units n slot value (and_second (is_some (value_of w.units n slot)) _ p.1)) p.0 p.1
 
   linked_fit : (n slot m : ℕ) (o : Option (ℕ × Side)) → links.Fits (option_map_or (linked_at s w n slot m) o w).links
   linked_fit n slot m None = fits.links

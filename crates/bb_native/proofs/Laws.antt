@@ -1,15 +1,13 @@
 -- The lemmas on natives that crates above use. Here: what the call of a native leaves of a roster, which is how many
 -- there are, where a name is found, and that all are open.
-use Rattle.std.proofs.Common.{◌≡◌, ℕ, zero, suc, ◌&&◌, List, [], ◌∷◌, map, length, set, Option, Some, None, true, refl, sym, ap, ◌∙◌}
+use Rattle.std.proofs.Common.{◌≡◌, ℕ, zero, suc, List, [], ◌∷◌, map, set, Option, Some, None, refl, sym, ap, ◌∙◌}
 use Rattle.std.specs.Prelude.{slice_get, position}
 use Rattle.std.specs.Option.{option_map_or}
 use Rattle.std.specs.Str.{bytes_eq}
-use Rattle.std.specs.List.{list_all}
-use Rattle.std.proofs.lemmas.List.{length-map}
 use Rattle.bb_basis.proofs.ListLemmas.{position-map}
 use Rattle.bb_native.specs.Sight.{Sight}
 use Rattle.bb_native.specs.Native.{Native, after_act}
-use Rattle.bb_native.specs.Roster.{all_open, place_of, after_act_at}
+use Rattle.bb_native.specs.Roster.{place_of, after_act_at}
 -- what an ask that is applied leaves of a blackboard, and when it is not applied
 pub use Rattle.bb_native.proofs.AskedLemmas.{Leads, applied_leads, applied_fits}
 pub use Rattle.bb_native.proofs.AppliedLemmas.{applied_full, applied_no_memory}
@@ -31,21 +29,9 @@ acted_seen f natives place unit seen keeps = put_back f natives place unit seen 
 pub acted_names : (natives : List Native) (place unit : ℕ) (seen : Sight) → map (λ (n : Native). n.name) (after_act_at natives place unit seen) ≡ map (λ (n : Native). n.name) natives
 acted_names natives place unit seen = acted_seen (λ (n : Native). n.name) natives place unit seen (λ n. refl)
 
-pub acted_length : (natives : List Native) (place unit : ℕ) (seen : Sight) → length (after_act_at natives place unit seen) ≡ length natives
-acted_length natives place unit seen =
-    sym (length-map (after_act_at natives place unit seen) (λ (n : Native). n.name)) ∙ (ap length (acted_names natives place unit seen) ∙ length-map natives (λ (n : Native). n.name))
-
 place_by_name : (natives : List Native) (name : List ℕ) → position (λ one. bytes_eq one name) (map (λ (n : Native). n.name) natives) ≡ place_of natives name
 place_by_name natives name = position-map (λ one. bytes_eq one name) (λ (n : Native). n.name) natives
 
 pub acted_place : (natives : List Native) (place unit : ℕ) (seen : Sight) (name : List ℕ) → place_of (after_act_at natives place unit seen) name ≡ place_of natives name
 acted_place natives place unit seen name =
     sym (place_by_name (after_act_at natives place unit seen) name) ∙ (ap (position (λ one. bytes_eq one name)) (acted_names natives place unit seen) ∙ place_by_name natives name)
-
-all_true : (natives : List Native) → list_all (λ b. b) (map (λ (n : Native). n.is_open) natives) ≡ all_open natives
-all_true [] = refl
-all_true (n ∷ ns) = ap (λ b. n.is_open && b) (all_true ns)
-
-pub acted_open : (natives : List Native) (place unit : ℕ) (seen : Sight) → all_open natives ≡ true → all_open (after_act_at natives place unit seen) ≡ true
-acted_open natives place unit seen open_all =
-    sym (all_true (after_act_at natives place unit seen)) ∙ (ap (list_all (λ b. b)) (acted_seen (λ (n : Native). n.is_open) natives place unit seen (λ n. refl)) ∙ (all_true natives ∙ open_all))

@@ -69,7 +69,8 @@ impl<N: NativeSource> Roster<N> {
         ensures asks { IfOk result (λ asks.
             asks.items ≡ asks_at (map N.meaning self.old.natives.items) place unit view.now) }
         ensures ok { OnOk result
-            (map N.meaning self.new.natives.items ≡ after_act_at (map N.meaning self.old.natives.items) place unit view.now) }
+            (map N.meaning self.new.natives.items
+            ≡ after_act_at (map N.meaning self.old.natives.items) place unit view.now) }
         ensures err { OnErr result (map N.meaning self.new.natives.items ≡ map N.meaning self.old.natives.items) }
     {
         self.natives[place].act(alloc, unit, view)

@@ -16,12 +16,11 @@ use Rattle.bb_pattern.specs.View.{trees_of}
 use Rattle.bb_space_index.specs.declared.leaf.Leaf.{Leaf}
 use Rattle.bb_space_index.specs.declared.leaf.Leaf.TheVariants.{Ordered, Is}
 use Rattle.bb_space_index.specs.Leaf.{fits_leaf, fit_each}
-use Rattle.bb_space.specs.Passing.{passes, HaveAllPassing}
+use Rattle.bb_space.specs.Passing.{passes}
 use Rattle.bb_space.specs.Spaces.{Spaces, membership}
 use Rattle.bb_query.specs.proving.Enough.{AreEnough, among}
 use Rattle.bb_query.specs.proving.Tests.{Asks, AskNoMore}
 use Rattle.bb_query.proofs.NearLemmas.{each_one}
-use Rattle.bb_space_index.proofs.Laws.{meets_among}
 use Rattle.bb_space.proofs.Laws.{any_filter}
 
 pub interval_asks : (r : Relation) (dim : ℕ) (low high : ℤ) → Asks (λ values. ordered_holds r (slice_get values dim) (Some (Interval low high))) (Ordered r dim low high)
@@ -42,9 +41,6 @@ is_asks operands p dim operand test is_one asks = subst (λ q. Asks (λ values. 
 
 -- ---- several tests
 
-pub none_asked : (asked : List DimValue → Bool) → AskNoMore asked []
-none_asked asked = λ values h. refl
-
 -- a test more, of one of the patterns
 pub one_asked : (operands : List DimValue) (ps : List Tree) (k : ℕ) (p : Tree) (test : Leaf) (old new : List Leaf) → slice_get ps k ≡ Some p → Asks (λ values. holds operands values p) test
     → new ≡ old ++ test ∷ [] → AskNoMore (λ values. holds_each operands values (trees_of ps)) old → AskNoMore (λ values. holds_each operands values (trees_of ps)) new
@@ -64,11 +60,4 @@ left_enough t space asked tests list left ask is e = record {
   rises = subst (IsStrictlySortedBy nat_cmp) (sym is) (IsStrictlySortedBy-filter nat_cmp (passes (membership t space) tests) list e.rises);
   enough = λ n values there h. ap (among n) is ∙ (any_filter (passes (membership t space) tests) n list
       ∙ and_from (among n list) (passes (membership t space) tests n) (e.enough n values there h) (ap (λ o. option_map_or (fit_each tests) o false) there ∙ ask values h));
-}
-
--- the few that pass all tests
-pub passing_enough : (t : Spaces) (space : ℕ) (asked : List DimValue → Bool) (tests : List Leaf) (list : List ℕ) → AskNoMore asked tests → HaveAllPassing (membership t space) tests list → AreEnough t space asked list
-passing_enough t space asked tests list ask have = record {
-  rises = have.rises;
-  enough = λ n values there h. meets_among n list ∙ have.all n (ap (λ o. option_map_or (fit_each tests) o false) there ∙ ask values h);
 }

@@ -1,24 +1,23 @@
 -- Units among which all are of which a pattern holds.
-use Rattle.std.proofs.Common.{◌≡◌, ℕ, ℤ, zero, suc, ◌+◌, ◌≤◌, ◌⊎◌, inl, inr, ◌||◌, Bool, true, false, cond, List, [], ◌∷◌, drop, take, length, Option, Some, None, refl, sym, ap, subst, ◌∙◌, arith, add-one, slice_get}
-use Rattle.std.specs.Prelude.{is_some, IfSome}
+use Rattle.std.proofs.Common.{◌≡◌, ℕ, zero, suc, ◌+◌, ◌≤◌, ◌⊎◌, inl, inr, Bool, true, false, cond, List, [], ◌∷◌, drop, take, length, Option, Some, None, refl, sym, ap, subst, ◌∙◌, arith, add-one, slice_get}
+use Rattle.std.specs.Prelude.{is_some}
 use Rattle.std.specs.List.Sorted.{IsStrictlySortedBy}
 use Rattle.std.specs.Ordering.{nat_cmp, is_eq}
 use Rattle.std.specs.FinMap.{contains_key-keys}
 use Rattle.std.specs.BTreeSet.{BTreeSet, contains}
-use Rattle.std.proofs.lemmas.Bool.{and_parts, and_from, or_left, or_right}
+use Rattle.std.proofs.lemmas.Bool.{and_parts, and_from, or_left, or_right, or_cases}
 use Rattle.std.proofs.lemmas.Cmp.{nat_cmp_total, eq_by_cmp_equiv}
 use Rattle.std.proofs.lemmas.List.Kept.{IsStrictlySortedBy-filter}
-use Rattle.bb_pattern.specs.declared.pattern.Relation.{Relation}
+use Rattle.bb_basis.proofs.BoolLemmas.{cond_or_true}
 use Rattle.bb_pattern.specs.declared.value.DimValue.{DimValue}
-use Rattle.bb_pattern.specs.declared.value.DimValue.TheVariants.{Interval, Label}
-use Rattle.bb_pattern.specs.Trees.{Tree, Trees, and_of, or_of, ordered, is_label}
-use Rattle.bb_pattern.specs.Holds.{holds, holds_each, holds_some, ordered_holds, is_holds}
+use Rattle.bb_pattern.specs.Trees.{Tree, Trees, and_of, or_of}
+use Rattle.bb_pattern.specs.Holds.{holds, holds_each, holds_some}
 use Rattle.bb_pattern.specs.View.{trees_of}
 use Rattle.bb_space_index.specs.declared.leaf.Leaf.{Leaf}
-use Rattle.bb_space_index.specs.declared.leaf.Leaf.TheVariants.{Ordered, Is}
 use Rattle.bb_space_index.specs.Leaf.{fits_leaf}
 use Rattle.bb_space.specs.Spaces.{Spaces, membership, values_in, members, AreCandidates}
 use Rattle.bb_query.specs.proving.Enough.{AreEnough, HasAlso, among}
+use Rattle.bb_query.specs.proving.Tests.{Asks}
 use Rattle.bb_space.proofs.Laws.{keys_rise, any_filter}
 
 -- a list that is enough for a test is enough for one that asks more
@@ -33,19 +32,15 @@ pub members_enough : (t : Spaces) (space : ℕ) (test : List DimValue → Bool) 
 members_enough t space test = record { rises = keys_rise (membership t space); enough = λ n values there h. member_there t space n values there }
 
 -- the candidates for a test
-pub candidates_enough : (t : Spaces) (space : ℕ) (leaf : Leaf) (list : List ℕ) → AreCandidates t space leaf list → AreEnough t space (fits_leaf leaf) list
+candidates_enough : (t : Spaces) (space : ℕ) (leaf : Leaf) (list : List ℕ) → AreCandidates t space leaf list → AreEnough t space (fits_leaf leaf) list
 candidates_enough t space leaf list c = record {
   rises = subst (IsStrictlySortedBy nat_cmp) (sym c.members) (IsStrictlySortedBy-filter nat_cmp c.chosen (members t space) (keys_rise (membership t space)));
   enough = λ n values there h. ap (among n) c.members ∙ (any_filter c.chosen n (members t space) ∙ and_from (among n (members t space)) (c.chosen n) (member_there t space n values there) (c.fitting n values there h));
 }
 
-pub interval_enough : (t : Spaces) (space : ℕ) (r : Relation) (dim : ℕ) (low high : ℤ) (list : List ℕ) → AreCandidates t space (Ordered r dim low high) list → AreEnough t space (λ values. ordered_holds r (slice_get values dim) (Some (Interval low high))) list
-unfolding fits_leaf
-interval_enough t space r dim low high list c = candidates_enough t space (Ordered r dim low high) list c
-
-pub label_enough : (t : Spaces) (space : ℕ) (dim set label : ℕ) (list : List ℕ) → AreCandidates t space (Is dim set label) list → AreEnough t space (λ values. is_holds (slice_get values dim) (Some (Label set label))) list
-unfolding fits_leaf
-label_enough t space dim set label list c = candidates_enough t space (Is dim set label) list c
+-- the candidates for a test that asks the same
+pub asked_enough : (t : Spaces) (space : ℕ) (asked : List DimValue → Bool) (leaf : Leaf) (list : List ℕ) → Asks asked leaf → AreCandidates t space leaf list → AreEnough t space asked list
+asked_enough t space asked leaf list asks c = enough_of t space (fits_leaf leaf) asked list (λ values h. asks values ∙ h) (candidates_enough t space leaf list c)
 
 -- ---- several patterns
 
@@ -91,16 +86,9 @@ HasBut t space operands ps rest found =
     (n : ℕ) (values : List DimValue) → values_in t space n ≡ Some values → holds_some operands values (trees_of ps) ≡ true
     → (contains nat_cmp found n ≡ true) ⊎ (holds_some operands values (trees_of rest) ≡ true)
 
-pub has_but_all : (t : Spaces) (space : ℕ) (operands : List DimValue) (ps : List Tree) (found : BTreeSet ℕ) → HasBut t space operands ps ps found
-has_but_all t space operands ps found = λ n values there h. inr h
-
-first_or : (a b : Bool) → (a || b) ≡ true → (a ≡ true) ⊎ (b ≡ true)
-first_or true b h = inl refl
-first_or false b h = inr h
-
 some_first : (operands values : List DimValue) (p : Tree) (ps : List Tree) → holds_some operands values (trees_of (p ∷ ps)) ≡ true → (holds operands values p ≡ true) ⊎ (holds_some operands values (trees_of ps) ≡ true)
 unfolding holds
-some_first operands values p ps h = first_or (holds operands values p) (holds_some operands values (trees_of ps)) h
+some_first operands values p ps h = or_cases (holds operands values p) (holds_some operands values (trees_of ps)) h
 
 pub has_but_less : (t : Spaces) (space : ℕ) (operands : List DimValue) (ps : List Tree) (k : ℕ) (p : Tree) (list : List ℕ) (old new : BTreeSet ℕ) → slice_get ps k ≡ Some p
     → AreEnough t space (λ values. holds operands values p) list → HasAlso old list new → HasBut t space operands ps (drop k ps) old → HasBut t space operands ps (drop (k + 1) ps) new
@@ -147,28 +135,17 @@ pub or_enough : (t : Spaces) (space : ℕ) (operands : List DimValue) (p : Tree)
 unfolding holds
 or_enough t space operands p ps list is_or e = subst (λ q. AreEnough t space (λ values. holds operands values q) list) is_or e
 
-pub ordered_enough : (t : Spaces) (space : ℕ) (operands : List DimValue) (p : Tree) (r : Relation) (dim operand : ℕ) (list : List ℕ) → ordered r dim operand ≡ p → AreEnough t space (λ values. ordered_holds r (slice_get values dim) (slice_get operands operand)) list → AreEnough t space (λ values. holds operands values p) list
-unfolding holds
-ordered_enough t space operands p r dim operand list is_one e = subst (λ q. AreEnough t space (λ values. holds operands values q) list) is_one e
-
-pub is_enough : (t : Spaces) (space : ℕ) (operands : List DimValue) (p : Tree) (dim operand : ℕ) (list : List ℕ) → is_label dim operand ≡ p → AreEnough t space (λ values. is_holds (slice_get values dim) (slice_get operands operand)) list → AreEnough t space (λ values. holds operands values p) list
-unfolding holds
-is_enough t space operands p dim operand list is_one e = subst (λ q. AreEnough t space (λ values. holds operands values q) list) is_one e
-
 -- ---- units of a list, one more
-
-pub if_some : {X : Type 0} (P : X → Type 0) (o : Option X) (x : X) → o ≡ Some x → IfSome o P → P x
-if_some P o x same h = subst (λ w. IfSome w P) same h
 
 among_take : (list : List ℕ) (k u n : ℕ) → slice_get list k ≡ Some u → among n (take (suc k) list) ≡ true → (among n (take k list) ≡ true) ⊎ (is_eq (nat_cmp n u) ≡ true)
 among_take [] zero u n there h = absurd cc
 among_take [] (suc k) u n there h = absurd cc
-among_take (x ∷ xs) zero u n there h = at (first_or (is_eq (nat_cmp n x)) false h)
+among_take (x ∷ xs) zero u n there h = at (or_cases (is_eq (nat_cmp n x)) false h)
   where
     at : (is_eq (nat_cmp n x) ≡ true) ⊎ (false ≡ true) → (false ≡ true) ⊎ (is_eq (nat_cmp n u) ≡ true)
     at (inl one) = inr (ap (λ y. is_eq (nat_cmp n y)) (sym (same_some x u there)) ∙ one)
     at (inr none) = inl none
-among_take (x ∷ xs) (suc k) u n there h = at (first_or (is_eq (nat_cmp n x)) (among n (take (suc k) xs)) h) (among_take xs k u n there)
+among_take (x ∷ xs) (suc k) u n there h = at (or_cases (is_eq (nat_cmp n x)) (among n (take (suc k) xs)) h) (among_take xs k u n there)
   where
     later : (among n (take k xs) ≡ true) ⊎ (is_eq (nat_cmp n u) ≡ true) → (among n (x ∷ take k xs) ≡ true) ⊎ (is_eq (nat_cmp n u) ≡ true)
     later (inl one) = inl (or_right (is_eq (nat_cmp n x)) (among n (take k xs)) one)
@@ -179,17 +156,13 @@ among_take (x ∷ xs) (suc k) u n there h = at (first_or (is_eq (nat_cmp n x)) (
     at (inl one) others = inl (or_left (is_eq (nat_cmp n x)) (among n (take k xs)) one)
     at (inr rest) others = later (others rest)
 
-still : (b x : Bool) → x ≡ true → cond b true x ≡ true
-still true x h = refl
-still false x h = h
-
 pub also_more : (old now new : BTreeSet ℕ) (list : List ℕ) (k u : ℕ) → slice_get list k ≡ Some u → HasAlso old (take k list) now
     → ((q : ℕ) → contains nat_cmp new q ≡ cond (is_eq (nat_cmp u q)) true (contains nat_cmp now q)) → HasAlso old (take (k + 1) list) new
 also_more old now new list k u there was puts = record {
-  keeps = λ n h. puts n ∙ still (is_eq (nat_cmp u n)) (contains nat_cmp now n) (was.keeps n h);
+  keeps = λ n h. puts n ∙ cond_or_true (is_eq (nat_cmp u n)) (contains nat_cmp now n) (was.keeps n h);
   also = λ n h. at n (among_take list k u n there (ap (λ j. among n (take j list)) (sym (add-one k)) ∙ h));
 }
   where
     at : (n : ℕ) → (among n (take k list) ≡ true) ⊎ (is_eq (nat_cmp n u) ≡ true) → contains nat_cmp new n ≡ true
-    at n (inl one) = puts n ∙ still (is_eq (nat_cmp u n)) (contains nat_cmp now n) (was.also n one)
+    at n (inl one) = puts n ∙ cond_or_true (is_eq (nat_cmp u n)) (contains nat_cmp now n) (was.also n one)
     at n (inr here) = puts n ∙ ap (λ b. cond b true (contains nat_cmp now n)) ((eq_by_cmp_equiv nat_cmp_total).symm u n ∙ here)

@@ -8,6 +8,7 @@ use Rattle.std.proofs.lemmas.Bool.{and_parts, eqb-true}
 use Rattle.std.proofs.lemmas.List.Folds.{find-append}
 use Rattle.std.proofs.lemmas.Option.{slice_get-map}
 use Rattle.std.proofs.lemmas.Bool.Decides.{Decides-eqb}
+use Rattle.bb_basis.proofs.ListLemmas.{option_and_then-map, option_map_or-map}
 use Rattle.bb_schema_classes.proofs.Laws.{All-at, climbs_sound}
 use Rattle.bb_schema_classes.specs.declared.kind.Kind.{Kind}
 use Rattle.bb_schema_classes.specs.declared.kind.Kind.TheVariants as kinds
@@ -120,20 +121,11 @@ default_there s n set kind fit is = at_slot (slice_get s.slots n) refl is
     at_slot None there same = absurd cc
     at_slot (Some t) there same = default_by s n set kind t.content fit (let e : kind_of t.content ≡ kind = cc in e) (ap (option_and_then (λ t. default_in t.content)) there)
 
--- what the units keep of a schema is what it has
-joined : {A B : Type 0} (f : A → Option B) (o : Option A) → option_and_then (λ d. d) (option_map f o) ≡ option_and_then f o
-joined f None = refl
-joined f (Some a) = refl
-
 default_kept : (s : Schema) (n : ℕ) → layouts.default_at (layouts.layout_of s).defaults n ≡ default_of s n
-default_kept s n = ap (option_and_then (λ d. d)) (slice_get-map (λ (t : Slot). default_in t.content) s.slots n) ∙ joined (λ (t : Slot). default_in t.content) (slice_get s.slots n)
-
-listed_or : {A B : Type 0} (f : A → List B) (o : Option A) → option_map_or (λ l. l) (option_map f o) [] ≡ option_map_or f o []
-listed_or f None = refl
-listed_or f (Some a) = refl
+default_kept s n = ap (option_and_then (λ d. d)) (slice_get-map (λ (t : Slot). default_in t.content) s.slots n) ∙ option_and_then-map (λ (t : Slot). default_in t.content) (slice_get s.slots n)
 
 slots_kept : (s : Schema) (c : ℕ) → layouts.slots_of (layouts.layout_of s) c ≡ slots_of s c
-slots_kept s c = ap (λ (o : Option (List ℕ)). option_map_or (λ l. l) o []) (slice_get-map (λ k. k.slots) s.classes c) ∙ listed_or (λ k. k.slots) (slice_get s.classes c)
+slots_kept s c = ap (λ (o : Option (List ℕ)). option_map_or (λ l. l) o []) (slice_get-map (λ k. k.slots) s.classes c) ∙ option_map_or-map (λ k. k.slots) (slice_get s.classes c)
 
 found_listed : (test : ℕ → Bool) (xs : List ℕ) (m : ℕ) → find test xs ≡ Some m → list_any (λ n. n == m) xs ≡ true
 found_listed test [] m is = absurd cc

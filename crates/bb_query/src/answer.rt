@@ -2,10 +2,12 @@
 
 ghost use Rattle.std.specs.Prelude.{◌≡◌, IfOk, Ok, filter};
 ghost use Rattle.bb_pattern.specs.Fits.{query_fits};
-ghost use Rattle.bb_query.specs.Answer.{is_of_class, answers, answer};
+ghost use Rattle.bb_query.specs.Answer.{is_of_class, answer};
 ghost use Rattle.bb_query.specs.Knows.{KnowsValues};
+ghost use Rattle.bb_query.specs.proving.Searches.{Suits, is_answer};
 
 use crate::near::near;
+use crate::search::Search;
 use bb_basis::Memory;
 use bb_pattern::{DimValue, Query};
 use bb_schema::{Schema, UnitId};
@@ -22,42 +24,26 @@ fn is_of_class(schema: &Schema, units: &Units, query: &Query, unit: UnitId) -> b
 
 // Whether a query answers a unit, by the values that the space was told. The values come first: most candidates for a
 // test fail another one.
-fn answers(
-    schema: &Schema,
-    units: &Units,
-    spaces: &Spaces,
-    query: &Query,
-    operands: &[DimValue],
-    unit: UnitId,
-) -> bool
-    requires knows { KnowsValues schema.now units.now spaces.now }
-    requires fits { query_fits schema.now query.now ≡ Ok tt }
-    ensures { result ≡ answers schema.now units.now spaces.now query.now operands.now unit }
+fn answers(search: &Search, unit: UnitId) -> bool
+    requires { Suits search.now }
+    ensures { result ≡ is_answer search.now unit }
 {
-    let Some(values) = spaces.values(query.space, unit) else {
+    let query = search.query;
+    let Some(values) = search.spaces.values(query.space, unit) else {
         return false;
     };
-    query.pattern.holds(operands, values) && is_of_class(schema, units, query, unit)
+    query.pattern.holds(search.operands, values)
+        && is_of_class(search.schema, search.units, query, unit)
 }
 
 // The units of a list that a query answers, in their order.
-fn answered(
-    alloc: Global,
-    schema: &Schema,
-    units: &Units,
-    spaces: &Spaces,
-    query: &Query,
-    operands: &[DimValue],
-    among: &[UnitId],
-) -> Result<Vec<UnitId>, Memory>
-    requires knows { KnowsValues schema.now units.now spaces.now }
-    requires fits { query_fits schema.now query.now ≡ Ok tt }
-    ensures { IfOk result (λ found.
-        found.items ≡ filter (answers schema.now units.now spaces.now query.now operands.now) among.now) }
+fn answered(alloc: Global, search: &Search, among: &[UnitId]) -> Result<Vec<UnitId>, Memory>
+    requires { Suits search.now }
+    ensures { IfOk result (λ found. found.items ≡ filter (is_answer search.now) among.now) }
 {
     let mut found = Vec::new(alloc);
     for unit in among {
-        if answers(schema, units, spaces, query, operands, *unit) {
+        if answers(search, *unit) {
             found.push(*unit)?;
         }
     }
@@ -79,6 +65,13 @@ pub fn find(
     requires fits { query_fits schema.now query.now ≡ Ok tt }
     ensures { IfOk result (λ found. found.items ≡ answer schema.now units.now spaces.now query.now operands.now) }
 {
-    let among = near(alloc, spaces, query.space, &query.pattern, operands)?;
-    answered(alloc, schema, units, spaces, query, operands, &among)
+    let search = Search {
+        schema,
+        units,
+        spaces,
+        query,
+        operands,
+    };
+    let among = near(alloc, &search)?;
+    answered(alloc, &search, &among)
 }

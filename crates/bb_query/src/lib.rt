@@ -9,6 +9,7 @@
 mod answer;
 mod narrow;
 mod near;
+mod search;
 mod values;
 
 pub use answer::find;

@@ -10,8 +10,8 @@ use bb_pattern::{DimValue, Node, Pattern, Relation};
 use bb_space::Leaf;
 use std::alloc::Global;
 
-/// The operand of a number, if there is one.
-pub(crate) fn operand_at(operands: &[DimValue], number: u8) -> Option<DimValue>
+// The operand of a number, if there is one.
+fn operand_at(operands: &[DimValue], number: u8) -> Option<DimValue>
     ensures { result ≡ slice_get operands.now number }
 {
     Some(*operands.get(number as usize)?)
@@ -42,8 +42,8 @@ fn label_test(dim: u8, operand: Option<DimValue>) -> Option<Leaf>
     }
 }
 
-// The test that a pattern is, if it is one and has an operand of its sort.
-fn test_of(pattern: &Pattern, operands: &[DimValue]) -> Option<Leaf>
+/// The test that a pattern is, if it is one and has an operand of its sort.
+pub(crate) fn test_of(pattern: &Pattern, operands: &[DimValue]) -> Option<Leaf>
     ensures { IfSome result (Asks (λ values. holds operands.now values pattern.now)) }
 {
     match pattern.node() {

@@ -67,6 +67,7 @@ pub fn values_of(
     ensures whole { IfOk result (λ values. Admits schema.now units.now unit space
         → map kind_of_operand values ≡ map kind_on (dims_of schema.now space)) }
 {
+    // For the proof: what holds of every schema and the units.
     schema.fits();
     units.fits();
     let class = units.class_of(unit);

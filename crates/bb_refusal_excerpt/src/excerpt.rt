@@ -10,6 +10,9 @@ const WIDTH: usize = 160;
 // How many of the shown characters stand before the fault, where the line goes on at both ends.
 const BEFORE: usize = 80;
 
+// How many bytes of a line are looked at before a place, and behind it: more than are shown.
+const REACH: usize = 1_024;
+
 /// Appends a line of a text and, below it, a caret under a column, both from 1; columns count characters.
 pub fn write_excerpt(
     text: &mut String,
@@ -25,6 +28,53 @@ pub fn write_excerpt(
     let front = if start > 0 { MORE.len() } else { 0 };
     let indent = front.saturating_add(column.saturating_sub(start));
     write!(text, "{:indent$}^", "")
+}
+
+/// Appends the line of a text in which a byte stands, and below it a caret under the character that begins there. It
+/// looks at the line near the byte alone, however long the text is.
+pub fn write_excerpt_at(text: &mut String, source: &str, at: usize) -> Result<(), Memory> {
+    let bytes = source.as_bytes();
+    let front = source.get(first_near(bytes, at)..at).unwrap_or("");
+    let behind = source.get(at..last_near(bytes, at)).unwrap_or("");
+    let mut line = String::from_str(*text.allocator(), front)?;
+    line.push_str(behind)?;
+    let column = front.chars().count().saturating_add(1);
+    write_excerpt(text, line.as_str(), 1, column as u64)
+}
+
+// Whether a byte is none of the first bytes of characters.
+fn is_inner(byte: u8) -> bool {
+    byte >= 0x80 && byte < 0xc0
+}
+
+// Where the line of a byte begins, or a character of it that is far enough before the byte.
+fn first_near(bytes: &[u8], at: usize) -> usize {
+    let mut first = at.min(bytes.len());
+    for turn in 0..bytes.len() {
+        let Some(before) = first.checked_sub(1) else {
+            return first;
+        };
+        match bytes.get(before) {
+            Some(b'\n') | None => return first,
+            Some(byte) if turn > REACH && !is_inner(*byte) => return before,
+            Some(_) => first = before,
+        }
+    }
+    first
+}
+
+// Behind the end of the line of a byte, or before a character of it that is far enough behind the byte.
+fn last_near(bytes: &[u8], at: usize) -> usize {
+    let behind = bytes.get(at..).unwrap_or(&[]);
+    for (turn, byte) in behind.iter().enumerate() {
+        if *byte == b'\n' {
+            return at.saturating_add(turn).saturating_add(1);
+        }
+        if turn > REACH && !is_inner(*byte) {
+            return at.saturating_add(turn);
+        }
+    }
+    bytes.len()
 }
 
 /// Appends a line of a text, from 1, without a caret.

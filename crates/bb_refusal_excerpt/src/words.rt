@@ -16,16 +16,22 @@ pub fn begin_line(text: &mut String) -> Result<(), Memory> {
     text.push_str(MARGIN)
 }
 
-/// Appends a name in quotes, cut where it is long. A control character becomes a blank, so that an untrusted text does
-/// nothing to a terminal.
-pub fn write_quoted(text: &mut String, name: &str) -> Result<(), Memory> {
-    text.push_str("\"")?;
+/// Appends a name, cut where it is long. A control character becomes a blank, so that an untrusted text does nothing to
+/// a terminal.
+pub fn write_shown(text: &mut String, name: &str) -> Result<(), Memory> {
     for c in name.chars().take(SHOWN) {
         text.push(if c.is_control() { ' ' } else { c })?;
     }
     if name.chars().nth(SHOWN).is_some() {
         text.push_str(MORE)?;
     }
+    Ok(())
+}
+
+/// Appends a name as it is shown, in quotes.
+pub fn write_quoted(text: &mut String, name: &str) -> Result<(), Memory> {
+    text.push_str("\"")?;
+    write_shown(text, name)?;
     text.push_str("\"")
 }
 

@@ -3,10 +3,11 @@
 ghost use Rattle.std.specs.Prelude.{◌≡◌, ◌+◌, ◌⊎◌, true, false, length, take, IfOk};
 ghost use Rattle.bb_refusal_report.specs.Early.{is_early};
 
+use crate::reporting::Input;
 use bb_basis::Memory;
 use bb_bundle::BundleFault;
 use bb_code::{Code, CodeFault};
-use bb_refusal_excerpt::{begin_line, line_at, write_whole_line};
+use bb_refusal_excerpt::{begin_line, line_at, note_header, note_input_line, write_whole_line};
 use std::alloc::{AllocError, Global};
 use std::fmt::Write;
 
@@ -15,13 +16,24 @@ pub(crate) fn note_bundle(
     alloc: Global,
     text: &mut String,
     fault: BundleFault,
-    bundle: &str,
+    input: Input<'_>,
 ) -> Result<(), Memory> {
+    let bundle = input.bundle;
+    let section = input.section("%bundle", bundle);
     match fault {
-        BundleFault::Line { line } | BundleFault::Hex { line } => {
+        BundleFault::Line { line } => {
+            note_input_line(text, section, line)?;
+            write_whole_line(text, bundle, line)?;
+            note_header(text, line_at(bundle, line))
+        }
+        BundleFault::Hex { line } => {
+            note_input_line(text, section, line)?;
             write_whole_line(text, bundle, line)
         }
-        BundleFault::Code { line, .. } => note_byte(alloc, text, line_at(bundle, line)),
+        BundleFault::Code { line, .. } => {
+            note_input_line(text, section, line)?;
+            note_byte(alloc, text, line_at(bundle, line))
+        }
         BundleFault::Memory => Ok(()),
     }
 }

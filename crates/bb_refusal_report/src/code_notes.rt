@@ -49,7 +49,7 @@ pub(crate) fn note_code(
 fn only_one<'a>(sources: &'a [SourceCode], name: &str) -> Option<&'a SourceDraft<Code>> {
     let mut named = sources
         .iter()
-        .filter(|source| source.draft().name.as_str() == name);
+        .filter(|source| source.draft().header.name.as_str() == name);
     let first = named.next()?;
     match named.next() {
         None => Some(first.draft()),
@@ -60,16 +60,16 @@ fn only_one<'a>(sources: &'a [SourceCode], name: &str) -> Option<&'a SourceDraft
 // The code of a part, if the source has one.
 fn code_of(draft: &SourceDraft<Code>, part: Part) -> Option<&Code> {
     match part {
-        Part::Require { .. } => draft.require.as_ref(),
-        Part::Obviate { .. } => match &draft.obviate {
+        Part::Require { .. } => draft.parts.require.as_ref(),
+        Part::Obviate { .. } => match &draft.parts.obviate {
             Some(reaction) => Some(&reaction.code),
             None => None,
         },
-        Part::Retrigger { .. } => match &draft.retrigger {
+        Part::Retrigger { .. } => match &draft.parts.retrigger {
             Some(reaction) => Some(&reaction.code),
             None => None,
         },
-        Part::Revalidate { .. } => draft.revalidate.as_ref(),
+        Part::Revalidate { .. } => draft.parts.revalidate.as_ref(),
         Part::Do { .. } => match &draft.act {
             ActDraft::Do(code) => Some(code),
             ActDraft::Native => None,

@@ -1,31 +1,9 @@
-//! Kinds of values and of slots in words, with the names of the schema. The notes on first units and codes use them.
+//! Kinds of values in words, with the names of the schema. The notes on codes use them.
 
 use bb_basis::Memory;
 use bb_code::Kind as FrameKind;
-use bb_schema::{ClassId, Kind, LabelSetId, Schema, SlotId};
+use bb_schema::{ClassId, Schema};
 use std::fmt::Write;
-
-/// Appends what an ordinary slot holds.
-pub(crate) fn write_slot_kind(
-    text: &mut String,
-    schema: &Schema,
-    slot: SlotId,
-) -> Result<(), Memory> {
-    if slot as usize >= schema.slot_count() {
-        return Ok(());
-    }
-    match schema.kind(slot) {
-        Kind::Int => text.push_str("a whole number of 64 bits"),
-        Kind::Text => text.push_str("a text of at most 65,535 bytes"),
-        Kind::Bool => text.push_str("`true` or `false`"),
-        Kind::Label(set) => write_labels(text, schema, set),
-        Kind::Interval => text.push_str("a list of two whole numbers, the lesser first"),
-        Kind::Link(link) => {
-            text.push_str("a link to ")?;
-            write_class(text, schema, link.to)
-        }
-    }
-}
 
 /// Appends the kind of an entry of a frame, by names: `Old(box)`. What the schema does not have stays a number.
 pub(crate) fn write_kind(
@@ -57,23 +35,10 @@ fn write_of_class(
     text.push_str(")")
 }
 
-/// Appends the name of a class.
-pub(crate) fn write_class(
-    text: &mut String,
-    schema: &Schema,
-    class: ClassId,
-) -> Result<(), Memory> {
+// Appends the name of a class.
+fn write_class(text: &mut String, schema: &Schema, class: ClassId) -> Result<(), Memory> {
     match schema.class_name(class) {
         None => write!(text, "{class}"),
         Some(name) => text.push_str(name),
-    }
-}
-
-// Appends that a value is a label of a set, with the first label of the set as an example.
-fn write_labels(text: &mut String, schema: &Schema, set: LabelSetId) -> Result<(), Memory> {
-    text.push_str("a label of its set")?;
-    match schema.label_name(set, 0) {
-        None => Ok(()),
-        Some(first) => write!(text, ", as \"{first}\""),
     }
 }

@@ -5,13 +5,10 @@
 mod bundle_notes;
 mod code_notes;
 mod due;
-mod entry;
-mod json_notes;
+mod first_units;
 mod kinds;
 mod reporting;
 mod rule_notes;
-mod schema_notes;
-mod shape_notes;
-mod units_notes;
 
+pub use first_units::{FirstUnits, read_first_units};
 pub use reporting::{Input, report};

@@ -1,8 +1,10 @@
-//! The line of a bundle that has the clause, or the class, by which a source is refused. A text of sources has such
-//! faults when it is compiled.
+//! The clause, or the class, by which a source is refused: its line in a bundle, and its place among the clauses of the
+//! source, by which a text is read once more.
 
+use crate::reporting::Input;
 use bb_basis::Memory;
-use bb_refusal_excerpt::{begin_line, write_whole_line};
+use bb_refusal_excerpt::{begin_line, write_input_line, write_whole_line};
+use bb_refusal_statement::Clause;
 use bb_rules::{ClassPlace, ClauseList, ClausePlace, RuleFault};
 use std::fmt::Write;
 
@@ -12,8 +14,9 @@ pub(crate) fn note_rule(
     text: &mut String,
     name: &str,
     fault: RuleFault,
-    bundle: &str,
+    input: Input<'_>,
 ) -> Result<(), Memory> {
+    let bundle = input.bundle;
     let Some(place) = place_of(fault) else {
         return Ok(());
     };
@@ -25,9 +28,27 @@ pub(crate) fn note_rule(
         Some(line) => {
             begin_line(text)?;
             write!(text, "line {line} of the bundle")?;
+            write_input_line(text, input.section("%bundle", bundle), line)?;
             write_whole_line(text, bundle, line)
         }
     }
+}
+
+/// The clause of a source at which a fault stands, if it is one of a clause.
+pub(crate) fn clause_of(name: &str, fault: RuleFault) -> Option<Clause<'_>> {
+    let Some(ClassPlace::Clause(place)) = place_of(fault) else {
+        return None;
+    };
+    let reaction = match place.list {
+        ClauseList::Triggers => "",
+        ClauseList::Obviate => "obviate",
+        ClauseList::Retrigger => "retrigger",
+    };
+    Some(Clause {
+        source: name,
+        reaction,
+        index: place.index,
+    })
 }
 
 fn place_of(fault: RuleFault) -> Option<ClassPlace> {

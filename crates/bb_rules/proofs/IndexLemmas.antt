@@ -1,8 +1,9 @@
 -- The index of clauses has what the clauses name.
 use Rattle.std.proofs.Common.{◌≡◌, ℕ, Bool, true, false, cond, ◌&&◌, ◌||◌, ◌==◌, List, [], ◌∷◌, ◌++◌, refl, sym, ap, ◌∙◌, eqb-true, eq-eqb}
 use Rattle.std.specs.List.{list_any}
-use Rattle.std.proofs.lemmas.Bool.{and_parts}
-use Rattle.std.proofs.lemmas.List.Folds.{list_any-append}
+use Rattle.std.proofs.lemmas.Bool.{and_parts, or_right, and_from}
+use Rattle.bb_basis.proofs.ListLemmas.{list_any-last}
+use Rattle.bb_basis.proofs.BoolLemmas.{or_false, same_truth}
 use Rattle.bb_schema.specs.Schema.{Schema, descends}
 use Rattle.bb_board.specs.Change.{Change}
 use Rattle.bb_board.specs.ChangeKind.{ChangeKind}
@@ -18,21 +19,13 @@ use Rattle.bb_rules.specs.proving.Index.{IsIndex, names_class, is_about, is_quie
 
 -- ---- one clause more
 
-or_false : (b : Bool) → (b || false) ≡ b
-or_false true = refl
-or_false false = refl
-
--- a list with one more at its end
-any_more : {X : Type 0} (p : X → Bool) (xs : List X) (x : X) → list_any p (xs ++ x ∷ []) ≡ (list_any p xs || p x)
-any_more p xs x = list_any-append p xs (x ∷ []) ∙ ap (λ b. list_any p xs || b) (or_false (p x))
-
 or_true : (b : Bool) → true ≡ (b || true)
 or_true true = refl
 or_true false = refl
 
 -- what is there after a number was put
 there_at : (ns : List ℕ) (n c : ℕ) (there same : Bool) → has ns n ≡ there → (n == c) ≡ same → has (cond there ns (ns ++ n ∷ [])) c ≡ (has ns c || same)
-there_at ns n c false same is is_same = any_more (λ d. d == c) ns n ∙ ap (λ b. has ns c || b) is_same
+there_at ns n c false same is is_same = list_any-last (λ d. d == c) ns n ∙ ap (λ b. has ns c || b) is_same
 there_at ns n c true false is is_same = sym (or_false (has ns c))
 there_at ns n c true true is is_same = ap (has ns) (sym (eqb-true n c is_same)) ∙ (is ∙ or_true (has ns c))
 
@@ -48,31 +41,17 @@ pub change_indexed : (list : List Clause) (index new : KindIndex) (quiescence : 
     → ((k : ChangeKind) → ids_for new k ≡ put_if (is_same_kind kind k) (ids_for index k) class)
     → IsIndex (list ++ clauses.Change kind class ∷ []) new quiescence
 change_indexed list index new quiescence kind class old added = record {
-  kinds = λ k c. has_more (ids_for index k) (ids_for new k) class (is_same_kind kind k) c (added k) ∙ (ap (λ b. b || (is_same_kind kind k && class == c)) (old.kinds k c) ∙ sym (any_more (is_about k c) list (clauses.Change kind class)));
-  quiet = old.quiet ∙ (sym (or_false (list_any is_quiescence list)) ∙ sym (any_more is_quiescence list (clauses.Change kind class)));
+  kinds = λ k c. has_more (ids_for index k) (ids_for new k) class (is_same_kind kind k) c (added k) ∙ (ap (λ b. b || (is_same_kind kind k && class == c)) (old.kinds k c) ∙ sym (list_any-last (is_about k c) list (clauses.Change kind class)));
+  quiet = old.quiet ∙ (sym (or_false (list_any is_quiescence list)) ∙ sym (list_any-last is_quiescence list (clauses.Change kind class)));
 }
 
 pub quiescence_indexed : (list : List Clause) (index : KindIndex) (quiescence : Bool) → IsIndex list index quiescence → IsIndex (list ++ clauses.Quiescence ∷ []) index true
 quiescence_indexed list index quiescence old = record {
-  kinds = λ k c. sym (or_false (names_class index k c)) ∙ (ap (λ b. b || false) (old.kinds k c) ∙ sym (any_more (is_about k c) list clauses.Quiescence));
-  quiet = or_true (list_any is_quiescence list) ∙ sym (any_more is_quiescence list clauses.Quiescence);
+  kinds = λ k c. sym (or_false (names_class index k c)) ∙ (ap (λ b. b || false) (old.kinds k c) ∙ sym (list_any-last (is_about k c) list clauses.Quiescence));
+  quiet = or_true (list_any is_quiescence list) ∙ sym (list_any-last is_quiescence list clauses.Quiescence);
 }
 
 -- ---- a clause names an event exactly where the index says so
-
-same_truth : (b c : Bool) → (b ≡ true → c ≡ true) → (c ≡ true → b ≡ true) → b ≡ c
-same_truth true c on back = sym (on refl)
-same_truth false true on back = back refl
-same_truth false false on back = refl
-
-both : (b c : Bool) → b ≡ true → c ≡ true → (b && c) ≡ true
-both true true p q = refl
-both false c p q = absurd cc
-both true false p q = absurd cc
-
-or_right : (b c : Bool) → c ≡ true → (b || c) ≡ true
-or_right true c h = refl
-or_right false c h = h
 
 -- what is in the list and passes settles the answer
 found_at : (p : ℕ → Bool) (d n : ℕ) (rest : List ℕ) (t : Bool) → (n == d) ≡ t → p d ≡ true → (has rest d ≡ true → list_any p rest ≡ true) → (t || has rest d) ≡ true → (p n || list_any p rest) ≡ true
@@ -103,14 +82,14 @@ module _ (s : Schema) (unit of : ℕ) (change : Change) where
   about_names : (c : ℕ) (clause : Clause) → descends s of c ≡ true → is_about kind c clause ≡ true → matches s clause event ≡ true
   about_names c (clauses.Change k class) under h =
       let parts = and_parts (is_same_kind k kind) (class == c) h in
-      both (is_same_kind k kind) (descends s of class) parts.0 (ap (descends s of) (eqb-true class c parts.1) ∙ under)
+      and_from (is_same_kind k kind) (descends s of class) parts.0 (ap (descends s of) (eqb-true class c parts.1) ∙ under)
   about_names c clauses.Quiescence under h = absurd cc
 
   -- a clause that names the event is about the kind and such a class
   names_about : (clause : Clause) → matches s clause event ≡ true → (c : ℕ) × (is_about kind c clause ≡ true) × (descends s of c ≡ true)
   names_about (clauses.Change k class) h =
       let parts = and_parts (is_same_kind k kind) (descends s of class) h in
-      (class, both (is_same_kind k kind) (class == class) parts.0 (eq-eqb class class refl), parts.1)
+      (class, and_from (is_same_kind k kind) (class == class) parts.0 (eq-eqb class class refl), parts.1)
   names_about clauses.Quiescence h = absurd cc
 
   names_at : (c : ℕ) (clause : Clause) (rest : List Clause) (t : Bool) → is_about kind c clause ≡ t → descends s of c ≡ true → (list_any (is_about kind c) rest ≡ true → any_match s rest event ≡ true) → (t || list_any (is_about kind c) rest) ≡ true → any_match s (clause ∷ rest) event ≡ true
@@ -134,14 +113,3 @@ module _ (s : Schema) (unit of : ℕ) (change : Change) where
       same_truth (list_any (λ d. descends s of d) (ids_for index kind)) (any_match s list event)
       (λ h. let one = settled (λ d. descends s of d) (ids_for index kind) h in names one.0 list one.2 (sym (i.kinds kind one.0) ∙ one.1))
       (λ h. let one = about list h in passes_in (λ d. descends s of d) one.0 (ids_for index kind) one.2 (i.kinds kind one.0 ∙ one.1))
-
-pub quiescence_named : (s : Schema) (list : List Clause) (index : KindIndex) (quiescence : Bool) → IsIndex list index quiescence → quiescence ≡ any_match s list events.Quiescence
-quiescence_named s list index quiescence i = i.quiet ∙ each list
-  where
-    one : (clause : Clause) → is_quiescence clause ≡ matches s clause events.Quiescence
-    one (clauses.Change of class) = refl
-    one clauses.Quiescence = refl
-
-    each : (cs : List Clause) → list_any is_quiescence cs ≡ any_match s cs events.Quiescence
-    each [] = refl
-    each (clause ∷ rest) = ap (λ b. b || list_any is_quiescence rest) (one clause) ∙ ap (λ b. matches s clause events.Quiescence || b) (each rest)

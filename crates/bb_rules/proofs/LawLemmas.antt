@@ -1,8 +1,8 @@
 -- What holds of every source that was made under a schema.
-use Rattle.std.proofs.Common.{◌≡◌, ℕ, Bool, true, false, ◌==◌, cond, List, [], ◌∷◌, Option, Some, None, Result, Ok, Err, refl, sym, ap, subst, ◌∙◌, eqb-true}
+use Rattle.std.proofs.Common.{◌≡◌, ℕ, Bool, true, false, ◌==◌, cond, List, Option, Some, None, Result, Ok, Err, refl, sym, ap, subst, ◌∙◌, eqb-true}
 use Rattle.std.specs.Prelude.{All, IfSome, option_map}
 use Rattle.std.proofs.lemmas.Bool.{and_parts}
-use Rattle.std.proofs.lemmas.List.Elements.{All-nil, All-cons}
+use Rattle.bb_basis.proofs.ListLemmas.{all_any}
 use Rattle.bb_basis.specs.Results.{◌>>=◌, ok_or}
 use Rattle.bb_basis.proofs.PlacedLemmas.{map_at_ok}
 use Rattle.bb_basis.proofs.ResultLemmas.{bind_ok, same_ok, All-try_map}
@@ -14,10 +14,10 @@ use Rattle.bb_verify.specs.PartType.{Part}
 use Rattle.bb_verify.specs.PartType.TheVariants as parts
 use Rattle.bb_bundle.specs.ClauseText.{ClauseText}
 use Rattle.bb_bundle.specs.ClauseText.TheVariants as texts
-use Rattle.bb_bundle.specs.declared.source_code.ReactionDraft.{ReactionDraft}
-use Rattle.bb_bundle.specs.declared.source_code.ActDraft.{ActDraft}
-use Rattle.bb_bundle.specs.declared.source_code.ActDraft.TheVariants as drafts
-use Rattle.bb_bundle.specs.declared.source_code.SourceDraft.{SourceDraft}
+use Rattle.bb_bundle.specs.declared.draft.ReactionDraft.{ReactionDraft}
+use Rattle.bb_bundle.specs.declared.draft.ActDraft.{ActDraft}
+use Rattle.bb_bundle.specs.declared.draft.ActDraft.TheVariants as drafts
+use Rattle.bb_bundle.specs.declared.draft.SourceDraft.{SourceDraft}
 use Rattle.bb_rules.specs.declared.clause.Clause.{Clause}
 use Rattle.bb_rules.specs.declared.clause.Clause.TheVariants as clauses
 use Rattle.bb_rules.specs.declared.fault.ClauseFlaw.TheVariants as flawed
@@ -30,7 +30,7 @@ use Rattle.bb_rules.specs.declared.source.Act.TheVariants as acts
 use Rattle.bb_rules.specs.declared.source.Reaction.{Reaction}
 use Rattle.bb_rules.specs.Parts.{Source}
 use Rattle.bb_rules.specs.Faults.{at_clause}
-use Rattle.bb_rules.specs.Source.{classes_of, obviate_part, retrigger_part, is_same_part, is_for, is_for_reaction, reaction_code, act_code, parts_fit, class_within, kind_of, clause_of, clauses_of, reaction_of, act_of, source_of}
+use Rattle.bb_rules.specs.Source.{classes_of, obviate_part, retrigger_part, is_same_part, is_for, is_for_reaction, reaction_code, act_code, parts_fit, class_within, kind_of, clause_of, clauses_of, reaction_of, act_of, made_of, source_of}
 use Rattle.bb_rules.specs.Law.{IsWithin, IsPart, Reacts, IsOf, IsAccepted, AreAccepted, IsMade}
 
 -- ---- clauses
@@ -51,10 +51,6 @@ clause_within s class (texts.Change kind name) clause h =
     let two = bind_ok (kind_of s one.0 kind) (λ change. Ok (clauses.Change change one.0)) clause one.2 in
     subst (IsWithin s class) (same_ok (clauses.Change two.0 one.0) clause two.2) (within s class name one.0 one.1)
 clause_within s class texts.Quiescence clause h = subst (IsWithin s class) (same_ok clauses.Quiescence clause h) tt
-
-all_any : {X : Type 0} (xs : List X) → All (λ _. Unit {0}) xs
-all_any [] = All-nil (λ _. Unit {0})
-all_any (x ∷ xs) = All-cons (λ _. Unit {0}) x xs tt (all_any xs)
 
 clauses_within : (s : Schema) (list : ClauseList) (class : ℕ) (texts : List ClauseText) (made : List Clause) → clauses_of s list class texts ≡ Ok made → All (IsWithin s class) made
 clauses_within s list class texts made h =
@@ -126,20 +122,20 @@ act_part class drafts.Native done h c is = absurd cc
 -- each code is for its part
 record FitParts (c : Classes) (draft : SourceDraft Checked) : Type 0 where
   done : Unit {0}
-  require : is_for (parts.Require c.own) draft.require ≡ Ok done
-  obviate : is_for_reaction (obviate_part c) (reaction_code draft.obviate) ≡ Ok done
-  retrigger : is_for_reaction (retrigger_part c) (reaction_code draft.retrigger) ≡ Ok done
-  revalidate : is_for (parts.Revalidate c.own) draft.revalidate ≡ Ok done
+  require : is_for (parts.Require c.own) draft.parts.require ≡ Ok done
+  obviate : is_for_reaction (obviate_part c) (reaction_code draft.parts.obviate) ≡ Ok done
+  retrigger : is_for_reaction (retrigger_part c) (reaction_code draft.parts.retrigger) ≡ Ok done
+  revalidate : is_for (parts.Revalidate c.own) draft.parts.revalidate ≡ Ok done
   act : is_for (parts.Do c.own) (act_code draft.act) ≡ Ok done
 
 fit_parts : (c : Classes) (draft : SourceDraft Checked) (done : Unit {0}) → parts_fit c draft ≡ Ok done → FitParts c draft
 unfolding parts_fit
 fit_parts c draft done h =
-    let obviated = is_for_reaction (obviate_part c) (reaction_code draft.obviate) in
-    let retriggered = is_for_reaction (retrigger_part c) (reaction_code draft.retrigger) in
-    let valid = is_for (parts.Revalidate c.own) draft.revalidate in
+    let obviated = is_for_reaction (obviate_part c) (reaction_code draft.parts.obviate) in
+    let retriggered = is_for_reaction (retrigger_part c) (reaction_code draft.parts.retrigger) in
+    let valid = is_for (parts.Revalidate c.own) draft.parts.revalidate in
     let acts = is_for (parts.Do c.own) (act_code draft.act) in
-    let one = bind_ok (is_for (parts.Require c.own) draft.require) (λ _. obviated >>= λ _. retriggered >>= λ _. valid >>= λ _. acts) done h in
+    let one = bind_ok (is_for (parts.Require c.own) draft.parts.require) (λ _. obviated >>= λ _. retriggered >>= λ _. valid >>= λ _. acts) done h in
     let two = bind_ok obviated (λ _. retriggered >>= λ _. valid >>= λ _. acts) done one.2 in
     let three = bind_ok retriggered (λ _. valid >>= λ _. acts) done two.2 in
     let four = bind_ok valid (λ _. acts) done three.2 in
@@ -163,31 +159,17 @@ module _ (c : Classes) (draft : SourceDraft Checked) (h : parts_fit c draft ≡ 
   all_parts : FitParts c draft
   all_parts = fit_parts c draft tt h
 
-  pub require_reads : IfSome draft.require (λ d. writes d.part ≡ Err flaws.Effect)
-  require_reads = code_reads (parts.Require c.own) draft.require all_parts.done refl all_parts.require
+  pub require_reads : IfSome draft.parts.require (λ d. writes d.part ≡ Err flaws.Effect)
+  require_reads = code_reads (parts.Require c.own) draft.parts.require all_parts.done refl all_parts.require
 
-  pub revalidate_reads : IfSome draft.revalidate (λ d. writes d.part ≡ Err flaws.Effect)
-  revalidate_reads = code_reads (parts.Revalidate c.own) draft.revalidate all_parts.done refl all_parts.revalidate
+  pub revalidate_reads : IfSome draft.parts.revalidate (λ d. writes d.part ≡ Err flaws.Effect)
+  revalidate_reads = code_reads (parts.Revalidate c.own) draft.parts.revalidate all_parts.done refl all_parts.revalidate
 
-  pub obviate_reads : IfSome c.obviated (λ _. IfSome draft.obviate (λ d. writes d.code.part ≡ Err flaws.Effect))
-  obviate_reads = reaction_reads (parts.Obviate c.own) c.obviated draft.obviate all_parts.done (λ _. refl) all_parts.obviate
+  pub obviate_reads : IfSome c.obviated (λ _. IfSome draft.parts.obviate (λ d. writes d.code.part ≡ Err flaws.Effect))
+  obviate_reads = reaction_reads (parts.Obviate c.own) c.obviated draft.parts.obviate all_parts.done (λ _. refl) all_parts.obviate
 
-  pub retrigger_reads : IfSome c.retriggered (λ _. IfSome draft.retrigger (λ d. writes d.code.part ≡ Err flaws.Effect))
-  retrigger_reads = reaction_reads (parts.Retrigger c.own) c.retriggered draft.retrigger all_parts.done (λ _. refl) all_parts.retrigger
-
--- the source of these steps
-abbrev pub with_all : SourceDraft Checked → Classes → List Clause → Option Reaction → Option Reaction → Source
-with_all draft c ts o r = record {
-  name = draft.name;
-  class = c.own;
-  rate = draft.rate;
-  triggers = ts;
-  require = draft.require;
-  obviate = o;
-  retrigger = r;
-  revalidate = draft.revalidate;
-  act = act_of draft.act;
-}
+  pub retrigger_reads : IfSome c.retriggered (λ _. IfSome draft.parts.retrigger (λ d. writes d.code.part ≡ Err flaws.Effect))
+  retrigger_reads = reaction_reads (parts.Retrigger c.own) c.retriggered draft.parts.retrigger all_parts.done (λ _. refl) all_parts.retrigger
 
 -- the steps by which a source was made
 pub record Steps (s : Schema) (draft : SourceDraft Checked) (source : Source) : Type 0 where
@@ -195,23 +177,23 @@ pub record Steps (s : Schema) (draft : SourceDraft Checked) (source : Source) : 
   pub done : Unit {0}
   pub fit : parts_fit classes draft ≡ Ok done
   pub triggers : List Clause
-  pub triggers_are : clauses_of s lists.Triggers classes.own draft.triggers ≡ Ok triggers
+  pub triggers_are : clauses_of s lists.Triggers classes.own draft.header.triggers ≡ Ok triggers
   pub obviate : Option Reaction
-  pub obviate_is : reaction_of s lists.Obviate classes.obviated draft.obviate ≡ Ok obviate
+  pub obviate_is : reaction_of s lists.Obviate classes.obviated draft.parts.obviate ≡ Ok obviate
   pub retrigger : Option Reaction
-  pub retrigger_is : reaction_of s lists.Retrigger classes.retriggered draft.retrigger ≡ Ok retrigger
-  pub made : with_all draft classes triggers obviate retrigger ≡ source
+  pub retrigger_is : reaction_of s lists.Retrigger classes.retriggered draft.parts.retrigger ≡ Ok retrigger
+  pub made : made_of draft classes triggers obviate retrigger ≡ source
 
 pub steps_of : (s : Schema) (draft : SourceDraft Checked) (source : Source) → source_of s draft ≡ Ok source → Steps s draft source
 unfolding source_of
 steps_of s draft source h =
-    let made = with_all draft in
-    let after : Classes → List Clause → Result Source RuleFault = λ c ts. reaction_of s lists.Obviate c.obviated draft.obviate >>= λ o. reaction_of s lists.Retrigger c.retriggered draft.retrigger >>= λ r. Ok (made c ts o r) in
-    let c = bind_ok (classes_of s draft) (λ c. parts_fit c draft >>= λ _. clauses_of s lists.Triggers c.own draft.triggers >>= λ ts. after c ts) source h in
-    let p = bind_ok (parts_fit c.0 draft) (λ _. clauses_of s lists.Triggers c.0.own draft.triggers >>= λ ts. after c.0 ts) source c.2 in
-    let t = bind_ok (clauses_of s lists.Triggers c.0.own draft.triggers) (λ ts. after c.0 ts) source p.2 in
-    let o = bind_ok (reaction_of s lists.Obviate c.0.obviated draft.obviate) (λ o. reaction_of s lists.Retrigger c.0.retriggered draft.retrigger >>= λ r. Ok (made c.0 t.0 o r)) source t.2 in
-    let r = bind_ok (reaction_of s lists.Retrigger c.0.retriggered draft.retrigger) (λ r. Ok (made c.0 t.0 o.0 r)) source o.2 in
+    let made = made_of draft in
+    let after : Classes → List Clause → Result Source RuleFault = λ c ts. reaction_of s lists.Obviate c.obviated draft.parts.obviate >>= λ o. reaction_of s lists.Retrigger c.retriggered draft.parts.retrigger >>= λ r. Ok (made c ts o r) in
+    let c = bind_ok (classes_of s draft) (λ c. parts_fit c draft >>= λ _. clauses_of s lists.Triggers c.own draft.header.triggers >>= λ ts. after c ts) source h in
+    let p = bind_ok (parts_fit c.0 draft) (λ _. clauses_of s lists.Triggers c.0.own draft.header.triggers >>= λ ts. after c.0 ts) source c.2 in
+    let t = bind_ok (clauses_of s lists.Triggers c.0.own draft.header.triggers) (λ ts. after c.0 ts) source p.2 in
+    let o = bind_ok (reaction_of s lists.Obviate c.0.obviated draft.parts.obviate) (λ o. reaction_of s lists.Retrigger c.0.retriggered draft.parts.retrigger >>= λ r. Ok (made c.0 t.0 o r)) source t.2 in
+    let r = bind_ok (reaction_of s lists.Retrigger c.0.retriggered draft.parts.retrigger) (λ r. Ok (made c.0 t.0 o.0 r)) source o.2 in
     record {
       classes = c.0;
       done = p.0;
@@ -231,11 +213,11 @@ source_law s draft source h =
     let c = steps.classes in
     let fit = fit_parts c draft steps.done steps.fit in
     subst (IsOf s) steps.made (record {
-      triggers = clauses_within s lists.Triggers c.own draft.triggers steps.triggers steps.triggers_are;
-      require = is_part (parts.Require c.own) draft.require fit.done fit.require;
-      obviate = reacts s lists.Obviate (parts.Obviate c.own) c.obviated draft.obviate steps.obviate fit.done fit.obviate steps.obviate_is;
-      retrigger = reacts s lists.Retrigger (parts.Retrigger c.own) c.retriggered draft.retrigger steps.retrigger fit.done fit.retrigger steps.retrigger_is;
-      revalidate = is_part (parts.Revalidate c.own) draft.revalidate fit.done fit.revalidate;
+      triggers = clauses_within s lists.Triggers c.own draft.header.triggers steps.triggers steps.triggers_are;
+      require = is_part (parts.Require c.own) draft.parts.require fit.done fit.require;
+      obviate = reacts s lists.Obviate (parts.Obviate c.own) c.obviated draft.parts.obviate steps.obviate fit.done fit.obviate steps.obviate_is;
+      retrigger = reacts s lists.Retrigger (parts.Retrigger c.own) c.retriggered draft.parts.retrigger steps.retrigger fit.done fit.retrigger steps.retrigger_is;
+      revalidate = is_part (parts.Revalidate c.own) draft.parts.revalidate fit.done fit.revalidate;
       act = act_part c.own draft.act fit.done fit.act;
     })
 
@@ -264,12 +246,12 @@ act_accepted s drafts.Native are c is = absurd cc
 pub source_made_of : (s : Schema) (draft : SourceDraft Checked) (source : Source) → source_of s draft ≡ Ok source → AreAccepted s draft → IsMade s source
 source_made_of s draft source h are =
     let steps = steps_of s draft source h in
-    let whole = with_all draft steps.classes steps.triggers steps.obviate steps.retrigger in
+    let whole = made_of draft steps.classes steps.triggers steps.obviate steps.retrigger in
     subst (IsMade s) steps.made (record {
       law = subst (IsOf s) (sym steps.made) (source_law s draft source h);
       require = are.require;
-      obviate = reaction_accepted s lists.Obviate steps.classes.obviated draft.obviate steps.obviate steps.obviate_is are.obviate;
-      retrigger = reaction_accepted s lists.Retrigger steps.classes.retriggered draft.retrigger steps.retrigger steps.retrigger_is are.retrigger;
+      obviate = reaction_accepted s lists.Obviate steps.classes.obviated draft.parts.obviate steps.obviate steps.obviate_is are.obviate;
+      retrigger = reaction_accepted s lists.Retrigger steps.classes.retriggered draft.parts.retrigger steps.retrigger steps.retrigger_is are.retrigger;
       revalidate = are.revalidate;
       act = act_accepted s draft.act are.act;
     })

@@ -5,10 +5,9 @@ use Rattle.bb_basis.proofs.ResultLemmas.{bind_ok, same_ok}
 use Rattle.bb_schema.specs.Schema.{Schema}
 use Rattle.bb_verify.specs.Accepted.{Checked}
 use Rattle.bb_bundle.specs.ClauseText.{ClauseText}
-use Rattle.bb_bundle.specs.declared.source_code.ReactionDraft.{ReactionDraft}
-use Rattle.bb_bundle.specs.declared.source_code.SourceDraft.{SourceDraft}
-use Rattle.bb_rules.specs.declared.answered.Answered.{Answered}
-use Rattle.bb_rules.specs.declared.answered.Found.{Found}
+use Rattle.bb_bundle.specs.declared.draft.ReactionDraft.{ReactionDraft}
+use Rattle.bb_bundle.specs.declared.draft.SourceDraft.{SourceDraft}
+use Rattle.bb_rules.specs.declared.found.Found.{Found}
 use Rattle.bb_rules.specs.declared.clause.Clause.{Clause}
 use Rattle.bb_rules.specs.declared.fault.RuleFault.{RuleFault}
 use Rattle.bb_rules.specs.declared.fault.RuleFault.TheVariants.{Memory}
@@ -17,39 +16,39 @@ use Rattle.bb_rules.specs.declared.place.ClauseList.TheVariants as lists
 use Rattle.bb_rules.specs.declared.resolve.Classes.{Classes}
 use Rattle.bb_rules.specs.declared.source.Reaction.{Reaction}
 use Rattle.bb_rules.specs.Parts.{Source}
-use Rattle.bb_rules.specs.Source.{act_of, classes_of, clauses_of, parts_fit, reaction_of, source_of}
-use Rattle.bb_rules.specs.proving.Steps.{answered, found, reaction_clauses, reaction_with, source_with}
+use Rattle.bb_rules.specs.Source.{classes_of, clauses_of, made_of, parts_fit, reaction_of, source_of}
+use Rattle.bb_rules.specs.proving.Steps.{found, found_with, reaction_clauses, reaction_with, source_with}
 
 -- ---- the events that a source answers
 
 module _ {C : Type 0} (s : Schema) (c : Classes) (draft : SourceDraft C) where
   -- what follows each step
-  abbrev answers : List Clause → Option (List Clause) → Option (List Clause) → Result Answered RuleFault
-  answers ts o r = Ok (record { triggers = ts; obviating = o; retriggering = r })
+  abbrev answers : List Clause → Option (List Clause) → Option (List Clause) → Result Found RuleFault
+  answers ts o r = Ok (record { classes = c; triggers = ts; obviating = o; retriggering = r })
 
-  abbrev after_obviating : List Clause → Option (List Clause) → Result Answered RuleFault
-  after_obviating ts o = reaction_clauses s lists.Retrigger c.retriggered draft.retrigger >>= answers ts o
+  abbrev after_obviating : List Clause → Option (List Clause) → Result Found RuleFault
+  after_obviating ts o = reaction_clauses s lists.Retrigger c.retriggered draft.parts.retrigger >>= answers ts o
 
-  abbrev after_triggers : List Clause → Result Answered RuleFault
-  after_triggers ts = reaction_clauses s lists.Obviate c.obviated draft.obviate >>= after_obviating ts
+  abbrev after_triggers : List Clause → Result Found RuleFault
+  after_triggers ts = reaction_clauses s lists.Obviate c.obviated draft.parts.obviate >>= after_obviating ts
 
-  triggered : (texts : List ClauseText) (ts : List Clause) → texts ≡ draft.triggers → clauses_of s lists.Triggers c.own texts ≡ Ok ts → answered s c draft ≡ after_triggers ts
-  unfolding answered
+  triggered : (texts : List ClauseText) (ts : List Clause) → texts ≡ draft.header.triggers → clauses_of s lists.Triggers c.own texts ≡ Ok ts → found_with s c draft ≡ after_triggers ts
+  unfolding found_with
   triggered texts ts read found = ap (λ r. r >>= after_triggers) (ap (clauses_of s lists.Triggers c.own) (sym read) ∙ found)
 
-  pub obviating_fails : (texts : List ClauseText) (ts : List Clause) (e : RuleFault) → texts ≡ draft.triggers → clauses_of s lists.Triggers c.own texts ≡ Ok ts
-      → (e ≡ Memory) ⊎ (reaction_clauses s lists.Obviate c.obviated draft.obviate ≡ Err e) → (e ≡ Memory) ⊎ (answered s c draft ≡ Err e)
+  pub obviating_fails : (texts : List ClauseText) (ts : List Clause) (e : RuleFault) → texts ≡ draft.header.triggers → clauses_of s lists.Triggers c.own texts ≡ Ok ts
+      → (e ≡ Memory) ⊎ (reaction_clauses s lists.Obviate c.obviated draft.parts.obviate ≡ Err e) → (e ≡ Memory) ⊎ (found_with s c draft ≡ Err e)
   obviating_fails texts ts e read found (inl memory) = inl memory
   obviating_fails texts ts e read found (inr failed) = inr (triggered texts ts read found ∙ ap (λ r. r >>= after_obviating ts) failed)
 
-  pub retriggering_fails : (texts : List ClauseText) (ts : List Clause) (o : Option (List Clause)) (e : RuleFault) → texts ≡ draft.triggers → clauses_of s lists.Triggers c.own texts ≡ Ok ts → reaction_clauses s lists.Obviate c.obviated draft.obviate ≡ Ok o
-      → (e ≡ Memory) ⊎ (reaction_clauses s lists.Retrigger c.retriggered draft.retrigger ≡ Err e) → (e ≡ Memory) ⊎ (answered s c draft ≡ Err e)
+  pub retriggering_fails : (texts : List ClauseText) (ts : List Clause) (o : Option (List Clause)) (e : RuleFault) → texts ≡ draft.header.triggers → clauses_of s lists.Triggers c.own texts ≡ Ok ts → reaction_clauses s lists.Obviate c.obviated draft.parts.obviate ≡ Ok o
+      → (e ≡ Memory) ⊎ (reaction_clauses s lists.Retrigger c.retriggered draft.parts.retrigger ≡ Err e) → (e ≡ Memory) ⊎ (found_with s c draft ≡ Err e)
   retriggering_fails texts ts o e read found obviating (inl memory) = inl memory
   retriggering_fails texts ts o e read found obviating (inr failed) =
       inr (triggered texts ts read found ∙ (ap (λ r. r >>= after_obviating ts) obviating ∙ ap (λ r. r >>= answers ts o) failed))
 
-  pub all_found : (texts : List ClauseText) (ts : List Clause) (o r : Option (List Clause)) → texts ≡ draft.triggers → clauses_of s lists.Triggers c.own texts ≡ Ok ts → reaction_clauses s lists.Obviate c.obviated draft.obviate ≡ Ok o
-      → reaction_clauses s lists.Retrigger c.retriggered draft.retrigger ≡ Ok r → answered s c draft ≡ answers ts o r
+  pub all_found : (texts : List ClauseText) (ts : List Clause) (o r : Option (List Clause)) → texts ≡ draft.header.triggers → clauses_of s lists.Triggers c.own texts ≡ Ok ts → reaction_clauses s lists.Obviate c.obviated draft.parts.obviate ≡ Ok o
+      → reaction_clauses s lists.Retrigger c.retriggered draft.parts.retrigger ≡ Ok r → found_with s c draft ≡ answers ts o r
   all_found texts ts o r read found obviating retriggering =
       triggered texts ts read found ∙ (ap (λ x. x >>= after_obviating ts) obviating ∙ ap (λ x. x >>= answers ts o) retriggering)
 
@@ -70,46 +69,36 @@ reaction_is s list None None = refl
 
 module _ (s : Schema) (draft : SourceDraft Checked) where
   abbrev made : Classes → List Clause → Option Reaction → Option Reaction → Result Source RuleFault
-  made c ts o r = Ok (record {
-    name = draft.name;
-    class = c.own;
-    rate = draft.rate;
-    triggers = ts;
-    require = draft.require;
-    obviate = o;
-    retrigger = r;
-    revalidate = draft.revalidate;
-    act = act_of draft.act;
-  })
+  made c ts o r = Ok (made_of draft c ts o r)
 
   -- what follows once each code is for its part, by either order of the steps
   abbrev at_once : Classes → Result Source RuleFault
-  at_once c = clauses_of s lists.Triggers c.own draft.triggers >>= λ ts. reaction_of s lists.Obviate c.obviated draft.obviate >>= λ o. reaction_of s lists.Retrigger c.retriggered draft.retrigger >>= made c ts o
+  at_once c = clauses_of s lists.Triggers c.own draft.header.triggers >>= λ ts. reaction_of s lists.Obviate c.obviated draft.parts.obviate >>= λ o. reaction_of s lists.Retrigger c.retriggered draft.parts.retrigger >>= made c ts o
 
   abbrev at_the_end : Classes → Result Source RuleFault
-  at_the_end c = (answered s c draft >>= λ a. Ok (record { classes = c; answered = a })) >>= λ f. Ok (source_with f draft)
+  at_the_end c = found_with s c draft >>= λ f. Ok (source_with f draft)
 
   put_off : (c : Classes) (t : Result (List Clause) RuleFault) (o r : Result (Option (List Clause)) RuleFault)
-      → (t >>= λ ts. (o >>= λ cs. Ok (reaction_with c.obviated cs draft.obviate)) >>= λ obviate. (r >>= λ cs. Ok (reaction_with c.retriggered cs draft.retrigger)) >>= made c ts obviate)
-      ≡ (((t >>= λ ts. o >>= λ os. r >>= λ rs. Ok (record { triggers = ts; obviating = os; retriggering = rs })) >>= λ a. Ok (record { classes = c; answered = a })) >>= λ f. Ok (source_with f draft))
+      → (t >>= λ ts. (o >>= λ cs. Ok (reaction_with c.obviated cs draft.parts.obviate)) >>= λ obviate. (r >>= λ cs. Ok (reaction_with c.retriggered cs draft.parts.retrigger)) >>= made c ts obviate)
+      ≡ ((t >>= λ ts. o >>= λ os. r >>= λ rs. Ok (record { classes = c; triggers = ts; obviating = os; retriggering = rs })) >>= λ f. Ok (source_with f draft))
   put_off c (Ok ts) (Ok os) (Ok rs) = refl
   put_off c (Ok ts) (Ok os) (Err e) = refl
   put_off c (Ok ts) (Err e) r = refl
   put_off c (Err e) o r = refl
 
   same_source : (c : Classes) → at_once c ≡ at_the_end c
-  unfolding answered
+  unfolding found_with
   same_source c =
-      ap (λ o. clauses_of s lists.Triggers c.own draft.triggers >>= λ ts. o >>= λ obviate. reaction_of s lists.Retrigger c.retriggered draft.retrigger >>= made c ts obviate) (reaction_is s lists.Obviate c.obviated draft.obviate)
-      ∙ (ap (λ r. clauses_of s lists.Triggers c.own draft.triggers >>= λ ts. (reaction_clauses s lists.Obviate c.obviated draft.obviate >>= λ cs. Ok (reaction_with c.obviated cs draft.obviate)) >>= λ obviate. r >>= made c ts obviate) (reaction_is s lists.Retrigger c.retriggered draft.retrigger)
-      ∙ put_off c (clauses_of s lists.Triggers c.own draft.triggers) (reaction_clauses s lists.Obviate c.obviated draft.obviate) (reaction_clauses s lists.Retrigger c.retriggered draft.retrigger))
+      ap (λ o. clauses_of s lists.Triggers c.own draft.header.triggers >>= λ ts. o >>= λ obviate. reaction_of s lists.Retrigger c.retriggered draft.parts.retrigger >>= made c ts obviate) (reaction_is s lists.Obviate c.obviated draft.parts.obviate)
+      ∙ (ap (λ r. clauses_of s lists.Triggers c.own draft.header.triggers >>= λ ts. (reaction_clauses s lists.Obviate c.obviated draft.parts.obviate >>= λ cs. Ok (reaction_with c.obviated cs draft.parts.obviate)) >>= λ obviate. r >>= made c ts obviate) (reaction_is s lists.Retrigger c.retriggered draft.parts.retrigger)
+      ∙ put_off c (clauses_of s lists.Triggers c.own draft.header.triggers) (reaction_clauses s lists.Obviate c.obviated draft.parts.obviate) (reaction_clauses s lists.Retrigger c.retriggered draft.parts.retrigger))
 
-  once_fit : (c : Classes) (fit : Result (Unit {0}) RuleFault) → (fit >>= λ _. at_once c) ≡ ((fit >>= λ _. answered s c draft >>= λ a. Ok (record { classes = c; answered = a })) >>= λ f. Ok (source_with f draft))
+  once_fit : (c : Classes) (fit : Result (Unit {0}) RuleFault) → (fit >>= λ _. at_once c) ≡ ((fit >>= λ _. found_with s c draft) >>= λ f. Ok (source_with f draft))
   once_fit c (Ok done) = same_source c
   once_fit c (Err e) = refl
 
   once_known : (classes : Result Classes RuleFault) → (classes >>= λ c. parts_fit c draft >>= λ _. at_once c)
-      ≡ ((classes >>= λ c. parts_fit c draft >>= λ _. answered s c draft >>= λ a. Ok (record { classes = c; answered = a })) >>= λ f. Ok (source_with f draft))
+      ≡ ((classes >>= λ c. parts_fit c draft >>= λ _. found_with s c draft) >>= λ f. Ok (source_with f draft))
   once_known (Ok c) = once_fit c (parts_fit c draft)
   once_known (Err e) = refl
 
@@ -126,11 +115,12 @@ module _ (s : Schema) (draft : SourceDraft Checked) where
 
 -- where all is found, each code is for its part
 pub found_fits : (s : Schema) (draft : SourceDraft Checked) (f : Found) → found s draft ≡ Ok f → parts_fit f.classes draft ≡ Ok tt
-unfolding found
+unfolding found found_with
 found_fits s draft f h =
-    let with_answers : Classes → Result Found RuleFault = λ c. answered s c draft >>= λ a. Ok (record { classes = c; answered = a }) in
-    let one = bind_ok (classes_of s draft) (λ c. parts_fit c draft >>= λ _. with_answers c) f h in
-    let two = bind_ok (parts_fit one.0 draft) (λ _. with_answers one.0) f one.2 in
-    let three = bind_ok (answered s one.0 draft) (λ a. Ok (record { classes = one.0; answered = a })) f two.2 in
-    let whole : Found = record { classes = one.0; answered = three.0 } in
-    subst (λ (g : Found). parts_fit g.classes draft ≡ Ok tt) (same_ok whole f three.2) two.1
+    let c = bind_ok (classes_of s draft) (λ c. parts_fit c draft >>= λ _. found_with s c draft) f h in
+    let fit = bind_ok (parts_fit c.0 draft) (λ _. found_with s c.0 draft) f c.2 in
+    let t = bind_ok (clauses_of s lists.Triggers c.0.own draft.header.triggers) (after_triggers s c.0 draft) f fit.2 in
+    let o = bind_ok (reaction_clauses s lists.Obviate c.0.obviated draft.parts.obviate) (after_obviating s c.0 draft t.0) f t.2 in
+    let r = bind_ok (reaction_clauses s lists.Retrigger c.0.retriggered draft.parts.retrigger) (answers s c.0 draft t.0 o.0) f o.2 in
+    let whole : Found = record { classes = c.0; triggers = t.0; obviating = o.0; retriggering = r.0 } in
+    subst (λ (g : Found). parts_fit g.classes draft ≡ Ok tt) (same_ok whole f r.2) fit.1

@@ -4,9 +4,9 @@ use Rattle.bb_schema.specs.Schema.{Schema, descends}
 use Rattle.bb_verify.specs.Accepted.{Checked, IsSound, checked}
 use Rattle.bb_verify.specs.PartType.{Part}
 use Rattle.bb_verify.specs.PartType.TheVariants as parts
-use Rattle.bb_bundle.specs.declared.source_code.ActDraft.TheVariants as drafts
-use Rattle.bb_bundle.specs.declared.source_code.ReactionDraft.{ReactionDraft}
-use Rattle.bb_bundle.specs.declared.source_code.SourceDraft.{SourceDraft}
+use Rattle.bb_bundle.specs.declared.draft.ActDraft.TheVariants as drafts
+use Rattle.bb_bundle.specs.declared.draft.ReactionDraft.{ReactionDraft}
+use Rattle.bb_bundle.specs.declared.draft.SourceDraft.{SourceDraft}
 use Rattle.bb_rules.specs.declared.clause.Clause.{Clause}
 use Rattle.bb_rules.specs.declared.clause.Clause.TheVariants as clauses
 use Rattle.bb_rules.specs.declared.source.Act.TheVariants as acts
@@ -56,10 +56,10 @@ IsAccepted s c = checked s c.part c.code ≡ Ok c
 
 -- all codes of a draft were accepted
 pub record AreAccepted (s : Schema) (draft : SourceDraft Checked) : Type 0 where
-  pub require : (c : Checked) → draft.require ≡ Some c → IsAccepted s c
-  pub obviate : (r : ReactionDraft Checked) → draft.obviate ≡ Some r → IsAccepted s r.code
-  pub retrigger : (r : ReactionDraft Checked) → draft.retrigger ≡ Some r → IsAccepted s r.code
-  pub revalidate : (c : Checked) → draft.revalidate ≡ Some c → IsAccepted s c
+  pub require : (c : Checked) → draft.parts.require ≡ Some c → IsAccepted s c
+  pub obviate : (r : ReactionDraft Checked) → draft.parts.obviate ≡ Some r → IsAccepted s r.code
+  pub retrigger : (r : ReactionDraft Checked) → draft.parts.retrigger ≡ Some r → IsAccepted s r.code
+  pub revalidate : (c : Checked) → draft.parts.revalidate ≡ Some c → IsAccepted s c
   pub act : (c : Checked) → draft.act ≡ drafts.Do c → IsAccepted s c
 
 -- a source that was made of codes that were accepted

@@ -8,6 +8,8 @@ pub mod Parts
 pub mod Source
 -- which codes a source may ask
 pub mod Questions
+-- which questions come to no where the activation's unit is not the event's
+pub mod Own
 -- what holds of every source
 pub mod Law
 -- numbers that are kept for each kind of change

@@ -8,10 +8,10 @@ use Rattle.bb_bundle.specs.ChangeText.{ChangeText}
 use Rattle.bb_bundle.specs.ChangeText.TheVariants as changes
 use Rattle.bb_bundle.specs.ClauseText.{ClauseText}
 use Rattle.bb_bundle.specs.ClauseText.TheVariants as texts
-use Rattle.bb_bundle.specs.declared.source_code.ReactionDraft.{ReactionDraft}
-use Rattle.bb_bundle.specs.declared.source_code.ActDraft.{ActDraft}
-use Rattle.bb_bundle.specs.declared.source_code.ActDraft.TheVariants as drafts
-use Rattle.bb_bundle.specs.declared.source_code.SourceDraft.{SourceDraft}
+use Rattle.bb_bundle.specs.declared.draft.ReactionDraft.{ReactionDraft}
+use Rattle.bb_bundle.specs.declared.draft.ActDraft.{ActDraft}
+use Rattle.bb_bundle.specs.declared.draft.ActDraft.TheVariants as drafts
+use Rattle.bb_bundle.specs.declared.draft.SourceDraft.{SourceDraft}
 use Rattle.bb_schema.specs.Schema.{Schema, class_named, default_of, descends, link_of, slot_named, space_named}
 use Rattle.bb_verify.specs.Accepted.{Checked}
 use Rattle.bb_verify.specs.PartType.{Part}
@@ -49,9 +49,9 @@ reaction_class s place (Some draft) = do
 -- the class of a source, and those of its reactions
 unfoldable pub classes_of : {C : Type 0} → Schema → SourceDraft C → Result Classes RuleFault
 classes_of s draft = do
-  own ← class_of s places.Source draft.class
-  obviated ← reaction_class s places.Obviate draft.obviate
-  retriggered ← reaction_class s places.Retrigger draft.retrigger
+  own ← class_of s places.Source draft.header.class
+  obviated ← reaction_class s places.Obviate draft.parts.obviate
+  retriggered ← reaction_class s places.Retrigger draft.parts.retrigger
   Ok (record { own = own; obviated = obviated; retriggered = retriggered })
 
 -- the parts of its reactions, which go by their classes
@@ -94,10 +94,10 @@ is_for_reaction (Some part) code = is_for part code
 -- each code of a source was accepted for its part and these classes
 unfoldable pub parts_fit : Classes → SourceDraft Checked → Result (Unit {0}) RuleFault
 parts_fit c draft = do
-  _ ← is_for (parts.Require c.own) draft.require
-  _ ← is_for_reaction (obviate_part c) (reaction_code draft.obviate)
-  _ ← is_for_reaction (retrigger_part c) (reaction_code draft.retrigger)
-  _ ← is_for (parts.Revalidate c.own) draft.revalidate
+  _ ← is_for (parts.Require c.own) draft.parts.require
+  _ ← is_for_reaction (obviate_part c) (reaction_code draft.parts.obviate)
+  _ ← is_for_reaction (retrigger_part c) (reaction_code draft.parts.retrigger)
+  _ ← is_for (parts.Revalidate c.own) draft.parts.revalidate
   is_for (parts.Do c.own) (act_code draft.act)
 
 -- ---- clauses
@@ -170,22 +170,26 @@ abbrev pub act_of : ActDraft Checked → Act
 act_of (drafts.Do code) = acts.Code code
 act_of drafts.Native = acts.Native
 
+-- the source of a draft, with its class, its triggers and its reactions as they were found
+abbrev pub made_of : SourceDraft Checked → Classes → List Clause → (obviate retrigger : Option Reaction) → Source
+made_of draft c triggers obviate retrigger = record {
+  name = draft.header.name;
+  class = c.own;
+  rate = draft.header.rate;
+  triggers = triggers;
+  require = draft.parts.require;
+  obviate = obviate;
+  retrigger = retrigger;
+  revalidate = draft.parts.revalidate;
+  act = act_of draft.act;
+}
+
 -- the classes are looked up, then each code has to be for its part, then each clause is looked up
 unfoldable pub source_of : Schema → SourceDraft Checked → Result Source RuleFault
 source_of s draft = do
   c ← classes_of s draft
   _ ← parts_fit c draft
-  triggers ← clauses_of s lists.Triggers c.own draft.triggers
-  obviate ← reaction_of s lists.Obviate c.obviated draft.obviate
-  retrigger ← reaction_of s lists.Retrigger c.retriggered draft.retrigger
-  Ok (record {
-    name = draft.name;
-    class = c.own;
-    rate = draft.rate;
-    triggers = triggers;
-    require = draft.require;
-    obviate = obviate;
-    retrigger = retrigger;
-    revalidate = draft.revalidate;
-    act = act_of draft.act;
-  })
+  triggers ← clauses_of s lists.Triggers c.own draft.header.triggers
+  obviate ← reaction_of s lists.Obviate c.obviated draft.parts.obviate
+  retrigger ← reaction_of s lists.Retrigger c.retriggered draft.parts.retrigger
+  Ok (made_of draft c triggers obviate retrigger)

@@ -1,5 +1,5 @@
 //! Numbers for each kind of change: of classes, by which `Clauses` finds whether a clause names an event, or of
-//! sources, by which a plan (bb_trace) finds those that an event concerns.
+//! sources, by which a plan (bb_run_plan) finds those that an event concerns.
 
 ghost use Rattle.std.specs.Prelude.{◌≡◌, ℕ, [], OnOk};
 ghost use Rattle.std.specs.Option.{option_map_or};

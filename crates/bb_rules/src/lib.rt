@@ -7,12 +7,13 @@
 //! - Cases: `triggers`, `bundles`; tests in bb_rules_tests.
 #![tactic(auto)]
 
-mod answered;
 mod clause;
 mod clauses;
 mod fault;
+mod found;
 mod ids_by;
 mod kind_index;
+mod own;
 mod parts;
 mod place;
 mod question;

@@ -58,9 +58,12 @@ pub(crate) fn parts_fit(classes: Classes, draft: &SourceDraft<Checked>) -> Resul
     ensures { result ≡ parts_fit classes draft.now }
 {
     let class = classes.own;
-    is_for(Part::Require { class }, draft.require.as_ref())?;
-    is_for_reaction(classes.obviate_part(), reaction_code(&draft.obviate))?;
-    is_for_reaction(classes.retrigger_part(), reaction_code(&draft.retrigger))?;
-    is_for(Part::Revalidate { class }, draft.revalidate.as_ref())?;
+    is_for(Part::Require { class }, draft.parts.require.as_ref())?;
+    is_for_reaction(classes.obviate_part(), reaction_code(&draft.parts.obviate))?;
+    is_for_reaction(
+        classes.retrigger_part(),
+        reaction_code(&draft.parts.retrigger),
+    )?;
+    is_for(Part::Revalidate { class }, draft.parts.revalidate.as_ref())?;
     is_for(Part::Do { class }, act_code(&draft.act))
 }

@@ -3,8 +3,10 @@
 ghost use Rattle.std.specs.Prelude.{◌≡◌, Err};
 ghost use Rattle.bb_verify.specs.Flaw.TheVariants.{Effect};
 ghost use Rattle.bb_verify.specs.Part.{writes};
+ghost use Rattle.bb_rules.specs.Own.{asks_own};
 ghost use Rattle.bb_rules.specs.Questions.{IsQuestion};
 
+use crate::own;
 use bb_verify::Checked;
 use std::marker::Model;
 
@@ -33,6 +35,7 @@ impl Question {
         requires { writes code.part ≡ Err Effect }
         ensures { result ≡ code }
     {
+        // For the proof: what holds of the code.
         code.fits();
         Question { code }
     }
@@ -42,6 +45,14 @@ impl Question {
         ensures { result.now ≡ self.now }
     {
         &self.code
+    }
+
+    /// Whether its first ops compare the activation's unit with the event's, and it says no where they differ: then an
+    /// event need ask it only about the activations for its own unit.
+    pub fn asks_own(&self) -> bool
+        ensures { result ≡ asks_own self.now.code }
+    {
+        own::asks_own(self.code.code())
     }
 
     /// What holds of every question: it was accepted under some schema, for a part that may not write.

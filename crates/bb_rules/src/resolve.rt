@@ -35,9 +35,9 @@ impl Classes {
     pub fn find<C>(schema: &Schema, draft: &SourceDraft<C>) -> Result<Classes, RuleFault>
         ensures { result ≡ classes_of schema.now draft.now }
     {
-        let own = class_of(schema, ClassPlace::Source, draft.class.as_str())?;
-        let obviated = reaction_class(schema, ClassPlace::Obviate, &draft.obviate)?;
-        let retriggered = reaction_class(schema, ClassPlace::Retrigger, &draft.retrigger)?;
+        let own = class_of(schema, ClassPlace::Source, draft.header.class.as_str())?;
+        let obviated = reaction_class(schema, ClassPlace::Obviate, &draft.parts.obviate)?;
+        let retriggered = reaction_class(schema, ClassPlace::Retrigger, &draft.parts.retrigger)?;
         Ok(Classes {
             own,
             obviated,

@@ -10,9 +10,9 @@ ghost use Rattle.bb_rules.specs.Law.{AreAccepted, HasSoundCodes, IsMade, IsOf};
 ghost use Rattle.bb_rules.specs.Questions.{IsQuestion};
 ghost use Rattle.bb_rules.specs.proving.Steps.{reaction_with, source_with};
 
-use crate::answered::Found;
 use crate::clauses::Clauses;
 use crate::fault::RuleFault;
+use crate::found::Found;
 use crate::question::Question;
 use bb_basis::Text;
 use bb_bundle::{ActDraft, ReactionDraft, SourceDraft};
@@ -131,6 +131,7 @@ fn question_fits(question: &Option<Question>)
     ensures { (c : Accepted) → question.now ≡ Some c → IsQuestion c }
 {
     if let Some(question) = question {
+        // For the proof: what holds of the question.
         question.fits();
     }
 }
@@ -139,6 +140,7 @@ fn reaction_fits(reaction: &Option<Reaction>)
     ensures { (r : Reaction) → reaction.now ≡ Some r → IsQuestion r.code }
 {
     if let Some(reaction) = reaction {
+        // For the proof: what holds of the code.
         reaction.code.fits();
     }
 }
@@ -147,6 +149,7 @@ fn act_fits(act: &Act)
     ensures { (c : Accepted) → act.now ≡ Act.Code c → IsSound c }
 {
     if let Act::Code(code) = act {
+        // For the proof: what holds of the code.
         code.fits();
     }
 }
@@ -156,17 +159,27 @@ fn source_with(found: Found, draft: SourceDraft<Checked>) -> SourceParts
     requires { parts_fit found.classes draft ≡ Ok tt }
     ensures { result ≡ source_with found draft }
 {
-    let Found { classes, answered } = found;
+    let Found {
+        classes,
+        triggers,
+        obviating,
+        retriggering,
+    } = found;
+    let SourceDraft {
+        header,
+        mut parts,
+        act,
+    } = draft;
     SourceParts {
-        name: draft.name,
+        name: header.name,
         class: classes.own,
-        rate: draft.rate,
-        triggers: answered.triggers,
-        require: question_of(draft.require),
-        obviate: reaction_with(classes.obviated, answered.obviating, draft.obviate),
-        retrigger: reaction_with(classes.retriggered, answered.retriggering, draft.retrigger),
-        revalidate: question_of(draft.revalidate),
-        act: act_of(draft.act),
+        rate: header.rate,
+        triggers,
+        require: question_of(parts.require.take()),
+        obviate: reaction_with(classes.obviated, obviating, parts.obviate.take()),
+        retrigger: reaction_with(classes.retriggered, retriggering, parts.retrigger.take()),
+        revalidate: question_of(parts.revalidate.take()),
+        act: act_of(act),
     }
 }
 

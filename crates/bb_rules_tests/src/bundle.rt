@@ -30,11 +30,11 @@ fn one_source(rt: HostRuntime) -> Result<(), Fail> {
     assert_eq!(rt; sources.len(), 1);
     for source in sources {
         let draft = source.draft();
-        assert_eq!(rt; draft.name.as_str(), "hail");
-        assert_eq!(rt; draft.class.as_str(), "note");
-        assert_eq!(rt; draft.rate, 100);
-        assert_eq!(rt; draft.triggers.len(), 1);
-        for clause in draft.triggers.as_slice() {
+        assert_eq!(rt; draft.header.name.as_str(), "hail");
+        assert_eq!(rt; draft.header.class.as_str(), "note");
+        assert_eq!(rt; draft.header.rate, 100);
+        assert_eq!(rt; draft.header.triggers.len(), 1);
+        for clause in draft.header.triggers.as_slice() {
             assert_eq!(rt; created_class(clause), Some("note"));
         }
         let ActDraft::Do(code) = &draft.act else {

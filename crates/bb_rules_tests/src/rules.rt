@@ -2,7 +2,7 @@
 //! bundle's clause names.
 
 use bb_board::{Change, ChangeKind, Event};
-use bb_bundle::{ActDraft, SourceDraft, unbundle};
+use bb_bundle::{ActDraft, Parts, SourceDraft, unbundle};
 use bb_rules::{Clause, RuleFault, Source};
 use bb_schema::{ClassId, Schema};
 use bb_verify::{Checked, Part, verify};
@@ -37,18 +37,16 @@ fn source_of(
     }
     text.push_str("do 4242430101000000000000000000012e")?;
     let mut sources = unbundle(alloc, &text)?;
-    let draft = sources.pop().ok_or("one source is written")?.into_draft();
-    let code = code_of(draft.act)?;
+    let SourceDraft {
+        header,
+        parts: _,
+        act,
+    } = sources.pop().ok_or("one source is written")?.into_draft();
+    let code = code_of(act)?;
     let act: ActDraft<Checked> = ActDraft::Do(verify(alloc, schema, part, code)?);
     let checked = SourceDraft {
-        name: draft.name,
-        class: draft.class,
-        rate: draft.rate,
-        triggers: draft.triggers,
-        require: None,
-        obviate: None,
-        retrigger: None,
-        revalidate: None,
+        header,
+        parts: Parts::none(),
         act,
     };
     Ok(Source::new(alloc, schema, checked))

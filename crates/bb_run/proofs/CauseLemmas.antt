@@ -1,7 +1,8 @@
 -- A run that ends full or stuck has a cause.
-use Rattle.std.proofs.Common.{◌≡◌, ◌<◌, true, inl, inr, ℕ, zero, suc, ◌+◌, ℤ, List, [], ◌∷◌, length, slice_get, Option, Some, None, Result, Ok, Err, refl, sym, subst, arith}
+use Rattle.std.proofs.Common.{◌≡◌, true, inl, inr, ℕ, zero, suc, ◌+◌, ℤ, List, [], ◌∷◌, length, slice_get, Option, Some, None, Result, Ok, Err, refl, sym, subst}
 use Rattle.std.specs.Prelude.{Contains, option_and_then}
 use Rattle.std.proofs.lemmas.Option.{get_or_from_slice_get}
+use Rattle.bb_basis.proofs.AppendLemmas.{some_within}
 use Rattle.bb_trace.specs.Event.{Event}
 use Rattle.bb_trace.specs.Event.TheVariants.{Quiescence as quiescence}
 use Rattle.bb_trace.specs.Board.{Board as Blackboard}
@@ -24,7 +25,7 @@ use Rattle.bb_trace.proofs.Laws.{applied_full, applied_no_memory}
 use Rattle.bb_trace.specs.Source.{Source}
 use Rattle.bb_trace.specs.declared.end.End.{End}
 use Rattle.bb_trace.specs.declared.end.End.TheVariants as finishes
-use Rattle.bb_trace.specs.Plan.{Plan}
+use Rattle.bb_run_plan.specs.Plan.{Plan}
 use Rattle.bb_run.specs.declared.execution.Verdict.{Verdict}
 use Rattle.bb_run.specs.declared.execution.Verdict.TheVariants as verdicts
 use Rattle.bb_run.specs.State.{State, with_board, with_natives}
@@ -42,13 +43,8 @@ use Rattle.bb_run.proofs.ResponseRule.{HoldsOfParts, OfPlan, holds}
 
 -- ---- an item at a place is one of the list
 
-within_some : {X : Type 0} (xs : List X) (i : ℕ) (x : X) → slice_get xs i ≡ Some x → i < length xs
-within_some [] i x is = absurd cc
-within_some (y ∷ ys) zero x is = omega arith
-within_some (y ∷ ys) (suc i) x is = let under : i < length ys = within_some ys i x is in omega arith
-
 there_at : {X : Type 0} (xs : List X) (i : ℕ) (x : X) → slice_get xs i ≡ Some x → Contains xs x
-there_at xs i x is = (i, within_some xs i x is, get_or_from_slice_get xs i x x is)
+there_at xs i x is = (i, some_within xs i x is, get_or_from_slice_get xs i x x is)
 
 module _ (plan : Plan) where
   -- a part of a run has a cause, if the run ends in it

@@ -9,7 +9,7 @@ use Rattle.bb_agenda.specs.Agenda.{pending_for}
 use Rattle.bb_machine.specs.Answer.{Answer}
 use Rattle.bb_trace.specs.Clause.{Clause}
 use Rattle.bb_trace.specs.Clause.TheVariants as clauses
-use Rattle.bb_trace.specs.Concerned.{any_of_kind, concerned_from, is_concerned, is_of_kind, reaction_of_kind}
+use Rattle.bb_run_plan.specs.Concerned.{any_of_kind, concerned_from, is_concerned, is_of_kind, reaction_of_kind}
 use Rattle.bb_trace.specs.Event.{Event}
 use Rattle.bb_trace.specs.Event.TheVariants as events
 use Rattle.bb_trace.specs.Match.{any_match, matches}
@@ -63,7 +63,7 @@ unless_same (Some end) p f g same = refl
 unless_same None p f g same = ap (after_told p.told) (same p.state)
 
 -- what comes after a part goes by what it gives of each state
-then_same : (p : Response) (f g : State → Response) → ((t : State) → f t ≡ g t) → and_then p f ≡ and_then p g
+pub then_same : (p : Response) (f g : State → Response) → ((t : State) → f t ≡ g t) → and_then p f ≡ and_then p g
 then_same p f g same = unless_same p.end p f g same
 
 -- the source at a place, where all after it are those from there on

@@ -20,7 +20,7 @@ use Rattle.bb_trace.specs.declared.note.Note.TheVariants.{Board, Chosen, Ended, 
 use Rattle.bb_trace.specs.Ask.{Ask}
 use Rattle.bb_trace.specs.Roster.{after_act_at, asks_at, place_of}
 use Rattle.bb_trace.specs.Sight.{sight_of}
-use Rattle.bb_trace.specs.Plan.{Plan}
+use Rattle.bb_run_plan.specs.Plan.{Plan}
 use Rattle.bb_run.specs.declared.execution.Verdict.{Verdict}
 use Rattle.bb_run.specs.declared.execution.Verdict.TheVariants as verdicts
 use Rattle.bb_run.specs.State.{State, with_board, with_natives}

@@ -7,6 +7,7 @@ use Rattle.std.specs.Option.{option_map_or}
 use Rattle.std.proofs.lemmas.Bool.{and_parts, eqb-true}
 use Rattle.std.proofs.lemmas.Bool.Decides.{nat_tests}
 use Rattle.std.proofs.lemmas.List.Elements.{All-cons, All-head, All-nil, All-tail}
+use Rattle.bb_basis.proofs.BoolLemmas.{or_right_and}
 use Rattle.bb_schema.specs.Schema.{Schema, descends}
 use Rattle.bb_schema.specs.Fits as schemas
 use Rattle.bb_code.specs.Code.{IsCode}
@@ -45,10 +46,6 @@ use Rattle.bb_run.specs.Unstuck.{IsEventOf}
 
 -- ---- events that clauses name
 
-or_given : (none given a : Bool) → given ≡ true → a ≡ true → (none || (given && a)) ≡ true
-or_given true given a is all = refl
-or_given false given a is all = rw (is, all) refl
-
 module _ (s : Schema) (sf : schemas.Fits s) (b : Blackboard) where
   -- a unit of an event's class, if it is live
   still_of : (class of : ℕ) (own : Option ℕ) → option_map_or (λ c. c == of) own true ≡ true → descends s of class ≡ true → option_map_or (λ c. descends s c class) own true ≡ true
@@ -78,7 +75,7 @@ module _ (s : Schema) (sf : schemas.Fits s) (b : Blackboard) where
       let p = and_parts (nat_lt unit u.next && is_of_if_live u unit of && nat_lt of (length s.classes)) (names_slot_of s change) here in
       let q = and_parts (nat_lt unit u.next && is_of_if_live u unit of) (nat_lt of (length s.classes)) p.0 in
       let r = and_parts (nat_lt unit u.next) (is_of_if_live u unit of) q.0 in
-      or_given (unit == 0) (nat_lt unit u.next) (option_map_or (λ c. descends s c class) (class_of u unit) true) r.0
+      or_right_and (unit == 0) (nat_lt unit u.next) (option_map_or (λ c. descends s c class) (class_of u unit) true) r.0
       (still_of class of (class_of u unit) r.1 (named class unit of change list all is))
   event_was class list events.Quiescence all here is = refl
 

@@ -1,7 +1,7 @@
 -- What comes after a choice is what its cycle tells.
 use Rattle.std.proofs.Common.{◌≡◌, ◌<◌, ◌≤◌, inl, inr, ℕ, ◌+◌, ◌-◌, ℤ, List, [], ◌∷◌, ◌++◌, length, slice_get, Option, Some, None, refl, sym, ap, subst, ◌∙◌, append_assoc, arith, length-append}
 use Rattle.std.proofs.lemmas.List.{append-nil, append_cancel_left, append_cancel_right}
-use Rattle.std.proofs.lemmas.Option.{slice_get_cases}
+use Rattle.bb_basis.proofs.AppendLemmas.{there_is}
 use Rattle.bb_trace.specs.Board.{Board as Blackboard}
 use Rattle.bb_agenda.specs.Activation.{Activation}
 use Rattle.bb_trace.specs.Source.{Source}
@@ -10,7 +10,7 @@ use Rattle.bb_trace.specs.declared.end.End.TheVariants as finishes
 use Rattle.bb_trace.specs.declared.note.Note.{Note}
 use Rattle.bb_trace.specs.declared.note.Note.TheVariants.{Chosen}
 use Rattle.bb_trace.specs.Native.{Native}
-use Rattle.bb_trace.specs.Plan.{Plan}
+use Rattle.bb_run_plan.specs.Plan.{Plan}
 use Rattle.bb_run.specs.declared.execution.Verdict.{Verdict}
 use Rattle.bb_run.specs.declared.execution.Verdict.TheVariants as verdicts
 use Rattle.bb_run.specs.State.{State, with_board, with_agenda}
@@ -28,13 +28,6 @@ use Rattle.bb_run.proofs.LimitLemmas.{BeginsByCycle, GoesFurther, run_goes_furth
 finish_is : (end : Option End) (natives : List Native) → all_of (finish_segments end natives) ≡ finish_by end natives
 finish_is None natives = refl
 finish_is (Some end) natives = append-nil (finish end natives)
-
--- a list has an item at each place within
-item_at : {X : Type 0} (xs : List X) (i : ℕ) → i < length xs → (x : X) × (slice_get xs i ≡ Some x)
-item_at xs i lt = elim (slice_get_cases xs i).1 [
-  | inl there ↦ (there.0, there.2)
-  | inr past ↦ absurd (let le = past.0 in omega (arith, le))
-]
 
 module _ (plan : Plan) where
   -- what is reported is told first, and the finish if the run ends in it
@@ -72,7 +65,7 @@ module _ (plan : Plan) where
   followed_by : (number m : ℕ) (a : Activation) (r : ℤ) (s : State) (segments : List (List Note)) (after : List Note) → a.source < length plan.sources → choice plan s ≡ Some a → BeginsByCycle plan m s segments
       → Chosen number a r ∷ after ≡ all_of segments → IsFollowed plan s a after
   followed_by number m a r s segments after there chosen begins is =
-      let found = item_at plan.sources a.source there in
+      let found = there_is plan.sources a.source there in
       let same : begins.chosen ≡ a = let e = begins.choice_is in cc in
       let p = cycle plan m a s in
       let told = upon_choice found.0 a s in

@@ -8,6 +8,8 @@ pub mod TellLemmas
 pub mod WholeLemmas
 -- who answers an event
 pub mod ConcernedLemmas
+-- reactions that say no about all units but the event's
+pub mod OwnLemmas
 -- the response of one source after another
 pub mod ResponseLemmas
 -- executions

@@ -7,7 +7,7 @@ use Rattle.bb_trace.specs.declared.end.End.{End}
 use Rattle.bb_trace.specs.declared.end.End.TheVariants as finishes
 use Rattle.bb_trace.specs.declared.note.Note.{Note}
 use Rattle.bb_trace.specs.Native.{Native}
-use Rattle.bb_trace.specs.Plan.{Plan}
+use Rattle.bb_run_plan.specs.Plan.{Plan}
 use Rattle.bb_run.specs.State.{State}
 use Rattle.bb_run.specs.Told.{Stretch, over, after_told, and_then, and_then_unless}
 use Rattle.bb_run.specs.Run.{choice, wait, cycle, if_chosen, cycles, start, finish, finish_segments, with_finish, unfinished, run}

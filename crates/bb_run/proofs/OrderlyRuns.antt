@@ -14,7 +14,7 @@ use Rattle.bb_trace.specs.declared.note.Note.TheVariants.{Triggered, Chosen, Inv
 use Rattle.bb_trace.specs.Closing.{Closing}
 use Rattle.bb_trace.specs.Native.{Native}
 use Rattle.bb_trace.specs.Roster.{closings_of}
-use Rattle.bb_trace.specs.Plan.{Plan}
+use Rattle.bb_run_plan.specs.Plan.{Plan}
 use Rattle.bb_run.specs.State.{State}
 use Rattle.bb_run.specs.Told.{Stretch, telling, over, after_told, and_then, and_then_unless}
 use Rattle.bb_run.specs.Run.{rating, choice, wait, noted, cycle, if_chosen, cycles, finish, first_state, start, finish_segments, with_finish, unfinished, run}

@@ -8,7 +8,7 @@ use Rattle.bb_trace.specs.declared.note.Note.{Note}
 use Rattle.bb_trace.specs.declared.note.Note.TheVariants.{Board, Chosen, Invalid, Ended, Refused, NativeEnded, Finished}
 use Rattle.bb_trace.specs.Native.{Native}
 use Rattle.bb_trace.specs.Roster.{closings_of}
-use Rattle.bb_trace.specs.Plan.{Plan}
+use Rattle.bb_run_plan.specs.Plan.{Plan}
 use Rattle.bb_run.specs.State.{State}
 use Rattle.bb_run.specs.Told.{Response, Stretch, after_told, and_then_unless}
 use Rattle.bb_run.specs.Processing.{events_in, processing_all}

@@ -7,8 +7,8 @@ use Rattle.bb_schema.specs.Schema.{Schema}
 use Rattle.bb_trace.specs.Event.{Event}
 use Rattle.bb_agenda.specs.Activation.{Activation}
 use Rattle.bb_machine.specs.Answer.{Answer}
-use Rattle.bb_trace.specs.Concerned.{concerned}
-use Rattle.bb_trace.specs.Plan.{Plan}
+use Rattle.bb_run_plan.specs.Concerned.{concerned}
+use Rattle.bb_run_plan.specs.Plan.{Plan}
 use Rattle.bb_trace.specs.Reaction.{Reaction}
 use Rattle.bb_trace.specs.Source.{Source}
 use Rattle.bb_trace.specs.declared.end.End.{End}
@@ -17,8 +17,10 @@ use Rattle.bb_run.specs.State.{State}
 use Rattle.bb_run.specs.Told.{Response, after_told, and_then, and_then_unless, idle}
 use Rattle.bb_run.specs.Processing.{reacting_to, reacting_to_each, response, source_response}
 use Rattle.bb_run.specs.proving.Responding.{response_at, responses_at}
+use Rattle.bb_run.specs.proving.Own.{asked_about}
 use Rattle.bb_run.specs.proving.Telling.{IsResponse}
 use Rattle.bb_run.proofs.ConcernedLemmas.{all_by_concerned}
+use Rattle.bb_run.proofs.OwnLemmas.{IgnoresNo, as_asked}
 
 -- ---- one part and then the next
 
@@ -110,11 +112,12 @@ begun_at old plan event places s are =
 
 -- ---- pending activations, one after another
 
--- nothing was noted yet of what comes of each of them
-pub begun_with : (old : List Note) (event : Event) (by : Activation → Answer → State → Response) (reaction : Reaction) (s : State) (all items : List Activation) → items ≡ all
+-- nothing was noted yet of what comes of each of them, where those are asked about that can matter
+pub begun_with : (old : List Note) (event : Event) (by : Activation → Answer → State → Response) → IgnoresNo by → (reaction : Reaction) (s : State) (all items : List Activation) → items ≡ asked_about reaction event all
     → HasNoted old old (reacting_to_each event by reaction all s) (reacting_to_each event by reaction items s)
-begun_with old event by reaction s all items is =
-    subst (λ xs. HasNoted old old (reacting_to_each event by reaction all s) (reacting_to_each event by reaction xs s)) (sym is) (nothing_noted old (reacting_to_each event by reaction all s))
+begun_with old event by ignores reaction s all items is =
+    let same = ap (λ xs. reacting_to_each event by reaction xs s) is ∙ as_asked event by ignores reaction all s in
+    subst (HasNoted old old (reacting_to_each event by reaction all s)) (sym same) (nothing_noted old (reacting_to_each event by reaction all s))
 
 module _ (old now : List Note) (whole : Response) (event : Event) (by : Activation → Answer → State → Response) (reaction : Reaction) (s : State) where
   pub at_activation : (items : List Activation) (a : Activation) (more : List Activation) → items ≡ a ∷ more → HasNoted old now whole (reacting_to_each event by reaction items s)

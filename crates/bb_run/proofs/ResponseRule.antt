@@ -18,7 +18,7 @@ use Rattle.bb_trace.specs.Reaction.{Reaction}
 use Rattle.bb_trace.specs.Source.{Source}
 use Rattle.bb_trace.specs.declared.end.End.TheVariants as finishes
 use Rattle.bb_trace.specs.declared.note.Note.TheVariants.{Triggered, Declined, Obviated, Retriggered}
-use Rattle.bb_trace.specs.Plan.{Plan}
+use Rattle.bb_run_plan.specs.Plan.{Plan}
 use Rattle.bb_run.specs.State.{State, with_board, with_agenda}
 use Rattle.bb_run.specs.Told.{Response, telling, idle, over, and_then, and_then_unless}
 use Rattle.bb_run.specs.Asking.{attempt, asking, end_by, entry_of, reply_by, upon}

@@ -31,7 +31,7 @@ use Rattle.bb_trace.specs.Act.TheVariants.{Code}
 use Rattle.bb_trace.specs.Reaction.{Reaction}
 use Rattle.bb_trace.specs.Source.{Source}
 use Rattle.bb_trace.specs.declared.note.Note.TheVariants.{Board, Triggered, Declined, Obviated, Retriggered, Chosen, Invalid, Ended}
-use Rattle.bb_trace.specs.Plan.{Plan}
+use Rattle.bb_run_plan.specs.Plan.{Plan}
 use Rattle.bb_run.specs.Processing.{reacting_to_each, response_by, processing_all}
 use Rattle.bb_run.specs.Run.{rating, start, cycle}
 

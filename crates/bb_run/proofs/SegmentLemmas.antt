@@ -6,7 +6,7 @@ use Rattle.std.proofs.lemmas.List.Concat.{flat_map-append, flat_map-cons}
 use Rattle.bb_trace.specs.declared.halt.Halt.{Halt}
 use Rattle.bb_trace.specs.declared.halt.Halt.TheVariants as halts
 use Rattle.bb_trace.specs.declared.note.Note.{Note}
-use Rattle.bb_trace.specs.Plan.{Plan}
+use Rattle.bb_run_plan.specs.Plan.{Plan}
 use Rattle.bb_trace.specs.TraceText.{segment_text, trace_text}
 use Rattle.bb_run.specs.proving.Telling.{CutIn, HasWritten, Place, Tells, IsTold, ToldFirst, ToldUntil, WroteFront, at_page}
 use Rattle.bb_trace.specs.Page.{Spills, flushed, kept}
@@ -109,7 +109,3 @@ segment_told plan taken given page mid new notes (Err halts.Write) grown (flushe
 segment_told plan taken given page mid new notes (Ok x) grown (kept same left ok) =
     λ start told h. subst (λ t. HasWritten plan start (at_page t new) (told ++ notes ∷ [])) (sym same) (segment_added plan start taken page new told notes (left ∙ grown) h)
 segment_told plan taken given page mid new notes (Err halt) grown (kept same left ok) = absurd cc
-
--- one that is not told leaves all as it was
-pub segment_lost : (plan : Plan) (taken : Option (List ℕ)) (page new : List ℕ) (notes : List Note) → new ≡ page → CutIn plan (at_page taken page) (at_page taken new) (notes ∷ []) halts.Memory
-segment_lost plan taken page new notes same = subst (λ p. CutIn plan (at_page taken page) (at_page taken p) (notes ∷ []) halts.Memory) (sym same) (cut_by_memory plan (at_page taken page) (notes ∷ []))

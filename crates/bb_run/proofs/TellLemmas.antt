@@ -1,7 +1,6 @@
 -- A part of a run is told as far as what is left of it, and the run is cut short in one of its parts or in none.
 use Rattle.std.proofs.Common.{◌≡◌, ◌<◌, ◌≤◌, ◌⊎◌, inl, inr, ℕ, suc, ◌+◌, ◌-◌, arith, List, [], ◌∷◌, ◌++◌, length, get_or, drop, Option, Some, None, Result, Ok, Err, refl, subst, sym, ap, ◌∙◌, append_assoc}
 use Rattle.std.proofs.lemmas.List.{append-nil, drop_all}
-use Rattle.std.proofs.lemmas.Option.{slice_get-get_or}
 use Rattle.std.specs.Prelude.{slice_get, option_and_then}
 use Rattle.std.proofs.lemmas.List.Concat.{flat_map-cons}
 use Rattle.bb_basis.proofs.IntoMapLemmas.{next_one}
@@ -14,20 +13,20 @@ use Rattle.bb_trace.specs.declared.halt.Halt.{Halt}
 use Rattle.bb_trace.specs.declared.note.Note.{Note}
 use Rattle.bb_run.specs.declared.cycles.Decision.{Decision}
 use Rattle.bb_run.specs.declared.cycles.Decision.TheVariants.{Act, Over}
-use Rattle.bb_trace.specs.Plan.{Plan}
+use Rattle.bb_run_plan.specs.Plan.{Plan}
 use Rattle.bb_trace.specs.Board.{Board as Blackboard}
 use Rattle.bb_run.specs.declared.execution.Verdict.{Verdict}
-use Rattle.bb_run.specs.declared.teller.Teller.{Teller}
+use Rattle.bb_run.specs.declared.runner.Runner.{Runner}
 use Rattle.bb_run.specs.Told.{Response, Stretch, after_told, and_then, and_then_unless, idle, over, segment, telling}
 use Rattle.bb_run.specs.Processing.{event_in, events_in, processing, processing_all, reported}
 use Rattle.bb_run.specs.State.{State, with_board}
 use Rattle.bb_run.specs.Run.{acting, choice, chosen_with, cycle, cycle_of, cycles, if_chosen, if_valid, quiet, rating, validity, wait, wait_for}
-use Rattle.bb_run.specs.proving.Telling.{CutIn, Finishes, IsResponse, Leaves, Makes, MakesBy, Place, Same, IsTold, Validates, Waited, decision_after, decision_by, option_list}
+use Rattle.bb_run.specs.proving.Telling.{CutIn, Finishes, IsResponse, Leaves, Makes, MakesBy, Place, Same, IsTold, Validates, Waited, decision_by, option_list}
 use Rattle.bb_run.proofs.SegmentLemmas.{told_nothing, told_then, cut_then, cut_before}
 
--- ---- one teller
+-- ---- one runner
 
-pub same_then : {O : Type 0} (a b c : Teller O) → Same a b → Same b c → Same a c
+pub same_then : {O : Type 0} (a b c : Runner O) → Same a b → Same b c → Same a c
 same_then a b c p q = (q.0 ∙ p.0, q.1 ∙ p.1)
 
 -- ---- a stretch, part by part
@@ -116,12 +115,6 @@ module _ (plan : Plan) (a b : Place) (r : Response) (first old new told : List N
 
 -- ---- the events of notes, one after another
 
--- an element that was read, by itself
-pub item_is : (notes : List Note) (i : ℕ) (d : Note) → i < length notes → get_or notes i d ≡ get_or notes i (get_or notes i d)
-item_is notes i d lt =
-    let read : Some (get_or notes i d) ≡ Some (get_or notes i (get_or notes i d)) = sym (slice_get-get_or notes i d lt) ∙ slice_get-get_or notes i (get_or notes i d) lt in
-    cc
-
 module _ (plan : Plan) (a b c : Place) (whole : Stretch) (notes : List Note) (i : ℕ) (note : Note) where
   next_note : i < length notes → note ≡ get_or notes i note → events_in (drop i notes) ≡ event_in note ++ events_in (drop (i + 1) notes)
   next_note lt is = ap events_in (next_one notes i note lt is) ∙ flat_map-cons event_in note (drop (i + 1) notes)
@@ -129,10 +122,6 @@ module _ (plan : Plan) (a b c : Place) (whole : Stretch) (notes : List Note) (i 
   at_note : (found : Option Event) (s : State) → i < length notes → note ≡ get_or notes i note → option_list found ≡ event_in note → HasTold plan a b whole (processing_all plan (events_in (drop i notes)) s)
       → HasTold plan a b whole (processing_all plan (option_list found ++ events_in (drop (i + 1) notes)) s)
   at_note found s lt is found_is h = subst (λ es. HasTold plan a b whole (processing_all plan es s)) (next_note lt is ∙ ap (λ es. es ++ events_in (drop (i + 1) notes)) (sym found_is)) h
-
-  pub note_passed : (s : State) → i < length notes → note ≡ get_or notes i note → option_list None ≡ event_in note → HasTold plan a b whole (processing_all plan (events_in (drop i notes)) s)
-      → HasTold plan a b whole (processing_all plan (events_in (drop (i + 1) notes)) s)
-  note_passed s lt is none h = at_note None s lt is none h
 
   at_event : (event : Event) (s : State) → i < length notes → note ≡ get_or notes i note → option_list (Some event) ≡ event_in note → HasTold plan a b whole (processing_all plan (events_in (drop i notes)) s)
       → HasTold plan a b whole (and_then (processing plan event s) (processing_all plan (events_in (drop (i + 1) notes))))
@@ -235,26 +224,6 @@ over_by None (Some b) end is = absurd cc
 module _ (plan : Plan) (a b : Place) (s t : State) where
   pub wait_cut : (halt : Halt) → choice plan s ≡ None → CutIn plan a b (quiet plan s).told halt → CutIn plan a b (wait plan s).told halt
   wait_cut halt none t = subst (λ o. CutIn plan a b (wait_for plan s o).told halt) (sym none) t
-
-  waited_for : (decision : Decision) (o : Option Activation) → choice plan s ≡ o → IsTold plan a b (wait_for plan s o).told → t ≡ (wait_for plan s o).state → decision ≡ decision_after plan (wait_for plan s o) → Waited plan a b s t decision
-  waited_for decision o is told left decision_is =
-      let waits : (p : Stretch) → wait plan s ≡ p → IsTold plan a b p.told → t ≡ p.state → decision ≡ decision_after plan p → Waited plan a b s t decision = λ p same told left decision_is.
-      record {
-        told = subst (λ q. IsTold plan a b q.told) (sym same) told;
-        state = left ∙ ap (λ q. q.state) (sym same);
-        decision_is = decision_is ∙ ap (decision_after plan) (sym same);
-      } in
-      waits (wait_for plan s o) (ap (wait_for plan s) is) told left decision_is
-
-  pub wait_over : (o : Option End) (end : End) → choice plan s ≡ None → Makes plan a b (quiet plan s) t (Ok o) → o ≡ Some end → Waited plan a b s t (Over end)
-  wait_over o end none m some = waited_for (Over end) None none m.0 m.1.state (ap (λ e. decision_by e (choice plan (quiet plan s).state)) (sym some ∙ m.1.end))
-
-  pub wait_then : (o : Option End) (later : Option Activation) → choice plan s ≡ None → Makes plan a b (quiet plan s) t (Ok o) → o ≡ None → choice plan t ≡ later → Waited plan a b s t (decision_by None later)
-  wait_then o later none m on is =
-      waited_for (decision_by None later) None none m.0 m.1.state (ap (decision_by None) (sym is ∙ ap (choice plan) m.1.state) ∙ ap (λ e. decision_by e (choice plan (quiet plan s).state)) (sym on ∙ m.1.end))
-
-pub wait_acts : (plan : Plan) (a : Place) (s : State) (x : Activation) → choice plan s ≡ Some x → Waited plan a a s s (Act x)
-wait_acts plan a s x some = waited_for plan a a s s (Act x) (Some x) some (told_nothing plan a) refl (ap (decision_by None) (sym some))
 
 module _ (plan : Plan) (a b c : Place) (whole : Stretch) (s t : State) (next : State → Activation → Stretch) where
   -- an activation is chosen

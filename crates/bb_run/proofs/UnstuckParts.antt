@@ -34,7 +34,7 @@ use Rattle.bb_trace.specs.Source.{Source}
 use Rattle.bb_trace.specs.declared.end.End.{End}
 use Rattle.bb_trace.specs.declared.end.End.TheVariants as finishes
 use Rattle.bb_trace.specs.declared.note.Note.TheVariants.{Triggered, Declined, Obviated, Retriggered}
-use Rattle.bb_trace.specs.Plan.{Plan}
+use Rattle.bb_run_plan.specs.Plan.{Plan}
 use Rattle.bb_run.specs.State.{State, with_board, with_agenda}
 use Rattle.bb_run.specs.Told.{Response, Told, telling, idle, over, and_then, and_then_unless, segment}
 use Rattle.bb_run.specs.Asking.{attempt, asking, entry_of, reply_by, upon}

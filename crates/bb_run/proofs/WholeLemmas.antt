@@ -1,10 +1,9 @@
 -- The whole run is told, its finish last, or it is cut short.
-use Rattle.std.proofs.Common.{◌≡◌, ℕ, false, List, [], ◌∷◌, ◌++◌, length, map, take, Option, Some, Result, Ok, Err, refl, subst, sym, ap, ◌∙◌}
+use Rattle.std.proofs.Common.{◌≡◌, ℕ, List, [], ◌∷◌, ◌++◌, length, map, take, Option, Some, Result, Ok, Err, refl, subst, sym, ap, ◌∙◌}
 use Rattle.std.specs.Io.KnownBytes.{Appends}
 use Rattle.std.proofs.Math.Seq.{take-append_seam}
 use Rattle.std.proofs.lemmas.List.{append-nil, nil_from_length}
 use Rattle.bb_trace.specs.declared.end.End.{End}
-use Rattle.bb_run.specs.declared.finish.Finish.{Finish}
 use Rattle.bb_run.specs.declared.finish.Finish.TheVariants as finishes
 use Rattle.bb_trace.specs.declared.halt.Halt.{Halt}
 use Rattle.bb_trace.specs.declared.halt.Halt.TheVariants as halts
@@ -12,9 +11,9 @@ use Rattle.bb_trace.specs.declared.note.Note.{Note}
 use Rattle.bb_trace.specs.declared.note.Note.TheVariants.{Closed, Finished}
 use Rattle.bb_trace.specs.Closing.{Closing}
 use Rattle.bb_trace.specs.Roster.{closings_of}
-use Rattle.bb_trace.specs.Plan.{Plan}
+use Rattle.bb_run_plan.specs.Plan.{Plan}
 use Rattle.bb_run.specs.State.{State}
-use Rattle.bb_run.specs.Finish.{WritesFront, end_of, is_write}
+use Rattle.bb_run.specs.Finish.{WritesFront}
 use Rattle.bb_run.specs.Told.{Stretch}
 use Rattle.bb_run.specs.Run.{finish, finish_segments, with_finish}
 use Rattle.bb_trace.specs.TraceText.{segment_text, trace_text}
@@ -81,19 +80,3 @@ wrote_first plan p old new w = (length w.first, subst (λ x. Appends old new (tr
 
 pub wrote_front : (plan : Plan) (p : Stretch) (old new : Option (List ℕ)) → WroteFront plan old new p.told → WritesFront plan p finishes.Write old new
 wrote_front plan p old new w = (length w.front, subst (Appends old new) (sym (ap (take (length w.front)) w.all ∙ take-append_seam w.front w.rest)) w.appended)
-
-pub wrote_whole : (plan : Plan) (p : Stretch) (finish : Finish) (end : End) (old new : Option (List ℕ)) → end_of finish ≡ Some end → WritesFront plan p finish old new
-wrote_whole plan p finishes.Quiescence end old new is = tt
-wrote_whole plan p finishes.Limit end old new is = tt
-wrote_whole plan p finishes.Full end old new is = tt
-wrote_whole plan p finishes.Memory end old new is = absurd cc
-wrote_whole plan p finishes.Write end old new is = absurd cc
-wrote_whole plan p (finishes.Stuck reason) end old new is = tt
-
-pub not_write : (finish : Finish) (end : End) → end_of finish ≡ Some end → is_write finish ≡ false
-not_write finishes.Quiescence end is = refl
-not_write finishes.Limit end is = refl
-not_write finishes.Full end is = refl
-not_write finishes.Memory end is = refl
-not_write finishes.Write end is = absurd cc
-not_write (finishes.Stuck reason) end is = refl

@@ -17,7 +17,7 @@ use Rattle.bb_trace.specs.BoardNote.TheVariants.{Event as happened, Said as said
 use Rattle.bb_trace.specs.Events.{unit_of}
 use Rattle.bb_machine.specs.Units.{Units, class_of, value_of}
 use Rattle.bb_trace.specs.Source.{Source}
-use Rattle.bb_trace.specs.Plan.{Plan}
+use Rattle.bb_run_plan.specs.Plan.{Plan}
 
 -- ---- the foci of a blackboard
 

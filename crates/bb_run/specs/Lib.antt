@@ -36,8 +36,8 @@ pub mod proving
 pub use Rattle.bb_trace.specs.TraceText
 pub use Rattle.bb_trace.specs.declared.end.End
 pub use Rattle.bb_trace.specs.declared.note.Note
-pub use Rattle.bb_trace.specs.Plan
-pub use Rattle.bb_trace.specs.declared.plan.TheConstants as Limits
+pub use Rattle.bb_run_plan.specs.Plan
+pub use Rattle.bb_run_plan.specs.declared.plan.TheConstants as Limits
 -- of bb_board: the blackboard that a run begins with, and the document of its first units
 pub use Rattle.bb_trace.specs.Board
 pub use Rattle.bb_trace.specs.Load

@@ -15,7 +15,7 @@ use Rattle.bb_trace.specs.Closing.{Closing}
 use Rattle.bb_trace.specs.Native.{Native}
 use Rattle.bb_trace.specs.Refusal.{Refusal}
 use Rattle.bb_trace.specs.Roster.{closings_of}
-use Rattle.bb_trace.specs.Plan.{Plan}
+use Rattle.bb_run_plan.specs.Plan.{Plan}
 use Rattle.bb_run.specs.Told.{Stretch}
 use Rattle.bb_run.specs.Run.{choice, finish, rating}
 

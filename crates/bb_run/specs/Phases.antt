@@ -12,7 +12,7 @@ use Rattle.bb_trace.specs.declared.note.Note.{Note}
 use Rattle.bb_trace.specs.declared.note.Note.TheVariants.{Board, Chosen, Invalid, Ended, Refused, NativeEnded, Finished}
 use Rattle.bb_trace.specs.Native.{Native}
 use Rattle.bb_trace.specs.Refusal.{Refusal}
-use Rattle.bb_trace.specs.Plan.{Plan}
+use Rattle.bb_run_plan.specs.Plan.{Plan}
 use Rattle.bb_run.specs.State.{State}
 use Rattle.bb_run.specs.Told.{Stretch, after_told}
 use Rattle.bb_run.specs.Run.{choice, cycles, unfinished}

@@ -9,7 +9,7 @@ use Rattle.bb_trace.specs.Native.{Native}
 use Rattle.bb_trace.specs.Source.{Source}
 use Rattle.bb_trace.specs.declared.end.End.{End}
 use Rattle.bb_trace.specs.declared.end.End.TheVariants as ends
-use Rattle.bb_trace.specs.Plan.{Plan}
+use Rattle.bb_run_plan.specs.Plan.{Plan}
 use Rattle.bb_run.specs.State.{State, with_board}
 use Rattle.bb_run.specs.Told.{Response, Stretch}
 use Rattle.bb_run.specs.Order.{notes_of}

@@ -18,7 +18,7 @@ use Rattle.bb_trace.specs.Match.{any_match}
 use Rattle.bb_trace.specs.declared.end.End.TheVariants.{Full}
 use Rattle.bb_trace.specs.declared.note.Note.{Note}
 use Rattle.bb_trace.specs.declared.note.Note.TheVariants as notes
-use Rattle.bb_trace.specs.Plan.{Plan}
+use Rattle.bb_run_plan.specs.Plan.{Plan}
 use Rattle.bb_run.specs.State.{State, with_agenda}
 use Rattle.bb_run.specs.Told.{Response, Stretch, telling, idle, over, and_then, segment}
 use Rattle.bb_run.specs.Asking.{asking, entry_of}

@@ -33,7 +33,7 @@ use Rattle.bb_trace.specs.declared.end.End.TheVariants as finishes
 use Rattle.bb_trace.specs.declared.note.Note.{Note}
 use Rattle.bb_trace.specs.declared.note.Note.TheVariants.{Board, Chosen, Invalid, Ended, Refused, NativeEnded}
 use Rattle.bb_trace.specs.declared.note.Note.TheVariants.{Finished, Closed}
-use Rattle.bb_trace.specs.Plan.{Plan}
+use Rattle.bb_run_plan.specs.Plan.{Plan}
 use Rattle.bb_run.specs.declared.asking.Reply.{Reply}
 use Rattle.bb_run.specs.declared.asking.Reply.TheVariants as replies
 use Rattle.bb_run.specs.declared.execution.Verdict.{Verdict}

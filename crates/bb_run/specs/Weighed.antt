@@ -3,7 +3,7 @@ use Rattle.std.specs.Prelude.{◌≡◌, ◌<◌, ℕ, true, []}
 use Rattle.std.specs.FinMap.{get}
 use Rattle.bb_machine.specs.Units.{is_live}
 use Rattle.bb_trace.specs.Board.{Board as Blackboard}
-use Rattle.bb_trace.specs.Plan.{Plan}
+use Rattle.bb_run_plan.specs.Plan.{Plan}
 use Rattle.bb_run.specs.State.{State}
 use Rattle.bb_run.specs.Foci.{focus_of, setting_of}
 

@@ -20,10 +20,11 @@ use crate::finish::Finish;
 use crate::foci::{rated_sources, tell_all};
 use crate::noting::take_noted;
 use crate::processing::source_at;
+use crate::runner::Runner;
 use crate::state::{Start, State};
-use crate::teller::Teller;
 use bb_agenda::{Activation, Agenda};
-use bb_trace::{Board, Closed, End, Halt, NativeSource, Note, Out, Page, Plan, Question, Source};
+use bb_run_plan::Plan;
+use bb_trace::{Board, Closed, End, Halt, NativeSource, Note, Out, Page, Question, Source};
 use std::alloc::{AllocError, Global};
 
 /// What comes before a cycle: an activation is chosen, or the run is over.
@@ -60,7 +61,7 @@ fn if_valid(verdict: Verdict, source: Option<&Source>) -> Option<&Source>
     }
 }
 
-impl<O: Out> Teller<'_, O> {
+impl<O: Out> Runner<'_, O> {
     // Chooses an activation, after quiescence where none can be chosen at once. The run is over where none can be
     // chosen after it either.
     fn decide<N: NativeSource>(
@@ -98,7 +99,8 @@ impl<O: Out> Teller<'_, O> {
         requires open { O.has_failed self.old.out.now ≡ false }
         ensures same { Same self.old self.new }
         ensures made { Makes plan.now (at O.taken self.old) (at O.taken self.new)
-            (acting plan.now (Some source.now) activation (seen N.meaning state.old)) (seen N.meaning state.new) result }
+            (acting plan.now (Some source.now) activation (seen N.meaning state.old))
+            (seen N.meaning state.new) result }
         ensures failed { O.has_failed self.new.out.now ≡ stopped_by_write result }
     {
         let mut notes = Vec::new(self.alloc());
@@ -302,7 +304,7 @@ fn first_agenda(alloc: Global, plan: &Plan, board: &Board) -> Result<Agenda, All
     ensures agenda { IfOk result (λ agenda. agenda ≡ first_agenda plan.now board.now) }
     ensures may { IfOk result (λ _. MayKnow plan.now board.now) }
 {
-    // The numbers of the live units were given out.
+    // For the proof: the numbers of the live units were given out.
     board.fits();
     let sources = rated_sources(alloc, plan.sources())?;
     let mut agenda = Agenda::new(alloc, plan.shared_schema()?, sources);
@@ -334,7 +336,7 @@ fn write_run<N: NativeSource, O: Out>(
         }
     };
     let mut page = Page::new(alloc);
-    let mut teller = Teller {
+    let mut runner = Runner {
         page: &mut page,
         out,
     };
@@ -343,7 +345,7 @@ fn write_run<N: NativeSource, O: Out>(
         agenda,
         roster,
     };
-    teller.make_run(plan, limit, state)
+    runner.make_run(plan, limit, state)
 }
 
 /// Runs a blackboard from its first state with the natives that were handed in, at most `limit` cycles, and writes the
@@ -370,9 +372,10 @@ pub fn run<N: NativeSource, O: Out>(
         ¬ LacksNative plan.now (map N.meaning start.roster.natives.items) →
         start.board.schema ≡ plan.now.schema → NotStuck (end_of result) }
 {
-    // What holds of any schema, plan and blackboard.
+    // For the proof: what holds of every schema, plan and blackboard.
     plan.schema().fits();
     let _ = plan.sources();
+    // For the proof: what holds of the blackboard.
     start.board.fits();
     match write_run(alloc, plan, start, u64::from(limit), out) {
         Ok(end) => Finish::from(end),

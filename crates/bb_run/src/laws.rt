@@ -8,7 +8,7 @@ ghost use Rattle.bb_trace.specs.declared.note.Note.{Note};
 ghost use Rattle.bb_trace.specs.declared.note.Note.TheVariants.{Chosen};
 ghost use Rattle.bb_trace.specs.Law.{HasSoundCodes};
 ghost use Rattle.bb_trace.specs.Native.{Native};
-ghost use Rattle.bb_trace.specs.Plan.{Plan};
+ghost use Rattle.bb_run_plan.specs.Plan.{Plan};
 ghost use Rattle.bb_run.specs.State.{State};
 ghost use Rattle.bb_run.specs.Run.{run};
 ghost use Rattle.bb_run.specs.Order.{notes_of, At, IsCounted, ActsOnPending, ExecutesInTurn, IsFinished, KeepsLimit};

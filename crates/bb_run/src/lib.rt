@@ -17,15 +17,16 @@ mod laws;
 mod noting;
 mod processing;
 mod reacting;
+mod runner;
 mod state;
-mod teller;
 mod triggering;
 
+pub use bb_run_plan::{Plan, SOURCE_LIMIT};
 pub use bb_trace::{
     Act, Ask, Board, ClassPlace, Classes, ClauseList, ClausePlace, Closed, Closing, Denial,
     DimValue, DocumentPlace, End, ListItem, ListKey, NativeSource, Node, OperandKind, Out, Pattern,
-    Pipe, Plan, Query, Refusal, Relation, Roster, RuleFault, SOURCE_LIMIT, SharedSchema, Source,
-    Stuck, UnitsFault, UnitsFlaw, View, close_each, put_all,
+    Pipe, Query, Refusal, Relation, Roster, RuleFault, SharedSchema, Source, Stuck, UnitsFault,
+    UnitsFlaw, View, close_each, put_all,
 };
 pub use cycles::run;
 pub use finish::Finish;

@@ -1,4 +1,4 @@
-//! The processing of an event. The teller (teller.rt) calls it for each event, and for quiescence.
+//! The processing of an event. The runner (runner.rt) calls it for each event, and for quiescence.
 
 ghost use Rattle.std.specs.Prelude.{◌≡◌, IfOk, option_map, slice_get};
 ghost use Rattle.bb_run.specs.Processing.{if_triggered, obviated_by, reacting, rerated_by, response, source_response};
@@ -9,8 +9,9 @@ ghost use Rattle.bb_run.specs.proving.Telling.{IsResponse};
 use crate::reacting::{obviate_all, retrigger_all};
 use crate::state::State;
 use crate::triggering::{activate, require};
+use bb_run_plan::Plan;
 use bb_schema::Schema;
-use bb_trace::{End, Event, NativeSource, Note, Plan, Source};
+use bb_trace::{End, Event, NativeSource, Note, Source};
 use std::alloc::AllocError;
 
 // A source and its place among the sources of a plan.

@@ -1,9 +1,10 @@
 //! What a source does about its pending activations at an event. Processing (processing.rt) calls it.
 
-ghost use Rattle.std.specs.Prelude.{◌≡◌, IfOk, None};
-ghost use Rattle.bb_agenda.specs.Agenda.{pending_for};
+ghost use Rattle.std.specs.Prelude.{◌≡◌, IfOk, None, filter};
+ghost use Rattle.bb_agenda.specs.Agenda.{is_on, pending_for};
 ghost use Rattle.bb_machine.specs.Answer.TheVariants.{Rated};
 ghost use Rattle.bb_run.specs.Processing.{obviated_by, reacting_to, reacting_to_each, rerated_by};
+ghost use Rattle.bb_run.specs.proving.Own.{asked_about};
 ghost use Rattle.bb_run.specs.proving.Seen.{seen};
 ghost use Rattle.bb_run.specs.proving.Telling.{IsResponse};
 
@@ -11,6 +12,7 @@ use crate::asking::{Reply, ask, entry_of};
 use crate::state::State;
 use bb_agenda::{Activation, Agenda};
 use bb_machine::Answer;
+use bb_schema::UnitId;
 use bb_trace::{End, Event, NativeSource, Note, Reaction};
 use std::alloc::{AllocError, Global};
 
@@ -23,6 +25,45 @@ fn waiting_for(alloc: Global, agenda: &Agenda, place: u16) -> Result<Vec<Activat
         waiting.push(agenda.activation(*number))?;
     }
     Ok(waiting)
+}
+
+// What is pending of the source at a place for a unit, in order.
+fn waiting_on(
+    alloc: Global,
+    agenda: &Agenda,
+    place: u16,
+    unit: UnitId,
+) -> Result<Vec<Activation>, AllocError>
+    ensures { IfOk result (λ waiting. waiting.items ≡ filter (is_on unit) (pending_for agenda.now place)) }
+{
+    let mut waiting = Vec::new(alloc);
+    for number in agenda.pending_on(unit) {
+        let activation = agenda.activation(*number);
+        if activation.source != place {
+            continue;
+        }
+        waiting.push(activation)?;
+    }
+    Ok(waiting)
+}
+
+// The pending activations of the source at a place that a reaction is asked about at an event, in order: only those for
+// the event's unit, where it says no about any other.
+fn asked_about(
+    alloc: Global,
+    agenda: &Agenda,
+    reaction: &Reaction,
+    event: Event,
+    place: u16,
+) -> Result<Vec<Activation>, AllocError>
+    ensures { IfOk result (λ waiting.
+        waiting.items ≡ asked_about reaction.now event (pending_for agenda.now place)) }
+{
+    if reaction.code.asks_own() {
+        waiting_on(alloc, agenda, place, event.unit())
+    } else {
+        waiting_for(alloc, agenda, place)
+    }
 }
 
 // Asks whether a pending activation is needless, and obviates it if so.
@@ -100,7 +141,8 @@ pub(crate) fn obviate_all<N: NativeSource>(
         (seen N.meaning state.old))
         notes.old.items notes.new.items (seen N.meaning state.new)) }
 {
-    for activation in waiting_for(*notes.allocator(), &state.agenda, place)? {
+    let alloc = *notes.allocator();
+    for activation in asked_about(alloc, &state.agenda, reaction, event, place)? {
         if let Some(end) = obviate_one(reaction, event, activation, state, notes)? {
             return Ok(Some(end));
         }
@@ -121,7 +163,8 @@ pub(crate) fn retrigger_all<N: NativeSource>(
         (seen N.meaning state.old))
         notes.old.items notes.new.items (seen N.meaning state.new)) }
 {
-    for activation in waiting_for(*notes.allocator(), &state.agenda, place)? {
+    let alloc = *notes.allocator();
+    for activation in asked_about(alloc, &state.agenda, reaction, event, place)? {
         if let Some(end) = retrigger_one(reaction, event, activation, state, notes)? {
             return Ok(Some(end));
         }

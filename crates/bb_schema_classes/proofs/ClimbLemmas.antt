@@ -5,10 +5,10 @@ use Rattle.std.specs.Option.{option_map_or}
 use Rattle.std.proofs.lemmas.Bool.{eqb-true}
 use Rattle.std.proofs.lemmas.Bool.Decides.{Decides-eqb}
 use Rattle.std.specs.Prelude.{IsTrue, ◌↔◌}
-use Rattle.std.specs.Prelude.{List, [], ◌∷◌}
+use Rattle.std.specs.Prelude.{List}
 use Rattle.std.specs.List.{list_any, Any}
 use Rattle.std.proofs.lemmas.List.Folds.{Any-from_list_any, list_any-from_Any}
-use Rattle.bb_basis.proofs.NumberLemmas.{differs}
+use Rattle.bb_basis.proofs.BoolLemmas.{or_false}
 use Rattle.bb_schema_classes.specs.declared.class.Class.{Class}
 use Rattle.bb_schema_classes.specs.Inheritance.{ParentsAreEarlier, parent_of, Descends, itself, through_parent, climbs, descends_in}
 
@@ -23,10 +23,6 @@ none_above : (s : List Class) (d n : ℕ) (c : ℕ) → ParentsAreEarlier s → 
     → parent_of s c ≡ parent → option_map_or (λ p. climbs n s p d) parent false ≡ false
 none_above s d n c earlier is None h = refl
 none_above s d n c earlier is (Some p) h = absurd (omega (arith, earlier c p h))
-
-or_false : (b : Bool) → (b || false) ≡ b
-or_false true = refl
-or_false false = refl
 
 -- more steps than the number of the class change nothing
 pub climbs_enough : (s : List Class) (d : ℕ) → ParentsAreEarlier s → (n m c : ℕ) → c ≤ n → c ≤ m
@@ -89,14 +85,6 @@ descends_decides s earlier c d r is = (λ t. climbs_sound s d c c (sym is ∙ t)
 pub record GoesUp (s : List Class) (c p d : ℕ) : Type 0 where
   pub lower : p < c
   pub same : descends_in s p d ≡ descends_in s c d
-
-pub goes_up : (s : List Class) → ParentsAreEarlier s → (c p d : ℕ) → parent_of s c ≡ Some p → (c ≡ d → ⊥)
-    → GoesUp s c p d
-goes_up s earlier c p d h other = record { lower = earlier c p h; same = sym (descends_parent s c p d earlier h (differs c d other)) }
-
-pub ends_at_top : (s : List Class) → ParentsAreEarlier s → (c d : ℕ) → parent_of s c ≡ None → (c ≡ d → ⊥)
-    → descends_in s c d ≡ false
-ends_at_top s earlier c d h other = descends_top s c d earlier h (differs c d other)
 
 pub found_itself : (s : List Class) (c d : ℕ) → ParentsAreEarlier s → c ≡ d → descends_in s c d ≡ true
 found_itself s c d earlier e = descends_itself s c d earlier ((Decides-eqb c d).1 e)

@@ -7,7 +7,7 @@ use Rattle.std.specs.Ordering.{nat_cmp}
 use Rattle.std.specs.List.{list_any}
 use Rattle.std.specs.Str.{bytes_eq}
 use Rattle.std.proofs.lemmas.Bool.{false_from_ne_true}
-use Rattle.std.proofs.lemmas.List.{take_more, length-take-le, take_all}
+use Rattle.std.proofs.lemmas.List.{take_more, length-take-le}
 use Rattle.std.proofs.lemmas.Map.Text.{btree_map_updates_str}
 use Rattle.bb_schema_classes.specs.LinkReading.{first_named}
 use Rattle.bb_schema_classes.specs.proving.Entries.{indexed_place, IsIndex}
@@ -71,12 +71,6 @@ pub index_next : (old new : BTreeMap (Bor (List ℕ)) ℕ) (texts : List (List �
 index_next old new texts i x lt at keeps index =
     let long : i ≡ length (take i texts) = sym (length-take-le i texts (let le : i ≤ length texts = omega arith in le)) in
     subst (IsIndex new) (sym (take_more texts i x lt ∙ ap (λ t. take i texts ++ t ∷ []) at)) (keeps (take i texts) long index)
-
-pub index_end : (places : BTreeMap (Bor (List ℕ)) ℕ) (texts : List (List ℕ)) (i : ℕ) → length texts ≤ i
-    → IsIndex places (take i texts) → IsIndex places texts
-index_end places texts i le index = subst (IsIndex places) (take_all i texts le) index
-
--- ---- the first of a name
 
 -- the first of a name is at the first place of the name
 at_front : {X : Type 0} (x : X) (xs : List X) (b : Bool) (o : Option ℕ) (rest : Option X)

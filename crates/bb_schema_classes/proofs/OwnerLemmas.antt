@@ -6,6 +6,7 @@ use Rattle.std.specs.List.{list_any}
 use Rattle.std.specs.Option.{option_map_or}
 use Rattle.std.proofs.lemmas.Bool.{leb-true, le-leb, ltb-true, ltb-false, eqb-true, eqb-false, or_right}
 use Rattle.std.proofs.lemmas.List.Elements.{All-nil, All-head, All-tail}
+use Rattle.bb_basis.proofs.BoolLemmas.{or_false}
 use Rattle.bb_basis.specs.Names.{is_name}
 use Rattle.bb_basis.specs.Results.{ok_or, try_fold}
 use Rattle.bb_basis.proofs.NumberLemmas.{differs, turned}
@@ -35,10 +36,6 @@ use Rattle.bb_schema_classes.proofs.ClimbLemmas.{descends_parent, descends_top, 
 use Rattle.bb_schema_classes.proofs.FitLemmas.{All-at, class_keeps, classes_fit, parent_within, slots_old, slots_new, walk_keeps}
 
 -- ---- small steps
-
-or_false : (b : Bool) → (b || false) ≡ b
-or_false true = refl
-or_false false = refl
 
 or_assoc : (a b c : Bool) → (a || (b || c)) ≡ ((a || b) || c)
 or_assoc true b c = refl

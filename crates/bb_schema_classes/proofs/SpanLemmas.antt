@@ -1,12 +1,13 @@
 -- The spans of classes that come into a walk one after another.
-use Rattle.std.proofs.Common.{◌≡◌, ◌⊎◌, inl, inr, ℕ, zero, suc, ◌+◌, ◌-◌, ◌<◌, ◌≤◌, Bool, true, false, List, [], ◌∷◌, ◌++◌, length, get_or, take, drop, map, Option, Some, None, refl, sym, ap, subst, ◌∙◌, arith, length-append}
-use Rattle.std.specs.Prelude.{◌==◌, ◌↔◌, IsTrue, nat_lt, slice_get, All, option_and_then}
+use Rattle.std.proofs.Common.{◌≡◌, ◌⊎◌, inl, inr, ℕ, zero, suc, ◌+◌, ◌-◌, ◌<◌, ◌≤◌, Bool, true, false, List, [], ◌∷◌, ◌++◌, length, map, Option, Some, None, refl, sym, ap, subst, ◌∙◌, arith, length-append}
+use Rattle.std.specs.Prelude.{◌==◌, ◌↔◌, IsTrue, nat_lt, slice_get, option_and_then}
 use Rattle.std.specs.Option.{option_map_or}
 use Rattle.std.proofs.lemmas.Bool.{eqb-true}
 use Rattle.std.proofs.lemmas.Bool.Decides.{Decides-eqb, same_from_decides, nat_tests}
-use Rattle.std.proofs.lemmas.List.{length-map, length-take-le, get_or-append_right, get_or-drop}
-use Rattle.std.proofs.lemmas.List.Elements.{All-nil, All-push, All-map, All-weaker}
+use Rattle.std.proofs.lemmas.List.{length-map}
+use Rattle.std.proofs.lemmas.List.Elements.{All-push, All-map, All-weaker}
 use Rattle.std.proofs.lemmas.Option.{slice_get_within}
+use Rattle.bb_basis.proofs.AppendLemmas.{there_is}
 use Rattle.bb_schema_classes.specs.declared.class.Class.{Class}
 use Rattle.bb_schema_classes.specs.declared.span.Span.{Span}
 use Rattle.bb_schema_classes.specs.Inheritance.{ParentsAreEarlier, parent_of, Descends, itself, through_parent, descends_in}
@@ -119,11 +120,6 @@ not_later classes earlier c _ (itself _) = omega arith
 not_later classes earlier c d (through_parent _ p _ h rest) =
     let low = earlier c p h in let more = not_later classes earlier p d rest in omega (arith, low, more)
 
-held_at : {X : Type 0} (xs : List X) (i : ℕ) → i < length xs → (x : X) × (slice_get xs i ≡ Some x)
-held_at [] i lt = absurd (omega (arith, lt))
-held_at (x ∷ xs) zero lt = (x, refl)
-held_at (x ∷ xs) (suc i) lt = held_at xs i (omega (arith, lt))
-
 -- ---- one more class
 
 -- where the class of this number comes in
@@ -231,7 +227,7 @@ comes_of classes spans n None earlier walk is = inl (is, refl)
 comes_of classes spans n (Some p) earlier walk is =
     let low = earlier n p is in
     let count = walk.count in
-    let there = held_at spans p (omega (arith, low, count)) in
+    let there = there_is spans p (omega (arith, low, count)) in
     inr (p, there.0, is, there.1, ap (λ (o : Option Span). option_map_or (λ (s : Span). s.first + 1) o 0) there.1)
 
 -- the spans of one class more
@@ -241,26 +237,6 @@ one_class classes spans n k earlier here walk =
     grown classes spans n (place_of spans k.parent) earlier walk
     (comes_of classes spans n k.parent earlier walk (ap (λ (o : Option Class). option_and_then (λ (j : Class). j.parent) o) here))
 
-pub no_class : (classes : List Class) → IsWalk classes 0 []
-no_class classes = record { count = refl; within = All-nil (IsWithin 0); tell = λ c d k l here there. absurd cc }
-
-pub all_classes : (classes : List Class) (n : ℕ) (spans : List Span) → n ≡ length classes → IsWalk classes n spans → AreSpans classes spans
-all_classes classes n spans all walk = record { count = walk.count ∙ all; tell = walk.tell }
-
-pub low_spans : (n most : ℕ) (spans : List Span) → n ≤ most → All (IsWithin n) spans → All (IsWithin most) spans
-low_spans n most spans le all =
-    All-weaker (IsWithin n) (IsWithin most) (λ s h. let low = h.0 in let high = h.1 in (omega (arith, low, le), omega (arith, high, le))) spans all
-
--- a turn of the loop that makes room: the next span is as it was
-pub next_kept : (f : Span → Span) (xs ys : List Span) (i : ℕ) (d : Span) → i < length xs → ys ≡ map f (take i xs) ++ drop i xs → get_or ys i d ≡ get_or xs i d
-next_kept f xs ys i d lt is =
-    let front : length (map f (take i xs)) ≡ i = length-map _ _ ∙ length-take-le i xs (omega (arith, lt)) in
-    ap (λ (l : List Span). get_or l i d) is
-    ∙ (get_or-append_right (map f (take i xs)) (drop i xs) i i d front (omega arith)
-    ∙ (get_or-drop i xs (i - i) d ∙ ap (λ j. get_or xs j d) (omega arith)))
-
--- ---- what spans say of two classes
-
 parent_inside : (classes : List Class) (c p : ℕ) (k : Option Class) → slice_get classes c ≡ k → option_and_then (λ (j : Class). j.parent) k ≡ Some p → c < length classes
 parent_inside classes c p None is h = absurd cc
 parent_inside classes c p (Some k) is h = slice_get_within classes c k is
@@ -269,7 +245,7 @@ no_parent : (classes : List Class) (spans : List Span) (c p : ℕ) → AreSpans 
 no_parent classes spans c p are none h =
     let lt = parent_inside classes c p (slice_get classes c) refl h in
     let count = are.count in
-    let there = held_at spans c (omega (arith, lt, count)) in
+    let there = there_is spans c (omega (arith, lt, count)) in
     absurd (let both = sym none ∙ there.1 in cc)
 
 itself_alone : (classes : List Class) (spans : List Span) (c d : ℕ) → AreSpans classes spans → slice_get spans c ≡ None
@@ -289,7 +265,7 @@ pub none_above : (classes : List Class) (spans : List Span) (c d : ℕ) (k : Spa
 none_above classes spans c d k earlier here none h =
     let low = not_later classes earlier c d h in
     let lt = slice_get_within spans c k here in
-    let there = held_at spans d (omega (arith, low, lt)) in
+    let there = there_is spans d (omega (arith, low, lt)) in
     absurd (let both = sym none ∙ there.1 in cc)
 
 -- a truth value that says whether one class descends from another is what the climb gives

@@ -4,7 +4,7 @@ use Rattle.bb_basis.specs.Results.{◌>>=◌, Gives, map_err}
 use Rattle.bb_schema.specs.Schema.{Schema}
 use Rattle.bb_code.specs.Code.{Code}
 use Rattle.bb_verify.specs.Accepted.{Checked}
-use Rattle.bb_bundle.specs.declared.source_code.SourceDraft.{SourceDraft}
+use Rattle.bb_bundle.specs.declared.draft.SourceDraft.{SourceDraft}
 use Rattle.bb_run.specs.Classes.{Classes}
 use Rattle.bb_run.specs.MadeSource.{classes_of}
 use Rattle.bb_shell.specs.declared.accepting.CodeFault.{CodeFault}
@@ -15,10 +15,10 @@ use Rattle.bb_shell.specs.Accepting.{accepted_draft, accepted_source, in_source}
 
 -- what comes of a source once its classes are found
 abbrev after_classes : Schema → SourceDraft Code → Result Classes InputFault → Result (SourceDraft Checked) InputFault
-after_classes s draft classes = classes >>= λ found. map_err (in_source draft.name) (accepted_draft s found draft)
+after_classes s draft classes = classes >>= λ found. map_err (in_source draft.header.name) (accepted_draft s found draft)
 
 -- where the classes of a source are not found, it is refused
-pub classes_fail : (s : Schema) (draft : SourceDraft Code) (e : InputFault) → (e ≡ inputs.Memory) ⊎ (map_err (inputs.Rule draft.name) (classes_of s draft) ≡ Err e) → (e ≡ inputs.Memory) ⊎ (accepted_source s draft ≡ Err e)
+pub classes_fail : (s : Schema) (draft : SourceDraft Code) (e : InputFault) → (e ≡ inputs.Memory) ⊎ (map_err (inputs.Rule draft.header.name) (classes_of s draft) ≡ Err e) → (e ≡ inputs.Memory) ⊎ (accepted_source s draft ≡ Err e)
 classes_fail s draft e (inl memory) = inl memory
 classes_fail s draft e (inr failed) = inr (ap (after_classes s draft) failed)
 
@@ -28,7 +28,7 @@ told_by name (Err e) given (inl memory) = inl (ap (in_source name) memory)
 told_by name (Err e) given (inr failed) = inr (ap (map_err (in_source name)) failed)
 
 -- where the classes are found, the source has what came of the codes
-pub codes_told : (s : Schema) (draft : SourceDraft Code) (name : List ℕ) (classes : Classes) (r : Result (SourceDraft Checked) CodeFault) (told : Result (SourceDraft Checked) InputFault) → name ≡ draft.name → map_err (inputs.Rule draft.name) (classes_of s draft) ≡ Ok classes
+pub codes_told : (s : Schema) (draft : SourceDraft Code) (name : List ℕ) (classes : Classes) (r : Result (SourceDraft Checked) CodeFault) (told : Result (SourceDraft Checked) InputFault) → name ≡ draft.header.name → map_err (inputs.Rule draft.header.name) (classes_of s draft) ≡ Ok classes
     → Gives faults.Memory (λ d. d) r (accepted_draft s classes draft) → told ≡ map_err (in_source name) r → Gives inputs.Memory (λ d. d) told (accepted_source s draft)
 codes_told s draft name classes r told same found gives is =
     subst (λ x. Gives inputs.Memory (λ d. d) x (accepted_source s draft)) (sym is)

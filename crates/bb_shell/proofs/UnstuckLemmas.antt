@@ -4,13 +4,14 @@ use Rattle.std.specs.Prelude.{All, is_some, nat_le, position, if◌then◌else�
 use Rattle.std.specs.List.{list_any}
 use Rattle.std.specs.Str.{bytes_eq}
 use Rattle.std.proofs.lemmas.List.Elements.{All-append, All-cons, All-contains, All-nil}
+use Rattle.bb_basis.proofs.PlacedLemmas.{map_err_ok}
 use Rattle.bb_basis.proofs.ListLemmas.{position-map}
-use Rattle.bb_basis.specs.Results.{◌>>=◌, map_err, try_fold, try_map}
+use Rattle.bb_basis.specs.Results.{◌>>=◌, map_err, try_map}
 use Rattle.bb_basis.proofs.ResultLemmas.{bind_ok, guard_ok, same_ok, try_fold_keeps}
 use Rattle.bb_schema.specs.Schema.{Schema}
 use Rattle.bb_schema.specs.Reading.{schema_of}
 use Rattle.bb_code.specs.Code.{Code}
-use Rattle.bb_bundle.specs.declared.source_code.SourceDraft.{SourceDraft}
+use Rattle.bb_bundle.specs.declared.draft.SourceDraft.{SourceDraft}
 use Rattle.bb_run.specs.Closing.{Closing}
 use Rattle.bb_run.specs.Native.{Native}
 use Rattle.bb_run.specs.Roster.{place_of, unclosed}
@@ -25,13 +26,12 @@ use Rattle.bb_run.specs.Source.{Source}
 use Rattle.bb_run.specs.Act.TheVariants as acts
 use Rattle.bb_shell.specs.declared.fitting.Unfit.{Unfit}
 use Rattle.bb_shell.specs.declared.fitting.Unfit.TheVariants as unfits
-use Rattle.bb_refusal.specs.declared.input_fault.InputFault.{InputFault}
 use Rattle.bb_refusal.specs.declared.input_fault.InputFault.TheVariants as inputs
 use Rattle.bb_shell.specs.Accepting.{accepted_source}
 use Rattle.bb_shell.specs.Fitting.{HasAct, fitted, has_native, is_native, lacks_native, names_in, names_of, native_names, source_after}
 use Rattle.bb_shell.specs.Meaning.{Meaning, meaning}
 use Rattle.bb_shell.specs.Sources.{codes_in, given, in_input, resolved_source, sources_for}
-use Rattle.bb_shell.proofs.MadeLemmas.{ok_of, sources_made}
+use Rattle.bb_shell.proofs.MadeLemmas.{sources_made}
 
 -- ---- sources that fit together have codes or natives for their acts
 
@@ -54,7 +54,7 @@ unfolding sources_for
 sources_act natives s codes sources h =
     let drafts = bind_ok (try_map (accepted_source s) codes) (λ ds. try_map (resolved_source s) ds >>= λ rs. map_err in_input (fitted natives rs)) sources h in
     let resolved = bind_ok (try_map (resolved_source s) drafts.0) (λ rs. map_err in_input (fitted natives rs)) sources drafts.2 in
-    fitted_acts natives resolved.0 sources (ok_of in_input (fitted natives resolved.0) sources resolved.2)
+    fitted_acts natives resolved.0 sources (map_err_ok in_input (fitted natives resolved.0) sources resolved.2)
 
 -- ---- none lacks a native
 
@@ -104,5 +104,5 @@ meaning_whole natives schema units texts bundle floor m h =
     subst (IsWhole natives) (same_ok (of s board.0 sources.0) m sources.2) (record {
       made = sources_made natives s codes.0 sources.0 codes.2;
       acts = sources_act natives s codes.0 sources.0 codes.2;
-      schema = loaded_schema s units board.0 (ok_of inputs.Units (loaded (new_board s) units) board.0 board.1);
+      schema = loaded_schema s units board.0 (map_err_ok inputs.Units (loaded (new_board s) units) board.0 board.1);
     })

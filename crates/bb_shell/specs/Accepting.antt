@@ -5,17 +5,14 @@ use Rattle.bb_schema.specs.Schema.{Schema}
 use Rattle.bb_code.specs.Code.{Code}
 use Rattle.bb_verify.specs.Accepted.{Checked, checked}
 use Rattle.bb_verify.specs.PartType.{Part}
-use Rattle.bb_verify.specs.PartType.TheVariants as parts
-use Rattle.bb_bundle.specs.declared.source_code.ActDraft.{ActDraft}
-use Rattle.bb_bundle.specs.declared.source_code.ActDraft.TheVariants as acts
-use Rattle.bb_bundle.specs.declared.source_code.ReactionDraft.{ReactionDraft}
-use Rattle.bb_bundle.specs.declared.source_code.SourceDraft.{SourceDraft}
+use Rattle.bb_verify.specs.PartType.TheVariants.{Require, Revalidate, Do}
+use Rattle.bb_bundle.specs.declared.draft.ActDraft.{ActDraft}
+use Rattle.bb_bundle.specs.declared.draft.ActDraft.TheVariants as acts
+use Rattle.bb_bundle.specs.declared.draft.Parts.{Parts}
+use Rattle.bb_bundle.specs.declared.draft.ReactionDraft.{ReactionDraft}
+use Rattle.bb_bundle.specs.declared.draft.SourceDraft.{SourceDraft}
 use Rattle.bb_run.specs.Classes.{Classes}
 use Rattle.bb_run.specs.MadeSource.{classes_of, obviate_part, retrigger_part}
-use Rattle.bb_shell.specs.declared.accepting.Header.{Header}
-use Rattle.bb_shell.specs.declared.accepting.FirstCodes.{FirstCodes}
-use Rattle.bb_shell.specs.declared.accepting.LaterCodes.{LaterCodes}
-use Rattle.bb_shell.specs.declared.accepting.Codes.{Codes}
 use Rattle.bb_shell.specs.declared.accepting.CodeFault.{CodeFault}
 use Rattle.bb_shell.specs.declared.accepting.CodeFault.TheVariants as faults
 use Rattle.bb_refusal.specs.declared.input_fault.InputFault.{InputFault}
@@ -46,59 +43,21 @@ accepted_act s part (acts.Do code) = do
   Ok (acts.Do checked')
 accepted_act s part acts.Native = Ok acts.Native
 
--- the requirement and the code that obviates, accepted in this order
-unfoldable pub accepted_first : Schema → Classes → FirstCodes Code → Result (FirstCodes Checked) CodeFault
-accepted_first s c codes = do
-  require ← accepted_part s (parts.Require c.own) codes.require
+-- the parts besides the act, accepted in the order in which a bundle has them
+unfoldable pub accepted_parts : Schema → Classes → Parts Code → Result (Parts Checked) CodeFault
+accepted_parts s c codes = do
+  require ← accepted_part s (Require c.own) codes.require
   obviate ← accepted_reaction s (obviate_part c) codes.obviate
-  Ok (record { require = require; obviate = obviate })
-
--- the code that retriggers and the revalidation, accepted in this order
-unfoldable pub accepted_later : Schema → Classes → LaterCodes Code → Result (LaterCodes Checked) CodeFault
-accepted_later s c codes = do
   retrigger ← accepted_reaction s (retrigger_part c) codes.retrigger
-  revalidate ← accepted_part s (parts.Revalidate c.own) codes.revalidate
-  Ok (record { retrigger = retrigger; revalidate = revalidate })
+  revalidate ← accepted_part s (Revalidate c.own) codes.revalidate
+  Ok (record { require = require; obviate = obviate; retrigger = retrigger; revalidate = revalidate })
 
--- all codes of a source, accepted in the order in which a bundle has them
-unfoldable pub accepted_codes : Schema → Classes → Codes Code → Result (Codes Checked) CodeFault
-accepted_codes s c codes = do
-  first ← accepted_first s c codes.first
-  later ← accepted_later s c codes.later
-  act ← accepted_act s (parts.Do c.own) codes.act
-  Ok (record { first = first; later = later; act = act })
-
--- what a draft has besides its codes
-abbrev pub header_of : SourceDraft Code → Header
-header_of draft = record { name = draft.name; class = draft.class; rate = draft.rate; triggers = draft.triggers }
-
--- the codes of a draft
-abbrev pub codes_of : SourceDraft Code → Codes Code
-codes_of draft = record {
-  first = record { require = draft.require; obviate = draft.obviate };
-  later = record { retrigger = draft.retrigger; revalidate = draft.revalidate };
-  act = draft.act;
-}
-
--- the draft of a header and codes
-abbrev pub draft_of : Header → Codes Checked → SourceDraft Checked
-draft_of header codes = record {
-  name = header.name;
-  class = header.class;
-  rate = header.rate;
-  triggers = header.triggers;
-  require = codes.first.require;
-  obviate = codes.first.obviate;
-  retrigger = codes.later.retrigger;
-  revalidate = codes.later.revalidate;
-  act = codes.act;
-}
-
--- a draft with its codes accepted
+-- a draft with its codes accepted, the act last
 unfoldable pub accepted_draft : Schema → Classes → SourceDraft Code → Result (SourceDraft Checked) CodeFault
 accepted_draft s c draft = do
-  codes ← accepted_codes s c (codes_of draft)
-  Ok (draft_of (header_of draft) codes)
+  parts ← accepted_parts s c draft.parts
+  act ← accepted_act s (Do c.own) draft.act
+  Ok (record { header = draft.header; parts = parts; act = act })
 
 -- the fault of a code as one of the source of this name
 abbrev pub in_source : List ℕ → CodeFault → InputFault
@@ -108,5 +67,5 @@ in_source name faults.Memory = inputs.Memory
 -- a source with its codes accepted: the classes are looked up, then each code is verified
 abbrev pub accepted_source : Schema → SourceDraft Code → Result (SourceDraft Checked) InputFault
 accepted_source s draft = do
-  classes ← map_err (inputs.Rule draft.name) (classes_of s draft)
-  map_err (in_source draft.name) (accepted_draft s classes draft)
+  classes ← map_err (inputs.Rule draft.header.name) (classes_of s draft)
+  map_err (in_source draft.header.name) (accepted_draft s classes draft)

@@ -5,7 +5,7 @@ use Rattle.bb_schema.specs.Reading.{schema_of}
 use Rattle.bb_code.specs.Code.{Code}
 use Rattle.bb_bundle.specs.Bundle.{sources_of}
 use Rattle.bb_bundle.specs.Written.{bundle_text}
-use Rattle.bb_bundle.specs.declared.source_code.SourceDraft.{SourceDraft}
+use Rattle.bb_bundle.specs.declared.draft.SourceDraft.{SourceDraft}
 use Rattle.bb_shell.specs.Sources.{compiled_text}
 use Rattle.bb_shell.specs.Written.{Wrote}
 use Rattle.bb_shell.specs.declared.written.Done.{Done}

@@ -35,7 +35,7 @@ pub use Rattle.bb_run.specs.declared.finish.Finish as Finishes
 pub use Rattle.bb_run.specs.TraceText
 -- of bb_bundle: sources with codes, and the text that is written for them
 pub use Rattle.bb_bundle.specs.Written as BundleText
-pub use Rattle.bb_bundle.specs.declared.source_code.SourceDraft
+pub use Rattle.bb_bundle.specs.declared.draft.SourceDraft
 pub use Rattle.bb_code.specs.Code
 -- of bb_native: natives, what they see and ask, and what a roster of them means
 pub use Rattle.bb_run.specs.Native

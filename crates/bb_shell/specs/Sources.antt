@@ -8,7 +8,7 @@ use Rattle.bb_lang.specs.Sources.{sources_of as trees_of}
 use Rattle.bb_lang.specs.SourceText.{SourceText}
 use Rattle.bb_compile.specs.Compiled.{compiled}
 use Rattle.bb_bundle.specs.Bundle.{sources_of}
-use Rattle.bb_bundle.specs.declared.source_code.SourceDraft.{SourceDraft}
+use Rattle.bb_bundle.specs.declared.draft.SourceDraft.{SourceDraft}
 use Rattle.bb_run.specs.Source.{Source}
 use Rattle.bb_run.specs.MadeSource.{source_of}
 use Rattle.bb_refusal.specs.declared.input_fault.InputFault.{InputFault}
@@ -20,7 +20,7 @@ use Rattle.bb_shell.specs.Fitting.{fitted}
 
 -- a source with its names resolved
 abbrev pub resolved_source : Schema → SourceDraft Checked → Result Source InputFault
-resolved_source s draft = map_err (Rule draft.name) (source_of s draft)
+resolved_source s draft = map_err (Rule draft.header.name) (source_of s draft)
 
 -- a source that does not fit is refused by its name
 abbrev pub in_input : Unfit → InputFault

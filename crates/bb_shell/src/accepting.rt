@@ -2,15 +2,13 @@
 
 ghost use Rattle.std.specs.Prelude.{◌≡◌, IfOk};
 ghost use Rattle.bb_basis.specs.Results.{Gives, map_err};
-ghost use Rattle.bb_verify.specs.PartType.TheVariants as parts;
 ghost use Rattle.bb_shell.specs.declared.accepting.CodeFault.TheVariants.{Memory as OutOfMemory};
-ghost use Rattle.bb_shell.specs.Accepting.{accepted_act, accepted_code, accepted_codes, accepted_draft};
-ghost use Rattle.bb_shell.specs.Accepting.{accepted_first, accepted_later, accepted_part, accepted_reaction};
+ghost use Rattle.bb_shell.specs.Accepting.{accepted_act, accepted_code, accepted_draft, accepted_part};
+ghost use Rattle.bb_shell.specs.Accepting.{accepted_parts, accepted_reaction, accepted_source, in_source};
 ghost use Rattle.bb_run.specs.MadeSource.{classes_of};
-ghost use Rattle.bb_shell.specs.Accepting.{accepted_source, codes_of, draft_of, header_of, in_source};
 
-use bb_basis::{Items, Text};
-use bb_bundle::{ActDraft, ClauseText, ReactionDraft, SourceDraft};
+use bb_basis::Text;
+use bb_bundle::{ActDraft, Parts, ReactionDraft, SourceDraft};
 use bb_code::Code;
 use bb_refusal::InputFault;
 use bb_run::Classes;
@@ -25,37 +23,6 @@ pub(crate) enum CodeFault {
     Verify { part: Part, fault: VerifyFault },
     /// Memory ran out.
     Memory,
-}
-
-/// What a source has besides its codes.
-#[derive(Drop)]
-pub(crate) struct Header {
-    name: Text,
-    class: Text,
-    rate: i64,
-    triggers: Items<ClauseText>,
-}
-
-/// The codes that an event may ask first: whether it makes an activation, and which activations it makes needless.
-#[derive(Drop)]
-pub(crate) struct FirstCodes<C> {
-    require: Option<C>,
-    obviate: Option<ReactionDraft<C>>,
-}
-
-/// The codes that rate activations again, and that are asked once more about one that is chosen.
-#[derive(Drop)]
-pub(crate) struct LaterCodes<C> {
-    retrigger: Option<ReactionDraft<C>>,
-    revalidate: Option<C>,
-}
-
-/// All codes of a source.
-#[derive(Drop)]
-pub(crate) struct Codes<C> {
-    first: FirstCodes<C>,
-    later: LaterCodes<C>,
-    act: ActDraft<C>,
 }
 
 /// A source with its codes accepted. Its classes are looked up first, then each code is verified, in the order in which
@@ -78,10 +45,10 @@ fn look_up(
     draft: &SourceDraft<Code>,
 ) -> Result<(Text, Classes), InputFault>
     ensures classes { Gives InputFault.Memory (λ n. n.1) result
-        (map_err (InputFault.Rule draft.now.name) (classes_of schema.now draft.now)) }
-    ensures name { IfOk result (λ n. n.0 ≡ draft.now.name) }
+        (map_err (InputFault.Rule draft.now.header.name) (classes_of schema.now draft.now)) }
+    ensures name { IfOk result (λ n. n.0 ≡ draft.now.header.name) }
 {
-    let name = Text::from_str(alloc, draft.name.as_str())?;
+    let name = Text::from_str(alloc, draft.header.name.as_str())?;
     match Classes::find(schema, draft) {
         Ok(classes) => Ok((name, classes)),
         Err(fault) => Err(InputFault::Rule { name, fault }),
@@ -102,102 +69,37 @@ fn in_source(
     }
 }
 
-// Accepts the codes that an event may ask first.
-#[tactic(auto, unfolding(crate::specs::Accepting::accepted_first))]
-fn accept_first(
+// Accepts the parts that a source has besides its act, in the order in which a bundle has them.
+#[tactic(auto, unfolding(crate::specs::Accepting::accepted_parts))]
+fn accept_parts(
     alloc: Global,
     schema: &Schema,
     classes: Classes,
-    codes: FirstCodes<Code>,
-) -> Result<FirstCodes<Checked>, CodeFault>
-    ensures { Gives OutOfMemory (λ c. c) result (accepted_first schema.now classes codes) }
+    mut codes: Parts<Code>,
+) -> Result<Parts<Checked>, CodeFault>
+    ensures { Gives OutOfMemory (λ p. p) result (accepted_parts schema.now classes codes) }
 {
     let class = classes.own;
-    let FirstCodes { require, obviate } = codes;
-    let require = accept_part(alloc, schema, Part::Require { class }, require)?;
-    let obviate = accept_reaction(alloc, schema, classes.obviate_part(), obviate)?;
-    Ok(FirstCodes { require, obviate })
-}
-
-// Accepts the codes that are asked about an activation that waits, or that was chosen.
-#[tactic(auto, unfolding(crate::specs::Accepting::accepted_later))]
-fn accept_later(
-    alloc: Global,
-    schema: &Schema,
-    classes: Classes,
-    codes: LaterCodes<Code>,
-) -> Result<LaterCodes<Checked>, CodeFault>
-    ensures { Gives OutOfMemory (λ c. c) result (accepted_later schema.now classes codes) }
-{
-    let class = classes.own;
-    let LaterCodes {
-        retrigger,
-        revalidate,
-    } = codes;
-    let retrigger = accept_reaction(alloc, schema, classes.retrigger_part(), retrigger)?;
-    let revalidate = accept_part(alloc, schema, Part::Revalidate { class }, revalidate)?;
-    Ok(LaterCodes {
-        retrigger,
-        revalidate,
-    })
-}
-
-// Accepts all codes of a source, in the order in which a bundle has them.
-#[tactic(auto, unfolding(crate::specs::Accepting::accepted_codes))]
-fn accept_codes(
-    alloc: Global,
-    schema: &Schema,
-    classes: Classes,
-    codes: Codes<Code>,
-) -> Result<Codes<Checked>, CodeFault>
-    ensures { Gives OutOfMemory (λ c. c) result (accepted_codes schema.now classes codes) }
-{
-    let class = classes.own;
-    let Codes { first, later, act } = codes;
-    let first = accept_first(alloc, schema, classes, first)?;
-    let later = accept_later(alloc, schema, classes, later)?;
-    let act = accept_act(alloc, schema, Part::Do { class }, act)?;
-    Ok(Codes { first, later, act })
-}
-
-// What a draft has besides its codes, and the codes.
-fn taken_apart(draft: SourceDraft<Code>) -> (Header, Codes<Code>)
-    ensures header { result.0 ≡ header_of draft }
-    ensures codes { result.1 ≡ codes_of draft }
-{
-    let header = Header {
-        name: draft.name,
-        class: draft.class,
-        rate: draft.rate,
-        triggers: draft.triggers,
-    };
-    let first = FirstCodes {
-        require: draft.require,
-        obviate: draft.obviate,
-    };
-    let later = LaterCodes {
-        retrigger: draft.retrigger,
-        revalidate: draft.revalidate,
-    };
-    let act = draft.act;
-    (header, Codes { first, later, act })
-}
-
-// The draft of a header and codes.
-fn put_together(header: Header, codes: Codes<Checked>) -> SourceDraft<Checked>
-    ensures { result ≡ draft_of header codes }
-{
-    SourceDraft {
-        name: header.name,
-        class: header.class,
-        rate: header.rate,
-        triggers: header.triggers,
-        require: codes.first.require,
-        obviate: codes.first.obviate,
-        retrigger: codes.later.retrigger,
-        revalidate: codes.later.revalidate,
-        act: codes.act,
-    }
+    let mut parts = Parts::none();
+    let require = accept_part(alloc, schema, Part::Require { class }, codes.require.take())?;
+    parts.put_require(require);
+    let obviate = accept_reaction(alloc, schema, classes.obviate_part(), codes.obviate.take())?;
+    parts.put_obviate(obviate);
+    let retrigger = accept_reaction(
+        alloc,
+        schema,
+        classes.retrigger_part(),
+        codes.retrigger.take(),
+    )?;
+    parts.put_retrigger(retrigger);
+    let revalidate = accept_part(
+        alloc,
+        schema,
+        Part::Revalidate { class },
+        codes.revalidate.take(),
+    )?;
+    parts.put_revalidate(revalidate);
+    Ok(parts)
 }
 
 // A draft with its codes accepted.
@@ -210,9 +112,11 @@ fn accept_draft(
 ) -> Result<SourceDraft<Checked>, CodeFault>
     ensures { Gives OutOfMemory (λ d. d) result (accepted_draft schema.now classes draft) }
 {
-    let (header, codes) = taken_apart(draft);
-    let codes = accept_codes(alloc, schema, classes, codes)?;
-    Ok(put_together(header, codes))
+    let SourceDraft { header, parts, act } = draft;
+    let class = classes.own;
+    let parts = accept_parts(alloc, schema, classes, parts)?;
+    let act = accept_act(alloc, schema, Part::Do { class }, act)?;
+    Ok(SourceDraft { header, parts, act })
 }
 
 fn accept_code(alloc: Global, schema: &Schema, part: Part, code: Code) -> Result<Checked, CodeFault>

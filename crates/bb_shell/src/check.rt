@@ -47,7 +47,8 @@ pub fn check_sources<N: NativeSource, O: Out>(
         WritesCheck (sources_in (native_names (map N.meaning natives.items)) schema.now sources.now bundle.now)
         c.done (O.taken out.old) (O.taken out.new)) }
     ensures sources { IfOk result (λ c.
-        sources_in (native_names (map N.meaning natives.items)) schema.now sources.now bundle.now ≡ Ok c.sources.items) }
+        sources_in (native_names (map N.meaning natives.items)) schema.now sources.now bundle.now
+        ≡ Ok c.sources.items) }
     ensures schema { IfOk result (λ c. map_err InputFault.Schema (schema_of schema.now) ≡ Ok c.schema) }
 
     // `Write` says that the output has failed.

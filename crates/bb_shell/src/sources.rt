@@ -72,7 +72,8 @@ fn gather(
     gathered: Gathered,
     draft: SourceDraft<Checked>,
 ) -> Result<Gathered, AllocError>
-    ensures { IfOk result (λ g. gathered_as g ≡ with_draft (names_in natives.now) schema.now (gathered_as gathered) draft) }
+    ensures { IfOk result (λ g. gathered_as g
+        ≡ with_draft (names_in natives.now) schema.now (gathered_as gathered) draft) }
 {
     match gathered {
         Gathered::Fit(together) => gather_fit(alloc, natives, schema, together, draft),
@@ -127,7 +128,7 @@ fn resolve(
 ) -> Result<Result<Source, InputFault>, AllocError>
     ensures { IfOk result (λ r. r ≡ resolved_source schema.now draft) }
 {
-    let name = Text::from_str(alloc, draft.name.as_str())?;
+    let name = Text::from_str(alloc, draft.header.name.as_str())?;
     match Source::new(alloc, schema, draft) {
         Ok(source) => Ok(Ok(source)),
         Err(RuleFault::Memory) => Err(AllocError),

@@ -44,17 +44,21 @@ pub fn run_texts<N: NativeSource, O: Out>(
 
     // At `Ok` the input has a meaning, the finish is that of its run, and the output took the text of its trace.
     ensures finish { IfOk result (λ f. (m : Meaning)
-        × (meaning (native_names (map N.meaning natives.items)) schema.now units.now sources.now bundle.now floor ≡ Ok m)
+        × (meaning (native_names (map N.meaning natives.items)) schema.now units.now sources.now bundle.now floor
+        ≡ Ok m)
         × IfSome (end_of f) (λ end. (run m.plan m.board (map N.meaning natives.items) limit).end ≡ Some end)) }
     ensures text { IfOk result (λ f. (m : Meaning)
-        × (meaning (native_names (map N.meaning natives.items)) schema.now units.now sources.now bundle.now floor ≡ Ok m)
+        × (meaning (native_names (map N.meaning natives.items)) schema.now units.now sources.now bundle.now floor
+        ≡ Ok m)
         × IfSome (end_of f) (λ _. Appends (O.taken out.old) (O.taken out.new)
         (trace_text m.plan (run m.plan m.board (map N.meaning natives.items) limit).told))) }
 
     // At `Memory` the output took the text of the first segments of the run, at `Write` the front of its trace.
     ensures front { IfOk result (λ f. (m : Meaning)
-        × (meaning (native_names (map N.meaning natives.items)) schema.now units.now sources.now bundle.now floor ≡ Ok m)
-        × WritesFront m.plan (run m.plan m.board (map N.meaning natives.items) limit) f (O.taken out.old) (O.taken out.new)) }
+        × (meaning (native_names (map N.meaning natives.items)) schema.now units.now sources.now bundle.now floor
+        ≡ Ok m)
+        × WritesFront m.plan (run m.plan m.board (map N.meaning natives.items) limit) f
+        (O.taken out.old) (O.taken out.new)) }
 
     // No run of an input is stuck.
     ensures unstuck { IfOk result (λ f. NotStuck (end_of f)) }
@@ -64,19 +68,18 @@ pub fn run_texts<N: NativeSource, O: Out>(
 
     // At `Err` the fault is the first refusal, and the output is as it was.
     ensures refused { IfErr result (λ e. (e ≡ InputFault.Memory)
-        ⊎ (meaning (native_names (map N.meaning natives.items)) schema.now units.now sources.now bundle.now floor ≡ Err e)) }
+        ⊎ (meaning (native_names (map N.meaning natives.items)) schema.now units.now sources.now bundle.now floor
+        ≡ Err e)) }
     ensures quiet { OnErr result (out.new ≡ out.old) }
 {
     let roster = Roster::new(alloc, natives)?;
-    match read_input(
-        alloc,
-        roster.handed_in(),
+    let texts = Texts {
         schema,
         units,
         sources,
         bundle,
-        floor,
-    ) {
+    };
+    match read_input(alloc, roster.handed_in(), &texts, floor) {
         Ok((plan, board)) => Ok(run(alloc, &plan, Start { board, roster }, limit, out)),
         Err(fault) => {
             drop(roster.close_all());
@@ -85,23 +88,30 @@ pub fn run_texts<N: NativeSource, O: Out>(
     }
 }
 
+// The texts of an input.
+#[derive(Clone, Copy)]
+struct Texts<'a> {
+    schema: &'a str,
+    units: &'a str,
+    sources: &'a str,
+    bundle: &'a str,
+}
+
 // What an input means. The sources were made under its schema, of codes that the verifier accepted under it.
 fn read_input(
     alloc: Global,
     natives: &[Closing],
-    schema: &str,
-    units: &str,
-    sources: &str,
-    bundle: &str,
+    texts: &Texts,
     floor: i64,
 ) -> Result<(Plan, Board), InputFault>
     ensures means { Gives InputFault.Memory (λ i. record { plan = i.0; board = i.1 }) result
-        (meaning (names_in natives.now) schema.now units.now sources.now bundle.now floor) }
+        (meaning (names_in natives.now) texts.now.schema.now texts.now.units.now texts.now.sources.now
+        texts.now.bundle.now floor) }
     ensures made { IfOk result (λ i. All (IsMade i.0.schema) i.0.sources) }
 {
-    let schema = read_schema(alloc, schema)?;
-    let (shared, board) = first_board(alloc, schema, units)?;
-    let sources = given(alloc, natives, shared.get(), sources, bundle)?;
+    let schema = read_schema(alloc, texts.schema)?;
+    let (shared, board) = first_board(alloc, schema, texts.units)?;
+    let sources = given(alloc, natives, shared.get(), texts.sources, texts.bundle)?;
     let plan = Plan::new(alloc, shared, sources, floor)?;
     Ok((plan, board))
 }

@@ -85,5 +85,6 @@ pub(crate) fn sections_of(input: Input<'_>) -> Sections<'_> {
         units: input.units,
         sources: input.sources,
         bundle: input.bundle,
+        whole: None,
     }
 }

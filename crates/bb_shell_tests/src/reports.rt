@@ -106,31 +106,31 @@ fn carets(rt: HostRuntime) -> Result<(), Fail> {
     for (sources, report) in [
         (
             NOT_COMPILED,
-            "source echo, line 1, column 13: a name, class, slot, space, label or dimension is not there
+            "source echo, line 1, column 13: no class \"word\" is declared; declared: note, focus
   | source echo on word { when create word; rate 1; native; }
   |             ^",
         ),
         (
             "source a on note {\n  when create note;\n  rate 1; do { say \"\u{e9}\", ; } }",
-            "sources, line 3, column 25: another token is due here
+            "sources, line 3, column 25: a value is due behind \",\"
   |   rate 1; do { say \"\u{e9}\", ; } }
   |                         ^",
         ),
         (
             "source a on note {\r\n\twhen create note\r\n\trate 1;",
-            "sources, line 3, column 2: another token is due here
+            "sources, line 3, column 2: \";\" is due at the end of line 2
   |  rate 1;
   |  ^",
         ),
         (
             "\u{1b}[2J",
-            "sources, line 1, column 1: this begins no token: the language has no such character, or a text has no end in its line or another escape
+            "sources, line 1, column 1: U+001B begins no token
   |  [2J
   | ^",
         ),
         (
             "source a on note {\n",
-            "sources, line 2, column 1: another token is due here
+            "sources, line 2, column 1: \"when\" is due, and the text ends
   | \n  | ^",
         ),
     ] {
@@ -170,7 +170,7 @@ fn push_repeated(text: &mut String, part: &str, times: usize) -> Result<(), Fail
 // The report on a line with a comma too many at the column, with what is shown and the indent of the caret.
 fn report_with(alloc: Global, column: usize, shown: &str, indent: usize) -> Result<String, Fail> {
     let mut report = format!(in alloc;
-        "sources, line 1, column {column}: another token is due here\n  | "
+        "sources, line 1, column {column}: one \",\" is enough\n  | "
     )?;
     report.push_str(shown)?;
     report.push_str("\n  | ")?;

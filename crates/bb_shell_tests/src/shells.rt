@@ -2,7 +2,7 @@
 
 use crate::input::{HAIL, NOTE_SCHEMA, ONE_NOTE};
 use crate::natives::{Teller, no_natives};
-use bb_bundle::{ActDraft, SourceCode, SourceDraft, unbundle};
+use bb_bundle::{ActDraft, Parts, SourceCode, SourceDraft, unbundle};
 use bb_code::Code;
 use bb_schema::Schema;
 use bb_shell::{Board, Finish, Part, Pipe, Roster, RuleFault, Shell, Source};
@@ -27,25 +27,13 @@ fn verified(
 // A source on notes that has only an act, from its code.
 fn source_of(alloc: Global, schema: &Schema, code: SourceCode) -> Result<Source, Fail> {
     let SourceDraft {
-        name,
-        class,
-        rate,
-        triggers,
-        require: _,
-        obviate: _,
-        retrigger: _,
-        revalidate: _,
+        header,
+        parts: _,
         act,
     } = code.into_draft();
     let draft = SourceDraft {
-        name,
-        class,
-        rate,
-        triggers,
-        require: None,
-        obviate: None,
-        retrigger: None,
-        revalidate: None,
+        header,
+        parts: Parts::none(),
         act: verified(alloc, schema, act)?,
     };
     Ok(Source::new(alloc, schema, draft)?)

@@ -4,7 +4,7 @@ use Rattle.std.specs.FinMap as fin
 use Rattle.bb_space_index.specs.declared.leaf.Leaf.{Leaf}
 use Rattle.bb_space_index.specs.declared.place.Place.{Place}
 use Rattle.bb_space_index.specs.Places.{has}
-use Rattle.bb_space_index.specs.Spots.{is_near}
+use Rattle.bb_space_index.specs.Stretches.{is_near}
 use Rattle.bb_space_index.specs.Pairs.{AreAllNear}
 use Rattle.bb_space_index.specs.Marks.{LeavesAllNear}
 use Rattle.bb_space_index.proofs.Laws.{AreOf, by_bool, near_is, passes_near, near_kept, near_all}

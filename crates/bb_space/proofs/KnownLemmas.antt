@@ -14,7 +14,7 @@ use Rattle.bb_space.specs.Passing.{passes}
 use Rattle.bb_space.specs.Spaces.{Membership}
 use Rattle.bb_space.specs.proving.Entries.{members_of_entries}
 use Rattle.bb_space.specs.proving.Known.{AreKnown}
-use Rattle.bb_space.proofs.EntryLemmas.{get_is_lookup}
+use Rattle.bb_basis.proofs.EntryLemmas.{get_is_lookup}
 
 -- with one more noted
 pub known_more : (m : Membership) (tests : List Leaf) (first unit : ℕ) (pass : Bool) (old new : List (Option Bool)) → AreKnown m tests first old → passes m tests unit ≡ pass

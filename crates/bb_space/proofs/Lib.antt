@@ -1,4 +1,3 @@
-pub mod EntryLemmas
 pub mod ChangeLemmas
 pub mod RisingLemmas
 pub mod LooseLemmas

@@ -1,11 +1,11 @@
 -- Lists of spaces, of which one is changed.
-use Rattle.std.proofs.Common.{◌≡◌, ℕ, zero, suc, ◌+◌, ◌<◌, ◌≤◌, ◌⊎◌, inl, inr, List, [], ◌∷◌, ◌++◌, map, take, drop, set, length, length-set, Option, Some, None, option_map, refl, sym, ap, subst, ◌∙◌, arith, slice_get}
+use Rattle.std.proofs.Common.{◌≡◌, ℕ, zero, suc, ◌+◌, ◌<◌, ◌≤◌, ◌⊎◌, inl, inr, List, [], ◌∷◌, ◌++◌, map, take, drop, set, length, Option, Some, None, option_map, refl, sym, ap, subst, ◌∙◌, arith, slice_get}
 use Rattle.std.specs.FinMap as fin
 use Rattle.std.specs.Option.{option_map_or}
-use Rattle.std.proofs.lemmas.Option.{slice_get-map, slice_get_within, slice_get_past, get_or_from_slice_get}
-use Rattle.std.proofs.lemmas.List.Edits.{map_over_more}
+use Rattle.std.proofs.lemmas.Option.{slice_get-map, slice_get_within, slice_get_past}
+use Rattle.bb_basis.proofs.ListLemmas.{map-last}
 use Rattle.bb_space.specs.declared.members.Members.{Members}
-use Rattle.bb_space.specs.Spaces.{Membership, Spaces, changed, left, after_forget, membership as membership_in}
+use Rattle.bb_space.specs.Spaces.{Membership, Spaces, changed, left, membership as membership_in}
 use Rattle.bb_space.specs.proving.Indexed.{membership, seen, IsIndexed, AreIndexed}
 use Rattle.bb_space.proofs.ChangeLemmas.{one_blank}
 use Rattle.bb_space_index.proofs.Laws.{by_number}
@@ -105,10 +105,6 @@ seen_within spaces s i view lt = subst (λ n. i < n) (seen_count spaces s view) 
 
 -- ---- all spaces, one after another
 
-map_append : {X Y : Type 0} (f : X → Y) (xs : List X) (x : X) → map f (xs ++ x ∷ []) ≡ map f xs ++ f x ∷ []
-map_append f [] x = refl
-map_append f (y ∷ xs) x = ap (λ ys. f y ∷ ys) (map_append f xs x)
-
 -- one space more, without members
 pub record AreBlank {X : Type 0} (count : ℕ) (list : List X) (spaces : List Members) : Type 0 where
   pub none : map membership spaces ≡ map (λ _. fin.empty) (take count list)
@@ -133,7 +129,7 @@ pushed (k ∷ spaces) n (suc i) m there = pushed spaces n i m there
 
 pub blank_one : {X : Type 0} (count : ℕ) (list : List X) (spaces more : List Members) (n : Members) → count < length list → more ≡ spaces ++ n ∷ [] → membership n ≡ fin.empty → IsIndexed n → AreBlank count list spaces → AreBlank (count + 1) list more
 blank_one count list spaces more n lt is_more none one was = record {
-  none = one_blank fin.empty list count (map membership spaces) (map membership more) lt was.none (ap (map membership) is_more ∙ (map_append membership spaces n ∙ ap (λ m. map membership spaces ++ m ∷ []) none));
+  none = one_blank fin.empty list count (map membership spaces) (map membership more) lt was.none (ap (map membership) is_more ∙ (map-last membership spaces n ∙ ap (λ m. map membership spaces ++ m ∷ []) none));
   indexed = λ i m there. at i m (pushed spaces n i m (subst (λ list. slice_get list i ≡ Some m) is_more there));
 }
   where
@@ -155,24 +151,3 @@ pub record AreLeft (unit i : ℕ) (first now : List Members) : Type 0 where
   pub left_members : map membership now ≡ map (left unit) (take i (map membership first)) ++ drop i (map membership first)
   pub long : length now ≡ length first
   pub indexed : AreIndexed now
-
-pub left_no_space : (unit : ℕ) (first : List Members) → AreIndexed first → AreLeft unit 0 first first
-left_no_space unit first indexed = record { left_members = refl; long = refl; indexed = indexed }
-
-pub left_one_space : (unit i : ℕ) (first now : List Members) (m n : Members) → i < length first → slice_get now i ≡ Some m → membership n ≡ left unit (membership m) → IsIndexed n → AreLeft unit i first now → AreLeft unit (i + 1) first (set now i n)
-left_one_space unit i first now m n lt there leaves one was = record {
-  left_members = map_set membership now i n ∙ (ap (set (map membership now) i) leaves
-      ∙ map_over_more (left unit) (map membership first) (map membership now) i (membership m) (subst (λ k. i < k) (sym (length_map membership first)) lt) was.left_members
-      (sym (get_or_from_slice_get (map membership now) i (membership m) (membership m) (seen_at now i m there))));
-  long = length-set now i n ∙ was.long;
-  indexed = indexed_set now i m n there was.indexed one;
-}
-
-pub left_all_spaces : (unit i : ℕ) (first now : List Members) → length first ≤ i → AreLeft unit i first now → seen now ≡ after_forget (seen first) unit
-left_all_spaces unit i first now le was = ap of_list (was.left_members ∙ whole i (map membership first) (subst (λ k. k ≤ i) (sym (length_map membership first)) le))
-  where
-    whole : (k : ℕ) (ms : List Membership) → length ms ≤ k → (map (left unit) (take k ms) ++ drop k ms) ≡ map (left unit) ms
-    whole zero [] le = refl
-    whole (suc k) [] le = refl
-    whole zero (m ∷ ms) le = absurd (omega (arith, le))
-    whole (suc k) (m ∷ ms) le = ap (λ ys. left unit m ∷ ys) (whole k ms (omega (arith, le)))

@@ -6,8 +6,8 @@ use Rattle.std.specs.Cmp.{nat_cmp_total}
 use Rattle.std.specs.List.{list_any}
 use Rattle.std.specs.BTreeMap.{is_at as meets}
 use Rattle.std.specs.FinMap as fin
-use Rattle.std.proofs.lemmas.Cmp.{eq_by_cmp_equiv}
 use Rattle.std.proofs.lemmas.Map.Lookups.{exact_unsigned}
+use Rattle.bb_basis.proofs.NumberLemmas.{nat_cmp_itself}
 use Rattle.bb_pattern.specs.declared.value.DimValue.{DimValue}
 use Rattle.bb_space.specs.declared.members.Members.{Members}
 use Rattle.bb_space_index.specs.declared.place.Place.{Place}
@@ -15,7 +15,7 @@ use Rattle.bb_space.specs.Spaces.{Membership, left, moved}
 use Rattle.bb_space_index.specs.Places.{place_cmp, is_at, is_place_of, has, ArePut, AreTaken}
 use Rattle.bb_space.specs.proving.Indexed.{membership, is_told, IsLoose, IsIndexed}
 use Rattle.bb_space.specs.proving.Entries.{members_of_entries}
-use Rattle.bb_space.proofs.EntryLemmas.{get_is_lookup}
+use Rattle.bb_basis.proofs.EntryLemmas.{get_is_lookup}
 use Rattle.bb_space_index.proofs.Laws.{equal, by_bool, by_number, of_unit, at_of, place_from, none_at}
 
 by_unit : (p : Place) (unit : ℕ) (G : Type 0) → (p.unit ≡ unit → G) → ((p.unit ≡ unit → ⊥) → G) → G
@@ -34,9 +34,6 @@ told_present unit m p same = ap (λ n. option_map_or (λ values. is_at values p)
 told_at : (unit : ℕ) (m : Membership) (p : Place) (o : Option (List DimValue)) → fin.get m p.unit ≡ o → is_told m p ≡ option_map_or (λ values. is_at values p) o false
 told_at unit m p o there = ap (λ w. option_map_or (λ values. is_at values p) w false) there
 
-number_itself : (n : ℕ) → is_eq (nat_cmp n n) ≡ true
-number_itself = (eq_by_cmp_equiv nat_cmp_total).refl
-
 number_other : (n k : ℕ) → (n ≡ k → ⊥) → is_eq (nat_cmp n k) ≡ false
 number_other n k apart = at (is_eq (nat_cmp n k)) refl
   where
@@ -46,7 +43,7 @@ number_other n k apart = at (is_eq (nat_cmp n k)) refl
 
 pub told_new : (unit : ℕ) (m : Membership) (new : List DimValue) (p : Place) → p.unit ≡ unit → is_told (fin.insert m unit new) p ≡ is_at new p
 told_new unit m new p same =
-    let on : is_eq (nat_cmp p.unit unit) ≡ true = subst (λ n. is_eq (nat_cmp p.unit n) ≡ true) same (number_itself p.unit) in
+    let on : is_eq (nat_cmp p.unit unit) ≡ true = subst (λ n. is_eq (nat_cmp p.unit n) ≡ true) same (nat_cmp_itself p.unit) in
     told_at unit (fin.insert m unit new) p (Some new) (fin.get-insert nat_cmp_total m unit new p.unit ∙ ap (λ b. cond b (Some new) (fin.get m p.unit)) on)
 
 pub told_beside : (unit : ℕ) (m : Membership) (new : List DimValue) (p : Place) → (p.unit ≡ unit → ⊥) → is_told (fin.insert m unit new) p ≡ is_told m p
@@ -55,7 +52,7 @@ told_beside unit m new p apart =
 
 pub told_left : (unit : ℕ) (m : Membership) (p : Place) → p.unit ≡ unit → is_told (fin.remove m unit) p ≡ is_at [] p
 told_left unit m p same =
-    let on : is_eq (nat_cmp p.unit unit) ≡ true = subst (λ n. is_eq (nat_cmp p.unit n) ≡ true) same (number_itself p.unit) in
+    let on : is_eq (nat_cmp p.unit unit) ≡ true = subst (λ n. is_eq (nat_cmp p.unit n) ≡ true) same (nat_cmp_itself p.unit) in
     told_at unit (fin.remove m unit) p None (fin.get-remove nat_cmp_total m unit p.unit ∙ ap (λ b. cond b None (fin.get m p.unit)) on) ∙ sym (none_at p)
 
 pub told_but : (unit : ℕ) (m : Membership) (p : Place) → (p.unit ≡ unit → ⊥) → is_told (fin.remove m unit) p ≡ is_told m p
@@ -194,13 +191,6 @@ indexed_none m no_values_there no_places = record {
 pub at_ok : {X E P : Type 0} (r : Result X E) → is_err r ≡ false → OnOk r P → P
 at_ok (Ok x) h p = p
 at_ok (Err e) h p = absurd cc
-
--- puts that are taken back
-pub restored : (unit : ℕ) (values : List DimValue) (m a b : Members) → a.values ≡ m.values → ArePut unit values m.places a.places
-    → b.values ≡ a.values → AreTaken unit values (unwrap_or (fin.get (membership a) unit) []) a.places b.places → IsIndexed m → IsIndexed b
-restored unit values m a b puts put takes taken indexed =
-    take_loose unit values (is_place_of unit values) (λ _. false) a b (same_values a b takes) taken (λ p h. inl h)
-    (put_loose unit values (λ _. false) (is_place_of unit values) m a (same_values m a puts) put (λ p h. absurd cc) (λ p h. h) indexed)
 
 -- a unit enters: puts, and then it is a member
 pub entered_indexed : (unit : ℕ) (values : List DimValue) (m a n : Members) → a.values ≡ m.values → ArePut unit values m.places a.places

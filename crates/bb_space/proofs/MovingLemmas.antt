@@ -1,7 +1,7 @@
 -- A unit's values change in several spaces: the new places are put, the values exchanged, the old places taken.
-use Rattle.std.proofs.Common.{◌≡◌, ℕ, zero, suc, ◌+◌, ◌≤◌, ◌==◌, ◌&&◌, ◌||◌, ◌⊎◌, inl, inr, Bool, true, false, List, [], ◌∷◌, drop, set, length, Option, Some, None, unwrap_or, refl, sym, ap, subst, ◌∙◌, arith, eqb-true, eq-eqb, add-one, slice_get}
+use Rattle.std.proofs.Common.{◌≡◌, ℕ, zero, suc, ◌+◌, ◌≤◌, ◌==◌, ◌&&◌, ◌⊎◌, inl, inr, Bool, true, false, List, [], ◌∷◌, drop, set, length, Option, Some, None, unwrap_or, refl, sym, ap, subst, ◌∙◌, arith, eqb-true, eq-eqb, add-one, slice_get}
 use Rattle.std.specs.FinMap as fin
-use Rattle.std.proofs.lemmas.Bool.{and_parts, and_from, or_left, or_right}
+use Rattle.std.proofs.lemmas.Bool.{and_parts, and_from, or_left, or_right, or_cases}
 use Rattle.std.proofs.lemmas.Option.{slice_get_within}
 use Rattle.bb_pattern.specs.declared.value.DimValue.{DimValue}
 use Rattle.bb_space.specs.declared.members.Members.{Members}
@@ -16,14 +16,6 @@ use Rattle.bb_space.proofs.LooseLemmas.{same_loose, put_loose, take_loose, moved
 abbrev Move : Type 0
 Move = ℕ × List DimValue
 
--- the place of a value that a move says of the unit in a space
-is_move_of : ℕ → ℕ → Move → Place → Bool
-is_move_of unit i e p = (e.0 == i) && is_place_of unit e.1 p
-
-first_or : (a b : Bool) → (a || b) ≡ true → (a ≡ true) ⊎ (b ≡ true)
-first_or true b h = inl refl
-first_or false b h = inr h
-
 module _ (unit i : ℕ) (p : Place) where
   here_moved : (e : Move) (es : List Move) → e.0 ≡ i → is_place_of unit e.1 p ≡ true → is_moved unit i (e ∷ es) p ≡ true
   here_moved e es same h = or_left ((e.0 == i) && is_place_of unit e.1 p) (is_moved unit i es p) (and_from (e.0 == i) (is_place_of unit e.1 p) (eq-eqb e.0 i same) h)
@@ -33,7 +25,7 @@ module _ (unit i : ℕ) (p : Place) where
 
   -- the first, in this space, or the others
   first_moved : (e : Move) (es : List Move) (G : Type 0) → is_moved unit i (e ∷ es) p ≡ true → (e.0 ≡ i → is_place_of unit e.1 p ≡ true → G) → (is_moved unit i es p ≡ true → G) → G
-  first_moved e es G h here later = at (first_or ((e.0 == i) && is_place_of unit e.1 p) (is_moved unit i es p) h)
+  first_moved e es G h here later = at (or_cases ((e.0 == i) && is_place_of unit e.1 p) (is_moved unit i es p) h)
     where
       at : (((e.0 == i) && is_place_of unit e.1 p) ≡ true) ⊎ (is_moved unit i es p ≡ true) → G
       at (inl one) = let parts = and_parts (e.0 == i) (is_place_of unit e.1 p) one in here (eqb-true e.0 i parts.0) parts.1
@@ -169,9 +161,6 @@ pub record IsExchanging (k unit : ℕ) (moves : List (ℕ × List DimValue)) (fi
   pub rest : (j : ℕ) → k ≤ j → slice_get left j ≡ slice_get moves j
   pub loose : AreLoose unit left now
   pub ready : AreReady unit moves now
-
-pub exchanging_none : (unit : ℕ) (moves : List (ℕ × List DimValue)) (spaces : List Members) → AreLoose unit moves spaces → AreReady unit moves spaces → IsExchanging 0 unit moves spaces moves spaces
-exchanging_none unit moves spaces loose ready = record { moved = refl; long = refl; rest = λ j le. refl; loose = loose; ready = ready }
 
 module _ (k unit : ℕ) (moves : List (ℕ × List DimValue)) (first : List Members) (left : List (ℕ × List DimValue)) (now : List Members) (was : IsExchanging k unit moves first left now) (e : ℕ × List DimValue) (at : slice_get left k ≡ Some e) where
   at_moves : slice_get moves k ≡ Some e

@@ -7,17 +7,13 @@ use Rattle.std.specs.Ordering.{nat_cmp, eq_by_cmp, is_lt, is_eq}
 use Rattle.std.specs.declared.cmp.Ordering.{Ordering}
 use Rattle.std.specs.declared.cmp.Ordering.TheVariants.{Less, Equal, Greater}
 use Rattle.std.specs.Cmp.{nat_cmp_total}
-use Rattle.std.specs.FinMap.{FinMap, keys, entries, entries_sorted, contains_key, contains_key-keys, find, is_sorted, nat_cmp-IsAntisymmetric}
+use Rattle.std.specs.FinMap.{FinMap, keys, entries, entries_sorted, find, is_sorted, nat_cmp-IsAntisymmetric}
 use Rattle.std.specs.FinMap.Entries.{below_all, same_entries}
-use Rattle.std.proofs.lemmas.List.Kept.{IsStrictlySortedBy-filter}
+use Rattle.bb_basis.proofs.BoolLemmas.{and_false, T_and}
 
 both : (a b : Bool) → T (a && b) → T a × T b
 both true b h = (tt, h)
 both false b h = absurd h
-
-joined : (a b : Bool) → T a → T b → T (a && b)
-joined true b h k = k
-joined false b h k = absurd h
 
 less : (o : Ordering) → T (is_lt o) → o ≡ Less
 less Less h = refl
@@ -44,12 +40,12 @@ bare ns = map (λ n. (n, tt)) ns
 
 bare_above : (k : ℕ) (ns : List ℕ) → AllByRecursion (λ n. nat_cmp k n ≡ Less) ns → T (below_all nat_cmp k (bare ns))
 bare_above k [] all = tt
-bare_above k (n ∷ ns) all = joined _ _ (subst (λ o. T (is_lt o)) (sym all.0) tt) (bare_above k ns all.1)
+bare_above k (n ∷ ns) all = T_and _ _ (subst (λ o. T (is_lt o)) (sym all.0) tt) (bare_above k ns all.1)
 
 bare_rises : (ns : List ℕ) → IsStrictlySortedBy nat_cmp ns → T (is_sorted nat_cmp (bare ns))
 unfolding IsStrictlySortedBy
 bare_rises [] s = tt
-bare_rises (n ∷ ns) s = joined _ _ (bare_above n ns s.0) (bare_rises ns s.1)
+bare_rises (n ∷ ns) s = T_and _ _ (bare_above n ns s.0) (bare_rises ns s.1)
 
 abbrev found : Bool → Option (Unit {0})
 found true = Some tt
@@ -74,10 +70,6 @@ same_numbers ns ms s t same =
     sym (bare_back ns) ∙ (ap (map (λ (p : ℕ × Unit {0}). p.0)) e ∙ bare_back ms)
 
 -- ---- the keys of one map among those of another
-
-and_false : (b : Bool) → (b && false) ≡ false
-and_false true = refl
-and_false false = refl
 
 abbrev among : ℕ → List ℕ → Bool
 among q ns = list_any (eq_by_cmp nat_cmp q) ns
@@ -108,8 +100,3 @@ pub second_only : (a b : Bool) → (b ≡ true → a ≡ true) → (a && b) ≡ 
 second_only a true h = ap (λ c. c && true) (h refl)
 second_only true false h = refl
 second_only false false h = refl
-
--- where each key of a map is one of another, its keys are those of the other that it has, in order
-pub keys_among : {X Y : Type 0} (m : FinMap nat_cmp X) (w : FinMap nat_cmp Y) → ((n : ℕ) → contains_key w n ≡ true → contains_key m n ≡ true) → filter (contains_key w) (keys m) ≡ keys w
-keys_among m w among = same_numbers (filter (contains_key w) (keys m)) (keys w) (IsStrictlySortedBy-filter nat_cmp (contains_key w) (keys m) (keys_rise m)) (keys_rise w) (λ q.
-    any_filter (contains_key w) q (keys m) ∙ (ap (λ b. b && contains_key w q) (sym (contains_key-keys m q)) ∙ (second_only (contains_key m q) (contains_key w q) (among q) ∙ contains_key-keys w q)))

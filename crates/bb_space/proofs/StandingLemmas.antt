@@ -11,6 +11,7 @@ use Rattle.std.proofs.lemmas.List.{length-map, length-set}
 use Rattle.std.proofs.lemmas.List.Elements.{filter_agree}
 use Rattle.std.proofs.lemmas.List.Sums.{prefix_len-le-length}
 use Rattle.std.proofs.lemmas.Option.{slice_get-map}
+use Rattle.bb_basis.proofs.ListLemmas.{slice_set-itself}
 use Rattle.bb_pattern.specs.declared.value.DimValue.{DimValue}
 use Rattle.bb_space.specs.declared.members.Members.{Members}
 use Rattle.bb_space.specs.declared.standing.Standing.{Standing}
@@ -18,7 +19,7 @@ use Rattle.bb_space.specs.Spaces.{Membership, Spaces, membership, is_member, spa
 use Rattle.bb_space.specs.Spaces.{after_enter, after_leave, after_moved, after_moves, after_forget}
 use Rattle.bb_space.specs.proving.Indexed.{membership as members_in, seen}
 use Rattle.bb_space.specs.proving.Standing.{listed, rank, with_number, one_more, one_less, none_left, AreStanding}
-use Rattle.bb_space.proofs.ListLemmas.{get_set_here, get_set_other, same_some, of_list, seen_set}
+use Rattle.bb_space.proofs.ListLemmas.{get_set_here, get_set_other, of_list, seen_set}
 
 -- ---- a number that is put where it belongs
 
@@ -232,15 +233,9 @@ none_pass p none (q ∷ qs) = rw (none q) (none_pass p none qs)
 pub standing_nowhere : {X : Type 0} (list : List X) (t : Spaces) (s : Standing) → t ≡ of_list (map (λ _. fin.empty) list) → ((m : ℕ) → listed s.lists m ≡ []) → AreStanding t s
 standing_nowhere list t s is none m = none m ∙ sym (none_pass (λ q. is_member t q m) (λ q. ap (λ (u : Spaces). is_member u q m) is ∙ empty_at list q m) (range_with_len 0 (length t.spaces)))
 
--- a member does not enter again
-set_itself : {X : Type 0} (xs : List X) (i : ℕ) (x : X) → slice_get xs i ≡ Some x → slice_set xs i x ≡ xs
-set_itself [] i x is = refl
-set_itself (y ∷ ys) zero x is = ap (λ z. z ∷ ys) (sym (same_some y x is))
-set_itself (y ∷ ys) (suc i) x is = ap (λ zs. y ∷ zs) (set_itself ys i x is)
-
 pub enters_nothing : (spaces : List Members) (i : ℕ) (m : Members) (n : ℕ) (values : List DimValue) → slice_get spaces i ≡ Some m → fin.contains_key (members_in m) n ≡ true → seen spaces ≡ after_enter (seen spaces) i n values
 enters_nothing spaces i m n values there is =
-    sym (ap seen (set_itself spaces i m there)) ∙ seen_set spaces i m m (entered n values) there (sym (ap (λ b. cond b (members_in m) (fin.insert (members_in m) n values)) is))
+    sym (ap seen (slice_set-itself spaces i m there)) ∙ seen_set spaces i m m (entered n values) there (sym (ap (λ b. cond b (members_in m) (fin.insert (members_in m) n values)) is))
 
 module _ (t : Spaces) (s : Standing) (x n : ℕ) (lt : x < length t.spaces) (are : AreStanding t s) where
   with_by : (values : List DimValue) (m : ℕ) (b : Bool) → (m == n) ≡ b → is_member t x n ≡ false

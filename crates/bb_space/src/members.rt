@@ -16,7 +16,8 @@ use bb_basis::{Items, Memory};
 use bb_pattern::DimValue;
 use bb_schema::UnitId;
 use bb_space_index::{
-    Leaf, Place, collect_near, few_by_two, is_few, put_all, rise, take_all, thin_all,
+    CLOSE_NUMBERS, FEW_UNITS, Leaf, MARKED_NUMBERS, Place, collect_near, few_by_two, is_few,
+    put_all, rise, take_all, thin_all,
 };
 use std::alloc::{AllocError, Global};
 use std::collections::{BTreeMap, BTreeSet};
@@ -54,10 +55,10 @@ fn keys_of(alloc: Global, values: &BTreeMap<UnitId, Items<DimValue>>) -> Result<
 
 // The number of marks for some units, or 0 where the units are few, lie close together, or would need too many.
 fn room_for_marks(among: &[UnitId]) -> usize {
-    if among.len() < 16 || room(among, 4) > 0 {
+    if among.len() < FEW_UNITS || room(among, CLOSE_NUMBERS) > 0 {
         return 0;
     }
-    room(among, 512)
+    room(among, MARKED_NUMBERS)
 }
 
 impl Members {

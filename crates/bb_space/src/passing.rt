@@ -10,7 +10,7 @@ ghost use Rattle.bb_space.specs.proving.Known.{AreKnown};
 use bb_basis::{Items, Memory};
 use bb_pattern::DimValue;
 use bb_schema::UnitId;
-use bb_space_index::Leaf;
+use bb_space_index::{CLOSE_NUMBERS, Leaf};
 use std::alloc::Global;
 use std::collections::BTreeMap;
 
@@ -138,7 +138,7 @@ pub(crate) fn passing(
         list.items ≡ filter (passes (members_of_entries values.now.entries) tests.now) among.now) }
 {
     let first = among.first().copied().unwrap_or(0);
-    let table = noted_all(alloc, values, tests, first, room(among, 4))?;
+    let table = noted_all(alloc, values, tests, first, room(among, CLOSE_NUMBERS))?;
     let mut found = Vec::new(alloc);
     for unit in among {
         if passes_by(values, tests, &table, first, *unit) {

@@ -10,8 +10,8 @@ use Rattle.std.proofs.lemmas.Cmp.{nat_eq_equiv}
 use Rattle.std.proofs.lemmas.Map.Views.{list_any-from_Contains, Contains-from_any}
 use Rattle.std.proofs.lemmas.List.Folds.{list_any-append}
 use Rattle.std.proofs.lemmas.List.Kept.{Contains-dedup_nat, Contains-from_dedup}
-use Rattle.bb_space_index.specs.Spots.{is_among}
-use Rattle.bb_space_index.proofs.NearLemmas.{same_truth}
+use Rattle.bb_basis.proofs.BoolLemmas.{same_truth}
+use Rattle.bb_space_index.specs.Stretches.{is_among}
 
 -- two tests of numbers are the same
 pub same_number : (n m : ℕ) → is_eq (nat_cmp n m) ≡ (m == n)

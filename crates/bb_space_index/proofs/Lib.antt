@@ -1,6 +1,6 @@
 pub mod PlaceLemmas
 pub mod NearLemmas
-pub mod SpotLemmas
+pub mod StretchLemmas
 pub mod AmongLemmas
 pub mod CandidateLemmas
 pub mod MarkLemmas

@@ -3,17 +3,17 @@ use Rattle.std.proofs.Common.{◌≡◌, ℕ, zero, suc, ◌⊎◌, inl, inr, �
 use Rattle.std.specs.List.{list_any}
 use Rattle.std.specs.Option.{option_map_or}
 use Rattle.std.specs.BTreeSet.{BTreeSet}
-use Rattle.std.proofs.lemmas.Bool.{and_parts}
+use Rattle.std.proofs.lemmas.Bool.{and_parts, or_cases}
 use Rattle.bb_pattern.specs.declared.value.DimValue.{DimValue}
 use Rattle.bb_space_index.specs.declared.leaf.Leaf.{Leaf}
 use Rattle.bb_space_index.specs.declared.place.Place.{Place}
 use Rattle.bb_space_index.specs.Candidates.{may_pass}
 use Rattle.bb_space_index.specs.Leaf.{fits_leaf, fit_each}
-use Rattle.bb_space_index.specs.Spots.{is_near}
-use Rattle.bb_space_index.specs.Marks.{LeavesNear, LeavesAllNear}
+use Rattle.bb_space_index.specs.Stretches.{is_near}
+use Rattle.bb_space_index.specs.Marks.{LeavesNear}
 use Rattle.bb_space_index.proofs.CandidateLemmas.{passing}
-use Rattle.bb_space_index.proofs.NearLemmas.{first_or, AreOf}
-use Rattle.bb_space_index.proofs.SpotLemmas.{by_value, near_is}
+use Rattle.bb_space_index.proofs.NearLemmas.{AreOf}
+use Rattle.bb_space_index.proofs.StretchLemmas.{by_value, near_is}
 
 -- ---- what a walk has still to mark
 
@@ -30,16 +30,7 @@ left_but_less stands old new p rest keeps marked was = λ n h. on n (was n h)
 
     on : (n : ℕ) → (old n ≡ true) ⊎ (list_any (λ q. q.unit == n) (p ∷ rest) ≡ true) → (new n ≡ true) ⊎ (list_any (λ q. q.unit == n) rest ≡ true)
     on n (inl left) = inl (keeps n left)
-    on n (inr stands) = here n (first_or (p.unit == n) (list_any (λ q. q.unit == n) rest) stands)
-
-pub all_left : (stands left : ℕ → Bool) (rest : List Place) → rest ≡ [] → LeftBut stands left rest → (n : ℕ) → stands n ≡ true → left n ≡ true
-all_left stands left rest none but = λ n h. on n (but n h)
-  where
-    on : (n : ℕ) → (left n ≡ true) ⊎ (list_any (λ p. p.unit == n) rest ≡ true) → left n ≡ true
-    on n (inl is) = is
-    on n (inr later) = let no : list_any (λ p. p.unit == n) rest ≡ false = ap (list_any (λ p. p.unit == n)) none in absurd cc
-
--- ---- what is left
+    on n (inr stands) = here n (or_cases (p.unit == n) (list_any (λ q. q.unit == n) rest) stands)
 
 one_filtered : (left pass : ℕ → Bool) (n : ℕ) (ns : List ℕ) → (pass n ≡ true → left n ≡ true) → filter pass (filter left ns) ≡ filter pass ns → filter pass (filter left (n ∷ ns)) ≡ filter pass (n ∷ ns)
 one_filtered left pass n ns tells once = at (left n) (pass n) refl refl
@@ -59,12 +50,6 @@ filter_twice left pass (n ∷ ns) tells = one_filtered left pass n ns (tells n) 
 
 pub leaves_near : (near left : ℕ → Bool) (among list : List ℕ) → list ≡ filter left among → ((n : ℕ) → near n ≡ true → left n ≡ true) → LeavesNear near among list
 leaves_near near left among list is tells = λ pass asks. ap (filter pass) is ∙ filter_twice left pass among (λ n h. tells n (asks n h))
-
-pub leaves_more : (tests : List Leaf) (places : BTreeSet Place) (k : ℕ) (test : Leaf) (among old new : List ℕ) → slice_get tests k ≡ Some test → LeavesNear (is_near test places) old new
-    → LeavesAllNear tests places among old → LeavesAllNear tests places among new
-leaves_more tests places k test among old new there less was = λ pass asks. less pass (asks k test there) ∙ was pass asks
-
--- ---- who passes is near
 
 pub each_fits : (tests : List Leaf) (values : List DimValue) (k : ℕ) (test : Leaf) → slice_get tests k ≡ Some test → fit_each tests values ≡ true → fits_leaf test values ≡ true
 each_fits [] values k test there h = absurd cc

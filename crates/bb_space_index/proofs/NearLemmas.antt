@@ -1,19 +1,16 @@
 -- Which units have a place that passes a test, by their values.
-use Rattle.std.proofs.Common.{◌≡◌, ℕ, Bool, true, false, cond, ◌&&◌, ◌||◌, ◌==◌, ◌⊎◌, inl, inr, List, [], ◌∷◌, filter, Option, Some, None, refl, sym, ap, subst, ◌∙◌, eqb-true, eq-eqb, slice_get}
+use Rattle.std.proofs.Common.{◌≡◌, ℕ, Bool, true, false, cond, ◌&&◌, ◌==◌, ◌⊎◌, inl, inr, List, [], ◌∷◌, filter, Option, Some, None, refl, sym, ap, subst, ◌∙◌, eqb-true, eq-eqb, slice_get}
 use Rattle.std.specs.Option.{option_map_or}
 use Rattle.std.specs.List.{list_any}
 use Rattle.std.specs.Ordering.{is_eq}
 use Rattle.std.specs.BTreeMap.{is_at as meets}
 use Rattle.std.specs.BTreeSet.{BTreeSet}
-use Rattle.std.proofs.lemmas.Bool.{and_parts, and_from, or_left, or_right}
+use Rattle.std.proofs.lemmas.Bool.{and_parts, and_from, or_left, or_right, or_cases}
+use Rattle.bb_basis.proofs.BoolLemmas.{same_truth}
 use Rattle.bb_pattern.specs.declared.value.DimValue.{DimValue}
 use Rattle.bb_space_index.specs.declared.place.Place.{Place}
 use Rattle.bb_space_index.specs.Places.{place_cmp, place_of, next_of, is_at, has}
 use Rattle.bb_space_index.proofs.PlaceLemmas.{place_in, place_itself, by_place, is_here, stands, at_of, place_from}
-
-pub first_or : (a b : Bool) → (a || b) ≡ true → (a ≡ true) ⊎ (b ≡ true)
-first_or true b h = inl refl
-first_or false b h = inr h
 
 -- ---- a unit whose place passes a test
 
@@ -36,7 +33,7 @@ module _ (n : ℕ) (test : Place → Bool) where
   found_first k ks passes (inr rest) others = later k ks (others rest)
 
   found_by_test : (k : Place) (ks : List Place) (b : Bool) → test k ≡ b → among (cond b (k ∷ filter test ks) (filter test ks)) ≡ true → (among (filter test ks) ≡ true → Found n test ks) → Found n test (k ∷ ks)
-  found_by_test k ks true passes h others = found_first k ks passes (first_or (k.unit == n) (among (filter test ks)) h) others
+  found_by_test k ks true passes h others = found_first k ks passes (or_cases (k.unit == n) (among (filter test ks)) h) others
   found_by_test k ks false fails h others = later k ks (others h)
 
   found : (ks : List Place) → among (filter test ks) ≡ true → Found n test ks
@@ -60,7 +57,7 @@ module _ (n : ℕ) (test : Place → Bool) where
 
   pub kept : (p : Place) (ks : List Place) → list_any (meets (place_cmp p)) ks ≡ true → test p ≡ true → p.unit ≡ n → among (filter test ks) ≡ true
   kept p [] there passes unit = absurd cc
-  kept p (k ∷ ks) there passes unit = kept_by p k ks passes unit (first_or (is_eq (place_cmp p k)) (list_any (meets (place_cmp p)) ks) there) (λ rest. kept p ks rest passes unit)
+  kept p (k ∷ ks) there passes unit = kept_by p k ks passes unit (or_cases (is_eq (place_cmp p k)) (list_any (meets (place_cmp p)) ks) there) (λ rest. kept p ks rest passes unit)
 
 -- ---- units by the values that stand there
 
@@ -76,11 +73,6 @@ pub record AreOf (had : ℕ → Option (List DimValue)) (places : BTreeSet Place
 never : (b : Bool) → b ≡ true → b ≡ false → ⊥
 never true h g = absurd cc
 never false h g = absurd cc
-
-pub same_truth : (s t : Bool) → (s ≡ true → t ≡ true) → (t ≡ true → s ≡ true) → s ≡ t
-same_truth true t f g = sym (f refl)
-same_truth false true f g = g refl
-same_truth false false f g = refl
 
 -- by what a test says of a place, it says of a value of the unit
 pub found_by : (had : ℕ → Option (List DimValue)) (places : BTreeSet Place) → AreOf had places → (test : Place → Bool) (dim : ℕ) (f : DimValue → Bool)

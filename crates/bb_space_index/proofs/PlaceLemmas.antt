@@ -10,6 +10,7 @@ use Rattle.std.proofs.lemmas.Bool.{and_parts, and_from}
 use Rattle.std.proofs.lemmas.Cmp.{int_cmp_total, nat_cmp_total, on_total, then_total, eq_by_cmp_equiv}
 use Rattle.std.proofs.lemmas.Map.Lookups.{exact_signed, exact_unsigned}
 use Rattle.std.proofs.lemmas.Option.{slice_get_within}
+use Rattle.bb_basis.proofs.BoolLemmas.{cond_or_true}
 use Rattle.bb_pattern.specs.declared.value.DimValue.{DimValue}
 use Rattle.bb_space_index.specs.declared.place.Place.{Place}
 use Rattle.bb_space_index.specs.Places.{place_cmp, sort_of, key_of, next_of, place_of, is_value_at, is_at, is_place_of, has, ArePut, AreTaken}
@@ -179,10 +180,6 @@ AreIn n unit values places = (p : Place) → is_place_of unit values p ≡ true 
 pub put_none : (unit : ℕ) (values : List DimValue) (places : BTreeSet Place) → ArePut unit values places places
 put_none unit values places = record { keeps = λ p h. h; only = λ p h g. absurd cc }
 
-still : (b x : Bool) → x ≡ true → cond b true x ≡ true
-still true x h = refl
-still false x h = h
-
 module _ (unit : ℕ) (values : List DimValue) (n : ℕ) (v : DimValue) (there : slice_get values n ≡ Some v) (first old new : BTreeSet Place) where
   split : (p : Place) (G : Type 0) → is_place_of unit values p ≡ true → p.dim < n + 1 → (p.dim < n → G) → (place_in n unit values v ≡ p → G) → G
   split p G h lt before here = by_number p.dim n G
@@ -192,7 +189,7 @@ module _ (unit : ℕ) (values : List DimValue) (n : ℕ) (v : DimValue) (there :
   module _ (more : (q : Place) → has new q ≡ cond (is_eq (place_cmp (place_in n unit values v) q)) true (has old q)) where
     pub put_more : ArePut unit values first old → ArePut unit values first new
     put_more was = record {
-      keeps = λ p h. more p ∙ still (is_eq (place_cmp (place_in n unit values v) p)) (has old p) (was.keeps p h);
+      keeps = λ p h. more p ∙ cond_or_true (is_eq (place_cmp (place_in n unit values v) p)) (has old p) (was.keeps p h);
       only = λ p h before. by_place (place_in n unit values v) p _
           (λ _ same. subst (λ q. is_place_of unit values q ≡ true) same (is_here unit n values v there))
           (λ other. was.only p (sym (more p ∙ ap (λ b. cond b true (has old p)) other) ∙ h) before);
@@ -200,7 +197,7 @@ module _ (unit : ℕ) (values : List DimValue) (n : ℕ) (v : DimValue) (there :
 
     pub in_more : AreIn n unit values old → AreIn (n + 1) unit values new
     in_more was = λ p h lt. split p _ h lt
-        (λ before. more p ∙ still (is_eq (place_cmp (place_in n unit values v) p)) (has old p) (was p h before))
+        (λ before. more p ∙ cond_or_true (is_eq (place_cmp (place_in n unit values v) p)) (has old p) (was p h before))
         (λ same. more p ∙ ap (λ b. cond b true (has old p)) (subst (λ q. is_eq (place_cmp (place_in n unit values v) q) ≡ true) same (place_itself (place_in n unit values v))))
 
 pub in_all : (n unit : ℕ) (values : List DimValue) (places : BTreeSet Place) → length values ≤ n → AreIn n unit values places → (p : Place) → is_place_of unit values p ≡ true → has places p ≡ true
@@ -212,9 +209,6 @@ pub record IsTaking (n unit : ℕ) (values except : List DimValue) (old new : BT
   pub only : (p : Place) → has new p ≡ true → has old p ≡ true
   pub gone : (p : Place) → has new p ≡ true → is_place_of unit values p ≡ true → p.dim < n → is_at except p ≡ true
   pub keeps : (p : Place) → has old p ≡ true → (is_place_of unit values p ≡ true → is_at except p ≡ true) → has new p ≡ true
-
-pub taking_none : (unit : ℕ) (values except : List DimValue) (places : BTreeSet Place) → IsTaking 0 unit values except places places
-taking_none unit values except places = record { only = λ p h. h; gone = λ p h g lt. absurd (omega (arith, lt)); keeps = λ p h e. h }
 
 less_before : (b x : Bool) → cond b false x ≡ true → (b ≡ false) × (x ≡ true)
 less_before true x h = absurd cc

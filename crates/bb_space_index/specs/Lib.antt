@@ -4,9 +4,9 @@ pub mod Leaf
 pub mod Candidates
 -- where values stand in the index of a space
 pub mod Places
--- between which places of the index the candidates for a test stand
-pub mod Spots
--- between which places of the index the candidates for two tests together stand
+-- the stretches of the index where the candidates for a test stand
+pub mod Stretches
+-- where the candidates for two tests together stand
 pub mod Pairs
 -- which of some units are left by marks
 pub mod Marks

@@ -5,7 +5,7 @@ use Rattle.std.specs.BTreeSet.{BTreeSet}
 use Rattle.bb_space_index.specs.declared.leaf.Leaf.{Leaf}
 use Rattle.bb_space_index.specs.declared.place.Place.{Place}
 use Rattle.bb_space_index.specs.declared.thin.Marks.{Marks}
-use Rattle.bb_space_index.specs.Spots.{is_near}
+use Rattle.bb_space_index.specs.Stretches.{is_near}
 
 -- the unit is marked, or has no mark: the marks are those of units from a first one on
 abbrev pub is_kept : ℕ → List Bool → ℕ → Bool

@@ -3,7 +3,9 @@
 ghost use Rattle.std.specs.Prelude.{◌≡◌, slice_get};
 ghost use Rattle.bb_space_index.specs.Candidates.{dim_of};
 ghost use Rattle.bb_space_index.specs.Leaf.{related, labelled, fits_leaf};
+ghost use Rattle.bb_space_index.specs.Stretches.{has_one_key, stretch_of};
 
+use crate::stretch::Stretch;
 use bb_pattern::{DimValue, Relation};
 use bb_schema::{LabelId, LabelSetId};
 
@@ -61,6 +63,13 @@ impl Leaf {
             Leaf::Ordered { dim, .. } => dim,
             Leaf::Is { dim, .. } => dim,
         }
+    }
+
+    /// Whether it asks for one low end, or for one label. Then its candidates are found in rising order.
+    pub fn has_one_key(&self) -> bool
+        ensures { result ≡ has_one_key (stretch_of self.now) }
+    {
+        Stretch::of(self).has_one_key()
     }
 
     /// Whether a unit with these values, one for each dimension in order, passes the test. None does whose dimension

@@ -1,14 +1,19 @@
-//! The index of a space: the set of the keys of its values, kept in step with them, and the ranges of keys in which a
-//! test can hold.
+//! The index of a space: the set of the keys of its values, kept in step with them, and the stretches of it in which
+//! a test can hold.
 #![tactic(auto)]
 
+mod costs;
 mod index;
 mod leaf;
 mod near;
 mod pair;
 mod place;
+mod stretch;
 mod thin;
 
+pub use costs::{
+    CLOSE_NUMBERS, FEW_UNITS, FIRST_CANDIDATES, MARKED_NUMBERS, MORE_CANDIDATES, ROUNDS, SORTED,
+};
 pub use index::{put_all, take_all};
 pub use leaf::Leaf;
 pub use near::{collect_near, is_few, rise};

@@ -2,12 +2,13 @@
 //! many of them are visited in the time that one look-up of a unit takes. `bb_space` asks for them.
 
 ghost use Rattle.std.specs.Prelude.{◌≡◌, ℕ, true, IfOk, IfSome, filter};
-ghost use Rattle.bb_space_index.specs.Spots.{stands_in, is_near};
+ghost use Rattle.bb_space_index.specs.Stretches.{stands_in, is_near};
 ghost use Rattle.bb_space_index.specs.Marks.{is_kept, is_left, LeavesNear, LeavesAllNear};
 
+use crate::costs::{FEW_UNITS, STEPS_TO_A_UNIT};
 use crate::leaf::Leaf;
-use crate::near::{end_spot, first_spot, spot};
 use crate::place::Place;
+use crate::stretch::Stretch;
 use bb_basis::Memory;
 use bb_schema::UnitId;
 use std::alloc::Global;
@@ -48,16 +49,13 @@ fn is_kept(first: UnitId, marks: &[bool], unit: UnitId) -> bool
     }
 }
 
-// Marks the units whose places stand between two, and says whether it came to the end.
-fn mark_between(places: &BTreeSet<Place>, from: Place, to: Place, marks: &mut Marks) -> bool
+// Marks the units whose places stand in a stretch, and says whether it came to the end.
+fn mark_all(places: &BTreeSet<Place>, stretch: Stretch, marks: &mut Marks) -> bool
     ensures keeps { (n : ℕ) → is_left marks.old n ≡ true → is_left marks.new n ≡ true }
     ensures marked { result ≡ true
-        → (n : ℕ) → stands_in from to places.now n ≡ true → is_left marks.new n ≡ true }
+        → (n : ℕ) → stands_in stretch places.now n ≡ true → is_left marks.new n ≡ true }
 {
-    if to < from {
-        return true;
-    }
-    for place in places.range(from..to) {
+    for place in stretch.places(places) {
         if marks.left == 0 {
             return false;
         }
@@ -71,32 +69,12 @@ fn mark_between(places: &BTreeSet<Place>, from: Place, to: Place, marks: &mut Ma
 fn mark_near(places: &BTreeSet<Place>, leaf: &Leaf, marks: &mut Marks) -> bool
     ensures { result ≡ true → (n : ℕ) → is_near leaf.now places.now n ≡ true → is_left marks.new n ≡ true }
 {
-    match *leaf {
-        Leaf::Ordered {
-            relation,
-            dim,
-            low,
-            high,
-        } => {
-            let dim = dim as usize;
-            let from = first_spot(relation, dim, low, high);
-            let to = end_spot(relation, dim, low, high);
-            if !mark_between(places, from, to, marks) {
-                return false;
-            }
-            mark_between(places, spot(dim, 2, 0, 0), spot(dim, 3, 0, 0), marks)
-        }
-        Leaf::Is { dim, set, label } => {
-            let dim = dim as usize;
-            let sort = 4 + u32::from(set);
-            let key = i64::from(label);
-            mark_between(
-                places,
-                spot(dim, sort, key, 0),
-                spot(dim, sort, key, 2),
-                marks,
-            )
-        }
+    if !mark_all(places, Stretch::of(leaf), marks) {
+        return false;
+    }
+    match Stretch::turned_of(leaf) {
+        None => true,
+        Some(turned) => mark_all(places, turned, marks),
     }
 }
 
@@ -132,7 +110,7 @@ fn thin_by(
     let first = among.first().copied().unwrap_or(0);
     let mut marks = Vec::new(alloc);
     marks.resize(room, false)?;
-    let left = among.len().saturating_mul(32);
+    let left = among.len().saturating_mul(STEPS_TO_A_UNIT);
     let mut marks = Marks { first, marks, left };
     if !mark_near(places, test, &mut marks) {
         return Ok(None);
@@ -152,8 +130,7 @@ pub fn thin_all(
 {
     let mut list = among.to_vec(alloc)?;
     for test in tests {
-        // Fewer than 16 units are looked up faster one by one.
-        if list.len() < 16 {
+        if list.len() < FEW_UNITS {
             break;
         }
         let Some(less) = thin_by(alloc, places, test, room, &list)? else {

@@ -1,7 +1,3 @@
--- what a run goes by
-pub mod Plan
--- which sources an event concerns by its kind
-pub mod Concerned
 -- the text of a trace
 pub mod TraceText
 -- what the writing of a page does

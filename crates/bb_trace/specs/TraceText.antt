@@ -25,7 +25,7 @@ use Rattle.bb_trace.specs.declared.end.End.TheVariants as ends
 use Rattle.bb_trace.specs.declared.note.Note.{Note}
 use Rattle.bb_trace.specs.declared.note.Note.TheVariants.{Board, Triggered, Declined, Obviated, Retriggered}
 use Rattle.bb_trace.specs.declared.note.Note.TheVariants.{Chosen, Invalid, Ended, Refused, NativeEnded, Finished, Closed}
-use Rattle.bb_trace.specs.Plan.{Plan}
+use Rattle.bb_run_plan.specs.Plan.{Plan}
 
 -- the name of a class, empty where there is none
 abbrev pub class_name : Schema → ℕ → List ℕ

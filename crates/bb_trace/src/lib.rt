@@ -1,5 +1,4 @@
-//! What a run reports: its notes, their lines, and the page on which lines wait to be written to an output. Here is
-//! also the `Plan` that a run goes by.
+//! What a run reports: its notes, their lines, and the page on which lines wait to be written to an output.
 //!
 //! - In: notes of a run, and an `Out`.
 //! - Out: the lines of a trace.
@@ -7,14 +6,12 @@
 //! - Cases: `said`, `outputs`; `runs` and `model-runs` compare whole traces.
 #![tactic(auto)]
 
-mod concerned;
 mod end;
 mod halt;
 mod line;
 mod note;
 mod output;
 mod page;
-mod plan;
 
 pub use bb_board::{
     Board, DocumentPlace, Event, ListItem, ListKey, Note as BoardNote, SharedSchema, UnitsFault,
@@ -35,4 +32,3 @@ pub use line::{add_board_note, add_value};
 pub use note::Note;
 pub use output::{Out, Pipe, put_all};
 pub use page::{PAGE_LIMIT, Page};
-pub use plan::{Plan, SOURCE_LIMIT};

@@ -10,12 +10,12 @@ ghost use Rattle.bb_trace.specs.TraceText.{value_text};
 
 use crate::end::End;
 use crate::note::Note;
-use crate::plan::Plan;
 use bb_agenda::Activation;
 use bb_board::{Change, Event, Said};
 use bb_machine_state::Stuck;
 use bb_native::{Closing, Refusal};
 use bb_rules::Source;
+use bb_run_plan::Plan;
 use bb_schema::{ClassId, Schema, SlotId, UnitId, Value};
 use serde_json::Value as Json;
 use std::alloc::{AllocError, Global};

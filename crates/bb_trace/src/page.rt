@@ -8,7 +8,7 @@ use crate::halt::Halt;
 use crate::line::add_note;
 use crate::note::Note;
 use crate::output::{Out, put_all};
-use crate::plan::Plan;
+use bb_run_plan::Plan;
 use std::alloc::{AllocError, Global};
 use std::marker::Model;
 

@@ -3,8 +3,9 @@ use Rattle.std.proofs.Common.{◌≡◌, ℕ, ◌+◌, ◌-◌, ◌<◌, ◌≤�
 use Rattle.std.specs.Prelude.{is_some}
 use Rattle.std.specs.Option.{option_map_or}
 use Rattle.std.specs.Ordering.{nat_cmp, eq_by_cmp}
-use Rattle.std.specs.Cmp.{nat_cmp_total, Equal-is}
-use Rattle.std.specs.FinMap.{get, insert, remove, len, contains_key, get-empty, get-insert, get-remove, len-insert, len-remove, len-empty, nat_cmp-IsAntisymmetric}
+use Rattle.std.specs.Cmp.{nat_cmp_total}
+use Rattle.std.specs.FinMap.{get, insert, remove, len, contains_key, get-empty, get-insert, get-remove, len-insert, len-remove, len-empty}
+use Rattle.bb_basis.proofs.NumberLemmas.{eq_by_cmp_same}
 use Rattle.bb_schema_classes.specs.declared.value.Value.{Value}
 use Rattle.bb_units.specs.declared.unit.Unit.{Unit}
 use Rattle.bb_units.specs.declared.units.TheConstants.{UNIT_LIMIT}
@@ -20,9 +21,6 @@ with_layout l g = record { next = g.next; units = g.units; layout = l }
 
 abbrev pub FitsWith : Layout → Given → Type 0
 FitsWith l g = Fits (with_layout l g)
-
-same_number : (n k : ℕ) → eq_by_cmp nat_cmp n k ≡ true → n ≡ k
-same_number n k e = nat_cmp-IsAntisymmetric n k ((Equal-is (nat_cmp n k)).0 e)
 
 pub none_fit : (l : Layout) → HoldsDefaults l → Fits (no_units l)
 none_fit l holds = record {
@@ -40,7 +38,7 @@ module _ (u : Units) (fits : Fits u) where
   at_new class n x false there other is = fits.units n x is
 
   number_new : (class n : ℕ) (b : Bool) → eq_by_cmp nat_cmp n u.next ≡ b → is_some (cond b (Some (new_unit u.layout class)) (get u.units n)) ≡ true → (0 < n) × (n < u.next + 1)
-  number_new class n true same live = let e = same_number n u.next same in (omega (arith, e, fits.begun), omega (arith, e))
+  number_new class n true same live = let e = eq_by_cmp_same n u.next same in (omega (arith, e, fits.begun), omega (arith, e))
   number_new class n false other live = let p = fits.numbers n live in (p.0, omega (arith, p.1))
 
   not_live : (b : Bool) → contains_key u.units u.next ≡ b → b ≡ false
@@ -83,7 +81,7 @@ module _ (u : Units) (fits : Fits u) where
   at_changed k n y x false well other is = fits.units n x is
 
   number_changed : (k n : ℕ) (y x : Unit) (b : Bool) → get u.units k ≡ Some x → eq_by_cmp nat_cmp n k ≡ b → is_some (cond b (Some y) (get u.units n)) ≡ true → (0 < n) × (n < u.next)
-  number_changed k n y x true there same live = fits.numbers n (ap (λ q. contains_key u.units q) (same_number n k same) ∙ ap is_some there)
+  number_changed k n y x true there same live = fits.numbers n (ap (λ q. contains_key u.units q) (eq_by_cmp_same n k same) ∙ ap is_some there)
   number_changed k n y x false there other live = fits.numbers n live
 
   -- another unit in the place of one

@@ -6,6 +6,7 @@ use Rattle.std.specs.Map.{keys_of}
 use Rattle.std.specs.Option.{option_map_or}
 use Rattle.std.specs.FinMap.{get}
 use Rattle.std.proofs.lemmas.Bool.{eqb-true}
+use Rattle.bb_basis.proofs.BoolLemmas.{and_false}
 use Rattle.bb_schema_classes.specs.declared.value.Value.{Value}
 use Rattle.bb_units.specs.declared.unit.Unit.{Unit}
 use Rattle.bb_units.specs.Values.{value_at}
@@ -21,10 +22,6 @@ there_by e es slot false h rest = rw h rest
 among_keys : (es : List (ℕ × Value)) (slot : ℕ) → is_some (value_at es slot) ≡ list_any (λ s. s == slot) (keys_of es)
 among_keys [] slot = refl
 among_keys (e ∷ es) slot = there_by e es slot (e.0 == slot) refl (among_keys es slot)
-
-and_false : (b : Bool) → (b && false) ≡ false
-and_false true = refl
-and_false false = refl
 
 -- the keys of the defaults of some slots are the ordinary ones
 module _ (defaults : List (Option Value)) (slot : ℕ) where

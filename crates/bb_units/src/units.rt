@@ -58,7 +58,7 @@ impl Units {
     pub fn new(alloc: Global, schema: &Schema) -> Result<Units, Memory>
         ensures { IfOk result (λ units. units ≡ no_units (layout_of schema.now)) }
     {
-        // A slot can hold its default.
+        // For the proof: a slot can hold its default.
         schema.fits();
         Ok(Units {
             alloc,

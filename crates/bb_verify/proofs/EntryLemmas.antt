@@ -1,10 +1,8 @@
 -- The locals before the first op.
 use Rattle.std.proofs.Common.{◌≡◌, ℕ, ◌+◌, ◌-◌, ◌≤◌, ◌∷◌, set, replicate, ap, ◌∙◌, add-one, arith}
+use Rattle.bb_basis.proofs.NumberLemmas.{one_less}
 use Rattle.bb_verify_effect.specs.Kind.{Kind}
 use Rattle.bb_verify_effect.specs.Kind.TheVariants as kinds
-
-one_less : (n : ℕ) → 1 ≤ n → n ≡ (n - 1) + 1
-one_less n some = omega (arith, some)
 
 first_of : (n : ℕ) (k : Kind) → set (replicate (n + 1) kinds.Any) 0 k ≡ k ∷ replicate n kinds.Any
 first_of n k = ap (λ m. set (replicate m kinds.Any) 0 k) (add-one n)

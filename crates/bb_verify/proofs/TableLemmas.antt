@@ -1,8 +1,9 @@
 -- The places of declared frames rise.
-use Rattle.std.proofs.Common.{◌≡◌, ℕ, ◌+◌, ◌<◌, ◌≤◌, Bool, true, false, List, ◌∷◌, length, drop, get_or, Result, Ok, Err, refl, sym, ap, ◌∙◌, arith, add-one, drop-cons, cond, set, Option, Some}
+use Rattle.std.proofs.Common.{◌≡◌, ℕ, ◌+◌, ◌<◌, ◌≤◌, true, false, List, ◌∷◌, length, drop, get_or, Result, Ok, Err, sym, ap, ◌∙◌, arith, add-one, drop-cons, cond, set, Option, Some}
 use Rattle.std.specs.Prelude.{nat_le, nat_lt, ◌||◌}
 use Rattle.std.proofs.lemmas.List.{drop_all}
 use Rattle.std.proofs.lemmas.Bool.Decides.{nat_tests}
+use Rattle.std.proofs.lemmas.Bool.{or_right}
 use Rattle.bb_basis.specs.Results.{◌>>=◌, map_err}
 use Rattle.bb_basis.proofs.ResultLemmas.{bind_ok, guard_ok}
 use Rattle.bb_verify_effect.specs.Schema.{Schema}
@@ -28,10 +29,6 @@ first_place : (floor count : ℕ) (fs : List FrameEntry) (i : ℕ) (e : FrameEnt
 unfolding places_rise
 first_place floor count fs i e lt is = ap (places_rise floor count) (drop_next fs i e lt is)
 
-either_way : (a b : Bool) → b ≡ true → (a || b) ≡ true
-either_way true b yes' = refl
-either_way false b yes' = yes'
-
 pub rise_low : (floor count : ℕ) (fs : List FrameEntry) (i : ℕ) (e : FrameEntry) (total : Result (Unit {0}) Flaw) → i < length fs → e ≡ get_or fs i e → e.place < floor → places_rise floor count (drop i fs) ≡ total → Err Table ≡ total
 rise_low floor count fs i e total lt is low so_far =
     let test : nat_lt e.place floor ≡ true = grind (arith, nat_tests) in
@@ -40,7 +37,7 @@ rise_low floor count fs i e total lt is low so_far =
 pub rise_high : (floor count : ℕ) (fs : List FrameEntry) (i : ℕ) (e : FrameEntry) (total : Result (Unit {0}) Flaw) → i < length fs → e ≡ get_or fs i e → count ≤ e.place → places_rise floor count (drop i fs) ≡ total → Err Table ≡ total
 rise_high floor count fs i e total lt is high so_far =
     let test : nat_le count e.place ≡ true = grind (arith, nat_tests) in
-    sym (ap (λ b. cond b (Err Table) (places_rise (e.place + 1) count (drop (i + 1) fs))) (either_way (nat_lt e.place floor) (nat_le count e.place) test)) ∙ (sym (first_place floor count fs i e lt is) ∙ so_far)
+    sym (ap (λ b. cond b (Err Table) (places_rise (e.place + 1) count (drop (i + 1) fs))) (or_right (nat_lt e.place floor) (nat_le count e.place) test)) ∙ (sym (first_place floor count fs i e lt is) ∙ so_far)
 
 pub rise_next : (floor count : ℕ) (fs : List FrameEntry) (i : ℕ) (e : FrameEntry) (total : Result (Unit {0}) Flaw) → i < length fs → e ≡ get_or fs i e → floor ≤ e.place → e.place < count → places_rise floor count (drop i fs) ≡ total → places_rise (e.place + 1) count (drop (i + 1) fs) ≡ total
 rise_next floor count fs i e total lt is low high so_far =

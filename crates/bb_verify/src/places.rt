@@ -8,7 +8,7 @@ ghost use Rattle.bb_verify_effect.specs.Flaws.{out_of_memory};
 ghost use Rattle.bb_verify_effect.specs.Flaw.TheVariants.{Memory};
 ghost use Rattle.bb_verify_effect.specs.Part.{units_of};
 ghost use Rattle.bb_verify_effect.specs.Code.{places};
-ghost use Rattle.bb_verify.specs.proving.Numbered.{numbered_frame, numbered_frames};
+ghost use Rattle.bb_verify.specs.proving.Numbered.{numbered_frame, numbered_frames, frames_by};
 ghost use Rattle.bb_verify.specs.Places.{declared_at, declared_for, declared_frames, entry_frame, frame_at, fits_declared, on_due, target_due, has_next, visit_op, visit, first_walk, frames_of, with_frames};
 ghost use Rattle.bb_verify_effect.specs.Frame.{frame_of};
 
@@ -19,6 +19,13 @@ use bb_verify_effect::{
 };
 use bb_verify_loops::target_of;
 use std::alloc::{AllocError, Global};
+
+// A code, and for each of its places the number of the frame that it declares there.
+#[derive(Clone, Copy)]
+struct Framed<'a> {
+    code: &'a Code,
+    declared: &'a [Option<usize>],
+}
 
 // The declared frame of a number, if the code has one of that number.
 fn numbered_frame(code: &Code, number: usize) -> Option<&Declared>
@@ -33,27 +40,25 @@ fn numbered_frame(code: &Code, number: usize) -> Option<&Declared>
     Some(&frames[number].frame)
 }
 
-// The frame that a code declares for a place. `declared` has the number of the frame of each place.
-fn declared_at<'a>(code: &'a Code, declared: &[Option<usize>], place: usize) -> Option<&'a Declared>
-    ensures value { option_map (λ f. frame_of f.now) result
-        ≡ declared_at (numbered_frames code.now.frames declared.now) place }
+// The frame that a code declares for a place.
+fn declared_at<'a>(framed: &Framed<'a>, place: usize) -> Option<&'a Declared>
+    ensures value { option_map (λ f. frame_of f.now) result ≡ declared_at (frames_by framed.now) place }
     ensures few { IfSome result (λ f. (length f.now.locals ≤ LOCAL_LIMIT) × (length f.now.stack ≤ STACK_LIMIT)) }
 {
-    match declared.get(place) {
+    match framed.declared.get(place) {
         None => None,
         Some(None) => None,
-        Some(Some(number)) => numbered_frame(code, *number),
+        Some(Some(number)) => numbered_frame(framed.code, *number),
     }
 }
 
 // The frame of the place that an op goes to.
-fn declared_for<'a>(code: &'a Code, declared: &[Option<usize>], op: Op) -> Option<&'a Declared>
-    ensures { option_map (λ f. frame_of f.now) result
-        ≡ declared_for (numbered_frames code.now.frames declared.now) op }
+fn declared_for<'a>(framed: &Framed<'a>, op: Op) -> Option<&'a Declared>
+    ensures { option_map (λ f. frame_of f.now) result ≡ declared_for (frames_by framed.now) op }
 {
     match target_of(op) {
         None => None,
-        Some(target) => declared_at(code, declared, target as usize),
+        Some(target) => declared_at(framed, target as usize),
     }
 }
 
@@ -208,27 +213,26 @@ fn has_next(count: usize, place: usize, left: &Option<Frame>) -> Result<(), Flaw
 fn visit_op(
     schema: &Schema,
     part: Part,
-    code: &Code,
-    declared: &[Option<usize>],
+    framed: &Framed,
     place: Place,
     op: Op,
     walk: &mut Walk,
 ) -> Result<(), Flaw>
     ensures { Gives Memory (λ _. walk.new) result
-        (visit_op schema.now part code.now (numbered_frames code.now.frames declared.now) place op walk.old) }
+        (visit_op schema.now part framed.now.code.now (frames_by framed.now) place op walk.old) }
 {
     let next = walk.next.take();
-    let mut frame = frame_at(declared_at(code, declared, place as usize), next)?;
+    let mut frame = frame_at(declared_at(framed, place as usize), next)?;
     walk.frames.push(&frame)?;
     let mut target = None;
-    let goes_on = effect(schema, part, code, op, &mut frame, &mut target)?;
+    let goes_on = effect(schema, part, framed.code, op, &mut frame, &mut target)?;
     if goes_on {
         walk.next = Some(frame);
     }
     let after = place as usize + 1;
-    has_next(code.ops().len(), after, &walk.next)?;
-    on_due(schema, &walk.next, declared_at(code, declared, after))?;
-    target_due(schema, &target, declared_for(code, declared, op))
+    has_next(framed.code.ops().len(), after, &walk.next)?;
+    on_due(schema, &walk.next, declared_at(framed, after))?;
+    target_due(schema, &target, declared_for(framed, op))
 }
 
 // Checks the op at a place, if there is one, and adds the place to the walk.
@@ -236,17 +240,16 @@ fn visit_op(
 fn visit(
     schema: &Schema,
     part: Part,
-    code: &Code,
-    declared: &[Option<usize>],
+    framed: &Framed,
     walk: &mut Walk,
     place: Place,
 ) -> Result<(), VerifyFault>
     ensures { Gives out_of_memory (λ _. walk.new) result
-        (visit schema.now part code.now (numbered_frames code.now.frames declared.now) walk.old place) }
+        (visit schema.now part framed.now.code.now (frames_by framed.now) walk.old place) }
 {
-    match code.op(place as usize) {
+    match framed.code.op(place as usize) {
         None => Ok(()),
-        Some(op) => match visit_op(schema, part, code, declared, place, op, walk) {
+        Some(op) => match visit_op(schema, part, framed, place, op, walk) {
             Ok(()) => Ok(()),
             Err(Flaw::Memory) => Err(VerifyFault {
                 place: 0,
@@ -260,17 +263,16 @@ fn visit(
 fn visit_all(
     schema: &Schema,
     part: Part,
-    code: &Code,
-    declared: &[Option<usize>],
+    framed: &Framed,
     walk: &mut Walk,
 ) -> Result<(), VerifyFault>
     ensures { Gives out_of_memory (λ _. walk.new) result
-        (try_fold (visit schema.now part code.now (numbered_frames code.now.frames declared.now)) walk.old
-        (places code.now)) }
+        (try_fold (visit schema.now part framed.now.code.now (frames_by framed.now)) walk.old
+        (places framed.now.code.now)) }
 {
-    let count = code.ops().len() as u16;
+    let count = framed.code.ops().len() as u16;
     for place in 0..count {
-        visit(schema, part, code, declared, walk, place)?;
+        visit(schema, part, framed, walk, place)?;
     }
     Ok(())
 }
@@ -287,8 +289,12 @@ pub(crate) fn frames_of(
     ensures { Gives out_of_memory (λ frames. frames) result (frames_of schema.now part code.now) }
 {
     let declared = declared_frames(alloc, code)?;
+    let framed = Framed {
+        code,
+        declared: &declared,
+    };
     let next = Some(entry_frame(part, code.locals()));
-    match on_due(schema, &next, declared_at(code, &declared, 0)) {
+    match on_due(schema, &next, declared_at(&framed, 0)) {
         Ok(()) => {}
         Err(flaw) => return Err(VerifyFault { place: 0, flaw }),
     }
@@ -296,7 +302,7 @@ pub(crate) fn frames_of(
         frames: PackedFrames::new(alloc),
         next,
     };
-    visit_all(schema, part, code, &declared, &mut walk)?;
+    visit_all(schema, part, &framed, &mut walk)?;
     let Walk { frames, next: _ } = walk;
     Ok(frames)
 }

@@ -5,6 +5,8 @@ use Rattle.std.proofs.lemmas.List.Edits.{map_over_more}
 use Rattle.std.proofs.lemmas.Option.{slice_get-get_or, get_or_from_slice_get}
 use Rattle.std.specs.Cmp.Lexicographic.{pointwise}
 use Rattle.std.proofs.Math.Seq.{take-add, take-append_seam}
+use Rattle.bb_basis.proofs.NumberLemmas.{one_less}
+use Rattle.bb_basis.proofs.BoolLemmas.{and_false, and_true}
 use Rattle.bb_code.specs.Kind.{Kind}
 use Rattle.bb_code.specs.Kind.TheVariants as kinds
 use Rattle.bb_verify_frame.specs.Stack.{newest}
@@ -17,9 +19,6 @@ reverse_snoc xs x = reverse-append xs (x ∷ [])
 
 pub reverse_more : (ks : List Kind) (n : ℕ) (d : Kind) → n < length ks → reverse (take (n + 1) ks) ≡ get_or ks n d ∷ reverse (take n ks)
 reverse_more ks n d lt = ap reverse (take_more ks n d lt) ∙ reverse_snoc (take n ks) (get_or ks n d)
-
-one_less : (n : ℕ) → 1 ≤ n → n ≡ (n - 1) + 1
-one_less n some = omega (arith, some)
 
 pub newest_of : (ks : List Kind) (n : ℕ) (d : Kind) (stack : List Kind) → reverse (take n ks) ≡ stack → 1 ≤ n → n ≤ length ks → newest stack ≡ Some (get_or ks (n - 1) d, reverse (take (n - 1) ks))
 newest_of ks n d stack is some le = ap newest (sym is ∙ (ap (λ k. reverse (take k ks)) (one_less n some) ∙ reverse_more ks (n - 1) d (omega (arith, some, le))))
@@ -62,24 +61,16 @@ reverse_map f (x ∷ xs) =
 
 -- ---- two stacks compared entry by entry, from either end
 
-one : (b : Bool) → (b && true) ≡ b
-one true = refl
-one false = refl
-
-dead : (b : Bool) → (b && false) ≡ false
-dead true = refl
-dead false = refl
-
 later : (a b c : Bool) → (a && (b && c)) ≡ ((a && b) && c)
 later true b c = refl
 later false b c = refl
 
 pointwise_snoc : (w : Kind → Kind → Bool) (xs ys : List Kind) (x y : Kind) → pointwise w (xs ++ x ∷ []) (ys ++ y ∷ []) ≡ (pointwise w xs ys && w x y)
-pointwise_snoc w [] [] x y = one (w x y)
-pointwise_snoc w [] (b ∷ []) x y = dead (w x b)
-pointwise_snoc w [] (b ∷ c ∷ ys) x y = dead (w x b)
-pointwise_snoc w (a ∷ []) [] x y = dead (w a y)
-pointwise_snoc w (a ∷ c ∷ xs) [] x y = dead (w a y)
+pointwise_snoc w [] [] x y = and_true (w x y)
+pointwise_snoc w [] (b ∷ []) x y = and_false (w x b)
+pointwise_snoc w [] (b ∷ c ∷ ys) x y = and_false (w x b)
+pointwise_snoc w (a ∷ []) [] x y = and_false (w a y)
+pointwise_snoc w (a ∷ c ∷ xs) [] x y = and_false (w a y)
 pointwise_snoc w (a ∷ xs) (b ∷ ys) x y = ap (λ r. w a b && r) (pointwise_snoc w xs ys x y) ∙ later (w a b) (pointwise w xs ys) (w x y)
 
 swap : (a b : Bool) → (a && b) ≡ (b && a)

@@ -1,4 +1,5 @@
-//! Kinds: which may stand where others are declared, and what a deletion leaves. Checks of ops and edges call it.
+//! Kinds: which may stand where others are declared, and what a deletion leaves. Checks of ops and edges call it, and
+//! the compiler calls `mark_stale`.
 
 ghost use Rattle.std.specs.Prelude.{◌≡◌, map};
 ghost use Rattle.std.specs.Cmp.Lexicographic.{pointwise};
@@ -47,6 +48,7 @@ pub(crate) fn weakens_local(schema: &Schema, kind: Kind, declared: Kind) -> bool
     }
 }
 
+// Whether each entry of a stack may stand where others are declared.
 fn all_weaken(schema: &Schema, kinds: &[Kind], declared: &[Kind]) -> bool
     ensures { result ≡ pointwise (weakens schema.now) kinds.now declared.now }
 {
@@ -61,6 +63,7 @@ fn all_weaken(schema: &Schema, kinds: &[Kind], declared: &[Kind]) -> bool
     true
 }
 
+// Whether each local may stand where others are declared.
 fn all_locals_weaken(schema: &Schema, kinds: &[Kind], declared: &[Kind]) -> bool
     ensures { result ≡ pointwise (weakens_local schema.now) kinds.now declared.now }
 {
@@ -106,7 +109,7 @@ fn struck(schema: &Schema, deleted: ClassId, kind: Kind) -> Kind
 }
 
 /// Changes each kind of a slice to what is still known once a unit of a class was deleted.
-pub(crate) fn mark_stale(schema: &Schema, deleted: ClassId, kinds: &mut [Kind])
+pub fn mark_stale(schema: &Schema, deleted: ClassId, kinds: &mut [Kind])
     ensures { kinds.new ≡ map (struck schema.now deleted) kinds.old }
 {
     for i in 0..kinds.len() {

@@ -14,7 +14,7 @@ pub use bb_code::{
     Op, OperandKind, Place, Query, Schema, SlotId, SpaceId, VerifyFault,
 };
 pub use frame::Frame;
-pub use kind::{frame_weakens, is_same_plain};
+pub use kind::{frame_weakens, is_same_plain, mark_stale};
 pub use locals::Locals;
 pub use packed_frames::PackedFrames;
 pub use part::Part;

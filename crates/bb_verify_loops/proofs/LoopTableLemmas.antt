@@ -6,6 +6,8 @@ use Rattle.std.proofs.lemmas.List.{get_or-set_same, get_or-set_other}
 use Rattle.std.proofs.lemmas.List.Folds.{list_any_more}
 use Rattle.std.proofs.lemmas.Option.{slice_get-get_or}
 use Rattle.std.proofs.lemmas.Bool.Decides.{nat_tests}
+use Rattle.std.proofs.lemmas.Bool.{or_parts, and_parts}
+use Rattle.bb_basis.proofs.BoolLemmas.{or_false, or_true}
 use Rattle.bb_basis.specs.Results.{◌>>=◌}
 use Rattle.bb_basis.proofs.ResultLemmas.{bind_ok}
 use Rattle.bb_code.specs.Loop.{Loop}
@@ -15,14 +17,6 @@ use Rattle.bb_code.specs.Each.{each}
 use Rattle.bb_verify_loops.specs.Jumps.{before, ahead}
 use Rattle.bb_verify_loops.specs.Loops.{check_order, never, holds, is_end, enters_at_head}
 use Rattle.bb_verify_loops.specs.proving.LoopTables.{reaches, holds_from, HasEnds, HasReach, IsDeepest, HasDeepest, HasHeads}
-
-or_true : (b : Bool) → (b || true) ≡ true
-or_true true = refl
-or_true false = refl
-
-or_false : (b : Bool) → (b || false) ≡ b
-or_false true = refl
-or_false false = refl
 
 same_number : (a b : ℕ) → (a == b) ≡ true → a ≡ b
 same_number a b h = grind (arith, nat_tests)
@@ -97,15 +91,6 @@ climbed reach deepest place found had some le short above =
 
 -- ---- the greatest head of the loops that hold a place
 
-both_true : (a b : Bool) → (a && b) ≡ true → (a ≡ true) × (b ≡ true)
-both_true true true h = (refl, refl)
-both_true true false h = absurd cc
-both_true false b h = absurd cc
-
-neither : (a b : Bool) → (a || b) ≡ false → (a ≡ false) × (b ≡ false)
-neither true b h = absurd cc
-neither false b h = (refl, h)
-
 any_weaker : {A : Type 0} (p q : A → Bool) → ((a : A) → p a ≡ true → q a ≡ true) → (xs : List A) → list_any p xs ≡ true → list_any q xs ≡ true
 any_weaker p q weaker [] h = absurd cc
 any_weaker p q weaker (x ∷ xs) h = by (any_weaker p q weaker xs) (p x) refl
@@ -118,7 +103,7 @@ any_weaker p q weaker (x ∷ xs) h = by (any_weaker p q weaker xs) (p x) refl
 
 held_from : (low head place : ℕ) → low ≤ head → head ≤ place → (l : Loop) → reaches head place l ≡ true → holds_from low place l ≡ true
 held_from low head place le high l h =
-    let two = both_true (l.head == head) (nat_lt place l.end) h in
+    let two = and_parts (l.head == head) (nat_lt place l.end) h in
     let e : l.head ≡ head = same_number l.head head two.0 in
     let a : nat_le l.head place ≡ true = grind (arith, nat_tests) in
     let b : nat_le low l.head ≡ true = grind (arith, nat_tests) in
@@ -126,16 +111,16 @@ held_from low head place le high l h =
 
 none_held : (low place : ℕ) (ls : List Loop) → ((head : ℕ) → low ≤ head → head ≤ place → list_any (reaches head place) ls ≡ false) → list_any (holds_from low place) ls ≡ false
 none_held low place [] none = refl
-none_held low place (l ∷ ls) none = by (none_held low place ls (λ head le high. (neither (reaches head place l) (list_any (reaches head place) ls) (none head le high)).1)) (holds_from low place l) refl
+none_held low place (l ∷ ls) none = by (none_held low place ls (λ head le high. (or_parts (reaches head place l) (list_any (reaches head place) ls) (none head le high)).1)) (holds_from low place l) refl
   where
     by : list_any (holds_from low place) ls ≡ false → (b : Bool) → holds_from low place l ≡ b → list_any (holds_from low place) (l ∷ ls) ≡ false
     by more false is = ap (λ b. b || list_any (holds_from low place) ls) is ∙ more
     by more true is =
-        let two = both_true (holds place l) (nat_le low l.head) is in
-        let held = both_true (nat_le l.head place) (nat_lt place l.end) two.0 in
+        let two = and_parts (holds place l) (nat_le low l.head) is in
+        let held = and_parts (nat_le l.head place) (nat_lt place l.end) two.0 in
         let a : low ≤ l.head = let t = two.1 in grind (arith, nat_tests) in
         let b : l.head ≤ place = let t = held.0 in grind (arith, nat_tests) in
-        let no = (neither (reaches l.head place l) (list_any (reaches l.head place) ls) (none l.head a b)).0 in
+        let no = (or_parts (reaches l.head place l) (list_any (reaches l.head place) ls) (none l.head a b)).0 in
         let same : (l.head == l.head) ≡ true = grind (arith, nat_tests) in
         let yes' : reaches l.head place l ≡ true = ap (λ x. x && nat_lt place l.end) same ∙ held.1 in
         absurd cc
@@ -198,7 +183,7 @@ enters_at place target lt l = by (holds target l) refl (nat_le (place + 1) l.hea
         ∙ (ap (λ b. check_order (b && nat_lt place l.end)) out
         ∙ sym (ap (λ b. never (b && nat_le (place + 1) l.head)) h ∙ ap never k))
     by true h false k =
-        let held = both_true (nat_le l.head target) (nat_lt target l.end) h in
+        let held = and_parts (nat_le l.head target) (nat_lt target l.end) h in
         let a : nat_le l.head place ≡ true = grind (arith, nat_tests) in
         let e = held.1 in
         let b : nat_lt place l.end ≡ true = grind (arith, nat_tests) in

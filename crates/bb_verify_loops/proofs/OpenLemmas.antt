@@ -108,13 +108,6 @@ any_by_filter p (x ∷ xs) = by (any_by_filter p xs) (p x) refl
 
 -- ---- the list rises up to a place
 
-pub before_first : (ls : List Loop) → IsPassed 0 0 ls
-before_first ls = record { low = All-nil (λ l. l.head < 0); high = any_place ls }
-  where
-    any_place : (xs : List Loop) → All (λ l. 0 ≤ l.head) xs
-    any_place [] = All-nil (λ l. 0 ≤ l.head)
-    any_place (x ∷ xs) = All-cons (λ l. 0 ≤ l.head) x xs (omega arith) (any_place xs)
-
 rising_tail : (place : ℕ) (l : Loop) (ls : List Loop) → rising place (l ∷ ls) ≡ Ok tt → rising place ls ≡ Ok tt
 unfolding rising
 rising_tail place l [] ok = refl
@@ -315,9 +308,6 @@ jump_here code place ok lt = let same : 0 + place ≡ place = omega arith in ap 
 pub passed_few : (next place : ℕ) (here : Option Loop) → next ≤ place → passed next here ≤ place + 1
 passed_few next place None le = omega (arith, le)
 passed_few next place (Some l) le = omega (arith, le)
-
-pub first_around : (ls : List Loop) → [] ≡ filter (stays 0) (take 0 ls)
-first_around ls = refl
 
 pub one_depth : (code : Code) (place : ℕ) (here : Option Loop) (around : List Loop) → IsAt code place here around → length around ≡ depth code place
 one_depth code place here around at = ap (λ l. length l) at.holding

@@ -1,9 +1,12 @@
--- Lists of numbers that rise, and a list for each source.
-use Rattle.std.specs.Prelude.{◌≡◌, ◌<◌, ℕ, Bool, ◌==◌, not, List, [], ◌∷◌, ◌++◌, filter, length, slice_index_or, if◌then◌else◌}
+-- Lists of numbers that rise, and a list for each key.
+use Rattle.std.specs.Prelude.{◌≡◌, ◌<◌, ◌-◌, ℕ, Bool, ◌==◌, not, List, [], ◌∷◌, ◌++◌, filter, length, take, slice_index_or}
+use Rattle.std.specs.Prelude.{if◌then◌else◌}
 use Rattle.std.specs.List.{list_any}
 use Rattle.std.specs.Option.{option_map_or}
 use Rattle.std.specs.Ordering.{nat_cmp}
 use Rattle.std.specs.BTreeMap.{BTreeMap, get}
+use Rattle.bb_agenda_foci.specs.declared.activation.Activation.{Activation}
+use Rattle.bb_agenda.specs.declared.lists.Lists.{Lists}
 use Rattle.bb_agenda.specs.Fits.{RisesBy}
 
 -- numbers rise
@@ -22,14 +25,40 @@ is_in numbers number = list_any (λ n. n == number) numbers
 abbrev pub without : ℕ → List ℕ → List ℕ
 without number numbers = filter (λ n. not (n == number)) numbers
 
--- the list of a source
+-- the list of a key
 abbrev pub listed : BTreeMap ℕ (List ℕ) → ℕ → List ℕ
-listed lists source = option_map_or (λ v. v) (get nat_cmp lists source) []
+listed lists key = option_map_or (λ v. v) (get nat_cmp lists key) []
 
--- with one number more of a source, the last
+-- with one number more of a key, the last
 abbrev pub one_more : BTreeMap ℕ (List ℕ) → ℕ → ℕ → ℕ → List ℕ
-one_more lists source number s = if source == s then listed lists s ++ number ∷ [] else listed lists s
+one_more lists key number k = if key == k then listed lists k ++ number ∷ [] else listed lists k
 
--- without a number of a source
+-- without a number of a key
 abbrev pub one_less : BTreeMap ℕ (List ℕ) → ℕ → ℕ → ℕ → List ℕ
-one_less lists source number s = if source == s then without number (listed lists s) else listed lists s
+one_less lists key number k = if key == k then without number (listed lists k) else listed lists k
+
+-- without the last
+abbrev pub without_last : List ℕ → List ℕ
+without_last numbers = take (length numbers - 1) numbers
+
+-- ---- the lists of activations, by source and by unit
+
+-- the number of an activation came to the lists of its source and its unit
+pub record HasMore (old : Lists) (a : Activation) (new : Lists) : Type 0 where
+  pub sources : (k : ℕ) → listed new.by_source k ≡ one_more old.by_source a.source a.number k
+  pub units : (k : ℕ) → listed new.by_unit k ≡ one_more old.by_unit a.unit a.number k
+
+-- the number of an activation left the lists of its source and its unit
+pub record HasLess (old : Lists) (a : Activation) (new : Lists) : Type 0 where
+  pub sources : (k : ℕ) → listed new.by_source k ≡ one_less old.by_source a.source a.number k
+  pub units : (k : ℕ) → listed new.by_unit k ≡ one_less old.by_unit a.unit a.number k
+
+-- the list of each source and of each unit is as it was
+pub record AreSame (old new : Lists) : Type 0 where
+  pub sources : (k : ℕ) → listed new.by_source k ≡ listed old.by_source k
+  pub units : (k : ℕ) → listed new.by_unit k ≡ listed old.by_unit k
+
+-- numbers rise in the lists of the activation's source and its unit
+pub record Rise (lists : Lists) (a : Activation) : Type 0 where
+  pub source : Rising (listed lists.by_source a.source)
+  pub unit : Rising (listed lists.by_unit a.unit)

@@ -8,39 +8,37 @@ ghost use Rattle.std.specs.BTreeMap.{is_at, insert_entry};
 ghost use Rattle.bb_agenda_foci.specs.declared.activation.Activation.{Activation as Given};
 ghost use Rattle.bb_agenda.specs.declared.rank.Rank.{Rank as Ranked};
 ghost use Rattle.bb_agenda.specs.Changes.{based_at};
-ghost use Rattle.bb_agenda.specs.proving.Lists.{listed, one_more};
+ghost use Rattle.bb_agenda.specs.proving.Lists.{HasMore, AreSame};
 ghost use Rattle.bb_agenda.specs.proving.Ranks.{is_ranked, ranked_more, same_rank, rank_of, reranked};
 
-use crate::lists::add_to;
+use crate::lists::Lists;
 use crate::order::{rank_in, rank_out};
 use crate::rank::Rank;
-use crate::row::Row;
 use bb_agenda_foci::Activation;
 use bb_basis::Memory;
 use std::alloc::{AllocError, Global};
 use std::cmp::Reverse;
 use std::collections::{BTreeMap, BTreeSet};
 
-// Puts an activation into the list and the order of its source. After an error it is in neither, and the others are as
+// Puts an activation into its lists and the order of its source. After an error it is in none, and the others are as
 // before.
 fn file(
     alloc: Global,
-    lists: &mut BTreeMap<u16, Row>,
+    lists: &mut Lists,
     orders: &mut Vec<BTreeSet<Rank>>,
     activation: &Activation,
 ) -> Result<(), Memory>
-    ensures listed { OnOk result ((s : ℕ) →
-        listed lists.new s ≡ one_more lists.old activation.now.source activation.now.number s) }
+    ensures listed { OnOk result (HasMore lists.old activation.now lists.new) }
     ensures ranked { OnOk result ((s : ℕ) (r : Ranked) → is_ranked orders.new.items s r
         ≡ ranked_more orders.old.items activation.now.source (rank_of activation.now) s r) }
-    ensures unlisted { OnErr result ((s : ℕ) → listed lists.new s ≡ listed lists.old s) }
+    ensures unlisted { OnErr result (AreSame lists.old lists.new) }
     ensures unranked { OnErr result ((s : ℕ) (r : Ranked) →
         (activation.now.source == s && same_rank (rank_of activation.now) r ≡ true
         → is_ranked orders.old.items s r ≡ false) → is_ranked orders.new.items s r ≡ is_ranked orders.old.items s r) }
 {
     let rank = Rank::of(activation);
     rank_in(alloc, orders, activation.source, rank)?;
-    if add_to(alloc, lists, activation.source, activation.number).is_err() {
+    if lists.add(alloc, activation).is_err() {
         rank_out(orders, activation.source, rank);
         return Err(AllocError);
     }
@@ -51,19 +49,18 @@ fn file(
 pub(crate) fn store(
     alloc: Global,
     activations: &mut BTreeMap<u64, Activation>,
-    lists: &mut BTreeMap<u16, Row>,
+    lists: &mut Lists,
     orders: &mut Vec<BTreeSet<Rank>>,
     activation: &Activation,
 ) -> Result<(), Memory>
     requires { AllByRecursion (λ e. e.0 < activation.now.number) activations.old.entries }
     ensures kept { OnOk result (activations.new.entries
         ≡ insert_entry nat_cmp activations.old.entries activation.now.number activation.now) }
-    ensures listed { OnOk result ((s : ℕ) →
-        listed lists.new s ≡ one_more lists.old activation.now.source activation.now.number s) }
+    ensures listed { OnOk result (HasMore lists.old activation.now lists.new) }
     ensures ranked { OnOk result ((s : ℕ) (r : Ranked) → is_ranked orders.new.items s r
         ≡ ranked_more orders.old.items activation.now.source (rank_of activation.now) s r) }
     ensures unkept { OnErr result (activations.new.entries ≡ activations.old.entries) }
-    ensures unlisted { OnErr result ((s : ℕ) → listed lists.new s ≡ listed lists.old s) }
+    ensures unlisted { OnErr result (AreSame lists.old lists.new) }
     ensures unranked { OnErr result ((s : ℕ) (r : Ranked) →
         (activation.now.source == s && same_rank (rank_of activation.now) r ≡ true
         → is_ranked orders.old.items s r ≡ false) → is_ranked orders.new.items s r ≡ is_ranked orders.old.items s r) }

@@ -33,6 +33,7 @@ impl World {
         ensures named { NotesChanges self.old.world self.new.world }
     {
         let unit = self.state.create(class)?;
+        // For the proof: what holds of the state.
         self.state.fits();
         Ok(unit)
     }
@@ -48,6 +49,7 @@ impl World {
     {
         let schema = self.schema.get();
         self.state.set(self.alloc, schema, unit, slot, value)?;
+        // For the proof: what holds of the state.
         self.state.fits();
         Ok(())
     }
@@ -64,6 +66,7 @@ impl World {
     {
         let schema = self.schema.get();
         self.state.link(self.alloc, schema, unit, slot, partner)?;
+        // For the proof: what holds of the state.
         self.state.fits();
         Ok(())
     }
@@ -79,6 +82,7 @@ impl World {
     {
         let schema = self.schema.get();
         self.state.unlink(self.alloc, schema, unit, slot, partner)?;
+        // For the proof: what holds of the state.
         self.state.fits();
         Ok(())
     }
@@ -93,6 +97,7 @@ impl World {
     {
         let schema = self.schema.get();
         self.state.delete(self.alloc, schema, unit)?;
+        // For the proof: what holds of the state.
         self.state.fits();
         Ok(())
     }

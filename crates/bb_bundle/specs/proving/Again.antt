@@ -3,10 +3,10 @@ use Rattle.std.specs.Prelude.{◌≡◌, ℕ, ℤ, true, nat_le, Option, Some, N
 use Rattle.std.specs.Int.{w64}
 use Rattle.std.specs.List.{list_all}
 use Rattle.bb_code.specs.Code.{Code}
-use Rattle.bb_bundle.specs.declared.source_code.ActDraft.{ActDraft}
-use Rattle.bb_bundle.specs.declared.source_code.ActDraft.TheVariants.{Do, Native}
-use Rattle.bb_bundle.specs.declared.source_code.ReactionDraft.{ReactionDraft}
-use Rattle.bb_bundle.specs.declared.source_code.SourceDraft.{SourceDraft}
+use Rattle.bb_bundle.specs.declared.draft.ActDraft.{ActDraft}
+use Rattle.bb_bundle.specs.declared.draft.ActDraft.TheVariants.{Do, Native}
+use Rattle.bb_bundle.specs.declared.draft.ReactionDraft.{ReactionDraft}
+use Rattle.bb_bundle.specs.declared.draft.SourceDraft.{SourceDraft}
 use Rattle.bb_bundle.specs.Spelled.{IsSpelled}
 use Rattle.bb_bundle.specs.Bundle.{code_in}
 use Rattle.bb_bundle.specs.Written.{code_digits}
@@ -37,11 +37,11 @@ IsRate rate = FitsSigned w64 rate
 
 -- the codes of a source are spelled, and 64 bits hold its rate
 pub record IsSourceAgain (s : SourceDraft Code) : Type 0 where
-  pub rate : IsRate s.rate
-  pub require : AreAgain s.require
-  pub obviate : IsReactionAgain s.obviate
-  pub retrigger : IsReactionAgain s.retrigger
-  pub revalidate : AreAgain s.revalidate
+  pub rate : IsRate s.header.rate
+  pub require : AreAgain s.parts.require
+  pub obviate : IsReactionAgain s.parts.obviate
+  pub retrigger : IsReactionAgain s.parts.retrigger
+  pub revalidate : AreAgain s.parts.revalidate
   pub act : IsActAgain s.act
 
 -- all of a source is spelled

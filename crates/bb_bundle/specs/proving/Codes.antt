@@ -2,7 +2,7 @@
 use Rattle.std.specs.Prelude.{ℕ, List, Option, refl}
 use Rattle.std.specs.Coded.{Coded, code_by, coded×, coded_ℕ, coded_list, coded_option}
 use Rattle.bb_code.specs.Code.{Code}
-use Rattle.bb_bundle.specs.declared.source_code.SourceDraft.{SourceDraft}
+use Rattle.bb_bundle.specs.declared.draft.SourceDraft.{SourceDraft}
 use Rattle.bb_bundle.specs.declared.partial.PartialSource.{PartialSource}
 use Rattle.bb_bundle.specs.contracts.source_code.SourceCode as sources
 use Rattle.bb_bundle.specs.contracts.partial.PartialSource as partials

@@ -1,7 +1,7 @@
 -- Ops that change the blackboard are safe.
-use Rattle.std.proofs.Common.{◌≡◌, inl, ℕ, ◌<◌, Bool, false, true, not, cond, length, List, ◌∷◌, Option, Some, None, Result, Ok, Err, refl, sym, subst, arith}
+use Rattle.std.proofs.Common.{◌≡◌, inl, ℕ, Bool, false, true, not, cond, length, List, ◌∷◌, Option, Some, None, Result, Ok, Err, refl, sym, subst, arith}
 use Rattle.std.specs.Prelude.{nat_lt}
-use Rattle.std.proofs.lemmas.Bool.Decides.{nat_tests}
+use Rattle.bb_basis.proofs.NumberLemmas.{nat_lt_true}
 use Rattle.bb_basis.specs.Results.{◌>>=◌}
 use Rattle.bb_basis.proofs.ResultLemmas.{bind_ok, same_ok}
 use Rattle.bb_units.specs.Units.{Units, is_live}
@@ -56,9 +56,6 @@ known_by : (there : Bool) (u : Unit {0}) → (let r : Result (Unit {0}) Flaw = c
 known_by true u h = refl
 known_by false u h = absurd cc
 
-within : (n long : ℕ) → nat_lt n long ≡ true → n < long
-within n long lt = grind (arith, nat_tests)
-
 module _ (part : Part) (code : Code) (b : Board) (fits : Fits b.schema b.world) (m : Machine) (f : Frame) (suits : Suits b.schema b.world m f) (e : Option Frame × Option Frame) where
   -- an op that is safe at the state
   abbrev Safe : Op → Type 0
@@ -84,6 +81,6 @@ module _ (part : Part) (code : Code) (b : Board) (fits : Fits b.schema b.world) 
       let live = is_live_of b.schema b.world fits.units unit.0.0 p.n p.of in
       let same = left_units b.world p.n space (not (is_member b.world.spaces space p.n)) refl in
       changes (ops.Leave space) out.0 (with_stack p.rest m) (after_leave b.world p.n space) (leave b space m) out.2 refl (leave_on b space m p.n p.rest p.stack live there)
-      (leave_keeps b.schema b.world fits p.n space live (within space (length b.schema.spaces) there))
+      (leave_keeps b.schema b.world fits p.n space live (nat_lt_true space (length b.schema.spaces) there))
       (same_outlives b.world.units (after_leave b.world p.n space).units same) (same_persists b.world.units (after_leave b.world p.n space).units same)
       (subst (Suits b.schema b.world (with_stack p.rest m)) (same_ok unit.0.1 out.0 may.2) p.suits)

@@ -1,6 +1,6 @@
 -- Two classes of one unit are related.
-use Rattle.std.proofs.Common.{◌≡◌, ◌⊎◌, inl, inr, ℕ, Bool, true, false, List, Some, refl, sym, subst, ◌∙◌}
-use Rattle.std.specs.Prelude.{◌||◌}
+use Rattle.std.proofs.Common.{◌≡◌, ◌⊎◌, inl, inr, ℕ, true, List, Some, sym, subst, ◌∙◌}
+use Rattle.std.proofs.lemmas.Bool.{or_left, or_right}
 use Rattle.bb_schema_classes.specs.declared.class.Class.{Class}
 use Rattle.bb_schema_classes.specs.Inheritance.{Descends, itself, through_parent}
 use Rattle.bb_schema_classes.proofs.Laws.{climbs_sound, descends_complete}
@@ -14,13 +14,6 @@ one_line (itself a) other = inl other
 one_line (through_parent a p c is up) (itself b) = inr (through_parent a p c is up)
 one_line {classes} {a} {c} {d} (through_parent x p y is up) (through_parent z q w is_q up_q) =
     one_line up (subst (λ (k : ℕ). Descends classes k d) (let e : Some q ≡ Some p = sym is_q ∙ is in let same : q ≡ p = cc in same) up_q)
-
-or_left : (a b : Bool) → a ≡ true → (a || b) ≡ true
-or_left a b is = rw is refl
-
-or_right : (a b : Bool) → b ≡ true → (a || b) ≡ true
-or_right true b is = refl
-or_right false b is = is
 
 related_by : (s : Schema) (class other : ℕ) → schemas.Fits s → Descends s.classes class other ⊎ Descends s.classes other class → related s class other ≡ true
 related_by s class other fits (inl up) = or_left (descends s class other) (descends s other class) (descends_complete s.classes fits.parents class other up)

@@ -5,6 +5,7 @@ use Rattle.std.proofs.lemmas.Bool.Decides.{nat_tests}
 use Rattle.std.proofs.lemmas.List.{length-set}
 use Rattle.std.proofs.lemmas.List.Elements.{All-nil, All-cons, All-set, All-weaker}
 use Rattle.std.proofs.lemmas.Option.{slice_get_within}
+use Rattle.bb_basis.proofs.ListLemmas.{slice_get-set}
 use Rattle.bb_schema_classes.proofs.Laws.{All-at}
 use Rattle.bb_units.specs.declared.units.TheConstants.{UNIT_LIMIT}
 use Rattle.bb_code.specs.Code.{Code}
@@ -28,11 +29,6 @@ other_entry (y ∷ ys) zero zero x other = absurd cc
 other_entry (y ∷ ys) zero (suc k) x other = refl
 other_entry (y ∷ ys) (suc l) zero x other = refl
 other_entry (y ∷ ys) (suc l) (suc k) x other = other_entry ys l k x (let f : (k == l) ≡ false = grind (arith, nat_tests) in f)
-
-same_entry : {A : Type 0} (xs : List A) (l : ℕ) (x : A) → l < length xs → slice_get (set xs l x) l ≡ Some x
-same_entry [] l x lt = absurd (omega (arith, lt))
-same_entry (y ∷ ys) zero x lt = refl
-same_entry (y ∷ ys) (suc l) x lt = same_entry ys l x (omega (arith, lt))
 
 -- ---- no sequence is longer than what was found
 
@@ -127,7 +123,7 @@ module _ (code : Code) (l : Loop) where
       let inside : local < length (set m.locals local None) = let lt = slice_get_within m.locals local (Some (values.Seq k.before)) k.held in let same = length-set m.locals local None in omega (arith, lt, same) in
       let before : left_of code m l ≡ length k.before.rest = ap (left_in m.locals) own ∙ ap elements k.held in
       let later : left_of code next l ≡ length k.later.rest =
-      ap (left_in next.locals) own ∙ ap elements (ap (λ (locals : List (Option Value)). slice_get locals local) k.locals ∙ same_entry (set m.locals local None) local (Some (values.Seq k.later)) inside) in
+      ap (left_in next.locals) own ∙ ap elements (ap (λ (locals : List (Option Value)). slice_get locals local) k.locals ∙ slice_get-set (set m.locals local None) local (Some (values.Seq k.later)) inside) in
       omega (arith, before, later, fewer)
 
 -- ---- before the first step

@@ -3,6 +3,8 @@ use Rattle.std.proofs.Common.{◌≡◌, ◌⊎◌, inl, inr, ℕ, zero, suc, �
 use Rattle.std.specs.Prelude.{◌==◌, ◌&&◌, nat_le, nat_lt, slice_get}
 use Rattle.std.specs.List.{list_any}
 use Rattle.std.proofs.lemmas.Bool.Decides.{nat_tests}
+use Rattle.bb_basis.proofs.AppendLemmas.{there_is}
+use Rattle.bb_basis.proofs.BoolLemmas.{same_truth}
 use Rattle.bb_basis.specs.Results.{◌>>=◌}
 use Rattle.bb_basis.proofs.ResultLemmas.{bind_ok}
 use Rattle.bb_code.specs.Code.{Code}
@@ -14,7 +16,6 @@ use Rattle.bb_verify.specs.LoopLimits.{NESTING_LIMIT}
 use Rattle.bb_verify.specs.Each.{each}
 use Rattle.bb_verify.specs.Loops.{holds, depth, check_order, never, rising, begins, ends, op_before, local_of, local_in, is_same_local, is_around, nests, loop_due, head_due, is_head, is_end, enters_at_head, keeps_local, op_due, place_due}
 use Rattle.bb_machine.specs.proving.StepsLeft.{In}
-use Rattle.bb_machine.proofs.AheadLemmas.{held}
 use Rattle.bb_machine.proofs.rounds.SumLemmas.{any_in}
 
 -- ---- tests that found no flaw
@@ -42,12 +43,6 @@ head_by : (b : Bool) (r : Result (Unit {0}) Flaw) → b ≡ true → (let x : Re
 head_by true r is h = h
 head_by false r is h = absurd cc
 
-both_same : (a b : Bool) → (a ≡ true → b ≡ true) → (b ≡ true → a ≡ true) → a ≡ b
-both_same true true f g = refl
-both_same true false f g = let e = f refl in absurd cc
-both_same false true f g = let e = g refl in absurd cc
-both_same false false f g = refl
-
 pub parts_of : (code : Code) (place : ℕ) (op : Op) → place_due code place (Some op) ≡ Ok tt → (each (head_due code place) code.loops ≡ Ok tt) × (op_due code place op ≡ Ok tt)
 unfolding place_due
 parts_of code place op h =
@@ -67,7 +62,7 @@ module _ (code : Code) (inside : (l : Loop) → In code.loops l → l.head < len
   loop_is_due : (l : Loop) → In code.loops l → loop_due code l ≡ Ok tt
   unfolding head_due
   loop_is_due l there =
-      let op = held code.ops l.head (inside l there) in
+      let op = there_is code.ops l.head (inside l there) in
       let heads = (parts_of code l.head op.0 (due l.head op.0 op.1)).0 in
       let here = each_in (head_due code l.head) code.loops l there heads in
       let same : (l.head == l.head) ≡ true = grind (arith, nat_tests) in
@@ -246,4 +241,4 @@ module _ (code : Code) (inside : (l : Loop) → In code.loops l → l.head < len
 
     -- a loop is around both places or around neither
     pub back_both : (l : Loop) → In code.loops l → holds t l ≡ holds p l
-    back_both l there = both_same (holds t l) (holds p l) (onto l there) (back_from l there)
+    back_both l there = same_truth (holds t l) (holds p l) (onto l there) (back_from l there)

@@ -1,6 +1,7 @@
 -- An execution of an accepted code makes no more steps than are left at its state.
 use Rattle.std.proofs.Common.{◌≡◌, ℕ, zero, suc, ◌+◌, ◌<◌, ◌≤◌, List, Some, Result, Ok, Err, sym, subst, arith}
 use Rattle.std.specs.Prelude.{slice_get}
+use Rattle.bb_basis.proofs.AppendLemmas.{there_is}
 use Rattle.bb_schema.specs.Schema.{Schema}
 use Rattle.bb_schema.specs.Fits as schemas
 use Rattle.bb_units.specs.declared.units.TheConstants.{UNIT_LIMIT}
@@ -24,7 +25,6 @@ use Rattle.bb_machine_step.proofs.Laws.{after_op, by_op}
 use Rattle.bb_machine.specs.NeverWrong.{Stands}
 use Rattle.bb_machine.specs.proving.Sequences.{AreLow, left_of, Moved}
 use Rattle.bb_machine.specs.proving.StepsLeft.{steps_left}
-use Rattle.bb_machine.proofs.AheadLemmas.{held}
 use Rattle.bb_machine.proofs.RunLemmas.{inside}
 use Rattle.bb_machine.proofs.StandLemmas.{Advances, step_advances}
 use Rattle.bb_machine.proofs.rounds.FallLemmas.{step_left}
@@ -96,7 +96,7 @@ module _ (s : Schema) (part : Part) (code : Code) (frames : List Frame) (is : Is
   pub spends_from : (n steps : ℕ) (m : Machine) (b : Board) → Stands s code frames (m, b) → AreLow m → m.found ≤ UNIT_LIMIT → Spends code m n steps (steps_from n steps code (m, b)).0
   spends_from zero steps m b stands low few = none_more m b zero steps stands low few
   spends_from (suc n) steps m b stands low few =
-      let op = held code.ops m.place (inside s part code frames is sf facts m b stands) in
+      let op = there_is code.ops m.place (inside s part code frames is sf facts m b stands) in
       subst (λ (e : Execution). Spends code m (suc n) steps e.0) (sym (by_op n steps code m b (Some op.0) (sym op.1)))
       (by_step m b n steps stands low few op.0 (step code op.0 (go_to (m.place + 1) m, b)) op.1 (step_advances part code frames is s m b op.0 sf facts stands op.1) (moved m b op.0 stands)
       (λ next there low few. spends_from n (steps + 1) next.0 next.1 there low few))

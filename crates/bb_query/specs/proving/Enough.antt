@@ -14,7 +14,8 @@ among n list = list_any (eq_by_cmp nat_cmp n) list
 -- the list rises, and has all members of a space whose values pass a test
 pub record AreEnough (t : Spaces) (space : ℕ) (test : List DimValue → Bool) (list : List ℕ) : Type 0 where
   pub rises : IsStrictlySortedBy nat_cmp list
-  pub enough : (n : ℕ) (values : List DimValue) → values_in t space n ≡ Some values → test values ≡ true → among n list ≡ true
+  pub enough : (n : ℕ) (values : List DimValue) → values_in t space n ≡ Some values → test values ≡ true
+      → among n list ≡ true
 
 -- the set has also the numbers of a list
 pub record HasAlso (old : BTreeSet ℕ) (list : List ℕ) (new : BTreeSet ℕ) : Type 0 where

@@ -1,6 +1,6 @@
 -- What the code of a run needs to rate by the foci of the blackboard. No public contract cites it.
 use Rattle.bb_trace.specs.Board.{Board as Blackboard}
-use Rattle.bb_trace.specs.Plan.{Plan}
+use Rattle.bb_run_plan.specs.Plan.{Plan}
 use Rattle.bb_run.specs.State.{State}
 use Rattle.bb_run.specs.Reads.{AsksByReading}
 use Rattle.bb_run.specs.Weighed.{KnowsFoci, NumbersGiven}

@@ -13,11 +13,11 @@ use Rattle.bb_trace.specs.declared.halt.Halt.TheVariants as halts
 use Rattle.bb_trace.specs.declared.note.Note.{Note}
 use Rattle.bb_run.specs.declared.cycles.Decision.{Decision}
 use Rattle.bb_run.specs.declared.cycles.Decision.TheVariants.{Act, Over}
-use Rattle.bb_trace.specs.Plan.{Plan}
+use Rattle.bb_run_plan.specs.Plan.{Plan}
 use Rattle.bb_run.specs.declared.asking.Reply.{Reply}
 use Rattle.bb_run.specs.declared.execution.Verdict.{Verdict}
 use Rattle.bb_run.specs.State.{State}
-use Rattle.bb_run.specs.declared.teller.Teller.{Teller}
+use Rattle.bb_run.specs.declared.runner.Runner.{Runner}
 use Rattle.bb_run.specs.Told.{Response, Stretch}
 use Rattle.bb_run.specs.Asking.{reply_by}
 use Rattle.bb_run.specs.Run.{choice, wait}
@@ -63,12 +63,12 @@ pub record Place : Type 0 where
 abbrev pub at_page : Option (List ℕ) → List ℕ → Place
 at_page taken page = record { taken = taken; page = page }
 
--- where a teller is, by what its output took
-abbrev pub at : {O : Type 0} → (O → Option (List ℕ)) → Teller O → Place
+-- where a runner is, by what its output took
+abbrev pub at : {O : Type 0} → (O → Option (List ℕ)) → Runner O → Place
 at taken t = at_page (taken t.out.now) t.page.now
 
--- the teller writes on the same page, to the same output
-abbrev pub Same : {O : Type 0} → Teller O → Teller O → Type 0
+-- the runner writes on the same page, to the same output
+abbrev pub Same : {O : Type 0} → Runner O → Runner O → Type 0
 Same old new = (new.page.ghost_name ≡ old.page.ghost_name) × (new.out.ghost_name ≡ old.out.ghost_name)
 
 -- of the segments that were told the first were written, and the page has the text of the others

@@ -8,7 +8,7 @@ use Rattle.std.proofs.lemmas.Map.Iter.{rest_more, rest_all}
 use Rattle.bb_agenda_foci.specs.declared.focus.Focus.{Focus}
 use Rattle.bb_agenda_foci.specs.Matching.{matches, matches_at}
 use Rattle.bb_agenda_foci.specs.Rating.{rating, total_weight}
-use Rattle.bb_agenda_foci.proofs.EntryLemmas.{values_are}
+use Rattle.bb_basis.proofs.EntryLemmas.{values_are}
 use Rattle.bb_agenda_foci.proofs.WeightLemmas.{sum_with, sum_more, sum_all, IsNear, near_more, added}
 use Rattle.bb_agenda_foci.proofs.foci.weighed.Goals as goal
 

@@ -1,4 +1,4 @@
-use Rattle.std.proofs.Common.{◌≡◌, ◌<◌, ◌∙◌, ◌++◌, ap, sym, subst, length, get_or}
+use Rattle.std.proofs.Common.{◌<◌, ◌∙◌, ◌++◌, ap, sym, subst, length, get_or}
 use Rattle.std.specs.Prelude.{option_map}
 use Rattle.std.specs.List.{filter_map}
 use Rattle.bb_board_state.specs.proving.Moves.{values_anew}
@@ -7,10 +7,10 @@ use Rattle.bb_board_state.proofs.moves.moves_of.Goals as goal
 
 pub loop-space-init : goal.loop-space-init
 loop-space-init c =
-    let anew = values_anew c.args.schema.now c.args.spaces.now c.args.unit c.args.slot c.args.value.now in
+    let anew = values_anew c.args.schema.now c.args.spaces.now c.args.unit c.args.set.now.slot c.args.set.now.value.now in
     ap (λ made. made ++ filter_map (λ space. option_map (λ values. (space, values)) (anew space)) c.spaces_of-own.result.now) c.new-moves.ensures.items
     ∙ (ap (filter_map (λ space. option_map (λ values. (space, values)) (anew space))) c.spaces_of-own.ensures
-    ∙ own_moves c.args.schema.now c.args.spaces.now c.args.unit c.args.slot c.args.value.now)
+    ∙ own_moves c.args.schema.now c.args.spaces.now c.args.unit c.args.set.now.slot c.args.set.now.value.now)
 
 pub values_anew-requires-clause-told : goal.values_anew-requires-clause-told
 values_anew-requires-clause-told c =

@@ -6,5 +6,5 @@ use Rattle.bb_board_state.proofs.moves.moves_of.Given as goal
 
 abbrev pub invariant-loop-space : goal.invariant-loop-space
 invariant-loop-space l =
-    l.moves.items ++ filter_map (λ space. option_map (λ values. (space, values)) (values_anew l.schema l.spaces l.unit l.slot l.value space)) (drop l.space-index l.own)
-    ≡ moves_for l.schema l.spaces l.unit l.slot l.value
+    l.moves.items ++ filter_map (λ space. option_map (λ values. (space, values)) (values_anew l.schema l.spaces l.unit l.set.slot l.set.value.now space)) (drop l.space-index l.own)
+    ≡ moves_for l.schema l.spaces l.unit l.set.slot l.set.value.now

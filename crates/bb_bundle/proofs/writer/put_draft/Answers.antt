@@ -6,7 +6,7 @@ use Rattle.bb_bundle.proofs.writer.put_draft.Goals as goal
 
 pub returns-clause-written : goal.returns-clause-written
 returns-clause-written c =
-    let clauses : string_bytes c.put_clauses.new.out ≡ string_bytes c.put_header.new.out ++ text_of (map clause_words c.args.source.now.triggers) =
+    let clauses : string_bytes c.put_clauses.new.out ≡ string_bytes c.put_header.new.out ++ text_of (map clause_words c.args.source.now.header.triggers) =
     c.in_ok-put_clauses.ensures ∙ ap (λ cs. string_bytes c.put_header.new.out ++ text_of (map clause_words cs)) c.as_slice.ensures in
     on_ok_weaker c.put_act.result
     (all_put c.args.source.now (string_bytes c.args.out.now) (string_bytes c.put_header.new.out) (string_bytes c.put_clauses.new.out) (string_bytes c.put_code.new.out)

@@ -1,8 +1,11 @@
 use Rattle.std.proofs.Common.{◌≡◌, drop}
 use Rattle.bb_code.specs.Limits.{STACK_LIMIT}
 use Rattle.bb_compile_emit.specs.Actions.{values_code}
+use Rattle.bb_compile_emit.specs.proving.Laying.{Same}
 use Rattle.bb_compile_emit.proofs.actions.emit_values.Given as goal
 
 -- what is laid out, and what is still to be
 abbrev pub invariant-loop-value : goal.invariant-loop-value
-invariant-loop-value l = values_code l.schema l.room (drop l.value-index l.values) l.sheet ≡ values_code l.schema STACK_LIMIT l.values l.fn.sheet
+invariant-loop-value l =
+    (values_code l.fn.emitter.schema.now l.room (drop l.value-index l.values) l.emitter.sheet ≡ values_code l.fn.emitter.schema.now STACK_LIMIT l.values l.fn.emitter.sheet)
+    × Same l.fn.emitter l.emitter

@@ -4,6 +4,7 @@ use Rattle.bb_lang.specs.proving.Codes.{expr_size, pattern_size}
 use Rattle.bb_compile_emit.specs.Expressions.{steps_code, patterns_code}
 use Rattle.bb_compile_emit.specs.proving.Sizes.{steps_size, step_size, sequence_size, patterns_size}
 use Rattle.bb_compile_emit.specs.proving.Fronts.{with_front}
+use Rattle.bb_compile_emit.specs.proving.Laying.{Same}
 use Rattle.bb_compile_emit.proofs.expressions.+emitting.Given as goal
 
 abbrev pub decreases-emit_expr : goal.decreases-emit_expr
@@ -27,9 +28,12 @@ decreases-emit_patterns l = 4 * patterns_size l.patterns.now + 1
 -- what is laid out, and what is still to be
 abbrev pub invariant-emit_steps-loop-step : goal.invariant-emit_steps-loop-step
 invariant-emit_steps-loop-step l =
-    steps_code l.schema l.room l.kind (steps_of (drop l.step-index l.steps)) l.sheet ≡ steps_code l.schema l.room l.fn.first (steps_of l.steps) l.fn.sheet
+    (steps_code l.fn.emitter.schema.now l.room l.kind (steps_of (drop l.step-index l.steps)) l.emitter.sheet
+    ≡ steps_code l.fn.emitter.schema.now l.room l.fn.first (steps_of l.steps) l.fn.emitter.sheet)
+    × Same l.fn.emitter l.emitter
 
 abbrev pub invariant-emit_patterns-loop-pattern : goal.invariant-emit_patterns-loop-pattern
 invariant-emit_patterns-loop-pattern l =
-    with_front l.made.items (patterns_code l.schema l.room l.space (patterns_of (drop l.pattern-index l.patterns)) l.asked l.sheet)
-    ≡ patterns_code l.schema l.room l.space (patterns_of l.patterns) l.fn.asked l.fn.sheet
+    (with_front l.made.items (patterns_code l.fn.emitter.schema.now l.room l.space (patterns_of (drop l.pattern-index l.patterns)) l.asked l.emitter.sheet)
+    ≡ patterns_code l.fn.emitter.schema.now l.room l.space (patterns_of l.patterns) l.fn.asked l.fn.emitter.sheet)
+    × Same l.fn.emitter l.emitter

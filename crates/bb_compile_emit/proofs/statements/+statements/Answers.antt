@@ -4,6 +4,7 @@ use Rattle.bb_compile_scope.proofs.Laws.{statement_in_block}
 use Rattle.bb_compile_scope.specs.declared.fault.CompileFault.TheVariants.{Memory}
 use Rattle.std.proofs.Common.{Ok}
 use Rattle.bb_compile_buffer.specs.Sheets.{leave}
+use Rattle.bb_compile_emit.proofs.EmitterLemmas.{same_on}
 use Rattle.bb_compile_emit.proofs.LoopLemmas.{block_next, block_fail, block_end, block_fails, block_whole}
 use Rattle.bb_compile_emit.proofs.statements.+statements.Goals as goal
 
@@ -15,16 +16,25 @@ emit_block-emit_placed-requires t c =
 pub emit_block-returns-in_err-ended : goal.emit_block-returns-in_err-ended
 emit_block-returns-in_err-ended t c =
     let p = err_from_is_err_and c.from_residual.result c.from_residual.ensures.1 in
-    let failed = block_fail c.args.schema.now c.args.part c.args.loops c.statements-placed-items.result.now c.loop-placed.placed-index c.loop-placed.ended c.loop-placed.sheet _ c.placed-item.result Memory c.in_err-ended.field-0.0 c.loop-placed-test.true c.placed-item.is c.in_err-ended.ensures c.loop-placed.invariant in
-    rw (p.1, p.2) (block_fails c.args.schema.now c.args.part c.args.loops c.args.block.now c.args.sheet.now Memory c.in_err-ended.field-0.0 failed)
+    let own = c.args.emitter.now in
+    let failed = block_fail own.schema.now own.part c.args.loops c.statements-placed-items.result.now c.loop-placed.placed-index c.loop-placed.ended c.loop-placed.emitter.sheet _ c.placed-item.result Memory c.in_err-ended.field-0.0 c.loop-placed-test.true c.placed-item.is
+    (rw (c.loop-placed.invariant.1.0, c.loop-placed.invariant.1.1) at c.in_err-ended.ensures) c.loop-placed.invariant.0 in
+    rw (p.1, p.2) (block_fails own.schema.now own.part c.args.loops c.args.block.now own.sheet Memory c.in_err-ended.field-0.0 failed)
 
 pub emit_block-loop-placed-preserved : goal.emit_block-loop-placed-preserved
 emit_block-loop-placed-preserved t c =
-    block_next c.args.schema.now c.args.part c.args.loops c.statements-placed-items.result.now c.loop-placed.placed-index c.loop-placed.ended c.loop-placed.sheet _ c.placed-item.result c.in_ok-ended.ended c.emit_placed.new.sheet c.loop-placed-test.true c.placed-item.is c.in_ok-ended.ensures c.loop-placed.invariant
+    let own = c.args.emitter.now in (
+      block_next own.schema.now own.part c.args.loops c.statements-placed-items.result.now c.loop-placed.placed-index c.loop-placed.ended c.loop-placed.emitter.sheet _ c.placed-item.result c.in_ok-ended.ended c.emit_placed.new.emitter.sheet c.loop-placed-test.true c.placed-item.is
+          (rw (c.loop-placed.invariant.1.0, c.loop-placed.invariant.1.1) at c.in_ok-ended.ensures.0) c.loop-placed.invariant.0,
+      same_on own c.loop-placed.emitter c.emit_placed.new.emitter c.loop-placed.invariant.1 c.in_ok-ended.ensures.1,
+    )
 
 pub emit_block-returns : goal.emit_block-returns
 emit_block-returns t c =
-    let all = block_end c.args.schema.now c.args.part c.args.loops c.statements-placed-items.result.now c.loop-placed.placed-index c.loop-placed.ended c.loop-placed.sheet _ c.loop-placed-test.false c.loop-placed.invariant in
-    block_whole c.args.schema.now c.args.part c.args.loops c.args.block.now c.args.sheet.now c.loop-placed.sheet c.loop-placed.ended all
-    ∙ ap (λ m. Ok (c.loop-placed.ended, leave m c.loop-placed.sheet)) (sym c.mark-mark.ensures)
-    ∙ ap (λ sc. Ok (c.loop-placed.ended, record c.loop-placed.sheet { scope = sc })) (sym c.leave.ensures)
+    let own = c.args.emitter.now in
+    let all = block_end own.schema.now own.part c.args.loops c.statements-placed-items.result.now c.loop-placed.placed-index c.loop-placed.ended c.loop-placed.emitter.sheet _ c.loop-placed-test.false c.loop-placed.invariant.0 in (
+      block_whole own.schema.now own.part c.args.loops c.args.block.now own.sheet c.loop-placed.emitter.sheet c.loop-placed.ended all
+          ∙ ap (λ m. Ok (c.loop-placed.ended, leave m c.loop-placed.emitter.sheet)) (sym c.mark-mark.ensures)
+          ∙ ap (λ sc. Ok (c.loop-placed.ended, record c.loop-placed.emitter.sheet { scope = sc })) (sym c.leave.ensures),
+      c.loop-placed.invariant.1,
+    )

@@ -6,6 +6,9 @@ use Rattle.bb_lang.proofs.actions.read_exprs.Given as goal
 
 -- what was read, and what is still to be read
 abbrev pub invariant-loop-turn : goal.invariant-loop-turn
-invariant-loop-turn l =
-    with_front l.exprs.items (repeated (l._turn-end - l._turn) (next_item (expr l.nesting)) l.parser)
-    ≡ with_front l.initial.exprs.items (repeated l._turn-end (next_item (expr l.nesting)) l.initial.parser)
+invariant-loop-turn l = record {
+  nesting : l.parser.nesting ≡ l.fn.parser.nesting;
+  read :
+      with_front l.exprs.items (repeated (l._turn-end - l._turn) (next_item (expr l.fn.parser.nesting)) l.parser.state)
+      ≡ with_front l.initial.exprs.items (repeated l._turn-end (next_item (expr l.fn.parser.nesting)) l.initial.parser.state);
+}

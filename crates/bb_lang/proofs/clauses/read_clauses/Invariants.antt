@@ -6,4 +6,4 @@ use Rattle.bb_lang.proofs.clauses.read_clauses.Given as goal
 
 -- what was read, and what is still to be read
 abbrev pub invariant-loop-turn : goal.invariant-loop-turn
-invariant-loop-turn l = with_front l.clauses.items (repeated (l._turn-end - l._turn) next_clause l.parser) ≡ with_front l.initial.clauses.items (repeated l._turn-end next_clause l.initial.parser)
+invariant-loop-turn l = with_front l.clauses.items (repeated (l._turn-end - l._turn) next_clause l.parser.state) ≡ with_front l.initial.clauses.items (repeated l._turn-end next_clause l.initial.parser.state)

@@ -6,4 +6,4 @@ use Rattle.bb_lang.proofs.sources.read_sources.Given as goal
 
 -- what was read, and what is still to be read
 abbrev pub invariant-loop-turn : goal.invariant-loop-turn
-invariant-loop-turn l = with_front l.sources.items (repeated (l._turn-end - l._turn) next_source l.parser) ≡ as_many next_source l.fn.parser
+invariant-loop-turn l = with_front l.sources.items (repeated (l._turn-end - l._turn) next_source l.parser.state) ≡ as_many next_source l.fn.parser.state

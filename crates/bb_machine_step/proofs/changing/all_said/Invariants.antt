@@ -1,7 +1,7 @@
 use Rattle.std.proofs.Common.{◌≡◌, true, drop}
 use Rattle.std.specs.List.{list_all}
 use Rattle.bb_basis.specs.Results.{try_map}
-use Rattle.bb_basis.proofs.TryMapLemmas.{joined}
+use Rattle.bb_basis.proofs.IntoMapLemmas.{joined}
 use Rattle.bb_machine_state.specs.Fits.{is_said_of}
 use Rattle.bb_machine_step.specs.Changing.{said_due}
 use Rattle.bb_machine_step.proofs.changing.all_said.Given as goal

@@ -10,7 +10,7 @@ use Rattle.bb_machine_state.specs.Machine.{go_to}
 use Rattle.bb_machine_step.specs.Step.{step}
 use Rattle.bb_machine_step.specs.Activation.{Execution, halted}
 use Rattle.bb_machine_step.proofs.ReadLemmas.{no_write_at}
-use Rattle.bb_machine_step.proofs.ExecutionLemmas.{goes_on, first_goes_on, left_by, kept_or_memory, cut_after, cut_before, ends_outside, ends_at_limit, ends_by_op, gives_halted, leaves_halted}
+use Rattle.bb_machine_step.proofs.ExecutionLemmas.{goes_on, left_by, kept_or_memory, cut_after, cut_before, ends_outside, ends_at_limit, ends_by_op, gives_halted, leaves_halted}
 use Rattle.bb_machine_step.proofs.NamedLemmas.{named_cut}
 use Rattle.bb_machine_step.proofs.FullLemmas.{full_where}
 use Rattle.bb_machine_step.proofs.execution.execute.Goals as goal

@@ -1,7 +1,7 @@
 use Rattle.std.proofs.Common.{◌≡◌, map, drop, take}
 use Rattle.bb_pattern.specs.Values.{kind_of_operand}
 use Rattle.bb_machine_step.specs.Reading.{operands_due}
-use Rattle.bb_basis.proofs.TryMapLemmas.{joined}
+use Rattle.bb_basis.proofs.IntoMapLemmas.{joined}
 use Rattle.bb_machine_step.proofs.reading.operands_due.Given as goal
 
 abbrev pub invariant-loop-i : goal.invariant-loop-i

@@ -1,8 +1,8 @@
 use Rattle.std.proofs.Common.{◌≡◌, ◌<◌, ◌++◌, ◌∷◌, [], Some, length, refl, rules, arith, slice_get}
 use Rattle.std.proofs.lemmas.Option.{slice_get_read}
+use Rattle.bb_basis.proofs.ListLemmas.{if_some}
 use Rattle.bb_pattern.specs.Holds.{holds}
 use Rattle.bb_query.specs.proving.Tests.{Asks}
-use Rattle.bb_query.proofs.NearLemmas.{if_some}
 use Rattle.bb_query.proofs.NarrowLemmas.{one_asked}
 use Rattle.bb_query.proofs.narrow.tests_among.Goals as goal
 

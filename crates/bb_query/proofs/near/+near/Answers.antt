@@ -1,12 +1,13 @@
 use Rattle.std.proofs.Common.{◌≡◌, ◌<◌, ◌≤◌, Some, arith, sym, ap, subst, ◌∙◌, length, refl, slice_get}
 use Rattle.std.proofs.lemmas.Option.{slice_get_read, IfSome_then}
 use Rattle.std.proofs.lemmas.Result.{IfOk-weaker}
+use Rattle.bb_basis.proofs.ListLemmas.{if_some}
 use Rattle.bb_pattern.specs.Trees.{and_of, or_of}
-use Rattle.bb_pattern.specs.Holds.{holds, ordered_holds, is_holds}
+use Rattle.bb_pattern.specs.Holds.{holds}
 use Rattle.bb_pattern.specs.View.{tree_of, trees_of}
 use Rattle.bb_pattern.proofs.Laws.{parts_below_and, parts_below_or}
 use Rattle.bb_query.specs.proving.Enough.{AreEnough, HasAlso}
-use Rattle.bb_query.proofs.NearLemmas.{if_some, each_enough, has_but_less, some_enough, and_enough, or_enough, ordered_enough, is_enough}
+use Rattle.bb_query.proofs.NearLemmas.{each_enough, has_but_less, some_enough, and_enough, or_enough}
 use Rattle.bb_query.proofs.near.+near.Goals as goal
 
 pub near_pattern-near_each-requires : goal.near_pattern-near_each-requires
@@ -26,8 +27,8 @@ near_each-returns-in-Some t c =
     let p = c.pattern-item.result in
     let lt : k < length ps = omega (arith, c.loop-pattern-test.true, c.loop-pattern.auto.pattern-index-end) in
     let there : slice_get ps k ≡ Some p = slice_get_read ps (length ps) k p refl lt c.pattern-item.is in
-    each_enough c.args.spaces.now c.args.space c.args.operands.now ps k p c.in-Some.list.items there
-    (if_some (λ list. AreEnough c.args.spaces.now c.args.space (λ values. holds c.args.operands.now values p) list.items) c.in_ok-near.near c.in-Some.list c.in-Some.is c.in_ok-near.ensures)
+    each_enough c.args.search.now.spaces.now c.args.search.now.query.now.space c.args.search.now.operands.now ps k p c.in-Some.list.items there
+    (if_some (λ list. AreEnough c.args.search.now.spaces.now c.args.search.now.query.now.space (λ values. holds c.args.search.now.operands.now values p) list.items) c.in_ok-near.near c.in-Some.list c.in-Some.is c.in_ok-near.ensures)
 
 pub near_some-loop-pattern-preserved : goal.near_some-loop-pattern-preserved
 near_some-loop-pattern-preserved t c =
@@ -36,34 +37,22 @@ near_some-loop-pattern-preserved t c =
     let p = c.pattern-item.result in
     let lt : k < length ps = omega (arith, c.loop-pattern-test.true, c.loop-pattern.auto.pattern-index-end) in
     let there : slice_get ps k ≡ Some p = slice_get_read ps (length ps) k p refl lt c.pattern-item.is in
-    has_but_less c.args.spaces.now c.args.space c.args.operands.now ps k p c.in-Some.list.items c.loop-pattern.found c.add_all.new.found there
-    (if_some (λ list. AreEnough c.args.spaces.now c.args.space (λ values. holds c.args.operands.now values p) list.items) c.in_ok-list.field-0 c.in-Some.list c.in-Some.is c.in_ok-list.ensures)
+    has_but_less c.args.search.now.spaces.now c.args.search.now.query.now.space c.args.search.now.operands.now ps k p c.in-Some.list.items c.loop-pattern.found c.add_all.new.found there
+    (if_some (λ list. AreEnough c.args.search.now.spaces.now c.args.search.now.query.now.space (λ values. holds c.args.search.now.operands.now values p) list.items) c.in_ok-list.field-0 c.in-Some.list c.in-Some.is c.in_ok-list.ensures)
     (subst (λ list. HasAlso c.loop-pattern.found list c.add_all.new.found) c.deref.ensures.value c.in_ok-add_all.ensures) c.loop-pattern.invariant
 
 pub near_some-returns : goal.near_some-returns
 near_some-returns t c =
     let ps = c.args.patterns.now in
     let le : length ps ≤ c.loop-pattern.pattern-index = omega (arith, c.loop-pattern-test.false, c.loop-pattern.auto.pattern-index-end) in
-    some_enough c.args.spaces.now c.args.space c.args.operands.now ps c.loop-pattern.pattern-index c.loop-pattern.found c.in_ok-list_of.field-0.items le c.loop-pattern.invariant c.in_ok-list_of.ensures.list c.list_of.ensures.rising
+    some_enough c.args.search.now.spaces.now c.args.search.now.query.now.space c.args.search.now.operands.now ps c.loop-pattern.pattern-index c.loop-pattern.found c.in_ok-list_of.field-0.items le c.loop-pattern.invariant c.in_ok-list_of.ensures.list c.list_of.ensures.rising
 
 pub near_pattern-returns-in-And : goal.near_pattern-returns-in-And
 near_pattern-returns-in-And t c =
     let parts : and_of (trees_of c.as_slice.result.now) ≡ c.args.pattern.now = ap (λ ps. and_of (trees_of ps)) c.as_slice.ensures.value ∙ (sym (ap tree_of c.in-And.is) ∙ c.node.ensures) in
-    IfOk-weaker c.near_each.result _ _ (λ near h. IfSome_then near h (λ list e. and_enough c.args.spaces.now c.args.space c.args.operands.now c.args.pattern.now (trees_of c.as_slice.result.now) list.items parts e)) c.near_each.ensures
+    IfOk-weaker c.near_each.result _ _ (λ near h. IfSome_then near h (λ list e. and_enough c.args.search.now.spaces.now c.args.search.now.query.now.space c.args.search.now.operands.now c.args.pattern.now (trees_of c.as_slice.result.now) list.items parts e)) c.near_each.ensures
 
 pub near_pattern-returns-in-Or : goal.near_pattern-returns-in-Or
 near_pattern-returns-in-Or t c =
     let parts : or_of (trees_of c.as_slice-in-Or.result.now) ≡ c.args.pattern.now = ap (λ ps. or_of (trees_of ps)) c.as_slice-in-Or.ensures.value ∙ (sym (ap tree_of c.in-Or.is) ∙ c.node.ensures) in
-    IfOk-weaker c.near_some.result _ _ (λ near h. IfSome_then near h (λ list e. or_enough c.args.spaces.now c.args.space c.args.operands.now c.args.pattern.now (trees_of c.as_slice-in-Or.result.now) list.items parts e)) c.near_some.ensures
-
-pub near_pattern-returns-in-Ordered : goal.near_pattern-returns-in-Ordered
-near_pattern-returns-in-Ordered t c =
-    IfOk-weaker c.near_interval.result _ _ (λ near h. IfSome_then near h (λ list e. ordered_enough c.args.spaces.now c.args.space c.args.operands.now c.args.pattern.now c.in-Ordered.relation c.in-Ordered.dim c.in-Ordered.operand list.items
-    (sym (ap tree_of c.in-Ordered.is) ∙ c.node.ensures)
-    (subst (λ o. AreEnough c.args.spaces.now c.args.space (λ values. ordered_holds c.in-Ordered.relation (slice_get values c.in-Ordered.dim) o) list.items) c.operand_at-operand.ensures e))) c.near_interval.ensures
-
-pub near_pattern-returns-in-Is : goal.near_pattern-returns-in-Is
-near_pattern-returns-in-Is t c =
-    IfOk-weaker c.near_label.result _ _ (λ near h. IfSome_then near h (λ list e. is_enough c.args.spaces.now c.args.space c.args.operands.now c.args.pattern.now c.in-Is.dim c.in-Is.operand list.items
-    (sym (ap tree_of c.in-Is.is) ∙ c.node.ensures)
-    (subst (λ o. AreEnough c.args.spaces.now c.args.space (λ values. is_holds (slice_get values c.in-Is.dim) o) list.items) c.operand_at-operand-in-Is.ensures e))) c.near_label.ensures
+    IfOk-weaker c.near_some.result _ _ (λ near h. IfSome_then near h (λ list e. or_enough c.args.search.now.spaces.now c.args.search.now.query.now.space c.args.search.now.operands.now c.args.pattern.now (trees_of c.as_slice-in-Or.result.now) list.items parts e)) c.near_some.ensures

@@ -4,14 +4,16 @@ use Rattle.std.specs.Vec.Iter.{into_iter_items}
 use Rattle.bb_agenda.specs.Agenda.{pending_for}
 use Rattle.bb_run.specs.Processing.{rerated_by, reacting_to_each}
 use Rattle.bb_run.specs.proving.Seen.{seen}
+use Rattle.bb_run.proofs.OwnLemmas.{rerating_ignores}
 use Rattle.bb_run.proofs.ResponseLemmas.{activation_made, activation_over, activations_done, begun_with}
 use Rattle.bb_run.proofs.reacting.retrigger_all.Goals as goal
 
 pub loop-activation-init : goal.loop-activation-init
 loop-activation-init g c =
+    let s = seen g.N.NativeSource.meaning c.args.state.now in
+    let waiting = pending_for c.args.state.now.agenda c.args.place in
     let gives : into_iter_items c.into_iter-activation-iterator.result ≡ c.in_ok-activation-items.activation-items.items = c.into_iter-activation-iterator.ensures.into_iter_gives.0 in
-    begun_with c.args.notes.now.items c.args.event rerated_by c.args.reaction.now (seen g.N.NativeSource.meaning c.args.state.now) (pending_for c.args.state.now.agenda c.args.place) (into_iter_items c.into_iter-activation-iterator.result)
-    (gives ∙ c.in_ok-activation-items.ensures)
+    begun_with c.args.notes.now.items c.args.event rerated_by rerating_ignores c.args.reaction.now s waiting (into_iter_items c.into_iter-activation-iterator.result) (gives ∙ c.in_ok-activation-items.ensures)
 
 pub returns-in-Some-2 : goal.returns-in-Some-2
 returns-in-Some-2 g c =

@@ -1,6 +1,6 @@
 use Rattle.std.proofs.Common.{◌≡◌, drop}
 use Rattle.bb_basis.specs.Results.{try_map}
-use Rattle.bb_basis.proofs.TryMapLemmas.{joined}
+use Rattle.bb_basis.proofs.IntoMapLemmas.{joined}
 use Rattle.bb_shell.specs.Sources.{compiled_source}
 use Rattle.bb_shell.proofs.compiled.compile_all.Given as goal
 

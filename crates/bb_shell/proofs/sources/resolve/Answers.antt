@@ -7,8 +7,8 @@ pub returns-in-Err : goal.returns-in-Err
 returns-in-Err c =
     elim c.in-Err.ensures.made [
       | inl memory ↦ search rules
-      | inr failed ↦ ap (λ n. Err (Rule n c.in-Err.fault)) (c.in_ok-name.ensures ∙ c.as_str.ensures) ∙ sym (ap (map_err (Rule c.args.draft.name)) failed)
+      | inr failed ↦ ap (λ n. Err (Rule n c.in-Err.fault)) (c.in_ok-name.ensures ∙ c.as_str.ensures) ∙ sym (ap (map_err (Rule c.args.draft.header.name)) failed)
     ]
 
 pub returns-in-Ok : goal.returns-in-Ok
-returns-in-Ok c = sym (ap (map_err (Rule c.args.draft.name)) c.in-Ok.ensures.made)
+returns-in-Ok c = sym (ap (map_err (Rule c.args.draft.header.name)) c.in-Ok.ensures.made)

@@ -3,7 +3,7 @@ use Rattle.std.specs.Prelude.{is_some, option_map}
 use Rattle.std.specs.FinMap as fin
 use Rattle.bb_pattern.specs.declared.value.DimValue.{DimValue}
 use Rattle.bb_space.specs.proving.Entries.{members_of_entries}
-use Rattle.bb_space.proofs.EntryLemmas.{get_is_lookup, one_set}
+use Rattle.bb_basis.proofs.EntryLemmas.{get_is_lookup, one_set}
 use Rattle.bb_space.proofs.members.exchange.Goals as goal
 
 pub returns-in-None-clause-moved : goal.returns-in-None-clause-moved

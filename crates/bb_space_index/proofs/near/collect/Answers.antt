@@ -1,16 +1,9 @@
 use Rattle.std.proofs.Common.{◌≡◌, ◌||◌, ◌==◌, List, [], ◌∷◌, ◌++◌, sym, ap, ◌∙◌, rules}
 use Rattle.std.specs.List.{list_any}
-use Rattle.bb_space_index.specs.Spots.{is_among}
+use Rattle.bb_space_index.specs.Stretches.{is_among}
 use Rattle.bb_space_index.specs.declared.place.Place.{Place}
 use Rattle.bb_space_index.proofs.AmongLemmas.{among_more}
-use Rattle.bb_space_index.proofs.SpotLemmas.{none_between, is_less, in_turn}
 use Rattle.bb_space_index.proofs.near.collect.Goals as goal
-
-pub range-place-items-requires : goal.range-place-items-requires
-range-place-items-requires c = in_turn c.args.from c.args.to (sym (is_less c.args.to c.args.from) ∙ (sym c.lt.ensures ∙ c.if-lt.false))
-
-pub returns-then-lt : goal.returns-then-lt
-returns-then-lt c = λ n. none_between c.args.from c.args.to n (sym (is_less c.args.to c.args.from) ∙ (sym c.lt.ensures ∙ c.if-lt.true)) c.args.places.now (is_among n c.args.found.now.items)
 
 pub loop-place-preserved : goal.loop-place-preserved
 loop-place-preserved c = λ n.

@@ -6,7 +6,7 @@ use Rattle.std.proofs.Math.Dec.{eqb}
 use Rattle.std.proofs.lemmas.List.Filters.{dedup_is}
 use Rattle.std.proofs.lemmas.List.Kept.{IsStrictlySortedBy-dedup}
 use Rattle.std.proofs.lemmas.List.Sorted.{list_any-IsPermutation}
-use Rattle.bb_space_index.specs.Spots.{is_among}
+use Rattle.bb_space_index.specs.Stretches.{is_among}
 use Rattle.bb_space_index.proofs.AmongLemmas.{among_dedup, same_order}
 use Rattle.bb_space_index.proofs.near.rise.Goals as goal
 

@@ -1,6 +1,6 @@
 use Rattle.std.proofs.Common.{◌≡◌, true, ap, ◌∙◌, rules}
 use Rattle.std.specs.Prelude.{filter}
-use Rattle.bb_space_index.specs.Spots.{is_near}
+use Rattle.bb_space_index.specs.Stretches.{is_near}
 use Rattle.bb_space_index.specs.Marks.{is_kept}
 use Rattle.bb_space_index.proofs.MarkLemmas.{leaves_near}
 use Rattle.bb_space_index.proofs.thin.thin_by.Goals as goal

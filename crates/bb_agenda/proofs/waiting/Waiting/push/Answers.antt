@@ -29,7 +29,7 @@ invariant_of-self-in-Ok c =
       keyed = subst AreKeyed (sym c.in-Ok.ensures.kept) (keyed_put es c.self.invariant.keyed a below);
       filed = subst (λ (ns : List ℕ). AreFiled (values_of c.store.new.activations.entries) ns c.store.new.lists) (sym c.in_ok-push.ensures.ok)
           (subst (λ (xs : List Activation). AreFiled xs (old.numbers ++ a.number ∷ []) c.store.new.lists) (sym values)
-          (filed_put (values_of es) old.numbers old.by_source c.self.invariant.filed a c.store.new.lists below c.in-Ok.ensures.listed));
+          (filed_put (values_of es) old.numbers old.lists c.self.invariant.filed a c.store.new.lists below c.in-Ok.ensures.listed));
       ranked = subst (λ (xs : List Activation). AreRanked xs c.store.new.orders.items) (sym values) (ranked_put (values_of es) old.orders.items c.self.invariant.ranked a below c.store.new.orders.items c.in-Ok.ensures.ranked);
     }
 
@@ -45,7 +45,7 @@ remove-requires c =
     let old = c.self.inside in
     let es = old.activations.entries in
     let below = subst (AllByRecursion (λ (b : Activation). b.number < a.number)) (sym c.self.view_is) c.requires in
-    subst Rising (sym c.in_ok-push.ensures.ok) (rising_put (λ n. n) old.numbers a.number (numbers_rise (values_of es) old.numbers old.by_source c.self.invariant.filed) (numbers_below (values_of es) old.numbers old.by_source c.self.invariant.filed a.number below))
+    subst Rising (sym c.in_ok-push.ensures.ok) (rising_put (λ n. n) old.numbers a.number (numbers_rise (values_of es) old.numbers old.lists c.self.invariant.filed) (numbers_below (values_of es) old.numbers old.lists c.self.invariant.filed a.number below))
 
 pub invariant_of-self-in-Err : goal.invariant_of-self-in-Err
 invariant_of-self-in-Err c =
@@ -54,12 +54,12 @@ invariant_of-self-in-Err c =
     let es = old.activations.entries in
     let below = subst (AllByRecursion (λ (b : Activation). b.number < a.number)) (sym c.self.view_is) c.requires in
     let again = c.in-Err.ensures.unkept in
-    let numbered = c.remove.ensures ∙ ap (without a.number) c.in_ok-push.ensures.ok ∙ last_gone a.number old.numbers (numbers_below (values_of es) old.numbers old.by_source c.self.invariant.filed a.number below) in
+    let numbered = c.remove.ensures ∙ ap (without a.number) c.in_ok-push.ensures.ok ∙ last_gone a.number old.numbers (numbers_below (values_of es) old.numbers old.lists c.self.invariant.filed a.number below) in
     record {
       keyed = subst AreKeyed (sym again) c.self.invariant.keyed;
       filed = subst (λ (fs : List (ℕ × Activation)). AreFiled (values_of fs) c.remove.new.self c.store.new.lists) (sym again)
           (subst (λ (ns : List ℕ). AreFiled (values_of es) ns c.store.new.lists) (sym numbered)
-          (filed_same (values_of es) old.numbers old.by_source c.self.invariant.filed c.store.new.lists c.in-Err.ensures.unlisted));
+          (filed_same (values_of es) old.numbers old.lists c.self.invariant.filed c.store.new.lists c.in-Err.ensures.unlisted));
       ranked = subst (λ (fs : List (ℕ × Activation)). AreRanked (values_of fs) c.store.new.orders.items) (sym again)
           (record { ranked = λ s r. c.in-Err.ensures.unranked s r (not_ranked_yet (values_of es) old.orders.items c.self.invariant.ranked a below s r) ∙ c.self.invariant.ranked.ranked s r });
     }

@@ -6,16 +6,16 @@ use Rattle.bb_agenda.specs.Changes.{other_than}
 use Rattle.bb_agenda.specs.proving.Lists.{without}
 use Rattle.bb_agenda.specs.proving.Filed.{AreFiled, AreKeyed}
 use Rattle.bb_agenda.specs.proving.Ranks.{AreRanked, ranked_less}
-use Rattle.bb_agenda.proofs.FiledLemmas.{numbers_rise, sources_rise, filed_less}
+use Rattle.bb_agenda.proofs.FiledLemmas.{numbers_rise, own_rise, filed_less}
 use Rattle.bb_agenda.proofs.KeyedLemmas.{found, values_less, keyed_less}
 use Rattle.bb_agenda.proofs.RankLemmas.{ranked_gone}
 use Rattle.bb_agenda.proofs.waiting.Waiting.remove.Goals as goal
 
 pub remove-requires-in-Some : goal.remove-requires-in-Some
-remove-requires-in-Some c = numbers_rise (values_of c.self.inside.activations.entries) c.self.inside.numbers c.self.inside.by_source c.self.invariant.filed
+remove-requires-in-Some c = numbers_rise (values_of c.self.inside.activations.entries) c.self.inside.numbers c.self.inside.lists c.self.invariant.filed
 
-pub remove_from-requires : goal.remove_from-requires
-remove_from-requires c = sources_rise (values_of c.self.inside.activations.entries) c.self.inside.numbers c.self.inside.by_source c.self.invariant.filed c.in-Some.activation.source
+pub remove-requires-in-Some-2 : goal.remove-requires-in-Some-2
+remove-requires-in-Some-2 c = own_rise (values_of c.self.inside.activations.entries) c.self.inside.numbers c.self.inside.lists c.self.invariant.filed c.in-Some.activation
 
 pub invariant_of-self : goal.invariant_of-self
 invariant_of-self c =
@@ -27,8 +27,8 @@ invariant_of-self c =
     let values : values_of c.remove.new.self.entries ≡ filter (other_than n) (values_of es) = ap values_of c.remove.ensures.entries ∙ values_less n es c.self.invariant.keyed c.self.invariant.filed.rising in
     record {
       keyed = subst AreKeyed (sym c.remove.ensures.entries) (keyed_less n es c.self.invariant.keyed);
-      filed = subst (λ (ns : List ℕ). AreFiled (values_of c.remove.new.self.entries) ns c.remove_from.new.lists) (sym c.remove-in-Some.ensures)
-          (subst (λ (xs : List Activation). AreFiled xs (without n old.numbers) c.remove_from.new.lists) (sym values) (filed_less (values_of es) old.numbers old.by_source c.self.invariant.filed n a is c.remove_from.new.lists c.remove_from.ensures));
+      filed = subst (λ (ns : List ℕ). AreFiled (values_of c.remove.new.self.entries) ns c.remove-in-Some-2.new.self) (sym c.remove-in-Some.ensures)
+          (subst (λ (xs : List Activation). AreFiled xs (without n old.numbers) c.remove-in-Some-2.new.self) (sym values) (filed_less (values_of es) old.numbers old.lists c.self.invariant.filed n a is c.remove-in-Some-2.new.self c.remove-in-Some-2.ensures));
       ranked = subst (λ (xs : List Activation). AreRanked xs c.rank_out.new.orders.items) (sym values)
           (ranked_gone (values_of es) old.orders.items c.self.invariant.ranked n a is c.rank_out.new.orders.items (λ s r. c.rank_out.ensures s r ∙ ap (λ k. ranked_less old.orders.items a.source k s r) c.of.ensures));
     }

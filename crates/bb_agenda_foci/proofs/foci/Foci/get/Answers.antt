@@ -1,7 +1,7 @@
 use Rattle.std.proofs.Common.{◌∙◌, sym, ap}
 use Rattle.std.specs.FinMap as fin
 use Rattle.bb_agenda_foci.specs.Foci.{Foci}
-use Rattle.bb_agenda_foci.proofs.EntryLemmas.{get_is_lookup}
+use Rattle.bb_basis.proofs.EntryLemmas.{get_is_lookup}
 use Rattle.bb_agenda_foci.proofs.foci.Foci.get.Goals as goal
 
 pub returns : goal.returns

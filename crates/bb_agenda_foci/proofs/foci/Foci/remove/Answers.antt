@@ -5,7 +5,7 @@ use Rattle.std.specs.BTreeMap.{is_at}
 use Rattle.std.specs.Map.{remove_entry}
 use Rattle.bb_agenda_foci.specs.Foci.{Foci}
 use Rattle.bb_agenda_foci.specs.proving.Weights.{part_of, weight_by}
-use Rattle.bb_agenda_foci.proofs.EntryLemmas.{one_gone}
+use Rattle.bb_basis.proofs.EntryLemmas.{one_gone}
 use Rattle.bb_agenda_foci.proofs.SumLemmas.{sum_of, sum_without, weight_is, weighed_without}
 use Rattle.bb_agenda_foci.proofs.foci.Foci.remove.Goals as goal
 

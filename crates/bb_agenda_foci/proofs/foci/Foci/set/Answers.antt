@@ -5,7 +5,7 @@ use Rattle.std.specs.Ordering.{nat_cmp}
 use Rattle.std.specs.BTreeMap.{insert_entry}
 use Rattle.bb_agenda_foci.specs.Foci.{Foci}
 use Rattle.bb_agenda_foci.specs.proving.Weights.{part_of, weight_by}
-use Rattle.bb_agenda_foci.proofs.EntryLemmas.{one_set, get_is_lookup}
+use Rattle.bb_basis.proofs.EntryLemmas.{one_set, get_is_lookup}
 use Rattle.bb_agenda_foci.proofs.SumLemmas.{sum_of, sum_with, weight_is, weighed_with, is_weight}
 use Rattle.bb_agenda_foci.proofs.foci.Foci.set.Goals as goal
 

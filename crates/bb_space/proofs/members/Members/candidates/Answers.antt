@@ -4,7 +4,7 @@ use Rattle.std.specs.Ordering.{nat_cmp}
 use Rattle.std.specs.BTreeMap.{is_at as meets}
 use Rattle.bb_space.specs.Candidates.{is_candidate}
 use Rattle.bb_space.specs.proving.Indexed.{membership}
-use Rattle.bb_space_index.specs.Spots.{is_near, is_among}
+use Rattle.bb_space_index.specs.Stretches.{is_near, is_among}
 use Rattle.bb_space_index.proofs.Laws.{meets_among}
 use Rattle.bb_space.proofs.CandidateLemmas.{candidates_are}
 use Rattle.bb_space.proofs.IndexLemmas.{near_candidate}

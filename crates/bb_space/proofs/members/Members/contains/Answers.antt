@@ -1,6 +1,6 @@
 use Rattle.std.proofs.Common.{◌∙◌, sym, ap}
 use Rattle.std.specs.Prelude.{is_some}
-use Rattle.bb_space.proofs.EntryLemmas.{get_is_lookup}
+use Rattle.bb_basis.proofs.EntryLemmas.{get_is_lookup}
 use Rattle.bb_space.proofs.members.Members.contains.Goals as goal
 
 pub returns : goal.returns

@@ -2,7 +2,7 @@ use Rattle.std.proofs.Common.{◌≡◌, ◌∙◌, sym, ap, refl, false}
 use Rattle.std.specs.FinMap as fin
 use Rattle.bb_space.specs.proving.Entries.{members_of_entries}
 use Rattle.bb_space.specs.proving.Indexed.{membership}
-use Rattle.bb_space.proofs.EntryLemmas.{one_set}
+use Rattle.bb_basis.proofs.EntryLemmas.{one_set}
 use Rattle.bb_space.proofs.LooseLemmas.{at_ok, entered_indexed}
 use Rattle.bb_space.proofs.members.Members.enter.Goals as goal
 

@@ -2,7 +2,7 @@ use Rattle.std.proofs.Common.{◌≡◌, ◌∙◌, sym, ap, refl, Some, unwrap_
 use Rattle.std.specs.Prelude.{is_some}
 use Rattle.std.specs.FinMap as fin
 use Rattle.bb_space.specs.proving.Indexed.{membership}
-use Rattle.bb_space.proofs.EntryLemmas.{get_is_lookup, one_gone}
+use Rattle.bb_basis.proofs.EntryLemmas.{get_is_lookup, one_gone}
 use Rattle.bb_space.proofs.LooseLemmas.{left_none, left_indexed}
 use Rattle.bb_space.proofs.members.Members.leave.Goals as goal
 

@@ -3,7 +3,7 @@ use Rattle.std.specs.Prelude.{option_map}
 use Rattle.std.specs.FinMap as fin
 use Rattle.bb_space.specs.proving.Indexed.{membership}
 use Rattle.bb_space_index.specs.Places.{AreTaken}
-use Rattle.bb_space.proofs.EntryLemmas.{get_is_lookup}
+use Rattle.bb_basis.proofs.EntryLemmas.{get_is_lookup}
 use Rattle.bb_space.proofs.members.Members.settle.Goals as goal
 
 pub returns-in-None-clause-taken : goal.returns-in-None-clause-taken

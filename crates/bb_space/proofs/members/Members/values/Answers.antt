@@ -1,6 +1,6 @@
 use Rattle.std.proofs.Common.{◌∙◌, sym, ap}
 use Rattle.std.specs.Prelude.{option_map}
-use Rattle.bb_space.proofs.EntryLemmas.{get_is_lookup}
+use Rattle.bb_basis.proofs.EntryLemmas.{get_is_lookup}
 use Rattle.bb_space.proofs.members.Members.values.Goals as goal
 
 pub returns-in-None : goal.returns-in-None

@@ -1,0 +1,169 @@
+//! Warnings of a whole source as sentences: of its rate, of quiescence, of its `require`, and of events that never
+//! come. `advice` writes them.
+
+use bb_basis::Memory;
+use bb_board::ChangeKind;
+use bb_code::{ClassId, Schema, SlotId, SpaceId};
+use bb_lint_events::Possible;
+use bb_lint_parts::{Site, SourceSites};
+use bb_rules::{Clause, ClauseList, Source};
+use std::fmt::Write;
+
+// Begins a warning of a source, or of one of its parts, and appends where that stands which it is about.
+fn begin(text: &mut String, source: &Source, part: &str, site: Site<'_>) -> Result<(), Memory> {
+    let name = source.parts().name.as_str();
+    write!(text, "warning: source {name}{part}")?;
+    site.write_place(text)
+}
+
+/// Appends that no activation of a source is chosen.
+pub(crate) fn write_rating(
+    text: &mut String,
+    source: &Source,
+    sites: &SourceSites<'_>,
+    floor: i64,
+) -> Result<(), Memory> {
+    let rate = source.parts().rate;
+    let site = sites.rate();
+    begin(text, source, "", site)?;
+    write!(
+        text,
+        "its rate {rate} is below the floor {floor}, and no source makes a focus; "
+    )?;
+    text.push_str("unless a first unit is one, it is never chosen")?;
+    site.write_end(text)
+}
+
+/// Appends that quiescence triggers a source without end.
+pub(crate) fn write_restless(
+    text: &mut String,
+    source: &Source,
+    sites: &SourceSites<'_>,
+) -> Result<(), Memory> {
+    let triggers = source.parts().triggers.as_slice();
+    let quiescence = triggers
+        .iter()
+        .position(|clause| matches!(clause, Clause::Quiescence));
+    let site = sites.clause(ClauseList::Triggers, quiescence.unwrap_or(0));
+    begin(text, source, "", site)?;
+    text.push_str("each quiescence triggers it, and it has no `require`; ")?;
+    text.push_str("unless foci weigh it below the floor, the run goes on to its limit")?;
+    site.write_end(text)
+}
+
+/// Appends that no event triggers a source.
+pub(crate) fn write_never_rates(
+    text: &mut String,
+    source: &Source,
+    sites: &SourceSites<'_>,
+) -> Result<(), Memory> {
+    let site = sites.part("require");
+    begin(text, source, ", require", site)?;
+    text.push_str("it has no way to a rating, so no event triggers the source")?;
+    site.write_end(text)
+}
+
+/// Appends the clauses of a source that name what never happens.
+pub(crate) fn write_clauses(
+    text: &mut String,
+    schema: &Schema,
+    possible: &Possible,
+    source: &Source,
+    sites: &SourceSites<'_>,
+) -> Result<(), Memory> {
+    let parts = source.parts();
+    let triggers = parts.triggers.as_slice();
+    let told = Told {
+        schema,
+        possible,
+        source,
+        sites,
+    };
+    told.write_list(text, ClauseList::Triggers, triggers)?;
+    if let Some(reaction) = &parts.obviate {
+        told.write_list(text, ClauseList::Obviate, reaction.clauses.as_slice())?;
+    }
+    if let Some(reaction) = &parts.retrigger {
+        told.write_list(text, ClauseList::Retrigger, reaction.clauses.as_slice())?;
+    }
+    Ok(())
+}
+
+// What the clauses of a source are told by.
+#[derive(Clone, Copy)]
+struct Told<'a> {
+    schema: &'a Schema,
+    possible: &'a Possible,
+    source: &'a Source,
+    sites: &'a SourceSites<'a>,
+}
+
+impl Told<'_> {
+    // Appends the clauses of a list that name what never happens.
+    fn write_list(
+        self,
+        text: &mut String,
+        list: ClauseList,
+        clauses: &[Clause],
+    ) -> Result<(), Memory> {
+        for (index, clause) in clauses.iter().enumerate() {
+            if let Clause::Change { kind, class } = *clause {
+                if !self.possible.can_happen(self.schema, kind, class) {
+                    let site = self.sites.clause(list, index);
+                    begin(text, self.source, part_of(list), site)?;
+                    text.push_str("no first unit and no source brings \"")?;
+                    write_event(text, self.schema, kind, class)?;
+                    text.push_str(what_follows(list))?;
+                    site.write_end(text)?;
+                }
+            }
+        }
+        Ok(())
+    }
+}
+
+// How a list of clauses is named behind the name of a source.
+fn part_of(list: ClauseList) -> &'static str {
+    match list {
+        ClauseList::Triggers => "",
+        ClauseList::Obviate => ", obviate",
+        ClauseList::Retrigger => ", retrigger",
+    }
+}
+
+// What follows of a clause that names what never happens.
+fn what_follows(list: ClauseList) -> &'static str {
+    match list {
+        ClauseList::Triggers => "\" about, so it triggers nothing",
+        _ => "\" about, so it asks nothing",
+    }
+}
+
+// The name of a slot.
+fn slot_name(schema: &Schema, slot: SlotId) -> &str {
+    schema.slot_name(slot).unwrap_or("?")
+}
+
+// The name of a space.
+fn space_name(schema: &Schema, space: SpaceId) -> &str {
+    schema.space_name(space).unwrap_or("?")
+}
+
+// Appends an event as a clause names it.
+fn write_event(
+    text: &mut String,
+    schema: &Schema,
+    kind: ChangeKind,
+    class: ClassId,
+) -> Result<(), Memory> {
+    let class = schema.class_name(class).unwrap_or("?");
+    match kind {
+        ChangeKind::Create => write!(text, "create {class}"),
+        ChangeKind::Delete => write!(text, "delete {class}"),
+        ChangeKind::Update(slot) => write!(text, "update {class}.{}", slot_name(schema, slot)),
+        ChangeKind::Link(slot) => write!(text, "link {class}.{}", slot_name(schema, slot)),
+        ChangeKind::Unlink(slot) => write!(text, "unlink {class}.{}", slot_name(schema, slot)),
+        ChangeKind::Enter(space) => write!(text, "enter {class} {}", space_name(schema, space)),
+        ChangeKind::Leave(space) => write!(text, "leave {class} {}", space_name(schema, space)),
+    }
+}

@@ -1,0 +1,104 @@
+//! The changes that a run can have. adding.rt collects them from notes and ops.
+
+use bb_basis::Memory;
+use bb_board::{ChangeKind, Note};
+use bb_rules::{KindIndex, Source};
+use bb_schema::{ClassId, Schema, SpaceId};
+use std::alloc::Global;
+
+/// The changes that a run can have: for each kind of change the classes of the units that change so.
+#[derive(Drop)]
+pub struct Possible {
+    /// Whether any change is possible, as where a native acts.
+    pub(crate) is_open: bool,
+    /// Classes of units that change so.
+    pub(crate) exact: KindIndex,
+    /// Classes of which, or of those below which, units may change so.
+    pub(crate) below: KindIndex,
+}
+
+impl Possible {
+    /// What a run of sources can have, where the first units note these changes. Without notes, as where nothing is
+    /// known of the first units, anything is possible.
+    pub fn of(
+        alloc: Global,
+        schema: &Schema,
+        sources: &[Source],
+        first: Option<&[Note]>,
+    ) -> Result<Possible, Memory> {
+        let mut possible = Possible {
+            is_open: first.is_none(),
+            exact: KindIndex::new(alloc),
+            below: KindIndex::new(alloc),
+        };
+        for note in first.unwrap_or(&[]) {
+            possible.add_note(note)?;
+        }
+        for source in sources {
+            possible.add_act(schema, &source.parts().act)?;
+        }
+        Ok(possible)
+    }
+
+    /// Whether a unit of a class, or of one below it, can change so.
+    pub fn can_happen(&self, schema: &Schema, kind: ChangeKind, class: ClassId) -> bool {
+        self.is_open || self.is_noted(schema, kind, class) || self.can_follow(schema, kind, class)
+    }
+
+    /// Whether a unit of a class, or of one below it, can enter a space.
+    pub fn can_enter(&self, schema: &Schema, space: SpaceId, class: ClassId) -> bool {
+        self.can_happen(schema, ChangeKind::Enter(space), class)
+    }
+
+    // Whether ops can change a unit so. A deletion takes links away and has the unit leave its spaces, where it has
+    // any.
+    fn can_follow(&self, schema: &Schema, kind: ChangeKind, class: ClassId) -> bool {
+        let is_here = self.is_below(schema, kind, class);
+        match kind {
+            ChangeKind::Unlink(slot) => {
+                let can_go = is_here || has_any(&self.below, ChangeKind::Delete);
+                can_go && self.has_some(ChangeKind::Link(slot))
+            }
+            ChangeKind::Leave(space) => {
+                let can_go = is_here || self.is_below(schema, ChangeKind::Delete, class);
+                can_go && self.has_some(ChangeKind::Enter(space))
+            }
+            _ => is_here,
+        }
+    }
+
+    // Whether a unit of a class that changes so is of the class or below it.
+    fn is_noted(&self, schema: &Schema, kind: ChangeKind, class: ClassId) -> bool {
+        match self.exact.at(kind) {
+            None => false,
+            Some(classes) => classes
+                .as_slice()
+                .iter()
+                .any(|one| schema.descends(*one, class)),
+        }
+    }
+
+    // Whether units of a class, or below it, are among those that ops may change so.
+    fn is_below(&self, schema: &Schema, kind: ChangeKind, class: ClassId) -> bool {
+        match self.below.at(kind) {
+            None => false,
+            Some(classes) => classes
+                .as_slice()
+                .iter()
+                .any(|one| schema.related(*one, class)),
+        }
+    }
+
+    // Whether any unit changes so.
+    fn has_some(&self, kind: ChangeKind) -> bool {
+        has_any(&self.exact, kind) || has_any(&self.below, kind)
+    }
+}
+
+// Whether there is a class for a kind.
+fn has_any(index: &KindIndex, kind: ChangeKind) -> bool {
+    match index.at(kind) {
+        None => false,
+        Some(classes) => classes.len() > 0,
+    }
+}

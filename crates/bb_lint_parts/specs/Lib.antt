@@ -1,0 +1,2 @@
+-- the codes of a source, in order
+pub mod Codes

@@ -1,0 +1,80 @@
+//! What is noted of a source's text: where its clauses and its parts stand, and in each part what makes the ops that
+//! advice speaks of. The walk (outlining.rt) makes outlines, and sites are read off them.
+
+use crate::spot::Spot;
+use bb_rules::ClauseList;
+use std::alloc::Global;
+
+/// Where the pieces of a source stand.
+#[derive(Drop)]
+pub(crate) struct Outline<'a> {
+    /// The word `rate` of its head.
+    pub(crate) rate: Option<Spot>,
+    triggers: Vec<Spot>,
+    obviating: Vec<Spot>,
+    retriggering: Vec<Spot>,
+    pub(crate) parts: Vec<PartOutline<'a>>,
+}
+
+/// Where the pieces of a part stand.
+#[derive(Drop)]
+pub(crate) struct PartOutline<'a> {
+    /// The word of the part, and where it stands.
+    pub(crate) word: &'a str,
+    pub(crate) spot: Spot,
+    /// Each `find`, in the order in which searches are made: one that stands in a test of another comes before it.
+    pub(crate) finds: Vec<Spot>,
+    /// The unit of each `with n = u as C`.
+    pub(crate) tests: Vec<Spot>,
+    /// The value of each `set`.
+    pub(crate) sets: Vec<Spot>,
+}
+
+impl<'a> Outline<'a> {
+    /// Of a source of which nothing was noted so far.
+    pub(crate) fn new(alloc: Global) -> Outline<'a> {
+        Outline {
+            rate: None,
+            triggers: Vec::new(alloc),
+            obviating: Vec::new(alloc),
+            retriggering: Vec::new(alloc),
+            parts: Vec::new(alloc),
+        }
+    }
+
+    /// Where the clauses of a list begin.
+    pub(crate) fn clauses(&self, list: ClauseList) -> &[Spot] {
+        match list {
+            ClauseList::Triggers => self.triggers.as_slice(),
+            ClauseList::Obviate => self.obviating.as_slice(),
+            ClauseList::Retrigger => self.retriggering.as_slice(),
+        }
+    }
+
+    /// As `clauses`, to add one.
+    pub(crate) fn clauses_mut(&mut self, list: ClauseList) -> &mut Vec<Spot> {
+        match list {
+            ClauseList::Triggers => &mut self.triggers,
+            ClauseList::Obviate => &mut self.obviating,
+            ClauseList::Retrigger => &mut self.retriggering,
+        }
+    }
+
+    /// The part of a word, if the source has it.
+    pub(crate) fn part(&self, word: &str) -> Option<&PartOutline<'a>> {
+        self.parts.iter().find(|part| part.word == word)
+    }
+}
+
+impl<'a> PartOutline<'a> {
+    /// Of a part that begins with a word.
+    pub(crate) fn new(alloc: Global, word: &'a str, spot: Spot) -> PartOutline<'a> {
+        PartOutline {
+            word,
+            spot,
+            finds: Vec::new(alloc),
+            tests: Vec::new(alloc),
+            sets: Vec::new(alloc),
+        }
+    }
+}

@@ -1,0 +1,30 @@
+-- What private functions say of a search.
+use Rattle.std.specs.Prelude.{◌≡◌, ℕ, ◌<◌, Bool, List, Ok, length}
+use Rattle.bb_pattern.specs.Fits.{query_fits}
+use Rattle.bb_pattern.specs.Holds.{holds}
+use Rattle.bb_pattern.specs.declared.value.DimValue.{DimValue}
+use Rattle.bb_query.specs.declared.search.Search.{Search}
+use Rattle.bb_query.specs.Answer.{answers}
+use Rattle.bb_query.specs.Knows.{KnowsValues}
+use Rattle.bb_query.specs.proving.Enough.{AreEnough}
+
+-- the spaces know the units' values, and the query fits the schema
+pub record Suits (s : Search) : Type 0 where
+  pub knows : KnowsValues s.schema.now s.units.now s.spaces.now
+  pub fits : query_fits s.schema.now s.query.now ≡ Ok tt
+
+-- the query's space is there
+abbrev pub HasSpace : Search → Type 0
+HasSpace s = s.query.now.space < length s.spaces.now.spaces
+
+-- the query answers the unit
+abbrev pub is_answer : Search → ℕ → Bool
+is_answer s n = answers s.schema.now s.units.now s.spaces.now s.query.now s.operands.now n
+
+-- the query's pattern holds of values
+abbrev pub matches : Search → List DimValue → Bool
+matches s values = holds s.operands.now values s.query.now.pattern
+
+-- the list rises, and has all members of the query's space whose values pass a test
+abbrev pub HasAll : Search → (List DimValue → Bool) → List ℕ → Type 0
+HasAll s test list = AreEnough s.spaces.now s.query.now.space test list

@@ -1,0 +1,22 @@
+//! What is known at a statement of a text of sources, for messages: its tokens, the names in scope with what they hold,
+//! the kind of a value, and which names a schema has.
+//!
+//! - In: a schema, and the tokens of a source.
+//! - Out: `Statement`, the tokens of one; `Judge`, what is known before it; `kind_of`; lists of names.
+//! - Callers rely on: it is for people. The compiler (bb_compile_scope) decides what a name holds; this reads it off
+//!   the tokens, as far as they show it.
+//! - Family: bb_refusal_statement makes sentences of it.
+//! - Cases: `sentences`.
+#![tactic(auto)]
+
+mod judge;
+mod kinds;
+mod names;
+mod statement;
+
+pub use judge::{Judge, Known};
+pub use kinds::{COMPARISONS, LOGIC, SUMS, kind_of, position_of, write_kind, write_value};
+pub use names::{
+    admitted_names, class_names, dim_names, label_names, slot_names, space_names, write_names,
+};
+pub use statement::{Statement, until_end, word_at};

@@ -1,0 +1,56 @@
+//! The sentence on a fault of a source's code. Reports (bb_refusal_report) call it.
+
+use crate::mismatch::write_mismatch;
+use crate::others::{write_effect, write_end, write_limit};
+use crate::units::{write_gone, write_space, write_wrong_class};
+use crate::unknown::write_unknown;
+use bb_basis::Memory;
+use bb_compile_scope::{Flaw, Place, Schema};
+use bb_refusal_grammar::source_tokens;
+use bb_refusal_scope::{Judge, Statement};
+use std::alloc::Global;
+
+// The most tokens of a statement that is looked through: it takes the square of so many steps.
+const LONGEST: usize = 8_192;
+
+/// Where a source has its fault, and which.
+#[derive(Clone, Copy, Debug)]
+pub struct Found<'a> {
+    /// The name of the source.
+    pub name: &'a str,
+    pub flaw: Flaw,
+    pub place: Place,
+}
+
+/// What is wrong with the statement at the place of a fault, without a line feed; `None` if there is no more to say
+/// than the fault says of itself. `Memory`: memory ran out.
+pub fn explain_statement(
+    alloc: Global,
+    schema: &Schema,
+    sources: &str,
+    found: Found<'_>,
+) -> Result<Option<String>, Memory> {
+    let tokens = source_tokens(alloc, sources, found.name)?;
+    let Some(statement) = Statement::at(tokens.as_slice(), found.place) else {
+        return Ok(None);
+    };
+    if statement.tokens().len() > LONGEST {
+        return Ok(None);
+    }
+    let judge = Judge::before(alloc, schema, statement)?;
+    let mut text = String::new(alloc);
+    match found.flaw {
+        Flaw::Unknown => write_unknown(&mut text, &judge, statement)?,
+        Flaw::Kind => write_mismatch(&mut text, &judge, statement)?,
+        Flaw::DeadName => write_gone(&mut text, &judge, statement)?,
+        Flaw::LinkClass => write_wrong_class(&mut text, &judge, statement)?,
+        Flaw::Space => write_space(&mut text, &judge, statement)?,
+        Flaw::Effect => write_effect(&mut text, &judge, statement)?,
+        Flaw::NoEnd => write_end(&mut text, &judge, statement)?,
+        Flaw::Limit => write_limit(&mut text, &judge, statement)?,
+    }
+    if text.is_empty() {
+        return Ok(None);
+    }
+    Ok(Some(text))
+}

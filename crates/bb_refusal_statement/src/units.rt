@@ -1,0 +1,130 @@
+//! The sentences on units: one that may be gone, and one of a class that a link slot or a space does not take.
+
+use bb_basis::Memory;
+use bb_compile_scope::{Kind, link_slot};
+use bb_refusal_grammar::Token;
+use bb_refusal_scope::{Judge, Statement, admitted_names, word_at, write_names};
+use std::fmt::Write;
+
+// Whether the word at an index is a unit that has to be live.
+fn is_used(tokens: &[Token<'_>], index: usize) -> bool {
+    let behind = word_at(tokens, index.saturating_add(1));
+    if behind == "." {
+        return true;
+    }
+    match word_at(tokens, 0) {
+        "delete" | "enter" | "leave" => index == 1,
+        "link" | "unlink" => index == 4,
+        _ => false,
+    }
+}
+
+/// Appends which unit may be gone, and why.
+pub(crate) fn write_gone(
+    text: &mut String,
+    judge: &Judge<'_, '_>,
+    statement: Statement<'_, '_>,
+) -> Result<(), Memory> {
+    let tokens = statement.tokens();
+    for (index, token) in tokens.iter().enumerate() {
+        if is_used(tokens, index) && write_old(text, judge, token.text)? {
+            return Ok(());
+        }
+    }
+    for (index, token) in tokens.iter().enumerate() {
+        if is_used(tokens, index) && write_looped(text, judge, statement, token.text)? {
+            return Ok(());
+        }
+    }
+    Ok(())
+}
+
+// Appends that a name's unit may be gone, if it is an old one.
+fn write_old(text: &mut String, judge: &Judge<'_, '_>, name: &str) -> Result<bool, Memory> {
+    let Some(known) = judge.find(name) else {
+        return Ok(false);
+    };
+    let Kind::Old(class) = known.kind else {
+        return Ok(false);
+    };
+    let class = judge.class_name(class);
+    write!(text, "{name} may be gone: ")?;
+    if let Some(line) = known.gone {
+        write!(
+            text,
+            "the \"delete\" in line {line} may have deleted it, and "
+        )?;
+    }
+    write!(text, "with n = {name} as {class} {{ .. }} tests it")?;
+    Ok(true)
+}
+
+// Appends that the loop around a statement may have deleted a name's unit, if a `delete` stands behind the statement.
+fn write_looped(
+    text: &mut String,
+    judge: &Judge<'_, '_>,
+    statement: Statement<'_, '_>,
+    name: &str,
+) -> Result<bool, Memory> {
+    let Some(Kind::Ref(class)) = judge.find(name).map(|it| it.kind) else {
+        return Ok(false);
+    };
+    let rest = statement.rest();
+    let Some(at) = rest.iter().position(|it| it.is("delete")) else {
+        return Ok(false);
+    };
+    let line = rest.get(at).map_or(0, |it| it.line);
+    let class = judge.class_name(class);
+    write!(
+        text,
+        "{name} may be gone: the \"delete\" in line {line} of the loop may have deleted it, and "
+    )?;
+    write!(text, "with n = {name} as {class} {{ .. }} tests it")?;
+    Ok(true)
+}
+
+/// Appends to which class a link slot leads, and of which the unit is.
+pub(crate) fn write_wrong_class(
+    text: &mut String,
+    judge: &Judge<'_, '_>,
+    statement: Statement<'_, '_>,
+) -> Result<(), Memory> {
+    let (unit, slot, other) = (statement.word(1), statement.word(3), statement.word(4));
+    let Some(class) = judge.class_named(unit) else {
+        return Ok(());
+    };
+    let Some(own) = judge.class_named(other) else {
+        return Ok(());
+    };
+    let Ok((_, link)) = link_slot(judge.schema, class, slot) else {
+        return Ok(());
+    };
+    let (to, class, own) = (
+        judge.class_name(link.to),
+        judge.class_name(class),
+        judge.class_name(own),
+    );
+    write!(
+        text,
+        "link slot {slot} of {class} leads to class {to}, and {other} is of class {own}"
+    )
+}
+
+/// Appends which classes a space admits, and of which the unit is.
+pub(crate) fn write_space(
+    text: &mut String,
+    judge: &Judge<'_, '_>,
+    statement: Statement<'_, '_>,
+) -> Result<(), Memory> {
+    let (unit, name) = (statement.word(1), statement.word(2));
+    let Some(space) = judge.schema.space(name) else {
+        return Ok(());
+    };
+    let Some(class) = judge.class_named(unit) else {
+        return Ok(());
+    };
+    let class = judge.class_name(class);
+    write!(text, "{unit} is of class {class}, and space {name} admits ")?;
+    let names = admitted_names(judge.alloc, judge.schema, space)?;
+    write_names(text, names.as_slice(), class)
+}

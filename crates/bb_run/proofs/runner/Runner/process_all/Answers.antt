@@ -1,0 +1,39 @@
+use Rattle.std.proofs.Common.{refl}
+use Rattle.std.proofs.lemmas.Result.{err_from_is_err_and}
+use Rattle.bb_run.specs.Processing.{events_in, processing_all}
+use Rattle.bb_run.specs.proving.Seen.{seen}
+use Rattle.bb_run.specs.proving.Telling.{at}
+use Rattle.bb_run.proofs.TellLemmas.{event_cut, event_ends, event_made, events_end, nothing_told, same_then}
+use Rattle.bb_run.proofs.runner.Runner.process_all.Goals as goal
+
+pub loop-note-init : goal.loop-note-init
+loop-note-init g c = record {
+  told = nothing_told c.args.plan.now (at g.O.Out.taken c.args.self.now) (processing_all c.args.plan.now (events_in c.args.notes.now) (seen g.N.NativeSource.meaning c.args.state.now));
+  same = (refl, refl);
+  still_open = c.requires.open;
+}
+
+pub returns-in_err-end-clause-made : goal.returns-in_err-end-clause-made
+returns-in_err-end-clause-made g c =
+    let p = err_from_is_err_and c.from_residual.result c.from_residual.ensures.1 in
+    rw (p.1, p.2) (event_cut c.args.plan.now (at g.O.Out.taken c.args.self.now) (at g.O.Out.taken c.loop-note.self) (at g.O.Out.taken c.process.new.self) (processing_all c.args.plan.now (events_in c.args.notes.now) (seen g.N.NativeSource.meaning c.args.state.now)) c.args.notes.now c.loop-note.note-index c.note-item.result
+    c.in-Some.event (seen g.N.NativeSource.meaning c.loop-note.state) c.in_err-end.field-0.0 c.loop-note-test.true c.note-item.is c.in-Some.ensures c.loop-note.invariant.told c.in_err-end.ensures.made)
+
+pub returns-in-Some-2-clause-made : goal.returns-in-Some-2-clause-made
+returns-in-Some-2-clause-made g c =
+    event_ends c.args.plan.now (at g.O.Out.taken c.args.self.now) (at g.O.Out.taken c.loop-note.self) (at g.O.Out.taken c.process.new.self) (processing_all c.args.plan.now (events_in c.args.notes.now) (seen g.N.NativeSource.meaning c.args.state.now)) c.args.notes.now c.loop-note.note-index c.note-item.result
+    c.in-Some.event (seen g.N.NativeSource.meaning c.loop-note.state) (seen g.N.NativeSource.meaning c.process.new.state) c.in_ok-end.field-0 c.in-Some-2.end c.loop-note-test.true c.note-item.is c.in-Some.ensures c.loop-note.invariant.told c.in_ok-end.ensures.made c.in-Some-2.is
+
+pub loop-note-preserved : goal.loop-note-preserved
+loop-note-preserved g c = record {
+  told =
+      event_made c.args.plan.now (at g.O.Out.taken c.args.self.now) (at g.O.Out.taken c.loop-note.self) (at g.O.Out.taken c.process.new.self) (processing_all c.args.plan.now (events_in c.args.notes.now) (seen g.N.NativeSource.meaning c.args.state.now)) c.args.notes.now c.loop-note.note-index c.note-item.result
+      c.in-Some.event (seen g.N.NativeSource.meaning c.loop-note.state) (seen g.N.NativeSource.meaning c.process.new.state) c.in_ok-end.field-0 c.loop-note-test.true c.note-item.is c.in-Some.ensures c.loop-note.invariant.told c.in_ok-end.ensures.made c.in_default-2.is;
+  same = same_then c.args.self.now c.loop-note.self c.process.new.self c.loop-note.invariant.same c.in_ok-end.ensures.same;
+  still_open = c.in_ok-end.ensures.failed;
+}
+
+pub returns-clause-made : goal.returns-clause-made
+returns-clause-made g c =
+    events_end c.args.plan.now (at g.O.Out.taken c.args.self.now) (at g.O.Out.taken c.loop-note.self) (processing_all c.args.plan.now (events_in c.args.notes.now) (seen g.N.NativeSource.meaning c.args.state.now)) c.args.notes.now c.loop-note.note-index
+    (seen g.N.NativeSource.meaning c.loop-note.state) c.loop-note-test.false c.loop-note.invariant.told

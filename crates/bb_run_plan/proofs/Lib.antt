@@ -1,0 +1,3 @@
+-- which sources an event concerns
+pub mod ConcernedLemmas
+pub mod Limits

@@ -1,0 +1,4 @@
+-- how sources and a plan are stored
+pub mod Codes
+-- how a plan finds the sources that an event concerns
+pub mod Concerned

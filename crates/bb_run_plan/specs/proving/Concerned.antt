@@ -1,0 +1,18 @@
+-- How a plan finds the sources that an event concerns. No public clause cites it.
+use Rattle.std.specs.Prelude.{◌≡◌, ℕ, List}
+use Rattle.bb_board.specs.Event.{Event}
+use Rattle.bb_board.specs.Event.TheVariants as events
+use Rattle.bb_board.specs.Events.{kind_of}
+use Rattle.bb_rules.specs.KindIndex.{ids_for}
+use Rattle.bb_rules.specs.Parts.{Source}
+use Rattle.bb_run_plan.specs.Concerned.{concerned}
+use Rattle.bb_run_plan.specs.declared.concerned.Concerned.{Concerned}
+
+-- the places that are kept for the kind of an event
+abbrev pub places_for : Concerned → Event → List ℕ
+places_for c (events.Change unit of change) = ids_for c.changes (kind_of change)
+places_for c events.Quiescence = c.quiescence
+
+-- for each event the places of those of the sources are kept that it concerns
+abbrev pub AreConcerned : List Source → Concerned → Type 0
+AreConcerned sources c = (event : Event) → places_for c event ≡ concerned event sources

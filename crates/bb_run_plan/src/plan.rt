@@ -1,0 +1,115 @@
+//! What a run goes by. The meaning of an input (bb_shell) has it, and every part of the run reads it.
+
+ghost use Rattle.std.specs.Prelude.{◌≡◌, ◌≤◌, All, IfOk, length};
+ghost use Rattle.bb_rules.specs.Law.{HasSoundCodes};
+ghost use Rattle.bb_run_plan.specs.Concerned.{concerned};
+
+use crate::concerned::Concerned;
+use bb_basis::{Items, Memory};
+use bb_board::{Event, SharedSchema};
+use bb_rules::Source;
+use bb_schema::Schema;
+use std::alloc::{AllocError, Global};
+use std::marker::Model;
+
+/// The greatest number of sources.
+pub const SOURCE_LIMIT: usize = 256;
+
+/// What a run goes by: the schema, the sources in their order, 256 at most, and the least rating that can be chosen.
+/// Each code of a source was accepted under some schema, and those that a source asks may not write.
+#[derive(Drop)]
+pub struct Plan {
+    schema: SharedSchema,
+    sources: Items<Source>,
+    floor: i64,
+    concerned: Concerned,
+}
+
+impl Model for Plan {
+    ghost use Rattle.std.specs.Prelude.{◌≤◌, All, length};
+    ghost use Rattle.bb_rules.specs.Law.{HasSoundCodes};
+    ghost use Rattle.bb_run_plan.specs.declared.plan.TheConstants.{SOURCE_LIMIT};
+    ghost use Rattle.bb_run_plan.specs.Plan.{Plan as Planned};
+    ghost use Rattle.bb_run_plan.specs.proving.Codes.{plan_code};
+    ghost use Rattle.bb_run_plan.specs.proving.Concerned.{AreConcerned};
+
+    ghost Value = { Planned };
+
+    ghost coded = { plan_code };
+
+    ghost view = { λ p. record { schema = p.schema; sources = p.sources; floor = p.floor } };
+
+    ghost invariant = { λ p. (length p.sources ≤ SOURCE_LIMIT) × All HasSoundCodes p.sources
+        × AreConcerned p.sources p.concerned };
+}
+
+impl Plan {
+    /// A plan of these sources in their order, 256 at most.
+    pub fn new(
+        alloc: Global,
+        schema: SharedSchema,
+        sources: Vec<Source>,
+        floor: i64,
+    ) -> Result<Plan, AllocError>
+        requires { length sources.items ≤ SOURCE_LIMIT }
+        ensures { IfOk result (λ plan.
+            plan ≡ record { schema = schema; sources = sources.items; floor = floor }) }
+    {
+        all_fit(sources.as_slice());
+        let concerned = Concerned::of(alloc, sources.as_slice())?;
+        Ok(Plan {
+            schema,
+            sources: Items::from(sources),
+            floor,
+            concerned,
+        })
+    }
+
+    /// The schema.
+    pub fn schema(&self) -> &Schema
+        ensures { result.now ≡ self.now.schema }
+    {
+        self.schema.get()
+    }
+
+    /// The schema, for one more owner.
+    pub fn shared_schema(&self) -> Result<SharedSchema, Memory>
+        ensures { IfOk result (λ shared. shared ≡ self.now.schema) }
+    {
+        self.schema.share()
+    }
+
+    /// The sources in their order, 256 at most, with what holds of each.
+    pub fn sources(&self) -> &[Source]
+        ensures sources { result.now ≡ self.now.sources }
+        ensures few { length result.now ≤ SOURCE_LIMIT }
+        ensures sound { All HasSoundCodes self.now.sources }
+    {
+        self.sources.as_slice()
+    }
+
+    /// The places of the sources that have a clause of the kind of an event, in order. They are found by that kind,
+    /// whatever the number of sources.
+    pub fn concerned(&self, event: Event) -> &[u16]
+        ensures { result.now ≡ concerned event self.now.sources }
+    {
+        self.concerned.by(event)
+    }
+
+    /// The least rating that can be chosen.
+    pub fn floor(&self) -> i64
+        ensures { result ≡ self.now.floor }
+    {
+        self.floor
+    }
+}
+
+// What holds of each source holds of all.
+fn all_fit(sources: &[Source])
+    ensures { All HasSoundCodes sources.now }
+{
+    for source in sources {
+        // For the proof: what holds of the source.
+        source.fits();
+    }
+}

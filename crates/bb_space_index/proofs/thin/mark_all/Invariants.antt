@@ -1,0 +1,10 @@
+use Rattle.std.proofs.Common.{◌≡◌, ℕ, true}
+use Rattle.bb_space_index.specs.Stretches.{stands_in}
+use Rattle.bb_space_index.specs.Marks.{is_left}
+use Rattle.bb_space_index.proofs.MarkLemmas.{LeftBut}
+use Rattle.bb_space_index.proofs.thin.mark_all.Given as goal
+
+abbrev pub invariant-loop-place : goal.invariant-loop-place
+invariant-loop-place l =
+    ((n : ℕ) → is_left l.fn.marks n ≡ true → is_left l.marks n ≡ true)
+    × LeftBut (stands_in l.fn.stretch l.places) (is_left l.marks) l.place-iterator

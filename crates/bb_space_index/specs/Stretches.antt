@@ -1,0 +1,93 @@
+-- The stretches of an index where the candidates for a test stand.
+use Rattle.std.specs.Prelude.{ℕ, ℤ, pos, Bool, false, ◌==◌, ◌+◌, ◌&&◌, ◌||◌, List, Option, Some, None}
+use Rattle.std.specs.List.{list_any}
+use Rattle.std.specs.Option.{option_map_or}
+use Rattle.std.specs.Ordering.{int_eq}
+use Rattle.std.specs.BTreeSet.{BTreeSet, keys_between}
+use Rattle.std.specs.declared.ops.Bound.TheVariants.{Included, Excluded}
+use Rattle.bb_pattern.specs.declared.pattern.Relation.{Relation}
+use Rattle.bb_pattern.specs.declared.pattern.Relation.TheVariants.{Within, Covers, Overlaps, Less, More}
+use Rattle.bb_space_index.specs.declared.leaf.Leaf.{Leaf}
+use Rattle.bb_space_index.specs.declared.leaf.Leaf.TheVariants.{Ordered, Is}
+use Rattle.bb_space_index.specs.declared.place.Place.{Place}
+use Rattle.bb_space_index.specs.declared.stretch.Stretch.{Stretch}
+use Rattle.bb_space_index.specs.Places.{place_cmp}
+
+-- a place where no value stands: before the values of a sort and key, or after them
+abbrev pub spot : ℕ → ℕ → ℤ → ℕ → Place
+spot dim sort key edge = record {
+  dim = dim;
+  sort = sort;
+  key = key;
+  edge = edge;
+  next_sort = 0;
+  next_key = pos 0;
+  next_edge = 0;
+  unit = 0;
+}
+
+-- where the intervals stand that can be in a relation to [low, high]
+abbrev pub intervals : Relation → ℕ → ℤ → ℤ → Stretch
+intervals Within dim low high = record { first = spot dim 1 low 0; end = spot dim 1 high 2 }
+intervals Covers dim low high = record { first = spot dim 0 (pos 0) 0; end = spot dim 1 low 2 }
+intervals Overlaps dim low high = record { first = spot dim 0 (pos 0) 0; end = spot dim 1 high 2 }
+intervals Less dim low high = record { first = spot dim 0 (pos 0) 0; end = spot dim 1 low 0 }
+intervals More dim low high = record { first = spot dim 1 high 2; end = spot dim 2 (pos 0) 0 }
+
+-- where the values stand that can pass a test, but for two numbers of which the second is less
+abbrev pub stretch_of : Leaf → Stretch
+stretch_of (Ordered relation dim low high) = intervals relation dim low high
+stretch_of (Is dim set label) =
+    record { first = spot dim (4 + set) (pos label) 0; end = spot dim (4 + set) (pos label) 2 }
+
+-- where two numbers stand of which the second is less
+abbrev pub turned : ℕ → Stretch
+turned dim = record { first = spot dim 2 (pos 0) 0; end = spot dim 3 (pos 0) 0 }
+
+-- the same, if they can pass the test
+abbrev pub turned_of : Leaf → Option Stretch
+turned_of (Ordered relation dim low high) = Some (turned dim)
+turned_of (Is dim set label) = None
+
+-- all values of the stretch have one sort and key
+abbrev pub has_one_key : Stretch → Bool
+has_one_key stretch = (stretch.first.sort == stretch.end.sort) && int_eq stretch.first.key stretch.end.key
+
+-- among the values of the pin's sort and key, the place before which, or after which, a unit has something on the next
+-- dimension
+abbrev pub beside : Place → Place → Place
+beside pin next = record {
+  dim = pin.dim;
+  sort = pin.sort;
+  key = pin.key;
+  edge = 1;
+  next_sort = next.sort;
+  next_key = next.key;
+  next_edge = next.edge;
+  unit = 0;
+}
+
+-- among the values of the pin's sort and key, those whose units have on the next dimension what stands in a stretch
+abbrev pub all_beside : Place → Stretch → Stretch
+all_beside pin next = record { first = beside pin next.first; end = beside pin next.end }
+
+-- the unit is in a list
+abbrev pub is_among : ℕ → List ℕ → Bool
+is_among n list = list_any (λ m. m == n) list
+
+-- the places of a stretch
+abbrev pub places_in : Stretch → BTreeSet Place → List Place
+places_in stretch places = keys_between place_cmp (Included stretch.first) (Excluded stretch.end) places
+
+-- a place of the unit stands in a stretch
+abbrev pub stands_in : Stretch → BTreeSet Place → ℕ → Bool
+stands_in stretch places n = list_any (λ p. p.unit == n) (places_in stretch places)
+
+-- a place of the unit stands where a test asks
+abbrev pub is_near : Leaf → BTreeSet Place → ℕ → Bool
+is_near leaf places n =
+    stands_in (stretch_of leaf) places n || option_map_or (λ stretch. stands_in stretch places n) (turned_of leaf) false
+
+-- the places of the intervals, or labels, that a test asks for
+abbrev pub asked : Leaf → BTreeSet Place → List Place
+asked leaf places = places_in (stretch_of leaf) places

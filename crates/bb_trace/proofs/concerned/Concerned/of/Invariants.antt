@@ -1,9 +1,0 @@
-use Rattle.std.proofs.Common.{◌≡◌, take}
-use Rattle.bb_board.specs.Event.{Event}
-use Rattle.bb_trace.specs.Concerned.{concerned_from}
-use Rattle.bb_trace.specs.proving.Concerned.{places_for}
-use Rattle.bb_trace.proofs.concerned.Concerned.of.Given as goal
-
--- of the sources so far
-abbrev pub invariant-loop-place : goal.invariant-loop-place
-invariant-loop-place l = (event : Event) → places_for l.concerned event ≡ concerned_from event 0 (take l.place l.sources)
