@@ -1,9 +1,3 @@
-pub mod LineLemmas
-pub mod HeaderLemmas
-pub mod PartLemmas
-pub mod ReadLemmas
-pub mod InputLemmas
-pub mod OrderLemmas
 pub mod ServeLemmas
 pub mod StatusLemmas
 pub mod Limits

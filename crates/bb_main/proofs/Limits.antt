@@ -1,11 +1,6 @@
--- The numbers of limits and statuses. Definitions and code go by the same constants, so here each is said once.
+-- The numbers of statuses. Definitions and code go by the same constants, so here each is said once.
 use Rattle.std.proofs.Common.{◌≡◌, refl}
-use Rattle.bb_main.specs.declared.read.TheConstants.{INPUT_LIMIT}
 use Rattle.bb_main.specs.declared.serving.TheConstants.{REFUSED, MEMORY, WRITE}
-
--- bytes of an input
-pub input_limit : INPUT_LIMIT ≡ 16777216
-input_limit = refl
 
 -- the status of a refusal
 pub refused : REFUSED ≡ 2

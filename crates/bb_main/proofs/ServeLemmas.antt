@@ -28,14 +28,14 @@ use Rattle.bb_shell.specs.Code.{Code}
 use Rattle.bb_shell.specs.Source.{Source}
 use Rattle.bb_shell.specs.SourceDraft.{SourceDraft}
 use Rattle.bb_shell.specs.TraceText.{segment_text, trace_text}
-use Rattle.bb_main.specs.declared.read.TheConstants.{INPUT_LIMIT}
+use Rattle.bb_main_input.specs.declared.read.TheConstants.{INPUT_LIMIT}
 use Rattle.bb_main.specs.declared.serving.TheConstants.{MEMORY, REFUSED, WRITE}
-use Rattle.bb_main.specs.declared.section_fault.SectionFault.{SectionFault}
-use Rattle.bb_main.specs.declared.section_fault.SectionFault.TheVariants.{Limit}
-use Rattle.bb_main.specs.Input.{input_of}
-use Rattle.bb_main.specs.Sections.{Texts}
+use Rattle.bb_main_input.specs.declared.section_fault.SectionFault.{SectionFault}
+use Rattle.bb_main_input.specs.declared.section_fault.SectionFault.TheVariants.{Limit}
+use Rattle.bb_main_input.specs.Input.{input_of}
+use Rattle.bb_main_input.specs.Sections.{Texts}
 use Rattle.bb_main.specs.Serve.{Answer, CutShort, Delivers, Serves, answer, answer_to_check, answer_to_compile, answer_to_meaning, answer_to_run, answer_to_sections, done_status, end_status, limit_refusal, refusal, status_of, text_of}
-use Rattle.bb_main.proofs.InputLemmas.{is_long}
+use Rattle.bb_main_input.proofs.Laws.{is_long}
 
 pub answer-from : (natives : List Native) (bytes : List ℕ) (mode : Mode) (limit : ℕ) (floor : ℤ) (cut : Result Texts SectionFault) (P : Answer → Type 0) → cut ≡ input_of bytes → P (answer_to_sections natives mode limit floor cut) → P (answer natives bytes mode limit floor)
 unfolding answer

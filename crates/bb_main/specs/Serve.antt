@@ -28,12 +28,12 @@ use Rattle.bb_shell.specs.Code.{Code}
 use Rattle.bb_shell.specs.Source.{Source}
 use Rattle.bb_shell.specs.SourceDraft.{SourceDraft}
 use Rattle.bb_shell.specs.TraceText.{segment_text}
-use Rattle.bb_main.specs.declared.section_fault.SectionFault.{SectionFault}
-use Rattle.bb_main.specs.declared.section_fault.SectionFault.TheVariants as faults
+use Rattle.bb_main_input.specs.declared.section_fault.SectionFault.{SectionFault}
+use Rattle.bb_main_input.specs.declared.section_fault.SectionFault.TheVariants as faults
 use Rattle.bb_main.specs.declared.serving.TheConstants.{MEMORY, REFUSED, WRITE}
-use Rattle.bb_main.specs.Input.{input_of}
-use Rattle.bb_main.specs.Refusals.{read_line, section_line}
-use Rattle.bb_main.specs.Sections.{Texts}
+use Rattle.bb_main_input.specs.Input.{input_of}
+use Rattle.bb_main_input.specs.Refusals.{read_line, section_line}
+use Rattle.bb_main_input.specs.Sections.{Texts}
 
 -- all that is written, in pieces each of which is written whole, and the status
 pub record Answer : Type 0 where

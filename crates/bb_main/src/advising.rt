@@ -1,8 +1,8 @@
 //! What there is to say of an input that was checked. The check (serving.rt) has it said beside its lines.
 
 use crate::refusing::input_of;
-use crate::sections::Sections;
 use bb_lint::{Accepted, advice};
+use bb_main_input::Sections;
 use bb_refusal_report::{FirstUnits, read_first_units};
 use bb_shell::{Check, Memory};
 use std::alloc::Global;

@@ -4,34 +4,30 @@
 //! - Out: `program` and `serve`, the exit status, after a trace, a check, a bundle or a refusal was written.
 //! - Callers rely on: the answer is that of bb_shell on the sections of the input; an input past `INPUT_LIMIT` is
 //!   refused; and whatever happens, each native is closed.
-//! - Family: bb_main_options has the command line; `bb` is the program, bb_c the library for C, and bb_main_refused the
-//!   program for the gate's test of a refusal.
+//! - Family: bb_main_options has the command line, bb_main_input the reading and the cutting of an input; `bb` is the
+//!   program, bb_c the library for C, and bb_main_refused the program for the gate's test of a refusal.
 //! - Cases: `program`, `outputs`, `sentences`, `advice`, `limits`; tests here and in bb_shell_tests.
 #![tactic(auto)]
 
 mod advising;
-mod input;
 #[cfg(test)]
 mod long_run;
 mod program_native;
-mod read;
 #[cfg(test)]
 mod refusal_tests;
 mod refusing;
-mod section_fault;
-mod section_report;
-mod sections;
 mod served;
 mod serving;
 mod telling;
 #[cfg(test)]
 mod tests;
+#[cfg(test)]
+mod writer_tests;
 
+pub use bb_main_input::{INPUT_LIMIT, In, Intake};
 pub use bb_main_options::{Mode, Options, OptionsFault, options};
 pub use bb_shell::{Memory, NativeSource, Out, Pipe};
-pub use input::{In, Intake};
 pub use program_native::{ProgramNative, Trade, program_natives};
-pub use read::INPUT_LIMIT;
 pub use served::Served;
 pub use serving::{program, serve, serve_with};
 pub use telling::tell;

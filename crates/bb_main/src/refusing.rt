@@ -7,9 +7,9 @@ ghost use Rattle.bb_shell.specs.Refusals.{refusal_text};
 ghost use Rattle.bb_main.specs.Serve.{CutShort, Delivers, refusal};
 ghost use Rattle.bb_main.specs.declared.serving.TheConstants.{REFUSED, WRITE};
 
-use crate::sections::Sections;
 use crate::served::Served;
 use crate::serving::{MEMORY, REFUSED, WRITE};
+use bb_main_input::Sections;
 use bb_refusal_report::{Input, report};
 use bb_shell::{InputFault, NativeSource, Out, close_each, put_all};
 use std::alloc::Global;

@@ -9,24 +9,22 @@ ghost use Rattle.bb_shell.specs.Fitting.{native_names};
 ghost use Rattle.bb_shell.specs.Roster.{all_open};
 ghost use Rattle.bb_shell.specs.Compile.{bundle_in};
 ghost use Rattle.bb_shell.specs.Meaning.{meaning};
-ghost use Rattle.bb_main.specs.Input.{input_of};
+ghost use Rattle.bb_main_input.specs.Input.{input_of};
 ghost use Rattle.bb_main.specs.Natives.{program_natives};
-ghost use Rattle.bb_main.specs.Reading.{HasTaken, TakesAtMost};
-ghost use Rattle.bb_main.specs.Refusals.{section_line};
+ghost use Rattle.bb_main_input.specs.Reading.{HasTaken, TakesAtMost};
+ghost use Rattle.bb_main_input.specs.Refusals.{section_line};
 ghost use Rattle.bb_main.specs.Serve.{CutShort, Delivers, Serves, answer, answer_in, answer_to_check};
 ghost use Rattle.bb_main.specs.Serve.{answer_to_compile, answer_to_meaning, done_status};
 ghost use Rattle.bb_main.specs.Serve.{limit_refusal, read_refusal, refusal, status_of};
 ghost use Rattle.bb_main.specs.declared.serving.TheConstants.{REFUSED, WRITE};
 
 use crate::advising::advice_on;
-use crate::input::In;
 use crate::program_native::program_natives;
-use crate::read::{INPUT_LIMIT, ReadFault, read_input};
 use crate::refusing::{refuse, refuse_input};
-use crate::section_fault::SectionFault;
-use crate::section_report::SectionReport;
-use crate::sections::Sections;
 use crate::served::Served;
+use bb_main_input::{
+    INPUT_LIMIT, In, ReadFault, SectionFault, SectionReport, Sections, read_input,
+};
 use bb_main_options::{Mode, Options};
 use bb_shell::{
     Check, Done, Finish, InputFault, NativeSource, Out, check_sources, close_each, compile_texts,

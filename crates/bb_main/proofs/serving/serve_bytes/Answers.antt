@@ -1,5 +1,5 @@
 use Rattle.std.proofs.Common.{◌⊎◌, inl, Ok, Err, map}
-use Rattle.bb_main.specs.Input.{texts_of}
+use Rattle.bb_main_input.specs.Input.{texts_of}
 use Rattle.bb_main.specs.Serve.{Answer, CutShort, Delivers}
 use Rattle.bb_main.proofs.ServeLemmas.{answer-from}
 use Rattle.bb_main.proofs.StatusLemmas.{refusal_status}

@@ -1,5 +1,5 @@
 use Rattle.std.proofs.Common.{inl, map, refl}
-use Rattle.bb_main.specs.Refusals.{read_line}
+use Rattle.bb_main_input.specs.Refusals.{read_line}
 use Rattle.bb_main.specs.declared.serving.TheConstants.{MEMORY}
 use Rattle.bb_main.proofs.ServeLemmas.{serves-long, serves-nothing}
 use Rattle.bb_main.proofs.StatusLemmas.{refusal_status}
