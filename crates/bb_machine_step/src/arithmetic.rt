@@ -1,4 +1,5 @@
-//! The ops that work with numbers, truth values, texts, labels and intervals. A step calls them.
+//! The ops that work with numbers, truth values, texts, labels and intervals. A step calls them, and the machine for
+//! verified code those that say what a result is.
 
 ghost use Rattle.std.specs.Prelude.{◌≡◌, ℤ, pos, ◌≤ℤ◌};
 ghost use Rattle.bb_basis.specs.Results.{Gives};
@@ -8,8 +9,9 @@ ghost use Rattle.bb_machine_step.specs.Arithmetic as def;
 use bb_code::{Bound, Calculation, Comparison, Division, Logic};
 use bb_machine_state::{Halt, Machine, Stuck, Value};
 
-// The result of a calculation with two numbers.
-fn calculated(calculation: Calculation, a: i64, b: i64) -> i64
+/// The result of a calculation with two numbers.
+#[inline(always)]
+pub fn calculated(calculation: Calculation, a: i64, b: i64) -> i64
     ensures { result ≡ def.calculated calculation a b }
 {
     match calculation {
@@ -21,8 +23,9 @@ fn calculated(calculation: Calculation, a: i64, b: i64) -> i64
     }
 }
 
-// The quotient or the remainder of a number by a positive divisor.
-fn divided(division: Division, a: i64, divisor: i64) -> i64
+/// The quotient or the remainder of a number by a positive divisor.
+#[inline(always)]
+pub fn divided(division: Division, a: i64, divisor: i64) -> i64
     requires { pos 1 ≤ℤ divisor }
     ensures { result ≡ def.divided division a divisor }
 {
@@ -32,8 +35,9 @@ fn divided(division: Division, a: i64, divisor: i64) -> i64
     }
 }
 
-// Whether a comparison of two numbers holds.
-fn compared(comparison: Comparison, a: i64, b: i64) -> bool
+/// Whether a comparison of two numbers holds.
+#[inline(always)]
+pub fn compared(comparison: Comparison, a: i64, b: i64) -> bool
     ensures { result ≡ def.compared comparison a b }
 {
     match comparison {
@@ -43,8 +47,9 @@ fn compared(comparison: Comparison, a: i64, b: i64) -> bool
     }
 }
 
-// The combination of two truth values.
-fn combined(logic: Logic, a: bool, b: bool) -> bool
+/// The combination of two truth values.
+#[inline(always)]
+pub fn combined(logic: Logic, a: bool, b: bool) -> bool
     ensures { result ≡ def.combined logic a b }
 {
     match logic {
@@ -159,8 +164,9 @@ pub(crate) fn make_interval(machine: &mut Machine<'_>) -> Result<(), Halt>
     machine.push(Value::Interval(a.min(b), a.max(b)))
 }
 
-// An end of an interval.
-fn bound_of(bound: Bound, interval: (i64, i64)) -> i64
+/// An end of an interval.
+#[inline(always)]
+pub fn bound_of(bound: Bound, interval: (i64, i64)) -> i64
     ensures { result ≡ def.bound_of bound interval }
 {
     match bound {

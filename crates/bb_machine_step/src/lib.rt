@@ -9,5 +9,6 @@ mod jumping;
 mod reading;
 mod step;
 
+pub use arithmetic::{bound_of, calculated, combined, compared, divided};
 pub use bb_machine_state::{Answer, Entry, Outcome, Stop, Stuck};
 pub use execution::execute;

@@ -25,6 +25,11 @@ pub use Rattle.bb_verify_effect.specs.Frame
 pub use Rattle.bb_verify_effect.specs.Kinds
 pub use Rattle.bb_verify_effect.specs.FrameType
 pub use Rattle.bb_verify_effect.specs.PartType
+-- the instructions of a code
+pub use Rattle.bb_exec_lower.specs.Slots
+pub use Rattle.bb_exec_lower.specs.Room
+pub use Rattle.bb_exec_lower.specs.Lowered
+pub use Rattle.bb_exec_lower.specs.declared.instruction.Instruction
 -- one test after another, and what is wrong with a code
 pub use Rattle.bb_verify_effect.specs.Each
 pub use Rattle.bb_verify_effect.specs.Flaws

@@ -9,6 +9,7 @@ ghost use Rattle.bb_verify_effect.specs.Flaws.{out_of_memory};
 use crate::checked::{Checked, counts_of};
 use crate::places::frames_of;
 use crate::tables::check_tables;
+use bb_exec_lower::lower;
 use bb_verify_effect::{Code, Part, Schema, VerifyFault};
 use bb_verify_loops::{check_jumps, check_loops};
 use std::alloc::Global;
@@ -30,6 +31,7 @@ pub fn verify(
     check_jumps(&code)?;
     let depths = check_loops(alloc, &code)?;
     let frames = frames_of(alloc, schema, part, &code)?;
+    let instructions = lower(alloc, &code, &frames)?;
     let places_in = counts_of(depths.as_slice());
-    Ok(Checked::new(code, part, frames, places_in))
+    Ok(Checked::new(code, part, frames, instructions, places_in))
 }
