@@ -1,3 +1,8 @@
 pub mod OperandLemmas
 pub mod EffectLemmas
-pub use Rattle.bb_verify_frame.proofs.Laws
+-- what an effect without a flaw says of the frames of an op
+pub mod FrameInversion
+pub mod EffectInversion
+pub mod EdgeInversion
+-- what crates above use
+pub mod Laws
