@@ -27,7 +27,7 @@ module _ (s : Schema) (part : Part) (code : Code) (c : Checked) (h : checked s p
   found : (frames : List Frame) × (accepted s part code ≡ Ok frames) × (with_frames frames ≡ c)
   unfolding checked
   found =
-      let one = bind_ok (accepted s part code) (λ frames. Ok (with_frames frames)) c h in
+      let one = bind_ok (accepted s part code) _ c h in
       (one.0, one.1, same_ok (with_frames one.0) c one.2)
 
   pub checked_again : checked s c.part c.code ≡ Ok c

@@ -1,6 +1,5 @@
 -- What holds at each place of an accepted code.
 use Rattle.std.proofs.Common.{◌≡◌, ◌≤◌, length, List, Ok, sym}
-use Rattle.bb_basis.specs.Results.{◌>>=◌}
 use Rattle.bb_basis.proofs.ResultLemmas.{bind_ok}
 use Rattle.bb_verify_effect.specs.Schema.{Schema}
 use Rattle.bb_verify_effect.specs.Code.{Code}
@@ -38,7 +37,7 @@ facts_by s part code frames some one two three four =
 pub facts_of : (s : Schema) (part : Part) (code : Code) (frames : List Frame) → 1 ≤ length code.ops → accepted s part code ≡ Ok frames → Facts s part code frames
 unfolding accepted
 facts_of s part code frames some h =
-    let one = bind_ok (tables s part code) (λ (u : Unit {0}). jumps code >>= λ _. loops code >>= λ _. frames_of s part code) frames h in
-    let two = bind_ok (jumps code) (λ (u : Unit {0}). loops code >>= λ _. frames_of s part code) frames one.2 in
-    let three = bind_ok (loops code) (λ (u : Unit {0}). frames_of s part code) frames two.2 in
+    let one = bind_ok (tables s part code) _ frames h in
+    let two = bind_ok (jumps code) _ frames one.2 in
+    let three = bind_ok (loops code) _ frames two.2 in
     facts_by s part code frames some one.1 two.1 three.1 three.2

@@ -1,13 +1,13 @@
 -- Each entry of the stack of each frame of an accepted code is known.
-use Rattle.std.proofs.Common.{◌≡◌, ℕ, ◌+◌, List, [], ◌∷◌, length, set, reverse, Option, Some, None, Ok, refl, subst}
+use Rattle.std.proofs.Common.{◌≡◌, ℕ, ◌+◌, Bool, true, false, cond, List, [], ◌∷◌, length, set, reverse, Option, Some, None, Ok, refl, subst}
 use Rattle.std.specs.Prelude.{All, slice_get, replicate}
-use Rattle.std.proofs.lemmas.List.Elements.{All-nil, All-cons, All-head, All-tail, All-set, All-replicate, All-weaker, All-get_or}
+use Rattle.std.proofs.lemmas.List.Elements.{All-nil, All-cons, All-head, All-tail, All-set, All-replicate, All-drop, All-map, All-weaker, All-get_or}
 use Rattle.std.proofs.lemmas.List.Sorted.{All-permutation, IsPermutation-reverse}
 use Rattle.std.proofs.lemmas.Option.{slice_get_within, get_or_from_slice_get}
-use Rattle.bb_basis.specs.Results.{◌>>=◌, map_err}
+use Rattle.bb_basis.specs.Results.{map_err}
 use Rattle.bb_basis.proofs.ResultLemmas.{bind_ok}
 use Rattle.bb_verify_effect.specs.Schema.{Schema}
-use Rattle.bb_verify_effect.specs.Code.{Code, places}
+use Rattle.bb_verify_effect.specs.Code.{Code}
 use Rattle.bb_verify_effect.specs.FrameEntry.{FrameEntry}
 use Rattle.bb_verify_effect.specs.Kind.{Kind}
 use Rattle.bb_verify_effect.specs.Kind.TheVariants.{Any, Int, Text, Bool as Truth, Label, Interval, Ref, Old, Seq}
@@ -15,17 +15,46 @@ use Rattle.bb_verify_effect.specs.FrameType.{Frame}
 use Rattle.bb_verify_effect.specs.PartType.{Part}
 use Rattle.bb_verify_effect.specs.Each.{each}
 use Rattle.bb_verify_effect.specs.Flaws.{fault_at}
-use Rattle.bb_verify.specs.Tables.{places_rise, known_kind, known_entry, known_frame, enough_locals, frames_in_order, table_at, tables}
+use Rattle.bb_verify.specs.Tables.{places_rise, known_kind, known_entry, known_frame, frames_in_order, tables}
+use Rattle.bb_verify_effect.specs.Effect.{after_delete}
 use Rattle.bb_verify_effect.specs.Frame.{frame_of}
+use Rattle.bb_verify_effect.specs.Kinds.{struck, related}
 use Rattle.bb_verify.specs.Places.{with_frames, declared_frames, declared_at, entry_frame, frame_at}
 use Rattle.bb_verify_effect.proofs.Laws.{each_all, no_fault}
 use Rattle.bb_verify.proofs.WalkLemmas.{Chain, Walked}
 use Rattle.bb_verify.proofs.StandLemmas.{is_declared}
-use Rattle.bb_verify.proofs.KnownOps.{IsKnown, AreKnown}
-use Rattle.bb_verify.proofs.KnownLemmas.{effect_known}
+use Rattle.bb_verify.proofs.FrameRule.{IsKnown, IsKept, OnEdge, effect_keeps}
 
 all_at : {X : Type 0} (P : X → Type 0) (xs : List X) (i : ℕ) (x : X) → All P xs → slice_get xs i ≡ Some x → P x
 all_at P xs i x all is = subst P (get_or_from_slice_get xs i x x is) (All-get_or P xs i x (slice_get_within xs i x is) all)
+
+-- ---- an op leaves known entries where it meets them
+
+-- each entry of the stack is known
+abbrev AreKnown : Frame → Type 0
+AreKnown f = All IsKnown f.stack
+
+either_known : (b : Bool) (c : ℕ) → IsKnown (cond b (Old c) (Ref c))
+either_known true c = refl
+either_known false c = refl
+
+struck_known : (s : Schema) (deleted : ℕ) (k : Kind) → IsKnown k → IsKnown (struck s deleted k)
+unfolding struck
+struck_known s deleted (Ref c) is = either_known (related s c deleted) c
+struck_known s deleted _ is = is
+
+known_kept : IsKept AreKnown
+unfolding after_delete
+known_kept = record {
+  drops = λ n f known. All-drop IsKnown n f.stack known;
+  pushes = λ k f is known. All-cons IsKnown k f.stack is known;
+  stores = λ l k f known. known;
+  strikes = λ s class f known. All-map IsKnown (struck s class) f.stack (All-weaker IsKnown (λ k. IsKnown (struck s class k)) (struck_known s class) f.stack known);
+}
+
+edge_known : (o : Option Frame) (g : Frame) → OnEdge AreKnown o → o ≡ Some g → AreKnown g
+edge_known None g known is = absurd cc
+edge_known (Some f) g known is = subst AreKnown (let e : f ≡ g = cc in e) known
 
 -- ---- declared frames
 
@@ -47,7 +76,7 @@ IsKnownAt e = AreKnown (frame_of e.frame)
 frame_known : (s : Schema) (e : FrameEntry) → known_frame s e ≡ Ok tt → IsKnownAt e
 unfolding known_frame
 frame_known s e h =
-    let one = bind_ok (each (known_kind s) e.frame.locals) (λ (u : Unit {0}). each (known_entry s) e.frame.stack) tt h in
+    let one = bind_ok (each (known_kind s) e.frame.locals) _ tt h in
     let all = All-weaker (λ k. known_entry s k ≡ Ok tt) IsKnown (entry_known s) e.frame.stack (each_all (known_entry s) e.frame.stack one.2) in
     All-permutation IsKnown e.frame.stack (reverse e.frame.stack) (IsPermutation-reverse e.frame.stack) all
 
@@ -65,10 +94,10 @@ put_known all (e ∷ es) before known =
 entries_known : (s : Schema) (part : Part) (code : Code) → tables s part code ≡ Ok tt → All IsKnownAt code.frames
 unfolding tables frames_in_order
 entries_known s part code h =
-    let one = bind_ok (map_err (fault_at 0) (frames_in_order s part code)) (λ (u : Unit {0}). each (table_at s code) (places code)) tt h in
+    let one = bind_ok (map_err (fault_at 0) (frames_in_order s part code)) _ tt h in
     let fit : frames_in_order s part code ≡ Ok tt = no_fault (fault_at 0) (frames_in_order s part code) tt one.1 in
-    let two = bind_ok (places_rise 0 (length code.ops) code.frames) (λ (u : Unit {0}). each (known_frame s) code.frames >>= λ _. enough_locals part code) tt fit in
-    let three = bind_ok (each (known_frame s) code.frames) (λ (u : Unit {0}). enough_locals part code) tt two.2 in
+    let two = bind_ok (places_rise 0 (length code.ops) code.frames) _ tt fit in
+    let three = bind_ok (each (known_frame s) code.frames) _ tt two.2 in
     All-weaker (λ e. known_frame s e ≡ Ok tt) IsKnownAt (frame_known s) code.frames (each_all (known_frame s) code.frames three.1)
 
 declared_known : (s : Schema) (part : Part) (code : Code) → tables s part code ≡ Ok tt → (place : ℕ) → Declares (declared_at (declared_frames code) place)
@@ -91,7 +120,7 @@ chain_known : (s : Schema) (part : Part) (code : Code) (declared : List (Option 
 chain_known s part code declared known [] place next before chain = All-nil AreKnown
 chain_known s part code declared known (f ∷ fs) place next before chain =
     let first : AreKnown f = came_known (declared_at declared place) next f (known place) before chain.0.frame in
-    let after : Declares chain.0.edges.on = λ g is. effect_known s part code chain.0.op f chain.0.edges g first chain.0.does is in
+    let after : Declares chain.0.edges.on = λ g. edge_known chain.0.edges.on g (effect_keeps AreKnown known_kept s part code f first chain.0.edges chain.0.op chain.0.does).0 in
     All-cons AreKnown f fs first (chain_known s part code declared known fs (place + 1) chain.0.edges.on after chain.1)
 
 pub frames_known : (s : Schema) (part : Part) (code : Code) (frames : List Frame) → tables s part code ≡ Ok tt → Walked s part code frames → (place : ℕ) (f : Frame) → slice_get frames place ≡ Some f → AreKnown f

@@ -4,8 +4,7 @@ pub mod BudgetLemmas
 pub mod WalkLemmas
 pub mod PhaseLemmas
 pub mod StandLemmas
-pub mod KnownOps
-pub mod KnownLemmas
+pub mod FrameRule
 pub mod KnownFrames
 pub mod FactLemmas
 pub mod NumberedLemmas

@@ -22,7 +22,7 @@ module _ (s : Schema) (part : Part) (code : Code) (place : ℕ) (op : Op) (is : 
   pub table_passed : tables s part code ≡ Ok tt → in_tables s code op ≡ Ok tt
   unfolding tables table_at
   table_passed h =
-      let one = bind_ok (map_err (fault_at 0) (frames_in_order s part code)) (λ _. each (table_at s code) (places code)) tt h in
+      let one = bind_ok (map_err (fault_at 0) (frames_in_order s part code)) _ tt h in
       let passed : table_at s code place ≡ Ok tt = range_at (table_at s code) (length code.ops) place inside one.2 in
       let here : map_err (fault_at place) (in_tables s code op) ≡ Ok tt = rw (is, table_at) at passed in
       no_fault (fault_at place) (in_tables s code op) tt here
@@ -37,10 +37,10 @@ module _ (s : Schema) (part : Part) (code : Code) (place : ℕ) (op : Op) (is : 
   pub loop_passed : loops code ≡ Ok tt → place_due code place (Some op) ≡ Ok tt
   unfolding loops loop_at
   loop_passed h =
-      let one = bind_ok (each (loop_at code) (places code)) (λ _. none_outside (lowest_outside (length code.ops) None code.loops)) tt h in
+      let one = bind_ok (each (loop_at code) (places code)) _ tt h in
       let passed : loop_at code place ≡ Ok tt = range_at (loop_at code) (length code.ops) place inside one.1 in
       ap (place_due code place) (sym is) ∙ no_fault (fault_at place) (place_due code place (slice_get code.ops place)) tt passed
 
 pub heads_passed : (code : Code) → loops code ≡ Ok tt → none_outside (lowest_outside (length code.ops) None code.loops) ≡ Ok tt
 unfolding loops
-heads_passed code h = (bind_ok (each (loop_at code) (places code)) (λ _. none_outside (lowest_outside (length code.ops) None code.loops)) tt h).2
+heads_passed code h = (bind_ok (each (loop_at code) (places code)) _ tt h).2

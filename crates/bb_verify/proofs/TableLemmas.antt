@@ -4,10 +4,10 @@ use Rattle.std.specs.Prelude.{nat_le, nat_lt, ◌||◌}
 use Rattle.std.proofs.lemmas.List.{drop_all}
 use Rattle.std.proofs.lemmas.Bool.Decides.{nat_tests}
 use Rattle.std.proofs.lemmas.Bool.{or_right}
-use Rattle.bb_basis.specs.Results.{◌>>=◌, map_err}
+use Rattle.bb_basis.specs.Results.{map_err}
 use Rattle.bb_basis.proofs.ResultLemmas.{bind_ok, guard_ok}
 use Rattle.bb_verify_effect.specs.Schema.{Schema}
-use Rattle.bb_verify_effect.specs.Code.{Code, places}
+use Rattle.bb_verify_effect.specs.Code.{Code}
 use Rattle.bb_verify_effect.specs.FrameEntry.{FrameEntry}
 use Rattle.bb_verify_effect.specs.Flaw.{Flaw}
 use Rattle.bb_verify_effect.specs.Flaw.TheVariants.{Table}
@@ -16,7 +16,7 @@ use Rattle.bb_verify_effect.specs.PartType.{Part}
 use Rattle.bb_verify_effect.specs.Each.{each}
 use Rattle.bb_verify_effect.specs.Flaws.{fault_at}
 use Rattle.bb_verify_effect.specs.Part.{units_of}
-use Rattle.bb_verify.specs.Tables.{places_rise, known_frame, enough_locals, frames_in_order, tables, table_at}
+use Rattle.bb_verify.specs.Tables.{places_rise, known_frame, enough_locals, frames_in_order, tables}
 use Rattle.bb_verify_effect.specs.Frame.{frame_of}
 use Rattle.bb_verify.specs.Places.{with_frames}
 use Rattle.bb_verify_effect.proofs.Laws.{no_fault}
@@ -68,12 +68,12 @@ units_fit part code h = let g = guard_ok (nat_lt code.locals (length (units_of p
 frames_fit : (s : Schema) (part : Part) (code : Code) → frames_in_order s part code ≡ Ok tt → length (units_of part) ≤ code.locals
 unfolding frames_in_order
 frames_fit s part code h =
-    let one = bind_ok (places_rise 0 (length code.ops) code.frames) (λ _. each (known_frame s) code.frames >>= λ _. enough_locals part code) tt h in
-    let two = bind_ok (each (known_frame s) code.frames) (λ _. enough_locals part code) tt one.2 in
+    let one = bind_ok (places_rise 0 (length code.ops) code.frames) _ tt h in
+    let two = bind_ok (each (known_frame s) code.frames) _ tt one.2 in
     units_fit part code two.2
 
 pub tables_fit : (s : Schema) (part : Part) (code : Code) (x : Unit {0}) → Ok x ≡ tables s part code → length (units_of part) ≤ code.locals
 unfolding tables
 tables_fit s part code x h =
-    let one = bind_ok (map_err (fault_at 0) (frames_in_order s part code)) (λ _. each (table_at s code) (places code)) x (sym h) in
+    let one = bind_ok (map_err (fault_at 0) (frames_in_order s part code)) _ x (sym h) in
     frames_fit s part code (no_fault (fault_at 0) (frames_in_order s part code) one.0 one.1)

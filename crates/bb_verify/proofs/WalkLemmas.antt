@@ -50,11 +50,11 @@ op_visits : (s : Schema) (part : Part) (code : Code) (declared : List (Option Fr
     → Visits s part code declared place w t
 unfolding visit_op
 op_visits s part code declared place op w t is h =
-    let one = bind_ok (frame_at (declared_at declared place) w.next) (λ f. effect s part code op f >>= λ edges. left_of s code declared place op w f edges) t h in
-    let two = bind_ok (effect s part code op one.0) (λ edges. left_of s code declared place op w one.0 edges) t one.2 in
-    let three = bind_ok (has_next (length code.ops) (place + 1) two.0.on) (λ _. on_due s two.0.on (declared_at declared (place + 1)) >>= λ _. last_of s code declared op w one.0 two.0) t two.2 in
-    let four = bind_ok (on_due s two.0.on (declared_at declared (place + 1))) (λ _. last_of s code declared op w one.0 two.0) t three.2 in
-    let five = bind_ok (target_due s two.0.target (declared_for declared op)) (λ _. Ok (one_more one.0 two.0.on w)) t four.2 in
+    let one = bind_ok (frame_at (declared_at declared place) w.next) _ t h in
+    let two = bind_ok (effect s part code op one.0) _ t one.2 in
+    let three = bind_ok (has_next (length code.ops) (place + 1) two.0.on) _ t two.2 in
+    let four = bind_ok (on_due s two.0.on (declared_at declared (place + 1))) _ t three.2 in
+    let five = bind_ok (target_due s two.0.target (declared_for declared op)) _ t four.2 in
     record {
       frame = one.0;
       visited = record { op = op; edges = two.0; here = is; frame = one.1; does = two.1; more = three.1; on = four.1; target = five.1 };
@@ -92,7 +92,7 @@ unfolding try_fold
 walk_walks s part code declared a zero w t le h =
     record { made = []; are = ap (λ v. v.frames) (sym (same_ok w t h)) ∙ sym (append-nil w.frames); long = refl; chain = tt }
 walk_walks s part code declared a (suc n) w t le h =
-    let one = bind_ok (visit s part code declared w a) (λ next. try_fold (visit s part code declared) next (range_with_len (a + 1) n)) t h in
+    let one = bind_ok (visit s part code declared w a) _ t h in
     let first = place_visits s part code declared a w one.0 (omega (arith, le)) one.1 in
     let after : Walk = one_more first.frame first.visited.edges.on w in
     let later : try_fold (visit s part code declared) after (range_with_len (a + 1) n) ≡ Ok t = subst (λ (x : Walk). try_fold (visit s part code declared) x (range_with_len (a + 1) n) ≡ Ok t) first.is one.2 in
@@ -115,9 +115,8 @@ pub record Walked (s : Schema) (part : Part) (code : Code) (frames : List Frame)
 pub walked : (s : Schema) (part : Part) (code : Code) (frames : List Frame) → frames_of s part code ≡ Ok frames → Walked s part code frames
 unfolding frames_of
 walked s part code frames h =
-    let one = bind_ok (map_err (fault_at 0) (on_due s (first_walk part code).next (declared_at (declared_frames code) 0)))
-    (λ _. try_fold (visit s part code (declared_frames code)) (first_walk part code) (places code) >>= λ walk. Ok walk.frames) frames h in
-    let two = bind_ok (try_fold (visit s part code (declared_frames code)) (first_walk part code) (places code)) (λ walk. Ok walk.frames) frames one.2 in
+    let one = bind_ok (map_err (fault_at 0) (on_due s (first_walk part code).next (declared_at (declared_frames code) 0))) _ frames h in
+    let two = bind_ok (try_fold (visit s part code (declared_frames code)) (first_walk part code) (places code)) _ frames one.2 in
     let walks = walk_walks s part code (declared_frames code) 0 (length code.ops) (first_walk part code) two.0 (omega arith) two.1 in
     let same : walks.made ≡ frames = sym walks.are ∙ same_ok two.0.frames frames two.2 in
     record {
