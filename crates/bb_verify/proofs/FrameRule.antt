@@ -1,7 +1,6 @@
 -- What holds of the frame that an op meets holds of each that it leaves, where each change of a frame keeps it.
 use Rattle.std.proofs.Common.{◌≡◌, ℕ, true, List, ◌∷◌, length, drop, Option, Some, None, Result, Ok, refl, subst}
-use Rattle.bb_basis.specs.Results.{ok_or}
-use Rattle.bb_basis.proofs.ResultLemmas.{bind_ok, same_ok, ok_or_ok}
+use Rattle.bb_basis.proofs.ResultLemmas.{same_ok}
 use Rattle.bb_verify_effect.specs.SlotKind.{Kind as SlotKind}
 use Rattle.bb_verify_effect.specs.SlotKind.TheVariants as slots
 use Rattle.bb_verify_effect.specs.Schema.{Schema}
@@ -12,7 +11,6 @@ use Rattle.bb_verify_effect.specs.Op.{Op}
 use Rattle.bb_verify_effect.specs.Op.TheVariants as ops
 use Rattle.bb_verify_effect.specs.Edges.{Edges}
 use Rattle.bb_verify_effect.specs.Flaw.{Flaw}
-use Rattle.bb_verify_effect.specs.Flaw.TheVariants as flaws
 use Rattle.bb_verify_effect.specs.FrameType.{Frame}
 use Rattle.bb_verify_effect.specs.PartType.{Part}
 use Rattle.bb_verify_effect.specs.Frame.{with_stack, without, local_at, with_local, push}
@@ -20,7 +18,7 @@ use Rattle.bb_verify_effect.specs.Due as dues
 use Rattle.bb_verify_effect.specs.Effect as effects
 use Rattle.bb_verify_effect.specs.Effect.{effect, on}
 use Rattle.bb_verify.specs.Facts.{is_known}
-use Rattle.bb_verify_effect.proofs.Laws.{Pushed, push_ok, load_ok, store_local_ok, drop_one_ok, Turned, turn_ok, Combined, combine_ok, eq_label_ok, eq_unit_ok, get_ok, links_ok, find_ok, size_ok}
+use Rattle.bb_verify_effect.proofs.Laws.{plain_slot_ok, Pushed, push_ok, load_ok, store_local_ok, drop_one_ok, Turned, turn_ok, Combined, combine_ok, eq_label_ok, eq_unit_ok, get_ok, links_ok, find_ok, size_ok}
 use Rattle.bb_verify_effect.proofs.Laws.{new_unit_ok, set_slot_ok, relink_ok, enter_ok, leave_ok, delete_ok, say_ok, on_ok, Branched, one_ok, alive_ok, as_class_ok, unless_ok, next_unit_ok, done_ok, decline_ok, rate_ok, answer_ok}
 
 -- ---- kinds that ops push
@@ -48,10 +46,7 @@ plain_known slots.Interval k h = subst IsKnown (let e : Interval ≡ k = cc in e
 plain_known (slots.Link l) k h = absurd cc
 
 slot_known : (s : Schema) (class slot : ℕ) (k : Kind) → dues.plain_slot s class slot ≡ Ok k → IsKnown k
-unfolding dues.plain_slot
-slot_known s class slot k h =
-    let held = bind_ok (ok_or (dues.held_in s class slot) flaws.Slot) _ k h in
-    plain_known held.0 k (ok_or_ok flaws.Slot (dues.plain_kind held.0) k held.2)
+slot_known s class slot k h = let held = plain_slot_ok s class slot k h in plain_known held.0 k held.2
 
 -- ---- the rule
 

@@ -13,10 +13,11 @@ use Rattle.bb_verify_frame.specs.declared.part.Part.{Part}
 use Rattle.bb_verify_frame.specs.Part.{ends_done, ends_rated, ends_answered}
 use Rattle.bb_verify_frame.specs.Frame.{with_stack, pop, local_at, room, push}
 use Rattle.bb_schema_classes.specs.declared.kind.Link.{Link}
-use Rattle.bb_verify_effect.specs.Due.{due, class_of, sequence_of, single_slot}
+use Rattle.bb_verify_effect.specs.Due.{due, class_of, sequence_of, link_slot, single_slot}
 use Rattle.bb_verify_effect.specs.Edges.{Edges}
 use Rattle.bb_verify_effect.specs.Effect.{on, either, ended, one, alive, as_class, unless, next_unit, done, rate, decline, answer}
-use Rattle.bb_verify_effect.proofs.FrameInversion.{due_ok, sequence_of_ok, push_ok, pop_ok, pop_live_ok}
+use Rattle.bb_verify_effect.proofs.DueInversion.{due_ok, sequence_of_ok, single_slot_ok}
+use Rattle.bb_verify_effect.proofs.FrameInversion.{push_ok, pop_ok, pop_live_ok}
 
 pub on_ok : (r : Result Frame Flaw) (e : Edges) → on r ≡ Ok e → (g : Frame) × (r ≡ Ok g) × (record { on = Some g; target = None } ≡ e)
 on_ok (Ok g) e h = (g, refl, same_ok (record { on = Some g; target = None }) e h)
@@ -41,7 +42,8 @@ pub record OneFollowed (s : Schema) (slot : ℕ) (f : Frame) (e : Edges) : Type 
   pub link : Link
   pub rest : List Kind
   pub stack : f.stack ≡ Ref class ∷ rest
-  pub leads : single_slot s class slot ≡ Ok link
+  pub leads : link_slot s class slot ≡ Ok link
+  pub single : link.many ≡ false
   pub branched : Branched (Ref link.to) (with_stack rest f) e
 
 pub one_ok : (s : Schema) (slot : ℕ) (f : Frame) (e : Edges) → one s slot f ≡ Ok e → OneFollowed s slot f e
@@ -49,7 +51,16 @@ unfolding one
 one_ok s slot f e h =
     let unit = pop_live_ok f _ e h in
     let link = bind_ok (single_slot s unit.class slot) _ e unit.after in
-    record { class = unit.class; link = link.0; rest = unit.rest; stack = unit.stack; leads = link.1; branched = branch_ok (Ref link.0.to) (with_stack unit.rest f) e link.2 }
+    let single = single_slot_ok s unit.class slot link.0 link.1 in
+    record {
+      class = unit.class;
+      link = link.0;
+      rest = unit.rest;
+      stack = unit.stack;
+      leads = single.0;
+      single = single.1;
+      branched = branch_ok (Ref link.0.to) (with_stack unit.rest f) e link.2;
+    }
 
 -- a unit gave way to itself, live, if it is
 pub record FoundAlive (f : Frame) (e : Edges) : Type 0 where

@@ -21,7 +21,8 @@ use Rattle.bb_verify_effect.specs.Due.{due, label_of, class_of, live, sequence_o
 use Rattle.bb_verify_effect.specs.Due.{link_slot, value_due, partner_due, space_due, known_space, query_due}
 use Rattle.bb_verify_effect.specs.Effect.{load, store_local, drop_one, turn, combine, eq_label, eq_unit, get, links, find, size}
 use Rattle.bb_verify_effect.specs.Effect.{new_unit, set_slot, relink, enter, leave, after_delete, delete, say}
-use Rattle.bb_verify_effect.proofs.FrameInversion.{test_ok, due_ok, label_of_ok, sequence_of_ok, live_ok, Pushed, push_ok, pop_ok, pop_two_ok, pop_live_ok, enough_ok}
+use Rattle.bb_verify_effect.proofs.DueInversion.{test_ok, due_ok, label_of_ok, sequence_of_ok, live_ok, value_due_ok}
+use Rattle.bb_verify_effect.proofs.FrameInversion.{Pushed, push_ok, pop_ok, pop_two_ok, pop_live_ok, enough_ok}
 
 -- ---- locals and plain values
 
@@ -249,10 +250,6 @@ pub record SetTo (s : Schema) (part : Part) (slot : ℕ) (f g : Frame) : Type 0 
   pub holds : plain_slot s class slot ≡ Ok held
   pub may : writes part ≡ Ok tt
   pub left : with_stack rest f ≡ g
-
-value_due_ok : (s : Schema) (class slot : ℕ) (held k : Kind) (u : Unit {0}) → plain_slot s class slot ≡ Ok held → value_due s class slot k ≡ Ok u → due held k ≡ Ok u
-unfolding value_due
-value_due_ok s class slot held k u is h = rw (value_due, is) at h
 
 pub set_slot_ok : (s : Schema) (part : Part) (slot : ℕ) (f g : Frame) → set_slot s part slot f ≡ Ok g → SetTo s part slot f g
 unfolding set_slot

@@ -1,50 +1,19 @@
 -- What is known of a frame from which entries were popped, or onto which one was pushed, without a flaw.
-use Rattle.std.proofs.Common.{◌≡◌, ℕ, Bool, true, false, List, [], ◌∷◌, length, Some, Result, Ok, Err, refl, ap, ◌∙◌}
-use Rattle.std.specs.Prelude.{nat_le, nat_lt, if◌then◌else◌}
-use Rattle.std.proofs.lemmas.Bool.{eqb-true}
+use Rattle.std.proofs.Common.{◌≡◌, ℕ, false, List, [], ◌∷◌, length, Some, Result, Ok, ap, ◌∙◌}
+use Rattle.std.specs.Prelude.{nat_le, nat_lt}
 use Rattle.bb_basis.specs.Results.{◌>>=◌, ok_or}
 use Rattle.bb_basis.proofs.ResultLemmas.{bind_ok, guard_ok, ok_or_ok, same_ok}
 use Rattle.bb_verify_frame.specs.Kind.{Kind}
-use Rattle.bb_verify_frame.specs.Kind.TheVariants.{Int, Text, Bool as Truth, Label, Interval, Ref, Seq}
+use Rattle.bb_verify_frame.specs.Kind.TheVariants.{Ref}
 use Rattle.bb_verify_frame.specs.Flaw.{Flaw}
 use Rattle.bb_verify_frame.specs.Flaw.TheVariants as flaws
 use Rattle.bb_verify_frame.specs.Limits.{STACK_LIMIT}
 use Rattle.bb_verify_frame.specs.declared.frame.Frame.{Frame}
 use Rattle.bb_verify_frame.specs.Stack.{newest}
 use Rattle.bb_verify_frame.specs.Frame.{with_stack, pop, pop_two, enough, room, push}
-use Rattle.bb_verify_frame.specs.Kinds.{is_same_plain}
-use Rattle.bb_verify_effect.specs.Due.{due, label_of, class_of, live, sequence_of}
+use Rattle.bb_verify_effect.specs.Due.{class_of, live}
 use Rattle.bb_verify_effect.specs.Effect.{pop_live}
-
--- ---- kinds that were tested
-
--- a test passed, and what comes behind it is the answer
-pub test_ok : {A E : Type 0} (b : Bool) (e : E) (r : Result A E) (y : A) → (if b then r else Err e) ≡ Ok y → (b ≡ true) × (r ≡ Ok y)
-test_ok true e r y h = (refl, h)
-test_ok false e r y h = absurd cc
-
-pub same_plain : (k l : Kind) → is_same_plain k l ≡ true → k ≡ l
-same_plain Int Int h = refl
-same_plain Text Text h = refl
-same_plain Truth Truth h = refl
-same_plain Interval Interval h = refl
-same_plain (Label set) (Label other) h = ap Label (eqb-true set other h)
-same_plain _ _ h = absurd cc
-
-pub due_ok : (from k : Kind) (u : Unit {0}) → due from k ≡ Ok u → from ≡ k
-due_ok from k u h = same_plain from k (test_ok (is_same_plain from k) flaws.Kind (Ok tt) u h).0
-
-pub label_of_ok : (k : Kind) (set : ℕ) → label_of k ≡ Ok set → k ≡ Label set
-label_of_ok (Label own) set h = ap Label (same_ok own set h)
-label_of_ok _ set h = absurd cc
-
-pub sequence_of_ok : (k : Kind) (class : ℕ) → sequence_of k ≡ Ok class → k ≡ Seq class
-sequence_of_ok (Seq own) class h = ap Seq (same_ok own class h)
-sequence_of_ok _ class h = absurd cc
-
-pub live_ok : (k : Kind) (class : ℕ) (u : Unit {0}) → class_of k ≡ Ok class → live k ≡ Ok u → k ≡ Ref class
-live_ok (Ref own) class u of h = ap Ref (same_ok own class of)
-live_ok _ class u of h = absurd cc
+use Rattle.bb_verify_effect.proofs.DueInversion.{live_ok}
 
 -- ---- entries that are popped
 

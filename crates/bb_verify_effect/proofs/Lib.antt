@@ -1,6 +1,7 @@
 pub mod OperandLemmas
 pub mod EffectLemmas
 -- what an effect without a flaw says of the frames of an op
+pub mod DueInversion
 pub mod FrameInversion
 pub mod EffectInversion
 pub mod EdgeInversion
