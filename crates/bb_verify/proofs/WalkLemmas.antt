@@ -1,17 +1,16 @@
 -- The pass over the places gives a frame for each of them, and each was tested with the one before.
-use Rattle.std.proofs.Common.{◌≡◌, ℕ, zero, suc, ◌+◌, ◌<◌, ◌≤◌, List, [], ◌∷◌, ◌++◌, length, get_or, Option, Some, Result, Ok, refl, sym, ap, subst, ◌∙◌, arith}
+use Rattle.std.proofs.Common.{◌≡◌, ℕ, zero, suc, ◌+◌, ◌<◌, ◌≤◌, List, [], ◌∷◌, ◌++◌, length, get_or, Option, Some, Ok, refl, sym, ap, subst, ◌∙◌, arith}
 use Rattle.std.specs.Prelude.{slice_get}
 use Rattle.std.specs.List.{range_with_len}
 use Rattle.std.proofs.lemmas.List.{append-nil, append_assoc}
 use Rattle.std.proofs.lemmas.Option.{slice_get-get_or}
-use Rattle.bb_basis.specs.Results.{◌>>=◌, map_err, try_fold}
+use Rattle.bb_basis.specs.Results.{map_err, try_fold}
 use Rattle.bb_basis.proofs.ResultLemmas.{bind_ok, same_ok}
 use Rattle.bb_verify_effect.specs.Schema.{Schema}
 use Rattle.bb_verify_effect.specs.Code.{Code, places}
 use Rattle.bb_verify_effect.specs.Op.{Op}
 use Rattle.bb_verify_effect.specs.Op.TheVariants as ops
 use Rattle.bb_verify_effect.specs.Edges.{Edges}
-use Rattle.bb_verify_effect.specs.Flaw.{Flaw}
 use Rattle.bb_verify_effect.specs.FrameType.{Frame}
 use Rattle.bb_verify_effect.specs.PartType.{Part}
 use Rattle.bb_verify.specs.declared.walk.Walk.{Walk}
@@ -38,13 +37,6 @@ pub record Visits (s : Schema) (part : Part) (code : Code) (declared : List (Opt
   pub frame : Frame
   pub visited : Visited s part code declared place w.next frame
   pub is : t ≡ one_more frame visited.edges.on w
-
--- what is left of a place once its frame and its edges are known
-abbrev last_of : Schema → Code → List (Option Frame) → Op → Walk → Frame → Edges → Result Walk Flaw
-last_of s code declared op w f edges = target_due s edges.target (declared_for declared op) >>= λ _. Ok (one_more f edges.on w)
-
-abbrev left_of : Schema → Code → List (Option Frame) → ℕ → Op → Walk → Frame → Edges → Result Walk Flaw
-left_of s code declared place op w f edges = has_next (length code.ops) (place + 1) edges.on >>= λ _. on_due s edges.on (declared_at declared (place + 1)) >>= λ _. last_of s code declared op w f edges
 
 op_visits : (s : Schema) (part : Part) (code : Code) (declared : List (Option Frame)) (place : ℕ) (op : Op) (w t : Walk) → slice_get code.ops place ≡ Some op → visit_op s part code declared place op w ≡ Ok t
     → Visits s part code declared place w t
