@@ -1,20 +1,28 @@
 -- Steps that lead along an edge of their op.
-use Rattle.std.proofs.Common.{◌≡◌, ◌⊎◌, inl, inr, ℕ, Option, Some, None, Result, Ok, Err, refl, sym, subst, ◌∙◌}
+use Rattle.std.proofs.Common.{◌≡◌, ◌⊎◌, inl, inr, ℕ, ◌∷◌, Option, Some, None, Result, Ok, Err, refl, sym, ap, subst, ◌∙◌}
 use Rattle.bb_basis.specs.Results.{◌>>=◌}
 use Rattle.bb_basis.proofs.ResultLemmas.{same_ok}
 use Rattle.bb_board.specs.Board.{Board}
 use Rattle.bb_board.specs.Fits.{Fits}
 use Rattle.bb_code.specs.Op.{Op}
+use Rattle.bb_code.specs.Kind.{Kind}
+use Rattle.bb_verify.specs.Edges.{Edges}
 use Rattle.bb_verify.specs.Flaw.{Flaw}
 use Rattle.bb_verify.specs.FrameType.{Frame}
 use Rattle.bb_verify.specs.Effect as effects
+use Rattle.bb_verify.specs.Frame as frames
 use Rattle.bb_verify.specs.Jumps.{target_of}
+use Rattle.bb_verify.proofs.Laws.{Pushed, Branched}
 use Rattle.bb_machine_step.specs.Halt.{Halt}
 use Rattle.bb_machine_step.specs.Machine.{Machine, go_to}
 use Rattle.bb_machine_step.specs.Step.{keeps}
 use Rattle.bb_machine.specs.Kinds.{Suits}
 use Rattle.bb_machine.specs.Safe.{Leads, IsSafe}
 use Rattle.bb_machine.specs.proving.Moves.{Makes}
+
+pub edges_ok : (r : Result Edges Flaw) (e : Option Frame × Option Frame) → (r >>= λ x. Ok (x.on, x.target)) ≡ Ok e → (x : Edges) × (r ≡ Ok x) × ((x.on, x.target) ≡ e)
+edges_ok (Ok x) e h = (x, refl, same_ok (x.on, x.target) e h)
+edges_ok (Err flaw) e h = absurd cc
 
 pub on_edges : (r : Result Frame Flaw) (e : Option Frame × Option Frame) → (effects.on r >>= λ x. Ok (x.on, x.target)) ≡ Ok e → (g : Frame) × (r ≡ Ok g) × ((Some g, None) ≡ e)
 on_edges (Ok g) e h = (g, refl, same_ok (Some g, None) e h)
@@ -36,11 +44,19 @@ module _ (b : Board) (fits : Fits b.schema b.world) (m : Machine) (op : Op) wher
   leads_by e effect r h makes = let one = on_edges effect e h in leads_on e one.0 r one.2 (makes one.0 one.1)
 
   -- the next op follows, or the one at the place
-  pub leads_either : (place : ℕ) (e : Option Frame × Option Frame) (left : Machine) (next g : Frame) (r : Result Machine Halt) → target_of op ≡ Some place → (Some next, Some g) ≡ e → left.place ≡ m.place
-      → Suits b.schema b.world left g → (Makes b.schema b.world left next r) ⊎ (r ≡ Ok (go_to place left)) → IsSafe b.schema m.place op e (keeps b r)
-  leads_either place e left next g r to is same suits (inl made) =
+  pub leads_either : (place : ℕ) (e : Option Frame × Option Frame) (left : Machine) (next g : Frame) (did r : Result Machine Halt) → target_of op ≡ Some place → (Some next, Some g) ≡ e → left.place ≡ m.place
+      → Suits b.schema b.world left g → r ≡ did → (Makes b.schema b.world left next did) ⊎ (did ≡ Ok (go_to place left)) → IsSafe b.schema m.place op e (keeps b r)
+  leads_either place e left next g did r to is same suits does (inl made) =
       subst (λ (x : Option Frame × Option Frame). IsSafe b.schema m.place op x (keeps b r)) is
-      (kept_at (Some next, Some g) r made.next made.is (record { schema = refl; fits = fits; edge = inl (made.place ∙ same, made.suits) }))
-  leads_either place e left next g r to is same suits (inr goes) =
+      (kept_at (Some next, Some g) r made.next (does ∙ made.is) (record { schema = refl; fits = fits; edge = inl (made.place ∙ same, made.suits) }))
+  leads_either place e left next g did r to is same suits does (inr goes) =
       subst (λ (x : Option Frame × Option Frame). IsSafe b.schema m.place op x (keeps b r)) is
-      (kept_at (Some next, Some g) r (go_to place left) goes (record { schema = refl; fits = fits; edge = inr (to, record { locals = suits.locals; stack = suits.stack }) }))
+      (kept_at (Some next, Some g) r (go_to place left) (does ∙ goes) (record { schema = refl; fits = fits; edge = inr (to, record { locals = suits.locals; stack = suits.stack }) }))
+
+  -- the next op follows, with one more entry, or the one at the place
+  pub leads_branched : (place : ℕ) (e : Option Frame × Option Frame) (x : Edges) (k : Kind) (left : Machine) (g : Frame) (did r : Result Machine Halt) → target_of op ≡ Some place → (x.on, x.target) ≡ e → Branched k g x
+      → left.place ≡ m.place → Suits b.schema b.world left g → r ≡ did → ((next : Frame) → Pushed k g next → (Makes b.schema b.world left next did) ⊎ (did ≡ Ok (go_to place left)))
+      → IsSafe b.schema m.place op e (keeps b r)
+  leads_branched place e x k left g did r to is it same suits does makes =
+      let next = frames.with_stack (k ∷ g.stack) g in
+      leads_either place e left next g did r to (ap (λ (y : Edges). (y.on, y.target)) it.edges ∙ is) same suits does (makes next (record { room = it.room; left = refl }))

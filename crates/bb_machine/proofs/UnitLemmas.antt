@@ -1,8 +1,7 @@
 -- The ops that pop units and only look at them make what the verifier says.
 use Rattle.std.proofs.Common.{◌≡◌, ℕ, true, List, ◌∷◌, Ok, refl, ap, subst, ◌∙◌}
 use Rattle.std.specs.Prelude.{◌==◌}
-use Rattle.bb_basis.specs.Results.{◌>>=◌}
-use Rattle.bb_basis.proofs.ResultLemmas.{bind_ok, same_ok}
+use Rattle.bb_basis.proofs.ResultLemmas.{same_ok}
 use Rattle.bb_schema.specs.Schema.{Schema}
 use Rattle.bb_units.specs.Units.{is_live}
 use Rattle.bb_units.specs.Fits as units
@@ -13,13 +12,12 @@ use Rattle.bb_code.specs.Kind.TheVariants.{Any, Int, Text, Bool as Truth, Label,
 use Rattle.bb_verify.specs.FrameType.{Frame}
 use Rattle.bb_verify.specs.Due as dues
 use Rattle.bb_verify.specs.Frame as frames
-use Rattle.bb_verify.specs.Effect as effects
 use Rattle.bb_machine_step.specs.Values.{Value}
 use Rattle.bb_machine_step.specs.Values.TheVariants as values
 use Rattle.bb_machine_step.specs.Machine.{Machine, with_stack, pop, pop_two, push}
 use Rattle.bb_machine_step.specs.Reading.{live, pop_unit, pop_live}
 use Rattle.bb_machine_step.specs.Arithmetic.{eq_unit}
-use Rattle.bb_machine.specs.Kinds.{IsOf, WasOf, HasKind, Suits}
+use Rattle.bb_machine.specs.Kinds.{WasOf, HasKind, Suits}
 use Rattle.bb_machine.specs.proving.Moves.{PopsLive}
 use Rattle.bb_machine.proofs.MoveLemmas.{pops}
 use Rattle.bb_machine.proofs.LiveLemmas.{was_of}
@@ -37,33 +35,11 @@ unit_was s w uf (Seq c) class v is has = absurd cc
 unit_was s w uf (Ref c) class v is has = (has.0, has.1, subst (λ d. WasOf s w d has.0) (same_ok c class is) (was_of s w uf c has.0 has.2))
 unit_was s w uf (Old c) class v is has = (has.0, has.1, subst (λ d. WasOf s w d has.0) (same_ok c class is) has.2)
 
-pub unit_is : (s : Schema) (w : World) (k : Kind) (class : ℕ) (v : Value) (u : Unit {0}) → dues.class_of k ≡ Ok class → dues.live k ≡ Ok u → HasKind s w k v → (n : ℕ) × (v ≡ values.Unit n) × IsOf s w class n
-unit_is s w Any class v u is live has = absurd cc
-unit_is s w Int class v u is live has = absurd cc
-unit_is s w Text class v u is live has = absurd cc
-unit_is s w Truth class v u is live has = absurd cc
-unit_is s w (Label set) class v u is live has = absurd cc
-unit_is s w Interval class v u is live has = absurd cc
-unit_is s w (Seq c) class v u is live has = absurd cc
-unit_is s w (Old c) class v u is live has = absurd cc
-unit_is s w (Ref c) class v u is live has = (has.0, has.1, subst (λ d. IsOf s w d has.0) (same_ok c class is) has.2)
-
 -- a unit that is live is the newest entry, where the verifier says so
-pub pops_live : (s : Schema) (w : World) (m : Machine) (f : Frame) (left : ℕ × Frame) → effects.pop_live f ≡ Ok left → Suits s w m f → PopsLive s w m left
-unfolding effects.pop_live
-pops_live s w m f left h suits =
-    let one = bind_ok (frames.pop f) (λ (k : Kind × Frame). dues.class_of k.0 >>= λ class. dues.live k.0 >>= λ _. Ok (class, k.1)) left h in
-    let class = bind_ok (dues.class_of one.0.0) (λ class. dues.live one.0.0 >>= λ _. Ok (class, one.0.1)) left one.2 in
-    let alive = bind_ok (dues.live one.0.0) (λ (u : Unit {0}). Ok (class.0, one.0.1)) left class.2 in
-    let p = pops s w m f one.0 one.1 suits in
-    let unit = unit_is s w one.0.0 class.0 p.value alive.0 class.1 alive.1 p.has in
-    subst (PopsLive s w m) (same_ok (class.0, one.0.1) left alive.2) (record {
-      n = unit.0;
-      rest = p.rest;
-      stack = p.stack ∙ ap (λ (v : Value). v ∷ p.rest) unit.1;
-      of = unit.2;
-      suits = p.suits;
-    })
+pub pops_live : (s : Schema) (w : World) (m : Machine) (f : Frame) (class : ℕ) (rest : List Kind) → f.stack ≡ Ref class ∷ rest → Suits s w m f → PopsLive s w m (class, frames.with_stack rest f)
+pops_live s w m f class rest is suits =
+    let p = pops s w m f (Ref class) rest is suits in
+    record { n = p.has.0; rest = p.rest; stack = p.stack ∙ ap (λ (v : Value). v ∷ p.rest) p.has.1; of = p.has.2; suits = p.suits }
 
 pub pop_unit_on : (m : Machine) (n : ℕ) (rest : List Value) → m.stack ≡ values.Unit n ∷ rest → pop_unit m ≡ Ok (n, with_stack rest m)
 unfolding pop_unit pop

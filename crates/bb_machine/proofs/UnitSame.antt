@@ -1,5 +1,5 @@
 -- The class and the values of a unit go by the unit alone.
-use Rattle.std.proofs.Common.{◌≡◌, ℕ, Bool, true, false, Option, Some, None, option_map, refl, sym, ap, ◌∙◌}
+use Rattle.std.proofs.Common.{◌≡◌, ℕ, false, Option, Some, None, option_map, refl, sym, ap}
 use Rattle.std.specs.Prelude.{is_some, option_and_then}
 use Rattle.std.specs.FinMap.{get}
 use Rattle.bb_units.specs.declared.unit.Unit.{Unit}

@@ -15,7 +15,8 @@ use Rattle.bb_verify.specs.Kinds.{is_same_plain, weakens, weakens_local, frame_w
 use Rattle.bb_machine_step.specs.Values.{Value}
 use Rattle.bb_machine_step.specs.Machine.{Machine}
 use Rattle.bb_machine.specs.Kinds.{WasOf, HasKind, LocalHas, Suits}
-use Rattle.bb_machine.proofs.KindLemmas.{same_plain, is_of_weaker, was_weaker}
+use Rattle.bb_verify.proofs.Laws.{same_plain}
+use Rattle.bb_machine.proofs.KindLemmas.{is_of_weaker, was_weaker}
 use Rattle.bb_machine.proofs.LiveLemmas.{was_of}
 
 module _ (s : Schema) (w : World) (fits : schemas.Fits s) (uf : units.Fits w.units) where

@@ -1,9 +1,7 @@
 -- Ops that change the blackboard are safe.
-use Rattle.std.proofs.Common.{◌≡◌, inl, ℕ, Bool, false, true, not, cond, length, List, ◌∷◌, Option, Some, None, Result, Ok, Err, refl, sym, subst, arith}
+use Rattle.std.proofs.Common.{◌≡◌, inl, ℕ, Bool, false, true, not, length, List, ◌∷◌, Option, Some, None, Result, Ok, refl, sym, subst, arith}
 use Rattle.std.specs.Prelude.{nat_lt}
 use Rattle.bb_basis.proofs.NumberLemmas.{nat_lt_true}
-use Rattle.bb_basis.specs.Results.{◌>>=◌}
-use Rattle.bb_basis.proofs.ResultLemmas.{bind_ok, same_ok}
 use Rattle.bb_units.specs.Units.{Units, is_live}
 use Rattle.bb_space.specs.Spaces.{is_member}
 use Rattle.bb_board.specs.Board.{Board, with_world}
@@ -15,14 +13,11 @@ use Rattle.bb_board.proofs.Laws.{leave_keeps}
 use Rattle.bb_code.specs.Code.{Code}
 use Rattle.bb_code.specs.Op.{Op}
 use Rattle.bb_code.specs.Op.TheVariants as ops
-use Rattle.bb_verify.specs.Flaw.{Flaw}
-use Rattle.bb_verify.specs.Flaw.TheVariants as flaws
 use Rattle.bb_verify.specs.FrameType.{Frame}
 use Rattle.bb_verify.specs.PartType.{Part}
-use Rattle.bb_verify.specs.Due as dues
-use Rattle.bb_verify.specs.Part.{writes}
 use Rattle.bb_verify.specs.Effect as effects
 use Rattle.bb_verify.specs.Effect.{effect}
+use Rattle.bb_verify.proofs.Laws.{leave_ok}
 use Rattle.bb_machine_step.specs.Halt.{Halt}
 use Rattle.bb_machine_step.specs.Values.{Value}
 use Rattle.bb_machine_step.specs.Values.TheVariants as values
@@ -52,10 +47,6 @@ leave_on : (b : Board) (space : ℕ) (m : Machine) (n : ℕ) (rest : List Value)
 unfolding leave right_space
 leave_on b space m n rest is alive there = rw (pop_live_on b m n rest is alive, there) refl
 
-known_by : (there : Bool) (u : Unit {0}) → (let r : Result (Unit {0}) Flaw = cond there (Ok tt) (Err flaws.Space) in r) ≡ Ok u → there ≡ true
-known_by true u h = refl
-known_by false u h = absurd cc
-
 module _ (part : Part) (code : Code) (b : Board) (fits : Fits b.schema b.world) (m : Machine) (f : Frame) (suits : Suits b.schema b.world m f) (e : Option Frame × Option Frame) where
   -- an op that is safe at the state
   abbrev Safe : Op → Type 0
@@ -70,17 +61,14 @@ module _ (part : Part) (code : Code) (b : Board) (fits : Fits b.schema b.world) 
       (record { schema = refl; fits = kept; edge = inl (same, suits_persists b.schema b.world w outlives persists left g left_suits) }))
 
   pub leave_safe : (space : ℕ) → Safe (ops.Leave space)
-  unfolding step effect effects.leave dues.known_space
+  unfolding step effect
   leave_safe space h =
       let out = on_edges (effects.leave b.schema part space f) e h in
-      let unit = bind_ok (effects.pop_live f) (λ (u : ℕ × Frame). dues.known_space b.schema space >>= λ _. writes part >>= λ _. Ok u.1) out.0 out.1 in
-      let known = bind_ok (dues.known_space b.schema space) (λ (u : Unit {0}). writes part >>= λ _. Ok unit.0.1) out.0 unit.2 in
-      let may = bind_ok (writes part) (λ (u : Unit {0}). Ok unit.0.1) out.0 known.2 in
-      let p = pops_live b.schema b.world m f unit.0 unit.1 suits in
-      let there = known_by (nat_lt space (length b.schema.spaces)) known.0 known.1 in
-      let live = is_live_of b.schema b.world fits.units unit.0.0 p.n p.of in
+      let it = leave_ok b.schema part space f out.0 out.1 in
+      let p = pops_live b.schema b.world m f it.class it.rest it.stack suits in
+      let live = is_live_of b.schema b.world fits.units it.class p.n p.of in
       let same = left_units b.world p.n space (not (is_member b.world.spaces space p.n)) refl in
-      changes (ops.Leave space) out.0 (with_stack p.rest m) (after_leave b.world p.n space) (leave b space m) out.2 refl (leave_on b space m p.n p.rest p.stack live there)
-      (leave_keeps b.schema b.world fits p.n space live (nat_lt_true space (length b.schema.spaces) there))
+      changes (ops.Leave space) out.0 (with_stack p.rest m) (after_leave b.world p.n space) (leave b space m) out.2 refl (leave_on b space m p.n p.rest p.stack live it.known)
+      (leave_keeps b.schema b.world fits p.n space live (nat_lt_true space (length b.schema.spaces) it.known))
       (same_outlives b.world.units (after_leave b.world p.n space).units same) (same_persists b.world.units (after_leave b.world p.n space).units same)
-      (subst (Suits b.schema b.world (with_stack p.rest m)) (same_ok unit.0.1 out.0 may.2) p.suits)
+      (subst (Suits b.schema b.world (with_stack p.rest m)) it.left p.suits)

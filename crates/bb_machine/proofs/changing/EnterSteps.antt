@@ -1,9 +1,7 @@
 -- A unit that enters a space is safe.
-use Rattle.std.proofs.Common.{◌≡◌, ℕ, Bool, false, true, cond, List, [], ◌∷◌, Option, Result, Ok, Err, refl, ap, subst, ◌∙◌}
+use Rattle.std.proofs.Common.{◌≡◌, ℕ, Bool, false, true, List, [], ◌∷◌, Option, Ok, refl, ap, subst, ◌∙◌}
 use Rattle.std.specs.Prelude.{◌||◌}
 use Rattle.std.specs.List.{list_any}
-use Rattle.bb_basis.specs.Results.{◌>>=◌}
-use Rattle.bb_basis.proofs.ResultLemmas.{bind_ok, same_ok}
 use Rattle.bb_schema.specs.Schema.{Schema, descends}
 use Rattle.bb_schema.specs.Spaces.{classes_in, allowed}
 use Rattle.bb_schema.specs.Fits as schemas
@@ -17,14 +15,11 @@ use Rattle.bb_board.specs.State.{World}
 use Rattle.bb_board.proofs.Laws.{may_enter_facts, enter_keeps}
 use Rattle.bb_code.specs.Code.{Code}
 use Rattle.bb_code.specs.Op.TheVariants as ops
-use Rattle.bb_verify.specs.Flaw.{Flaw}
-use Rattle.bb_verify.specs.Flaw.TheVariants as flaws
 use Rattle.bb_verify.specs.FrameType.{Frame}
 use Rattle.bb_verify.specs.PartType.{Part}
-use Rattle.bb_verify.specs.Due as dues
-use Rattle.bb_verify.specs.Part.{writes}
 use Rattle.bb_verify.specs.Effect as effects
 use Rattle.bb_verify.specs.Effect.{effect}
+use Rattle.bb_verify.proofs.Laws.{enter_ok}
 use Rattle.bb_machine_step.specs.Values.{Value}
 use Rattle.bb_machine_step.specs.Values.TheVariants as values
 use Rattle.bb_machine_step.specs.Machine.{Machine, with_stack}
@@ -61,26 +56,19 @@ enter_on : (b : Board) (space : ℕ) (m : Machine) (n : ℕ) (rest : List Value)
 unfolding enter
 enter_on b space m n rest is asked = rw (pop_unit_on m n rest is, asked) refl
 
-admitted_by : (admitted : Bool) (u : Unit {0}) → (let r : Result (Unit {0}) Flaw = cond admitted (Ok tt) (Err flaws.Space) in r) ≡ Ok u → admitted ≡ true
-admitted_by true u h = refl
-admitted_by false u h = absurd cc
-
 module _ (part : Part) (code : Code) (b : Board) (sf : schemas.Fits b.schema) (fits : Fits b.schema b.world) (m : Machine) (f : Frame) (suits : Suits b.schema b.world m f) (e : Option Frame × Option Frame) where
   pub enter_safe : (space : ℕ) → edges_of b.schema part code (ops.Enter space) f ≡ Ok e → IsSafe b.schema m.place (ops.Enter space) e (step code (ops.Enter space) (m, b))
-  unfolding step effect effects.enter dues.space_due
+  unfolding step effect
   enter_safe space h =
       let out = on_edges (effects.enter b.schema part space f) e h in
-      let unit = bind_ok (effects.pop_live f) (λ (u : ℕ × Frame). dues.space_due b.schema space u.0 >>= λ _. writes part >>= λ _. Ok u.1) out.0 out.1 in
-      let admits = bind_ok (dues.space_due b.schema space unit.0.0) (λ (u : Unit {0}). writes part >>= λ _. Ok unit.0.1) out.0 unit.2 in
-      let wrote = bind_ok (writes part) (λ (u : Unit {0}). Ok unit.0.1) out.0 admits.2 in
-      let p = pops_live b.schema b.world m f unit.0 unit.1 suits in
-      let of_class = admitted_by (allowed b.schema space unit.0.0) admits.0 admits.1 in
-      let live = is_live_of b.schema b.world fits.units unit.0.0 p.n p.of in
+      let it = enter_ok b.schema part space f out.0 out.1 in
+      let p = pops_live b.schema b.world m f it.class it.rest it.stack suits in
+      let live = is_live_of b.schema b.world fits.units it.class p.n p.of in
       let admitted : allowed b.schema space (class_at b.world p.n) ≡ true =
-      ap (allowed b.schema space) (class_at_of b.schema b.world fits.units unit.0.0 p.n p.of) ∙ any_up b.schema p.of.own unit.0.0 sf p.of.under (classes_in b.schema space) of_class in
+      ap (allowed b.schema space) (class_at_of b.schema b.world fits.units it.class p.n p.of) ∙ any_up b.schema p.of.own it.class sf p.of.under (classes_in b.schema space) it.admits in
       let asked = may_on b.schema b.world p.n space live admitted in
       let same = entered_units b.schema b.world p.n space (is_member b.world.spaces space p.n) refl in
       changes part code b fits m f suits e (ops.Enter space) out.0 (with_stack p.rest m) (after_enter b.schema b.world p.n space) (enter b space m) out.2 refl (enter_on b space m p.n p.rest p.stack asked)
       (enter_keeps b.schema b.world fits p.n space (may_enter_facts b.schema b.world p.n space asked))
       (same_outlives b.world.units (after_enter b.schema b.world p.n space).units same) (same_persists b.world.units (after_enter b.schema b.world p.n space).units same)
-      (subst (Suits b.schema b.world (with_stack p.rest m)) (same_ok unit.0.1 out.0 wrote.2) p.suits)
+      (subst (Suits b.schema b.world (with_stack p.rest m)) it.left p.suits)

@@ -23,8 +23,6 @@ use Rattle.bb_board.specs.State.{World}
 use Rattle.bb_board.proofs.Laws.{may_link_facts, link_keeps, unlink_keeps}
 use Rattle.bb_code.specs.LinkChange.{LinkChange}
 use Rattle.bb_code.specs.LinkChange.TheVariants as relinks
-use Rattle.bb_verify.specs.Flaw.{Flaw}
-use Rattle.bb_verify.specs.Flaw.TheVariants as flaws
 use Rattle.bb_verify.specs.Due as dues
 use Rattle.bb_machine_step.specs.Changing.{after_change}
 use Rattle.bb_machine.specs.Kinds.{IsOf}
@@ -73,18 +71,12 @@ module _ (s : Schema) (w : World) (n slot k : ℕ) where
 may_by : (a b c : Bool) (x y z : Reason) → a ≡ true → b ≡ true → c ≡ true → (let r : Result (Unit {0}) Reason = (if not a then Err x else if not b then Err y else if not c then Err z else Ok tt) in r) ≡ Ok tt
 may_by a b c x y z one two three = rw (one, two, three) refl
 
--- the partner's class descends from the one that the link leads to
-partner_by : (there : Bool) (u : Unit {0}) → (let r : Result (Unit {0}) Flaw = (if there then Ok tt else Err flaws.LinkClass) in r) ≡ Ok u → there ≡ true
-partner_by true u h = refl
-partner_by false u h = absurd cc
-
 -- units that the verifier lets be linked may be linked
-pub may_on : (s : Schema) (w : World) (class other slot n k : ℕ) (link : Link) (u : Unit {0}) → schemas.Fits s → Fits s w → dues.link_slot s class slot ≡ Ok link → dues.partner_due s other link.to ≡ Ok u
+pub may_on : (s : Schema) (w : World) (class other slot n k : ℕ) (link : Link) → schemas.Fits s → Fits s w → dues.link_slot s class slot ≡ Ok link → descends s other link.to ≡ true
     → IsOf s w class n → IsOf s w other k → may_link s w n slot k ≡ Ok tt
-unfolding dues.partner_due
-may_on s w class other slot n k link u sf fits is due one two =
+may_on s w class other slot n k link sf fits is up one two =
     let link_there = links_there s one.own class slot link sf one.under is in
-    let to = descends_on s two.own other link.to sf two.under (partner_by (descends s other link.to) u due) in
+    let to = descends_on s two.own other link.to sf two.under up in
     may_by (is_live w.units n && is_live w.units k) (has_link s (class_at w n) slot) (leads_to s slot (class_at w k)) reasons.Deleted reasons.Slot reasons.LinkClass
     (and_from (is_live w.units n) (is_live w.units k) (is_live_of s w fits.units class n one) (is_live_of s w fits.units other k two))
     (ap (λ (c : ℕ). has_link s c slot) (class_at_of s w fits.units class n one) ∙ link_there.1)

@@ -28,7 +28,6 @@ use Rattle.bb_verify.specs.Due as dues
 use Rattle.bb_machine_step.specs.Values.{Value}
 use Rattle.bb_machine_step.specs.Value.{slot_value_of}
 use Rattle.bb_machine.specs.Kinds.{IsOf, HasKind}
-use Rattle.bb_machine.proofs.MoveLemmas.{due_is}
 use Rattle.bb_machine.proofs.changing.OutliveLemmas.{Persists}
 use Rattle.bb_machine.proofs.HeldLemmas.{default_kept}
 use Rattle.bb_machine.proofs.reading.SlotLemmas.{plain_there, default_by, reads}
@@ -74,17 +73,12 @@ pub record CanHold (s : Schema) (slot : ℕ) (v : Value) : Type 0 where
   pub is : slot_value_of v ≡ Some value
   pub holds : can_hold (layout_of s) slot value ≡ true
 
-due_by : (s : Schema) (class slot : ℕ) (kind k : Kind) (u : Unit {0}) → dues.plain_slot s class slot ≡ Ok kind → dues.value_due s class slot k ≡ Ok u → dues.due kind k ≡ Ok u
-unfolding dues.value_due
-due_by s class slot kind k u is h = rw (dues.value_due, is) at h
-
-pub value_held : (s : Schema) (w : World) (class slot : ℕ) (kind k : Kind) (v : Value) (u : Unit {0}) → dues.plain_slot s class slot ≡ Ok kind → dues.value_due s class slot k ≡ Ok u → HasKind s w k v → CanHold s slot v
-value_held s w class slot kind k v u h due has =
+pub value_held : (s : Schema) (w : World) (class slot : ℕ) (kind : Kind) (v : Value) → dues.plain_slot s class slot ≡ Ok kind → HasKind s w kind v → CanHold s slot v
+value_held s w class slot kind v h has =
     let p = plain_there s class slot kind h in
     let d = default_by p.1.entry.content p.0 kind p.1.holds p.2 in
     let default : default_of s slot ≡ Some (d.0) = ap (option_and_then (λ (t : Slot). default_in t.content)) p.1.there ∙ ap default_in d.1 in
-    let same = due_is s w kind k u (due_by s class slot kind k u h due) in
-    let x = kind_held s w p.0 kind v p.2 (subst (λ (i : Kind). HasKind s w i v) (sym same) has) in
+    let x = kind_held s w p.0 kind v p.2 has in
     record {
       value = x.0;
       is = x.1;

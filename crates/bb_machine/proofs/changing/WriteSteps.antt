@@ -1,8 +1,6 @@
 -- Ops that write to the blackboard are safe.
 use Rattle.std.proofs.Common.{◌≡◌, inl, ℕ, Bool, false, true, length, List, ◌∷◌, drop, take, reverse, Option, Some, None, Result, Ok, Err, refl, sym, ap, subst, ◌∙◌}
 use Rattle.std.specs.Prelude.{nat_le, slice_get, All}
-use Rattle.bb_basis.specs.Results.{◌>>=◌}
-use Rattle.bb_basis.proofs.ResultLemmas.{bind_ok, same_ok}
 use Rattle.bb_schema_classes.specs.declared.class.Class.{Class}
 use Rattle.bb_schema_classes.specs.declared.value.Value.{Value as SlotValue}
 use Rattle.bb_schema.specs.Fits as schemas
@@ -25,13 +23,11 @@ use Rattle.bb_code.specs.Op.{Op}
 use Rattle.bb_code.specs.Op.TheVariants as ops
 use Rattle.bb_verify.specs.FrameType.{Frame}
 use Rattle.bb_verify.specs.PartType.{Part}
-use Rattle.bb_verify.specs.Due as dues
-use Rattle.bb_verify.specs.Each.{each}
 use Rattle.bb_verify.specs.Facts.{is_known}
 use Rattle.bb_verify.specs.Frame as frames
-use Rattle.bb_verify.specs.Part.{writes}
 use Rattle.bb_verify.specs.Effect as effects
 use Rattle.bb_verify.specs.Effect.{effect}
+use Rattle.bb_verify.proofs.Laws.{Pushed, new_unit_ok, set_slot_ok, relink_ok, delete_ok, say_ok}
 use Rattle.bb_machine_step.specs.Halt.{Halt}
 use Rattle.bb_machine_step.specs.Halt.TheVariants as halts
 use Rattle.bb_machine_step.specs.Values.{Value}
@@ -43,13 +39,13 @@ use Rattle.bb_machine_step.specs.Changing.{State, new_unit, value_due, set_slot,
 use Rattle.bb_machine_step.specs.Step.{step}
 use Rattle.bb_machine.specs.Kinds.{Suits}
 use Rattle.bb_machine.specs.Safe.{edges_of, IsSafe}
-use Rattle.bb_machine.proofs.MoveLemmas.{has_room, pushes}
+use Rattle.bb_machine.proofs.MoveLemmas.{has_room, pops_two, pushes}
 use Rattle.bb_machine.proofs.LiveLemmas.{is_live_of}
-use Rattle.bb_machine.proofs.UnitLemmas.{unit_is, pops_live, pop_live_on}
+use Rattle.bb_machine.proofs.UnitLemmas.{pops_live, pop_live_on}
 use Rattle.bb_machine.proofs.changing.OutliveLemmas.{suits_persists}
 use Rattle.bb_machine.proofs.changing.StruckLemmas.{suits_struck}
 use Rattle.bb_machine.proofs.EdgeLemmas.{on_edges}
-use Rattle.bb_machine.proofs.reading.ReadSteps.{seen, pops_two}
+use Rattle.bb_machine.proofs.reading.ReadSteps.{seen}
 use Rattle.bb_machine.proofs.changing.ChangeSteps.{same_outlives, same_persists, changes}
 use Rattle.bb_machine.proofs.changing.CreatedLemmas.{created_outlives, created_persists, new_is_of, created_keeps}
 use Rattle.bb_machine.proofs.ManyLemmas.{pops_many, pop_many_on}
@@ -100,19 +96,18 @@ module _ (part : Part) (code : Code) (b : Board) (sf : schemas.Fits b.schema) (f
       (record { schema = refl; fits = kept; edge = inl (same, left_suits) }))
 
   pub delete_safe : Safe ops.Delete
-  unfolding step effect effects.delete
+  unfolding step effect
   delete_safe h =
       let out = on_edges (effects.delete b.schema part f) e h in
-      let unit = bind_ok (effects.pop_live f) (λ (u : ℕ × Frame). writes part >>= λ _. Ok (effects.after_delete b.schema u.0 u.1)) out.0 out.1 in
-      let wrote = bind_ok (writes part) (λ (u : Unit {0}). Ok (effects.after_delete b.schema unit.0.0 unit.0.1)) out.0 unit.2 in
-      let p = pops_live b.schema b.world m f unit.0 unit.1 suits in
-      let alive = is_live_of b.schema b.world fits.units unit.0.0 p.n p.of in
+      let it = delete_ok b.schema part f out.0 out.1 in
+      let p = pops_live b.schema b.world m f it.class it.rest it.stack suits in
+      let alive = is_live_of b.schema b.world fits.units it.class p.n p.of in
       suits_on ops.Delete out.0 (with_stack p.rest m) (after_delete b.schema b.world p.n) (delete b m) out.2 refl (delete_on b m p.n p.rest p.stack alive)
       (delete_keeps b.schema b.world sf fits p.n alive (deleted_fit b.world.units fits.units p.n) (forget_fits b.world.links p.n fits.links))
-      (subst (Suits b.schema (after_delete b.schema b.world p.n) (with_stack p.rest m)) (same_ok (effects.after_delete b.schema unit.0.0 unit.0.1) out.0 wrote.2)
-      (suits_struck b.schema b.world sf fits.units p.n unit.0.0 p.of (with_stack p.rest m) unit.0.1 p.suits))
+      (subst (Suits b.schema (after_delete b.schema b.world p.n) (with_stack p.rest m)) it.left
+      (suits_struck b.schema b.world sf fits.units p.n it.class p.of (with_stack p.rest m) (frames.with_stack it.rest f) p.suits))
 
-  new_by : (class : ℕ) (entry : Class) (g : Frame) (full : Bool) → slice_get b.schema.classes class ≡ Some entry → nat_le STACK_LIMIT (length m.stack) ≡ false → frames.push (kinds.Ref class) f ≡ Ok g → (Some g, None) ≡ e
+  new_by : (class : ℕ) (entry : Class) (g : Frame) (full : Bool) → slice_get b.schema.classes class ≡ Some entry → nat_le STACK_LIMIT (length m.stack) ≡ false → Pushed (kinds.Ref class) f g → (Some g, None) ≡ e
       → is_full b.world.units ≡ full → IsSafe b.schema m.place (ops.New class) e (new_unit b class m)
   new_by class entry g true there low h edges full =
       subst (λ (x : Result State Halt). IsSafe b.schema m.place (ops.New class) e x) (sym (new_full b class entry m there low full)) tt
@@ -123,66 +118,52 @@ module _ (part : Part) (code : Code) (b : Board) (sf : schemas.Fits b.schema) (f
       (created_keeps b.schema b.world class entry fits there free) made.suits
 
   pub new_safe : (class : ℕ) (entry : Class) → slice_get b.schema.classes class ≡ Some entry → Safe (ops.New class)
-  unfolding step effect effects.new_unit
+  unfolding step effect
   new_safe class entry there h =
       let out = on_edges (effects.new_unit part class f) e h in
-      let free = bind_ok (frames.room f) (λ (u : Unit {0}). writes part >>= λ _. frames.push (kinds.Ref class) f) out.0 out.1 in
-      let wrote = bind_ok (writes part) (λ (u : Unit {0}). frames.push (kinds.Ref class) f) out.0 free.2 in
-      new_by class entry out.0 (is_full b.world.units) there (has_room b.schema b.world m f free.0 free.1 suits) wrote.2 out.2 refl
+      let it = new_unit_ok part class f out.0 out.1 in
+      new_by class entry out.0 (is_full b.world.units) there (has_room b.schema b.world m f it.pushed.room suits) it.pushed out.2 refl
 
   pub relink_safe : (change : LinkChange) (slot : ℕ) → Safe (ops.Relink change slot)
-  unfolding step effect effects.relink
+  unfolding step effect
   relink_safe change slot h =
       let out = on_edges (effects.relink b.schema part slot f) e h in
-      let two = bind_ok (frames.pop_two f) _ out.0 out.1 in
-      let class = bind_ok (dues.class_of two.0.0.0) _ out.0 two.2 in
-      let other = bind_ok (dues.class_of two.0.0.1) _ out.0 class.2 in
-      let alive = bind_ok (dues.live two.0.0.0) _ out.0 other.2 in
-      let both = bind_ok (dues.live two.0.0.1) _ out.0 alive.2 in
-      let link = bind_ok (dues.link_slot b.schema class.0 slot) _ out.0 both.2 in
-      let partner = bind_ok (dues.partner_due b.schema other.0 link.0.to) _ out.0 link.2 in
-      let wrote = bind_ok (writes part) _ out.0 partner.2 in
-      let p = pops_two b.schema b.world m f suits two.0 two.1 in
-      let x = unit_is b.schema b.world two.0.0.0 class.0 p.first alive.0 class.1 alive.1 p.has_first in
-      let y = unit_is b.schema b.world two.0.0.1 other.0 p.second both.0 other.1 both.1 p.has_second in
-      let asked = may_on b.schema b.world class.0 other.0 slot x.0 y.0 link.0 partner.0 sf fits link.1 partner.1 x.2 y.2 in
+      let it = relink_ok b.schema part slot f out.0 out.1 in
+      let p = pops_two b.schema b.world m f (kinds.Ref it.class) (kinds.Ref it.other) it.rest it.stack suits in
+      let x = p.has_first in
+      let y = p.has_second in
+      let asked = may_on b.schema b.world it.class it.other slot x.0 y.0 it.link sf fits it.leads it.partner x.2 y.2 in
       let same = relinked_units b.schema b.world x.0 slot y.0 change in
       changes part code b fits m f suits e (ops.Relink change slot) out.0 (with_stack p.rest m) (after_change change b.schema b.world x.0 slot y.0) (relink change b slot m) out.2 refl
       (relink_on change b slot m x.0 y.0 p.rest (seen m p.first p.second (values.Unit x.0) (values.Unit y.0) p.rest p.stack x.1 y.1) asked)
       (relinked_keeps b.schema b.world x.0 slot y.0 change sf fits asked)
       (same_outlives b.world.units (after_change change b.schema b.world x.0 slot y.0).units same) (same_persists b.world.units (after_change change b.schema b.world x.0 slot y.0).units same)
-      (subst (Suits b.schema b.world (with_stack p.rest m)) (same_ok two.0.1 out.0 wrote.2) p.suits)
+      (subst (Suits b.schema b.world (with_stack p.rest m)) it.left p.suits)
 
   pub set_safe : (slot : ℕ) → Safe (ops.Set slot)
-  unfolding step effect effects.set_slot
+  unfolding step effect
   set_safe slot h =
       let out = on_edges (effects.set_slot b.schema part slot f) e h in
-      let two = bind_ok (frames.pop_two f) _ out.0 out.1 in
-      let class = bind_ok (dues.class_of two.0.0.0) _ out.0 two.2 in
-      let value = bind_ok (dues.value_due b.schema class.0 slot two.0.0.1) _ out.0 class.2 in
-      let alive = bind_ok (dues.live two.0.0.0) _ out.0 value.2 in
-      let plain = bind_ok (dues.plain_slot b.schema class.0 slot) _ out.0 alive.2 in
-      let wrote = bind_ok (writes part) _ out.0 plain.2 in
-      let p = pops_two b.schema b.world m f suits two.0 two.1 in
-      let x = unit_is b.schema b.world two.0.0.0 class.0 p.first alive.0 class.1 alive.1 p.has_first in
-      let held = value_held b.schema b.world class.0 slot plain.0 two.0.0.1 p.second value.0 plain.1 value.1 p.has_second in
-      let here = is_live_of b.schema b.world fits.units class.0 x.0 x.2 in
-      let there = slot_there b.schema b.world class.0 x.0 slot plain.0 sf fits plain.1 x.2 in
+      let it = set_slot_ok b.schema part slot f out.0 out.1 in
+      let p = pops_two b.schema b.world m f (kinds.Ref it.class) it.held it.rest it.stack suits in
+      let x = p.has_first in
+      let held = value_held b.schema b.world it.class slot it.held p.second it.holds p.has_second in
+      let here = is_live_of b.schema b.world fits.units it.class x.0 x.2 in
+      let there = slot_there b.schema b.world it.class x.0 slot it.held sf fits it.holds x.2 in
       changes part code b fits m f suits e (ops.Set slot) out.0 (with_stack p.rest m) (after_set b.schema b.world x.0 slot held.value) (set_slot b slot m) out.2 refl
       (set_on b slot m x.0 p.second held.value p.rest (p.stack ∙ ap (λ (v : Value). p.second ∷ v ∷ p.rest) x.1) here there held.is held.holds)
       (value_keeps b.world x.0 slot held.value b.schema fits here there held.holds) (set_outlives b.world x.0 slot held.value) (set_persists b.world x.0 slot held.value)
-      (subst (Suits b.schema b.world (with_stack p.rest m)) (same_ok two.0.1 out.0 wrote.2) p.suits)
+      (subst (Suits b.schema b.world (with_stack p.rest m)) it.left p.suits)
 
   pub say_safe : (count : ℕ) → All (λ k. is_known k ≡ true) f.stack → Safe (ops.Say count)
-  unfolding step effect effects.say
+  unfolding step effect
   say_safe count known h =
       let out = on_edges (effects.say part count f) e h in
-      let enough = bind_ok (frames.enough count f) (λ (u : Unit {0}). each dues.sayable (frames.top count f) >>= λ _. writes part >>= λ _. Ok (frames.without count f)) out.0 out.1 in
-      let may_say = bind_ok (each dues.sayable (frames.top count f)) (λ (u : Unit {0}). writes part >>= λ _. Ok (frames.without count f)) out.0 enough.2 in
-      let wrote = bind_ok (writes part) (λ (u : Unit {0}). Ok (frames.without count f)) out.0 may_say.2 in
-      let p = pops_many b.schema b.world count m f enough.0 enough.1 suits in
-      let said = are_said b b.world (frames.top count f) (reverse (take count m.stack)) may_say.0 (top_known count f known) may_say.1 p.has in
-      suits_on (ops.Say count) out.0 (with_stack (drop count m.stack) m) (after_say b.world said.0) (say b count m) out.2 refl
-      (say_on b count m (with_stack (drop count m.stack) m) (reverse (take count m.stack)) said.0 (pop_many_on count m p.enough) said.1) (say_keeps b.schema b.world said.0 fits said.2)
-      (suits_persists b.schema b.world (after_say b.world said.0) (same_outlives b.world.units (after_say b.world said.0).units refl) (same_persists b.world.units (after_say b.world said.0).units refl) (with_stack (drop count m.stack) m) out.0
-      (subst (Suits b.schema b.world (with_stack (drop count m.stack) m)) (same_ok (frames.without count f) out.0 wrote.2) p.suits))
+      let it = say_ok part count f out.0 out.1 in
+      let p = pops_many b.schema b.world count m f it.enough suits in
+      let left = with_stack (drop count m.stack) m in
+      let said = are_said b b.world (frames.top count f) (reverse (take count m.stack)) tt (top_known count f known) it.can p.has in
+      suits_on (ops.Say count) out.0 left (after_say b.world said.0) (say b count m) out.2 refl
+      (say_on b count m left (reverse (take count m.stack)) said.0 (pop_many_on count m p.enough) said.1) (say_keeps b.schema b.world said.0 fits said.2)
+      (suits_persists b.schema b.world (after_say b.world said.0) (same_outlives b.world.units (after_say b.world said.0).units refl) (same_persists b.world.units (after_say b.world said.0).units refl) left out.0
+      (subst (Suits b.schema b.world left) it.left p.suits))

@@ -1,22 +1,20 @@
 -- Ops that go to a place, and those that end an execution, are safe.
 use Rattle.std.proofs.Common.{◌≡◌, ◌⊎◌, inl, inr, ℕ, ℤ, Bool, false, true, cond, List, ◌∷◌, Option, Some, None, Result, Ok, refl, sym, ap, subst, ◌∙◌}
-use Rattle.bb_basis.specs.Results.{◌>>=◌}
-use Rattle.bb_basis.proofs.ResultLemmas.{bind_ok, same_ok}
+use Rattle.bb_basis.proofs.ResultLemmas.{same_ok}
 use Rattle.bb_units.specs.Units.{is_live}
 use Rattle.bb_board.specs.Board.{Board}
 use Rattle.bb_board.specs.Fits.{Fits}
 use Rattle.bb_code.specs.Code.{Code}
-use Rattle.bb_code.specs.Kind.{Kind}
 use Rattle.bb_code.specs.Kind.TheVariants as kinds
 use Rattle.bb_code.specs.Op.{Op}
 use Rattle.bb_code.specs.Op.TheVariants as ops
+use Rattle.bb_verify.specs.Edges.{Edges}
 use Rattle.bb_verify.specs.FrameType.{Frame}
 use Rattle.bb_verify.specs.PartType.{Part}
-use Rattle.bb_verify.specs.Due as dues
 use Rattle.bb_verify.specs.Effect as effects
 use Rattle.bb_verify.specs.Effect.{effect}
 use Rattle.bb_verify.specs.Frame as frames
-use Rattle.bb_verify.specs.Part.{ends_rated, ends_answered}
+use Rattle.bb_verify.proofs.Laws.{Pushed, unless_ok, rate_ok, answer_ok, alive_ok}
 use Rattle.bb_machine_step.specs.Halt.{Halt}
 use Rattle.bb_machine_step.specs.Answer.TheVariants as answers
 use Rattle.bb_machine_step.specs.Values.{Value}
@@ -25,13 +23,13 @@ use Rattle.bb_machine_step.specs.Machine.{Machine, go_to, with_stack, pop, push}
 use Rattle.bb_machine_step.specs.Jumping.{unless, rate, answer, answered, yes_or_no}
 use Rattle.bb_machine_step.specs.Reading.{alive}
 use Rattle.bb_machine_step.specs.Step.{step, keeps}
-use Rattle.bb_machine.specs.Kinds.{HasKind, WasOf, Suits}
+use Rattle.bb_machine.specs.Kinds.{WasOf, Suits}
 use Rattle.bb_machine.specs.Safe.{edges_of, can_answer, IsSafe}
 use Rattle.bb_machine.specs.proving.Moves.{Makes}
-use Rattle.bb_machine.proofs.MoveLemmas.{pops, pushes, due_is}
+use Rattle.bb_machine.proofs.MoveLemmas.{pops, pushes}
 use Rattle.bb_machine.proofs.LiveLemmas.{of_live}
 use Rattle.bb_machine.proofs.UnitLemmas.{unit_was, pop_unit_on}
-use Rattle.bb_machine.proofs.EdgeLemmas.{leads_either}
+use Rattle.bb_machine.proofs.EdgeLemmas.{edges_ok, leads_either, leads_branched}
 
 unless_on : (place : ℕ) (m : Machine) (b : Bool) (rest : List Value) → m.stack ≡ values.Bool b ∷ rest → unless place m ≡ Ok (cond b (with_stack rest m) (go_to place (with_stack rest m)))
 unfolding unless pop
@@ -83,56 +81,47 @@ module _ (part : Part) (code : Code) (b : Board) (fits : Fits b.schema b.world) 
   goes place left g false left_suits = inr refl
 
   pub unless_safe : (place : ℕ) → Safe (ops.Unless place)
-  unfolding step effect effects.unless
+  unfolding step effect
   unless_safe place h =
-      let x = bind_ok (effects.unless f) (λ x. Ok (x.on, x.target)) e h in
-      let one = bind_ok (frames.pop f) (λ (k : Kind × Frame). dues.due kinds.Bool k.0 >>= λ _. Ok (effects.either k.1 k.1)) x.0 x.1 in
-      let due = bind_ok (dues.due kinds.Bool one.0.0) (λ (u : Unit {0}). Ok (effects.either one.0.1 one.0.1)) x.0 one.2 in
-      let edges : (Some one.0.1, Some one.0.1) ≡ e = ap (λ y. (y.on, y.target)) (same_ok (effects.either one.0.1 one.0.1) x.0 due.2) ∙ same_ok (x.0.on, x.0.target) e x.2 in
-      let p = pops b.schema b.world m f one.0 one.1 suits in
-      let truth : HasKind b.schema b.world kinds.Bool p.value = subst (λ (k : Kind). HasKind b.schema b.world k p.value) (sym (due_is b.schema b.world kinds.Bool one.0.0 due.0 due.1)) p.has in
-      let is = unless_on place m truth.0 p.rest (p.stack ∙ ap (λ (v : Value). v ∷ p.rest) truth.1) in
-      subst (λ (r : Result Machine Halt). IsSafe b.schema m.place (ops.Unless place) e (keeps b r)) (sym is)
-      (leads_either b fits m (ops.Unless place) place e (with_stack p.rest m) one.0.1 one.0.1 (Ok (cond truth.0 (with_stack p.rest m) (go_to place (with_stack p.rest m)))) refl edges refl p.suits
-      (goes place (with_stack p.rest m) one.0.1 truth.0 p.suits))
+      let x = edges_ok (effects.unless f) e h in
+      let it = unless_ok f x.0 x.1 in
+      let p = pops b.schema b.world m f kinds.Bool it.rest it.stack suits in
+      let left = with_stack p.rest m in
+      let g = frames.with_stack it.rest f in
+      leads_either b fits m (ops.Unless place) place e left g g (Ok (cond p.has.0 left (go_to place left))) (unless place m) refl (ap (λ (y : Edges). (y.on, y.target)) it.edges ∙ x.2) refl p.suits
+      (unless_on place m p.has.0 p.rest (p.stack ∙ ap (λ (v : Value). v ∷ p.rest) p.has.1)) (goes place left g p.has.0 p.suits)
 
   pub rate_safe : Safe ops.Rate
-  unfolding step effect effects.rate
+  unfolding step effect
   rate_safe h =
-      let x = bind_ok (effects.rate part f) (λ x. Ok (x.on, x.target)) e h in
-      let one = bind_ok (frames.pop f) (λ (k : Kind × Frame). dues.due kinds.Int k.0 >>= λ _. ends_rated part >>= λ _. Ok effects.ended) x.0 x.1 in
-      let due = bind_ok (dues.due kinds.Int one.0.0) (λ (u : Unit {0}). ends_rated part >>= λ _. Ok effects.ended) x.0 one.2 in
-      let p = pops b.schema b.world m f one.0 one.1 suits in
-      let n : HasKind b.schema b.world kinds.Int p.value = subst (λ (k : Kind). HasKind b.schema b.world k p.value) (sym (due_is b.schema b.world kinds.Int one.0.0 due.0 due.1)) p.has in
-      subst (λ (r : Result Machine Halt). IsSafe b.schema m.place ops.Rate e (keeps b r)) (sym (rate_on m n.0 p.rest (p.stack ∙ ap (λ (v : Value). v ∷ p.rest) n.1))) refl
+      let x = edges_ok (effects.rate part f) e h in
+      let it = rate_ok part f x.0 x.1 in
+      let p = pops b.schema b.world m f kinds.Int it.rest it.stack suits in
+      subst (λ (r : Result Machine Halt). IsSafe b.schema m.place ops.Rate e (keeps b r)) (sym (rate_on m p.has.0 p.rest (p.stack ∙ ap (λ (v : Value). v ∷ p.rest) p.has.1))) refl
 
   pub answer_safe : Safe ops.Answer
-  unfolding step effect effects.answer
+  unfolding step effect
   answer_safe h =
-      let x = bind_ok (effects.answer part f) (λ x. Ok (x.on, x.target)) e h in
-      let one = bind_ok (frames.pop f) (λ (k : Kind × Frame). dues.due kinds.Bool k.0 >>= λ _. ends_answered part >>= λ _. Ok effects.ended) x.0 x.1 in
-      let due = bind_ok (dues.due kinds.Bool one.0.0) (λ (u : Unit {0}). ends_answered part >>= λ _. Ok effects.ended) x.0 one.2 in
-      let p = pops b.schema b.world m f one.0 one.1 suits in
-      let truth : HasKind b.schema b.world kinds.Bool p.value = subst (λ (k : Kind). HasKind b.schema b.world k p.value) (sym (due_is b.schema b.world kinds.Bool one.0.0 due.0 due.1)) p.has in
-      subst (λ (r : Result Machine Halt). IsSafe b.schema m.place ops.Answer e (keeps b r)) (sym (answer_on m truth.0 p.rest (p.stack ∙ ap (λ (v : Value). v ∷ p.rest) truth.1))) (says truth.0)
+      let x = edges_ok (effects.answer part f) e h in
+      let it = answer_ok part f x.0 x.1 in
+      let p = pops b.schema b.world m f kinds.Bool it.rest it.stack suits in
+      subst (λ (r : Result Machine Halt). IsSafe b.schema m.place ops.Answer e (keeps b r)) (sym (answer_on m p.has.0 p.rest (p.stack ∙ ap (λ (v : Value). v ∷ p.rest) p.has.1))) (says p.has.0)
 
-  alive_by : (place n : ℕ) (left : Machine) (class : ℕ) (g next : Frame) (live : Bool) → is_live b.world.units n ≡ live → WasOf b.schema b.world class n → Suits b.schema b.world left g → frames.push (kinds.Ref class) g ≡ Ok next
+  alive_by : (place n : ℕ) (left : Machine) (class : ℕ) (g next : Frame) (live : Bool) → is_live b.world.units n ≡ live → WasOf b.schema b.world class n → Suits b.schema b.world left g → Pushed (kinds.Ref class) g next
       → (let r : Result Machine Halt = cond live (push (values.Unit n) left) (Ok (go_to place left)) in (Makes b.schema b.world left next r) ⊎ (r ≡ Ok (go_to place left)))
   alive_by place n left class g next true live was left_suits h =
       inl (pushes b.schema b.world left g next (values.Unit n) (kinds.Ref class) h left_suits (n, refl, of_live b.schema b.world fits.units class n live was))
   alive_by place n left class g next false live was left_suits h = inr refl
 
   pub alive_safe : (place : ℕ) → Safe (ops.Alive place)
-  unfolding step effect effects.alive
+  unfolding step effect
   alive_safe place h =
-      let x = bind_ok (effects.alive f) (λ x. Ok (x.on, x.target)) e h in
-      let one = bind_ok (frames.pop f) (λ (k : Kind × Frame). dues.class_of k.0 >>= λ class. frames.push (kinds.Ref class) k.1 >>= λ next. Ok (effects.either next k.1)) x.0 x.1 in
-      let class = bind_ok (dues.class_of one.0.0) (λ class. frames.push (kinds.Ref class) one.0.1 >>= λ next. Ok (effects.either next one.0.1)) x.0 one.2 in
-      let next = bind_ok (frames.push (kinds.Ref class.0) one.0.1) (λ next. Ok (effects.either next one.0.1)) x.0 class.2 in
-      let edges : (Some next.0, Some one.0.1) ≡ e = ap (λ y. (y.on, y.target)) (same_ok (effects.either next.0 one.0.1) x.0 next.2) ∙ same_ok (x.0.on, x.0.target) e x.2 in
-      let p = pops b.schema b.world m f one.0 one.1 suits in
-      let unit = unit_was b.schema b.world fits.units one.0.0 class.0 p.value class.1 p.has in
-      let is = alive_on b place m unit.0 p.rest (p.stack ∙ ap (λ (v : Value). v ∷ p.rest) unit.1) (is_live b.world.units unit.0) refl in
-      subst (λ (r : Result Machine Halt). IsSafe b.schema m.place (ops.Alive place) e (keeps b r)) (sym is)
-      (leads_either b fits m (ops.Alive place) place e (with_stack p.rest m) next.0 one.0.1 (cond (is_live b.world.units unit.0) (push (values.Unit unit.0) (with_stack p.rest m)) (Ok (go_to place (with_stack p.rest m)))) refl edges refl p.suits
-      (alive_by place unit.0 (with_stack p.rest m) class.0 one.0.1 next.0 (is_live b.world.units unit.0) refl unit.2 p.suits next.1))
+      let x = edges_ok (effects.alive f) e h in
+      let it = alive_ok f x.0 x.1 in
+      let p = pops b.schema b.world m f it.kind it.rest it.stack suits in
+      let unit = unit_was b.schema b.world fits.units it.kind it.class p.value it.of p.has in
+      let left = with_stack p.rest m in
+      let g = frames.with_stack it.rest f in
+      let live = is_live b.world.units unit.0 in
+      leads_branched b fits m (ops.Alive place) place e x.0 (kinds.Ref it.class) left g (cond live (push (values.Unit unit.0) left) (Ok (go_to place left))) (alive b place m) refl x.2 it.branched refl p.suits
+      (alive_on b place m unit.0 p.rest (p.stack ∙ ap (λ (v : Value). v ∷ p.rest) unit.1) live refl) (λ next. alive_by place unit.0 left it.class g next live refl unit.2 p.suits)

@@ -1,40 +1,38 @@
 -- The next unit of a sequence is safe.
-use Rattle.std.proofs.Common.{◌≡◌, ◌⊎◌, inl, inr, ℕ, zero, suc, ◌<◌, Bool, false, true, cond, List, [], ◌∷◌, length, set, Option, Some, None, Result, Ok, refl, sym, ap, subst, ◌∙◌, arith}
+use Rattle.std.proofs.Common.{◌≡◌, ◌⊎◌, inl, inr, ℕ, zero, suc, ◌<◌, Bool, false, true, cond, List, [], ◌∷◌, length, set, Option, Some, None, Result, Ok, refl, ap, subst, ◌∙◌, arith}
 use Rattle.std.specs.Prelude.{nat_le, slice_get, All}
 use Rattle.std.specs.List.{AllZip}
 use Rattle.std.proofs.lemmas.Bool.Decides.{nat_tests}
 use Rattle.std.proofs.lemmas.List.{length-set}
 use Rattle.std.proofs.lemmas.List.Elements.{All-nil, All-head, All-tail}
 use Rattle.std.proofs.lemmas.Option.{slice_get_within}
-use Rattle.bb_basis.specs.Results.{◌>>=◌}
-use Rattle.bb_basis.proofs.ResultLemmas.{bind_ok, same_ok}
 use Rattle.bb_units.specs.Units.{Units, is_live}
 use Rattle.bb_board.specs.Board.{Board}
 use Rattle.bb_board.specs.Fits.{Fits}
 use Rattle.bb_code.specs.Code.{Code}
 use Rattle.bb_code.specs.Kind.{Kind}
-use Rattle.bb_code.specs.Kind.TheVariants.{Any, Int, Text, Bool as Truth, Label, Interval, Ref, Old, Seq}
+use Rattle.bb_code.specs.Kind.TheVariants.{Any, Ref, Seq}
 use Rattle.bb_code.specs.Op.TheVariants as ops
 use Rattle.bb_verify.specs.FrameType.{Frame}
 use Rattle.bb_verify.specs.PartType.{Part}
-use Rattle.bb_verify.specs.Due as dues
 use Rattle.bb_verify.specs.Effect as effects
 use Rattle.bb_verify.specs.Effect.{effect}
 use Rattle.bb_verify.specs.Frame as frames
+use Rattle.bb_verify.proofs.Laws.{Pushed, next_unit_ok}
 use Rattle.bb_machine_step.specs.Halt.{Halt}
 use Rattle.bb_machine_step.specs.Values.{Value}
 use Rattle.bb_machine_step.specs.Values.TheVariants as values
 use Rattle.bb_machine_step.specs.Sequence.{Sequence, from_live, first_of, first_live}
 use Rattle.bb_machine_step.specs.Machine.{Machine, go_to, with_local, emptied, local_at, taken, store, next_in}
 use Rattle.bb_machine_step.specs.Jumping.{after_next, next_unit}
-use Rattle.bb_machine_step.specs.Step.{step, keeps}
+use Rattle.bb_machine_step.specs.Step.{step}
 use Rattle.bb_machine.specs.Kinds.{WasOf, LocalHas, Suits}
 use Rattle.bb_machine.specs.Safe.{edges_of, IsSafe}
 use Rattle.bb_machine.specs.proving.Moves.{Makes}
 use Rattle.bb_machine.proofs.LiveLemmas.{of_live}
 use Rattle.bb_machine.proofs.plain.LocalLemmas.{holds}
 use Rattle.bb_machine.proofs.MoveLemmas.{pushes}
-use Rattle.bb_machine.proofs.EdgeLemmas.{leads_either}
+use Rattle.bb_machine.proofs.EdgeLemmas.{edges_ok, leads_branched}
 use Rattle.bb_verify.specs.declared.checked.TheConstants.{FOUND_LIMIT}
 
 -- ---- the units of a sequence from the first live one on
@@ -61,17 +59,6 @@ zip_put R [] ys i x z y all is has = absurd cc
 zip_put R (a ∷ xs) [] i x z y all is has = elim all [ ]
 zip_put R (a ∷ xs) (b ∷ ys) zero x z y all is has = (subst (λ w. R w y) (let e : x ≡ a = cc in e) has, all.1)
 zip_put R (a ∷ xs) (b ∷ ys) (suc i) x z y all is has = (all.0, zip_put R xs ys i x z y all.1 is has)
-
-sequence_kind : (k : Kind) (class : ℕ) → dues.sequence_of k ≡ Ok class → k ≡ Seq class
-sequence_kind Any class is = absurd cc
-sequence_kind Int class is = absurd cc
-sequence_kind Text class is = absurd cc
-sequence_kind Truth class is = absurd cc
-sequence_kind Interval class is = absurd cc
-sequence_kind (Label set) class is = absurd cc
-sequence_kind (Ref c) class is = absurd cc
-sequence_kind (Old c) class is = absurd cc
-sequence_kind (Seq c) class is = ap Seq (same_ok c class is)
 
 known_by : (o : Option Kind) (class : ℕ) → (elim o [ None ↦ Any | Some j ↦ j ]) ≡ Seq class → o ≡ Some (Seq class)
 known_by None class is = absurd cc
@@ -104,7 +91,7 @@ module _ (part : Part) (code : Code) (b : Board) (fits : Fits b.schema b.world) 
   }
 
   -- what comes of the units from the first live one on
-  goes_by : (l place class found : ℕ) (next : Frame) → slice_get f.locals l ≡ Some (Seq class) → frames.push (Ref class) f ≡ Ok next → nat_le found FOUND_LIMIT ≡ true → (ns : List ℕ) → Front b.world.units (WasOf b.schema b.world class) ns
+  goes_by : (l place class found : ℕ) (next : Frame) → slice_get f.locals l ≡ Some (Seq class) → Pushed (Ref class) f next → nat_le found FOUND_LIMIT ≡ true → (ns : List ℕ) → Front b.world.units (WasOf b.schema b.world class) ns
       → (let left : Machine = moved l (first_of found ns).1 m in let r : Result Machine Halt = after_next place (first_of found ns).0 left in
       Suits b.schema b.world left f × ((Makes b.schema b.world left next r) ⊎ (r ≡ Ok (go_to place left))))
   goes_by l place class found next is pushed few [] front = (moved_suits l class (record { rest = []; found = found }) is (All-nil (WasOf b.schema b.world class)) few, inr refl)
@@ -113,18 +100,14 @@ module _ (part : Part) (code : Code) (b : Board) (fits : Fits b.schema b.world) 
       (left_suits, inl (pushes b.schema b.world (moved l (record { rest = ns; found = found }) m) f next (values.Unit n) (Ref class) pushed left_suits (n, refl, of_live b.schema b.world fits.units class n front.0 front.1)))
 
   pub next_safe : (l place : ℕ) → edges_of b.schema part code (ops.Next l place) f ≡ Ok e → IsSafe b.schema m.place (ops.Next l place) e (step code (ops.Next l place) (m, b))
-  unfolding step effect effects.next_unit
+  unfolding step effect
   next_safe l place h =
-      let x = bind_ok (effects.next_unit l f) (λ x. Ok (x.on, x.target)) e h in
-      let free = bind_ok (frames.room f) (λ (u : Unit {0}). dues.sequence_of (frames.local_at l f) >>= λ class. frames.push (Ref class) f >>= λ next. Ok (effects.either next f)) x.0 x.1 in
-      let class = bind_ok (dues.sequence_of (frames.local_at l f)) (λ class. frames.push (Ref class) f >>= λ next. Ok (effects.either next f)) x.0 free.2 in
-      let next = bind_ok (frames.push (Ref class.0) f) (λ next. Ok (effects.either next f)) x.0 class.2 in
-      let edges : (Some next.0, Some f) ≡ e = ap (λ y. (y.on, y.target)) (same_ok (effects.either next.0 f) x.0 next.2) ∙ same_ok (x.0.on, x.0.target) e x.2 in
-      let kind = sequence_kind (frames.local_at l f) class.0 class.1 in
-      let held = holds b.schema b.world m f l (Seq class.0) suits kind (no_sequence class.0) in
-      let at : slice_get m.locals l ≡ Some (Some (values.Seq held.2.0)) = held.1 ∙ ap (λ (v : Value). Some (Some v)) held.2.1 in
+      let x = edges_ok (effects.next_unit l f) e h in
+      let it = next_unit_ok l f x.0 x.1 in
+      let held = holds b.schema b.world m f l (Seq it.class) suits it.sequence (no_sequence it.class) in
+      let q = held.2.0 in
+      let at : slice_get m.locals l ≡ Some (Some (values.Seq q)) = held.1 ∙ ap (λ (v : Value). Some (Some v)) held.2.1 in
       let inside = still_there (length (set m.locals l None)) l (length m.locals) (slice_get_within m.locals l (Some held.0) held.1) (length-set m.locals l None) in
-      let is = next_on b l place m held.2.0 at inside in
-      let goes = goes_by l place class.0 held.2.0.found next.0 (kind_at f l class.0 kind) next.1 held.2.3 (from_live b.world.units held.2.0.rest) (live_front b.world.units (WasOf b.schema b.world class.0) held.2.0.rest held.2.2) in
-      subst (λ (r : Result Machine Halt). IsSafe b.schema m.place (ops.Next l place) e (keeps b r)) (sym is)
-      (leads_either b fits m (ops.Next l place) place e (moved l (first_live b held.2.0).1 m) next.0 f (after_next place (first_live b held.2.0).0 (moved l (first_live b held.2.0).1 m)) refl edges refl goes.0 goes.1)
+      let goes = λ (next : Frame) (pushed : Pushed (Ref it.class) f next). goes_by l place it.class q.found next (kind_at f l it.class it.sequence) pushed held.2.3 (from_live b.world.units q.rest) (live_front b.world.units (WasOf b.schema b.world it.class) q.rest held.2.2) in
+      leads_branched b fits m (ops.Next l place) place e x.0 (Ref it.class) (moved l (first_live b q).1 m) f (after_next place (first_live b q).0 (moved l (first_live b q).1 m)) (next_unit b l place m) refl x.2 it.branched refl
+      (goes (frames.with_stack (Ref it.class ∷ f.stack) f) (record { room = it.branched.room; left = refl })).0 (next_on b l place m q at inside) (λ next pushed. (goes next pushed).1)

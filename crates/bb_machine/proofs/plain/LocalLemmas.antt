@@ -2,8 +2,7 @@
 use Rattle.std.proofs.Common.{◌≡◌, ℕ, zero, suc, false, List, [], ◌∷◌, length, set, Option, Some, None, Ok, refl, sym, ap, subst, ◌∙◌}
 use Rattle.std.specs.Prelude.{nat_le, slice_get}
 use Rattle.std.specs.List.{AllZip}
-use Rattle.bb_basis.specs.Results.{◌>>=◌}
-use Rattle.bb_basis.proofs.ResultLemmas.{bind_ok, same_ok}
+use Rattle.bb_basis.proofs.ResultLemmas.{same_ok}
 use Rattle.bb_schema.specs.Schema.{Schema}
 use Rattle.bb_board.specs.State.{World}
 use Rattle.bb_code.specs.Kind.{Kind}
@@ -12,6 +11,7 @@ use Rattle.bb_verify.specs.FrameType.{Frame}
 use Rattle.bb_verify.specs.Due as dues
 use Rattle.bb_verify.specs.Frame as frames
 use Rattle.bb_verify.specs.Effect as effects
+use Rattle.bb_verify.proofs.Laws.{load_ok, store_local_ok, drop_one_ok}
 use Rattle.bb_machine_step.specs.Values.{Value}
 use Rattle.bb_machine_step.specs.Value.{copy_of}
 use Rattle.bb_machine_step.specs.Machine.{Machine, with_stack, with_local, pop, push, local_at, store}
@@ -81,36 +81,27 @@ store_on l m v rest is there = rw (is, there) refl
 
 module _ (s : Schema) (w : World) (m : Machine) (f g : Frame) (suits : Suits s w m f) where
   pub load_makes : (l : ℕ) → effects.load l f ≡ Ok g → Makes s w m g (load l m)
-  unfolding effects.load
   load_makes l h =
-      let free = bind_ok (frames.room f) (λ (u : Unit {0}). dues.copy_of (frames.local_at l f) >>= λ k. frames.push k f) g h in
-      let copy = bind_ok (dues.copy_of (frames.local_at l f)) (λ k. frames.push k f) g free.2 in
-      let held = holds s w m f l (frames.local_at l f) suits refl (known_copy (frames.local_at l f) copy.0 copy.1) in
-      let is = copied s w (frames.local_at l f) copy.0 held.0 copy.1 held.2 in
-      makes_as s w m m g (push held.0 m) (load l m) (load_on l m held.0 held.1 is.0) refl (pushes s w m f g held.0 copy.0 copy.2 suits is.1)
+      let it = load_ok l f g h in
+      let held = holds s w m f l (frames.local_at l f) suits refl (known_copy (frames.local_at l f) it.kind it.copy) in
+      let is = copied s w (frames.local_at l f) it.kind held.0 it.copy held.2 in
+      makes_as s w m m g (push held.0 m) (load l m) (load_on l m held.0 held.1 is.0) refl (pushes s w m f g held.0 it.kind it.pushed suits is.1)
 
   pub drop_makes : effects.drop_one f ≡ Ok g → Makes s w m g (drop_one m)
-  unfolding effects.drop_one
   drop_makes h =
-      let one = bind_ok (frames.pop f) (λ (k : Kind × Frame). Ok k.1) g h in
-      let p = pops s w m f one.0 one.1 suits in
-      record {
-        next = with_stack p.rest m;
-        is = drop_on m p.value p.rest p.stack;
-        place = refl;
-        suits = subst (Suits s w (with_stack p.rest m)) (same_ok one.0.1 g one.2) p.suits;
-      }
+      let it = drop_one_ok f g h in
+      let p = pops s w m f it.kind it.rest it.stack suits in
+      record { next = with_stack p.rest m; is = drop_on m p.value p.rest p.stack; place = refl; suits = subst (Suits s w (with_stack p.rest m)) it.left p.suits }
 
   pub store_makes : (l : ℕ) → nat_le (length m.locals) l ≡ false → effects.store_local l f ≡ Ok g → Makes s w m g (store_local l m)
-  unfolding effects.store_local
   store_makes l there h =
-      let one = bind_ok (frames.pop f) (λ (k : Kind × Frame). Ok (frames.with_local l k.0 k.1)) g h in
-      let p = pops s w m f one.0 one.1 suits in
-      let stored : Suits s w (with_local l p.value (with_stack p.rest m)) (frames.with_local l one.0.0 one.0.1) =
-      record { locals = zip_set (LocalHas s w) one.0.1.locals m.locals l one.0.0 (Some p.value) p.suits.locals p.has; stack = p.suits.stack } in
+      let it = store_local_ok l f g h in
+      let p = pops s w m f it.kind it.rest it.stack suits in
+      let stored : Suits s w (with_local l p.value (with_stack p.rest m)) (frames.with_local l it.kind (frames.with_stack it.rest f)) =
+      record { locals = zip_set (LocalHas s w) f.locals m.locals l it.kind (Some p.value) p.suits.locals p.has; stack = p.suits.stack } in
       record {
         next = with_local l p.value (with_stack p.rest m);
         is = store_on l m p.value p.rest p.stack there;
         place = refl;
-        suits = subst (Suits s w (with_local l p.value (with_stack p.rest m))) (same_ok (frames.with_local l one.0.0 one.0.1) g one.2) stored;
+        suits = subst (Suits s w (with_local l p.value (with_stack p.rest m))) it.left stored;
       }

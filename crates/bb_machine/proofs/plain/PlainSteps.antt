@@ -19,6 +19,7 @@ use Rattle.bb_verify.specs.PartType.{Part}
 use Rattle.bb_verify.specs.Effect as effects
 use Rattle.bb_verify.specs.Effect.{effect}
 use Rattle.bb_verify.specs.Frame as frames
+use Rattle.bb_verify.proofs.Laws.{push_ok}
 use Rattle.bb_machine_step.specs.Values.TheVariants as values
 use Rattle.bb_machine_step.specs.Machine.{Machine, push}
 use Rattle.bb_machine_step.specs.Arithmetic.{calculate, divide, compare, eq_text, negate, combine, make_interval, bound}
@@ -55,24 +56,24 @@ module _ (part : Part) (code : Code) (b : Board) (fits : Fits b.schema b.world) 
   pub push_int_safe : (n : ℤ) → FitsSigned w64 n → Safe (ops.PushInt n)
   unfolding step effect
   push_int_safe n small h = leads_by b fits m (ops.PushInt n) e (frames.push kinds.Int f) (push (values.Int n) m) h
-      (λ g is. pushes b.schema b.world m f g (values.Int n) kinds.Int is suits (n, refl, fits_i64 n small))
+      (λ g is. pushes b.schema b.world m f g (values.Int n) kinds.Int (push_ok kinds.Int f g is) suits (n, refl, fits_i64 n small))
 
   pub push_bool_safe : (truth : Bool) → Safe (ops.PushBool truth)
   unfolding step effect
   push_bool_safe truth h = leads_by b fits m (ops.PushBool truth) e (frames.push kinds.Bool f) (push (values.Bool truth) m) h
-      (λ g is. pushes b.schema b.world m f g (values.Bool truth) kinds.Bool is suits (truth, refl))
+      (λ g is. pushes b.schema b.world m f g (values.Bool truth) kinds.Bool (push_ok kinds.Bool f g is) suits (truth, refl))
 
   pub push_text_safe : (i : ℕ) (text : List ℕ) → slice_get code.texts i ≡ Some text → nat_le (length text) TEXT_LIMIT ≡ true → Safe (ops.PushText i)
   unfolding step effect
   push_text_safe i text at long h = leads_by b fits m (ops.PushText i) e (frames.push kinds.Text f) (push_text code i m) h
-      (λ g is. makes_as b.schema b.world m m g (push (values.Text text) m) (push_text code i m) (push_text_on code i m text at) refl (pushes b.schema b.world m f g (values.Text text) kinds.Text is suits (text, refl, long)))
+      (λ g is. makes_as b.schema b.world m m g (push (values.Text text) m) (push_text code i m) (push_text_on code i m text at) refl (pushes b.schema b.world m f g (values.Text text) kinds.Text (push_ok kinds.Text f g is) suits (text, refl, long)))
 
   pub push_label_safe : (set label : ℕ) → is_some (name_of_label b.schema set label) ≡ true → Safe (ops.PushLabel set label)
   unfolding step effect
   push_label_safe set label there h =
       let name = label_by (name_of_label b.schema set label) there in
       leads_by b fits m (ops.PushLabel set label) e (frames.push (kinds.Label set) f) (push_label b set label m) h
-      (λ g is. makes_as b.schema b.world m m g (push (values.Label set label) m) (push_label b set label m) (push_label_on b set label m name.0 name.1) refl (pushes b.schema b.world m f g (values.Label set label) (kinds.Label set) is suits (label, refl, there)))
+      (λ g is. makes_as b.schema b.world m m g (push (values.Label set label) m) (push_label b set label m) (push_label_on b set label m name.0 name.1) refl (pushes b.schema b.world m f g (values.Label set label) (kinds.Label set) (push_ok (kinds.Label set) f g is) suits (label, refl, there)))
 
   pub load_safe : (l : ℕ) → Safe (ops.Load l)
   unfolding step effect

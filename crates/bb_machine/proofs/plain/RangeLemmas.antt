@@ -1,7 +1,7 @@
 -- What ops make of numbers of 64 bits is of 64 bits.
-use Rattle.std.proofs.Common.{◌≡◌, ℕ, ℤ, pos, negsuc, ◌-◌, ◌<◌, ◌≤◌, ◌^◌, ◌≤ℤ◌, ◌<ℤ◌, ◌&&◌, min, Bool, true, false, cond, FitsSigned, refl, arith}
+use Rattle.std.proofs.Common.{◌≡◌, ℕ, ℤ, pos, negsuc, ◌-◌, ◌<◌, ◌^◌, ◌&&◌, min, Bool, true, false, cond, FitsSigned, refl, arith}
 use Rattle.std.specs.Prelude.{int_lt, int_le, nat_le}
-use Rattle.std.specs.Int.{w64, saturate_signed, int_min, int_max, int_div_euclid, int_rem_euclid}
+use Rattle.std.specs.Int.{w64, saturate_signed, int_min, int_max}
 use Rattle.std.proofs.lemmas.Bool.{and_parts, lt-ltb}
 use Rattle.std.proofs.lemmas.Bool.Decides.{nat_tests}
 use Rattle.std.proofs.lemmas.Int.{ints, quot_fits}

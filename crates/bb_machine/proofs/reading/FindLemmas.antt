@@ -29,6 +29,7 @@ use Rattle.bb_code.specs.Kind.TheVariants.{Interval, Label}
 use Rattle.bb_verify.specs.Flaw.{Flaw}
 use Rattle.bb_verify.specs.Flaw.TheVariants as flaws
 use Rattle.bb_verify.specs.Due as dues
+use Rattle.bb_verify.proofs.Laws.{due_ok}
 use Rattle.bb_machine_step.specs.Halt.{Halt}
 use Rattle.bb_machine_step.specs.Values.{Value}
 use Rattle.bb_machine_step.specs.Values.TheVariants as values
@@ -37,7 +38,6 @@ use Rattle.bb_machine_step.specs.Value.{stuck}
 use Rattle.bb_machine_step.specs.Reading.{operand_due, operands_due, right_query}
 use Rattle.bb_machine.specs.Kinds.{IsOf, WasOf, HasKind}
 use Rattle.bb_machine.proofs.LiveLemmas.{was_of}
-use Rattle.bb_machine.proofs.MoveLemmas.{due_is}
 
 -- ---- the query
 
@@ -58,10 +58,10 @@ label_given set label v is = let same : (set == set) ≡ true = (Decides-eqb set
 module _ (s : Schema) (w : World) where
   operand_given : (o : OperandKind) (k : Kind) (v : Value) (u : Unit {0}) → dues.operand_due o k ≡ Ok u → HasKind s w k v → (d : DimValue) × (operand_due o v ≡ Ok d)
   operand_given kinds.Interval k v u h has =
-      let known : HasKind s w Interval v = subst (λ (j : Kind). HasKind s w j v) (sym (due_is s w Interval k u h)) has in
+      let known : HasKind s w Interval v = subst (λ (j : Kind). HasKind s w j v) (sym (due_ok Interval k u h)) has in
       (operands.Interval known.0 known.1, ap (operand_due kinds.Interval) known.2)
   operand_given (kinds.Label set) k v u h has =
-      let known : HasKind s w (Label set) v = subst (λ (j : Kind). HasKind s w j v) (sym (due_is s w (Label set) k u h)) has in
+      let known : HasKind s w (Label set) v = subst (λ (j : Kind). HasKind s w j v) (sym (due_ok (Label set) k u h)) has in
       (operands.Label set known.0, label_given set known.0 v known.1)
 
   pub operands_given : (os : List OperandKind) (ks : List Kind) (vs : List Value) (u : Unit {0}) → dues.operands_due os ks ≡ Ok u → AllZip (HasKind s w) ks vs → (ds : List DimValue) × (operands_due os vs ≡ Ok ds)
@@ -71,7 +71,7 @@ module _ (s : Schema) (w : World) where
   operands_given (o ∷ os) [] (v ∷ vs) u h has = elim has [ ]
   operands_given (o ∷ os) (k ∷ ks) [] u h has = elim has [ ]
   operands_given (o ∷ os) (k ∷ ks) (v ∷ vs) u h has =
-      let one = bind_ok (dues.operand_due o k) (λ (x : Unit {0}). dues.operands_due os ks) u h in
+      let one = bind_ok (dues.operand_due o k) _ u h in
       let first = operand_given o k v one.0 one.1 has.0 in
       let others = operands_given os ks vs u one.2 has.1 in
       (first.0 ∷ others.0, rw (first.1, others.1) refl)

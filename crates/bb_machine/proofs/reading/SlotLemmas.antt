@@ -1,10 +1,8 @@
 -- The slots that the verifier lets an op read: a live unit of the class, or of one below it, has them.
-use Rattle.std.proofs.Common.{◌≡◌, ℕ, true, false, cond, Option, Some, None, option_map, Result, Ok, Err, refl, sym, ap, subst, ◌∙◌}
+use Rattle.std.proofs.Common.{◌≡◌, ℕ, true, false, Option, Some, None, option_map, Ok, refl, sym, ap, subst, ◌∙◌}
 use Rattle.std.specs.Prelude.{◌==◌, not, slice_get, is_some, option_and_then}
 use Rattle.std.specs.Option.{option_map_or}
 use Rattle.std.proofs.lemmas.Bool.{and_parts, and_from, eqb-true}
-use Rattle.bb_basis.specs.Results.{ok_or}
-use Rattle.bb_basis.proofs.ResultLemmas.{bind_ok, guard_ok, ok_or_ok, same_ok}
 use Rattle.bb_schema_classes.specs.declared.kind.Kind.{Kind as SlotKind}
 use Rattle.bb_schema_classes.specs.declared.kind.Kind.TheVariants as slots
 use Rattle.bb_schema_classes.specs.declared.kind.Link.{Link}
@@ -24,9 +22,8 @@ use Rattle.bb_board.specs.May.{class_has, has_link}
 use Rattle.bb_board.specs.State.{World}
 use Rattle.bb_code.specs.Kind.{Kind}
 use Rattle.bb_code.specs.Kind.TheVariants.{Int, Text, Bool as Truth, Label, Interval}
-use Rattle.bb_verify.specs.Flaw.{Flaw}
-use Rattle.bb_verify.specs.Flaw.TheVariants as flaws
 use Rattle.bb_verify.specs.Due as dues
+use Rattle.bb_verify.proofs.Laws.{plain_slot_ok, link_slot_ok}
 use Rattle.bb_machine_step.specs.Values.{Value}
 use Rattle.bb_machine_step.specs.Values.TheVariants as values
 use Rattle.bb_machine_step.specs.Reading.{is_singular}
@@ -46,10 +43,7 @@ slot_below s own class slot kind sf up h = record { entry = h.entry; there = h.t
 -- ---- ordinary slots
 
 pub plain_there : (s : Schema) (class slot : ℕ) (k : Kind) → dues.plain_slot s class slot ≡ Ok k → (kind : SlotKind) × HasSlot s class slot kind × (dues.plain_kind kind ≡ Some k)
-unfolding dues.plain_slot
-plain_there s class slot k h =
-    let one = bind_ok (ok_or (dues.held_in s class slot) flaws.Slot) (λ (x : SlotKind). ok_or (dues.plain_kind x) flaws.Slot) k h in
-    (one.0, slot_there s class slot one.0 (ok_or_ok flaws.Slot (dues.held_in s class slot) one.0 one.1), ok_or_ok flaws.Slot (dues.plain_kind one.0) k one.2)
+plain_there s class slot k h = let held = plain_slot_ok s class slot k h in (held.0, slot_there s class slot held.0 held.1, held.2)
 
 pub default_by : (content : Content) (kind : SlotKind) (k : Kind) → kind_of content ≡ kind → dues.plain_kind kind ≡ Some k → (v : SlotValue) × (content ≡ contents.Default v) × (kind_of_value v ≡ kind)
 default_by (contents.Default v) kind k is plain = (v, refl, is)
@@ -83,10 +77,7 @@ reads s w sf fits class n slot k h of =
 -- ---- link slots
 
 link_there : (s : Schema) (class slot : ℕ) (l : Link) → dues.link_slot s class slot ≡ Ok l → (kind : SlotKind) × HasSlot s class slot kind × (dues.link_kind kind ≡ Some l)
-unfolding dues.link_slot
-link_there s class slot l h =
-    let one = bind_ok (ok_or (dues.held_in s class slot) flaws.Slot) (λ (x : SlotKind). ok_or (dues.link_kind x) flaws.Slot) l h in
-    (one.0, slot_there s class slot one.0 (ok_or_ok flaws.Slot (dues.held_in s class slot) one.0 one.1), ok_or_ok flaws.Slot (dues.link_kind one.0) l one.2)
+link_there s class slot l h = let held = link_slot_ok s class slot l h in (held.0, slot_there s class slot held.0 held.1, held.2)
 
 no_link : (v : SlotValue) → dues.link_kind (kind_of_value v) ≡ None
 no_link (held.Int n) = refl
@@ -109,13 +100,5 @@ links_there s own class slot l sf up h =
     (is, and_from (is_some (link_of s.slots slot)) (class_has s own slot) (ap is_some is) has)
 
 -- a singular one
-pub single_there : (s : Schema) (class slot : ℕ) (l : Link) → dues.single_slot s class slot ≡ Ok l → (dues.link_slot s class slot ≡ Ok l) × (l.many ≡ false)
-unfolding dues.single_slot
-single_there s class slot l h =
-    let link = bind_ok (dues.link_slot s class slot) (λ (x : Link). (let r : Result Link Flaw = cond x.many (Err flaws.Slot) (Ok x) in r)) l h in
-    let one = guard_ok link.0.many flaws.Slot (Ok link.0) l link.2 in
-    let same = same_ok link.0 l one.1 in
-    (link.1 ∙ ap (λ (x : Link). Ok x) same, ap (λ (x : Link). x.many) (sym same) ∙ one.0)
-
 pub is_single : (s : Schema) (slot : ℕ) (l : Link) → link_of s.slots slot ≡ Some l → l.many ≡ false → is_singular s slot ≡ true
 is_single s slot l is one = ap (λ (o : Option Link). option_map_or (λ (x : Link). not x.many) o false) is ∙ ap not one

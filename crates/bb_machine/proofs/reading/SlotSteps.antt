@@ -1,10 +1,8 @@
 -- Ops that read slots, and queries, are safe.
-use Rattle.std.proofs.Common.{◌≡◌, ◌≤◌, ◌⊎◌, inl, inr, ℕ, true, false, List, ◌∷◌, length, take, drop, reverse, Option, Some, None, Result, Ok, refl, sym, ap, subst, ◌∙◌}
+use Rattle.std.proofs.Common.{◌≡◌, ◌≤◌, ◌⊎◌, inl, inr, ℕ, true, false, List, ◌∷◌, length, take, drop, reverse, Option, Some, None, Result, Ok, refl, ap, ◌∙◌}
 use Rattle.std.specs.Prelude.{All, slice_get, nat_lt}
 use Rattle.std.proofs.lemmas.List.Elements.{All-weaker}
-use Rattle.bb_basis.specs.Results.{◌>>=◌, ok_or}
-use Rattle.bb_basis.proofs.ResultLemmas.{bind_ok, ok_or_ok, same_ok}
-use Rattle.bb_schema_classes.specs.declared.kind.Link.{Link}
+use Rattle.bb_basis.specs.Results.{◌>>=◌}
 use Rattle.bb_schema_classes.specs.declared.value.Value.{Value as SlotValue}
 use Rattle.bb_schema_classes.proofs.Laws.{All-at}
 use Rattle.bb_schema.specs.Fits as schemas
@@ -23,13 +21,12 @@ use Rattle.bb_code.specs.Code.{Code}
 use Rattle.bb_code.specs.Kind.TheVariants.{Ref, Seq}
 use Rattle.bb_code.specs.Op.{Op}
 use Rattle.bb_code.specs.Op.TheVariants as ops
-use Rattle.bb_verify.specs.Flaw.TheVariants as flaws
 use Rattle.bb_verify.specs.FrameType.{Frame}
 use Rattle.bb_verify.specs.PartType.{Part}
-use Rattle.bb_verify.specs.Due as dues
 use Rattle.bb_verify.specs.Effect as effects
 use Rattle.bb_verify.specs.Effect.{effect}
 use Rattle.bb_verify.specs.Frame as frames
+use Rattle.bb_verify.proofs.Laws.{Pushed, get_ok, links_ok, find_ok, one_ok}
 use Rattle.bb_machine_step.specs.Halt.{Halt}
 use Rattle.bb_machine_step.specs.Values.{Value}
 use Rattle.bb_machine_step.specs.Values.TheVariants as values
@@ -37,18 +34,18 @@ use Rattle.bb_machine_step.specs.Sequence.{whole}
 use Rattle.bb_machine_step.specs.Value.{value_from}
 use Rattle.bb_machine_step.specs.Machine.{Machine, go_to, after_found, with_stack, push}
 use Rattle.bb_machine_step.specs.Reading.{get, push_found, any_link, is_singular, one_link, push_partner, one, links, right_query, operands_due, find}
-use Rattle.bb_machine_step.specs.Step.{step, keeps}
+use Rattle.bb_machine_step.specs.Step.{step}
 use Rattle.bb_machine.specs.Kinds.{IsOf, WasOf, Suits}
 use Rattle.bb_machine.specs.Safe.{edges_of, IsSafe}
 use Rattle.bb_machine.specs.proving.Moves.{Makes}
-use Rattle.bb_machine.proofs.MoveLemmas.{pushes, makes_as}
+use Rattle.bb_machine.proofs.MoveLemmas.{pushes, makes_as, turns}
 use Rattle.bb_machine.proofs.LiveLemmas.{is_live_of, class_at_of, was_of}
 use Rattle.bb_machine.proofs.UnitLemmas.{pops_live, pop_live_on}
 use Rattle.bb_machine.proofs.ManyLemmas.{pops_many, pop_many_on}
-use Rattle.bb_machine.proofs.reading.SlotLemmas.{reads, links_there, single_there, is_single}
+use Rattle.bb_machine.proofs.reading.SlotLemmas.{reads, links_there, is_single}
 use Rattle.bb_machine.proofs.reading.PartnerLemmas.{links_lead}
 use Rattle.bb_machine.proofs.reading.FindLemmas.{query_right, operands_given, answers_are}
-use Rattle.bb_machine.proofs.EdgeLemmas.{leads_by, leads_either}
+use Rattle.bb_machine.proofs.EdgeLemmas.{edges_ok, leads_by, leads_branched}
 use Rattle.bb_units.specs.declared.units.TheConstants.{UNIT_LIMIT}
 use Rattle.bb_board_state.proofs.Laws.{few_ends, few_pass}
 use Rattle.std.proofs.lemmas.Bool.{le-leb}
@@ -75,7 +72,7 @@ unfolding find
 find_on code b i m q ds at low right due = rw (at, pop_many_on (length q.kinds) m low, right, due) refl
 
 -- a sequence of units that were found
-found_makes : (s : Schema) (w : World) (m : Machine) (f g : Frame) (units : List ℕ) (class : ℕ) → frames.push (Seq class) f ≡ Ok g → Suits s w m f → All (WasOf s w class) units → length units ≤ UNIT_LIMIT → Makes s w m g (push_found units m)
+found_makes : (s : Schema) (w : World) (m : Machine) (f g : Frame) (units : List ℕ) (class : ℕ) → Pushed (Seq class) f g → Suits s w m f → All (WasOf s w class) units → length units ≤ UNIT_LIMIT → Makes s w m g (push_found units m)
 unfolding push_found
 found_makes s w m f g units class h suits are few =
     let made = pushes s w m f g (values.Seq (whole units)) (Seq class) h suits (whole units, refl, are, le-leb (length units) UNIT_LIMIT few) in
@@ -87,7 +84,7 @@ found_makes s w m f g units class h suits are few =
     }
 
 -- a partner, or none
-partner_by : (s : Schema) (w : World) (left : Machine) (g next : Frame) (place to : ℕ) (first : Option ℕ) → frames.push (Ref to) g ≡ Ok next → Suits s w left g → ((k : ℕ) → first ≡ Some k → IsOf s w to k)
+partner_by : (s : Schema) (w : World) (left : Machine) (g next : Frame) (place to : ℕ) (first : Option ℕ) → Pushed (Ref to) g next → Suits s w left g → ((k : ℕ) → first ≡ Some k → IsOf s w to k)
     → (Makes s w left next (push_partner first place left)) ⊎ (push_partner first place left ≡ Ok (go_to place left))
 partner_by s w left g next place to None h suits of = inr refl
 partner_by s w left g next place to (Some k) h suits of = inl (pushes s w left g next (values.Unit k) (Ref to) h suits (k, refl, of k refl))
@@ -98,77 +95,60 @@ module _ (part : Part) (code : Code) (b : Board) (sf : schemas.Fits b.schema) (f
   Safe op = edges_of b.schema part code op f ≡ Ok e → IsSafe b.schema m.place op e (step code op (m, b))
 
   get_makes : (slot : ℕ) (g : Frame) → effects.get b.schema slot f ≡ Ok g → Makes b.schema b.world m g (get b slot m)
-  unfolding effects.get
   get_makes slot g h =
-      let unit = bind_ok (effects.pop_live f) (λ (u : ℕ × Frame). dues.plain_slot b.schema u.0 slot >>= λ held. frames.push held u.1) g h in
-      let held = bind_ok (dues.plain_slot b.schema unit.0.0 slot) (λ held. frames.push held unit.0.1) g unit.2 in
-      let p = pops_live b.schema b.world m f unit.0 unit.1 suits in
-      let v = reads b.schema b.world sf fits unit.0.0 p.n slot held.0 held.1 p.of in
-      makes_as b.schema b.world m (with_stack p.rest m) g (push (value_from v.0) (with_stack p.rest m)) (get b slot m)
-      (get_on b slot m p.n p.rest v.0 p.stack (is_live_of b.schema b.world fits.units unit.0.0 p.n p.of) v.1) refl
-      (pushes b.schema b.world (with_stack p.rest m) unit.0.1 g (value_from v.0) held.0 held.2 p.suits v.2)
+      let it = get_ok b.schema slot f g h in
+      turns b.schema b.world m f g (Ref it.class) it.held (get b slot m) it.turned suits
+      (λ v rest is unit.
+      let x = reads b.schema b.world sf fits it.class unit.0 slot it.held it.holds unit.2 in
+      (value_from x.0, x.2, get_on b slot m unit.0 rest x.0 (is ∙ ap (λ (u : Value). u ∷ rest) unit.1) (is_live_of b.schema b.world fits.units it.class unit.0 unit.2) x.1))
 
   pub get_safe : (slot : ℕ) → Safe (ops.Get slot)
   unfolding step effect
   get_safe slot h = leads_by b fits m (ops.Get slot) e (effects.get b.schema slot f) (get b slot m) h (get_makes slot)
 
   links_makes : (slot : ℕ) (g : Frame) → effects.links b.schema slot f ≡ Ok g → Makes b.schema b.world m g (links b slot m)
-  unfolding effects.links
   links_makes slot g h =
-      let unit = bind_ok (effects.pop_live f) (λ (u : ℕ × Frame). dues.link_slot b.schema u.0 slot >>= λ (l : Link). frames.push (Seq l.to) u.1) g h in
-      let link = bind_ok (dues.link_slot b.schema unit.0.0 slot) (λ (l : Link). frames.push (Seq l.to) unit.0.1) g unit.2 in
-      let p = pops_live b.schema b.world m f unit.0 unit.1 suits in
-      let there = links_there b.schema p.of.own unit.0.0 slot link.0 sf p.of.under link.1 in
-      let has : has_link b.schema (class_at b.world p.n) slot ≡ true = ap (λ c. has_link b.schema c slot) (class_at_of b.schema b.world fits.units unit.0.0 p.n p.of) ∙ there.1 in
+      let it = links_ok b.schema slot f g h in
+      let p = pops_live b.schema b.world m f it.class it.turned.rest it.turned.stack suits in
+      let there = links_there b.schema p.of.own it.class slot it.link sf p.of.under it.leads in
+      let has : has_link b.schema (class_at b.world p.n) slot ≡ true = ap (λ c. has_link b.schema c slot) (class_at_of b.schema b.world fits.units it.class p.n p.of) ∙ there.1 in
       let units = ends b.world.links p.n slot in
-      let were = All-weaker (IsOf b.schema b.world link.0.to) (WasOf b.schema b.world link.0.to) (was_of b.schema b.world fits.units link.0.to) units (links_lead b.schema b.world sf fits p.n slot link.0 there.0) in
+      let were = All-weaker (IsOf b.schema b.world it.link.to) (WasOf b.schema b.world it.link.to) (was_of b.schema b.world fits.units it.link.to) units (links_lead b.schema b.world sf fits p.n slot it.link there.0) in
       makes_as b.schema b.world m (with_stack p.rest m) g (push_found units (with_stack p.rest m)) (links b slot m)
-      (links_on b slot m p.n p.rest p.stack (is_live_of b.schema b.world fits.units unit.0.0 p.n p.of) has) refl
-      (found_makes b.schema b.world (with_stack p.rest m) unit.0.1 g units link.0.to link.2 p.suits were (few_ends b.schema b.world sf fits p.n slot))
+      (links_on b slot m p.n p.rest p.stack (is_live_of b.schema b.world fits.units it.class p.n p.of) has) refl
+      (found_makes b.schema b.world (with_stack p.rest m) (frames.with_stack it.turned.rest f) g units it.link.to it.turned.pushed p.suits were (few_ends b.schema b.world sf fits p.n slot))
 
   pub links_safe : (slot : ℕ) → Safe (ops.Links slot)
   unfolding step effect
   links_safe slot h = leads_by b fits m (ops.Links slot) e (effects.links b.schema slot f) (links b slot m) h (links_makes slot)
 
   pub one_safe : (slot place : ℕ) → Safe (ops.One slot place)
-  unfolding step effect effects.one
+  unfolding step effect
   one_safe slot place h =
-      let x = bind_ok (effects.one b.schema slot f) (λ x. Ok (x.on, x.target)) e h in
-      let unit = bind_ok (effects.pop_live f) (λ (u : ℕ × Frame). dues.single_slot b.schema u.0 slot >>= λ (l : Link). frames.push (Ref l.to) u.1 >>= λ next. Ok (effects.either next u.1)) x.0 x.1 in
-      let link = bind_ok (dues.single_slot b.schema unit.0.0 slot) (λ (l : Link). frames.push (Ref l.to) unit.0.1 >>= λ next. Ok (effects.either next unit.0.1)) x.0 unit.2 in
-      let next = bind_ok (frames.push (Ref link.0.to) unit.0.1) (λ next. Ok (effects.either next unit.0.1)) x.0 link.2 in
-      let edges : (Some next.0, Some unit.0.1) ≡ e = ap (λ y. (y.on, y.target)) (same_ok (effects.either next.0 unit.0.1) x.0 next.2) ∙ same_ok (x.0.on, x.0.target) e x.2 in
-      let p = pops_live b.schema b.world m f unit.0 unit.1 suits in
-      let single = single_there b.schema unit.0.0 slot link.0 link.1 in
-      let there = links_there b.schema p.of.own unit.0.0 slot link.0 sf p.of.under single.0 in
-      let has : has_link b.schema (class_at b.world p.n) slot ≡ true = ap (λ c. has_link b.schema c slot) (class_at_of b.schema b.world fits.units unit.0.0 p.n p.of) ∙ there.1 in
-      let units = ends b.world.links p.n slot in
-      let lead = links_lead b.schema b.world sf fits p.n slot link.0 there.0 in
+      let x = edges_ok (effects.one b.schema slot f) e h in
+      let it = one_ok b.schema slot f x.0 x.1 in
+      let p = pops_live b.schema b.world m f it.class it.rest it.stack suits in
+      let there = links_there b.schema p.of.own it.class slot it.link sf p.of.under it.leads in
+      let has : has_link b.schema (class_at b.world p.n) slot ≡ true = ap (λ c. has_link b.schema c slot) (class_at_of b.schema b.world fits.units it.class p.n p.of) ∙ there.1 in
+      let first = slice_get (ends b.world.links p.n slot) 0 in
+      let lead = links_lead b.schema b.world sf fits p.n slot it.link there.0 in
       let left = with_stack p.rest m in
-      let is = one_on b slot place m p.n p.rest p.stack (is_live_of b.schema b.world fits.units unit.0.0 p.n p.of) has (is_single b.schema slot link.0 there.0 single.1) in
-      subst (λ (r : Result Machine Halt). IsSafe b.schema m.place (ops.One slot place) e (keeps b r)) (sym is)
-      (leads_either b fits m (ops.One slot place) place e left next.0 unit.0.1 (push_partner (slice_get units 0) place left) refl edges refl p.suits
-      (partner_by b.schema b.world left unit.0.1 next.0 place link.0.to (slice_get units 0) next.1 p.suits (λ k first. All-at (IsOf b.schema b.world link.0.to) units 0 k first lead)))
+      let g = frames.with_stack it.rest f in
+      let is = one_on b slot place m p.n p.rest p.stack (is_live_of b.schema b.world fits.units it.class p.n p.of) has (is_single b.schema slot it.link there.0 it.single) in
+      leads_branched b fits m (ops.One slot place) place e x.0 (Ref it.link.to) left g (push_partner first place left) (one b slot place m) refl x.2 it.branched refl p.suits is
+      (λ next pushed. partner_by b.schema b.world left g next place it.link.to first pushed p.suits (λ k at. All-at (IsOf b.schema b.world it.link.to) (ends b.world.links p.n slot) 0 k at lead))
 
   find_makes : (i : ℕ) (g : Frame) → effects.find b.schema code i f ≡ Ok g → Makes b.schema b.world m g (find code b i m)
-  unfolding effects.find
   find_makes i g h =
-      let entry = bind_ok (ok_or (slice_get code.queries i) flaws.Table)
-      (λ (q : Query). frames.enough (length q.kinds) f >>= λ _. frames.room (frames.without (length q.kinds) f) >>= λ _. dues.query_due b.schema q >>= λ _. dues.operands_due q.kinds (frames.top (length q.kinds) f) >>= λ _. frames.push (Seq q.class) (frames.without (length q.kinds) f)) g h in
-      let q = entry.0 in
+      let it = find_ok b.schema code i f g h in
+      let q = it.query in
       let n = length q.kinds in
-      let some = bind_ok (frames.enough n f)
-      (λ (u : Unit {0}). frames.room (frames.without n f) >>= λ _. dues.query_due b.schema q >>= λ _. dues.operands_due q.kinds (frames.top n f) >>= λ _. frames.push (Seq q.class) (frames.without n f)) g entry.2 in
-      let free = bind_ok (frames.room (frames.without n f)) (λ (u : Unit {0}). dues.query_due b.schema q >>= λ _. dues.operands_due q.kinds (frames.top n f) >>= λ _. frames.push (Seq q.class) (frames.without n f)) g some.2 in
-      let right = bind_ok (dues.query_due b.schema q) (λ (u : Unit {0}). dues.operands_due q.kinds (frames.top n f) >>= λ _. frames.push (Seq q.class) (frames.without n f)) g free.2 in
-      let due = bind_ok (dues.operands_due q.kinds (frames.top n f)) (λ (u : Unit {0}). frames.push (Seq q.class) (frames.without n f)) g right.2 in
-      let p = pops_many b.schema b.world n m f some.0 some.1 suits in
-      let given = operands_given b.schema b.world q.kinds (frames.top n f) (reverse (take n m.stack)) due.0 due.1 p.has in
+      let p = pops_many b.schema b.world n m f it.enough suits in
+      let given = operands_given b.schema b.world q.kinds (frames.top n f) (reverse (take n m.stack)) tt it.operands p.has in
       let units = answer b.schema b.world.units b.world.spaces q given.0 in
       let left = with_stack (drop n m.stack) m in
-      makes_as b.schema b.world m left g (push_found units left) (find code b i m)
-      (find_on code b i m q given.0 (ok_or_ok flaws.Table (slice_get code.queries i) q entry.1) p.enough (query_right b q right.0 right.1) given.1) refl
-      (found_makes b.schema b.world left (frames.without n f) g units q.class due.2 p.suits (answers_are b fits.units q given.0) (few_pass b.world.units (answers b.schema b.world.units b.world.spaces q given.0) fits.units))
+      makes_as b.schema b.world m left g (push_found units left) (find code b i m) (find_on code b i m q given.0 it.entry p.enough (query_right b q tt it.fits) given.1) refl
+      (found_makes b.schema b.world left (frames.without n f) g units q.class it.pushed p.suits (answers_are b fits.units q given.0) (few_pass b.world.units (answers b.schema b.world.units b.world.spaces q given.0) fits.units))
 
   pub find_safe : (query : ℕ) → Safe (ops.Find query)
   unfolding step effect

@@ -5,7 +5,6 @@ use Rattle.std.specs.List.{list_any}
 use Rattle.std.proofs.lemmas.Bool.Decides.{nat_tests}
 use Rattle.bb_basis.proofs.AppendLemmas.{there_is}
 use Rattle.bb_basis.proofs.BoolLemmas.{same_truth}
-use Rattle.bb_basis.specs.Results.{◌>>=◌}
 use Rattle.bb_basis.proofs.ResultLemmas.{bind_ok}
 use Rattle.bb_code.specs.Code.{Code}
 use Rattle.bb_code.specs.Loop.{Loop}
@@ -25,10 +24,10 @@ unfolding each
 each_in f [] x there h = absurd cc
 each_in f (y ∷ ys) x (zero, at) h =
     let same : y ≡ x = cc in
-    let one = bind_ok (f y) (λ _. each f ys) tt h in
+    let one = bind_ok (f y) _ tt h in
     ap f (sym same) ∙ one.1
 each_in f (y ∷ ys) x (suc i, at) h =
-    let one = bind_ok (f y) (λ _. each f ys) tt h in
+    let one = bind_ok (f y) _ tt h in
     each_in f ys x (i, at) one.2
 
 ordered : (b : Bool) → check_order b ≡ Ok tt → b ≡ true
@@ -46,9 +45,9 @@ head_by false r is h = absurd cc
 pub parts_of : (code : Code) (place : ℕ) (op : Op) → place_due code place (Some op) ≡ Ok tt → (each (head_due code place) code.loops ≡ Ok tt) × (op_due code place op ≡ Ok tt)
 unfolding place_due
 parts_of code place op h =
-    let one = bind_ok (rising place code.loops) (λ _. each (head_due code place) code.loops >>= λ _. check_order (nat_le (depth code place) NESTING_LIMIT) >>= λ _. op_due code place op) tt h in
-    let two = bind_ok (each (head_due code place) code.loops) (λ _. check_order (nat_le (depth code place) NESTING_LIMIT) >>= λ _. op_due code place op) tt one.2 in
-    let three = bind_ok (check_order (nat_le (depth code place) NESTING_LIMIT)) (λ _. op_due code place op) tt two.2 in
+    let one = bind_ok (rising place code.loops) _ tt h in
+    let two = bind_ok (each (head_due code place) code.loops) _ tt one.2 in
+    let three = bind_ok (check_order (nat_le (depth code place) NESTING_LIMIT)) _ tt two.2 in
     (two.1, three.2)
 
 -- loops with one head have one end
@@ -71,14 +70,14 @@ module _ (code : Code) (inside : (l : Loop) → In code.loops l → l.head < len
   begins_so : (l : Loop) → In code.loops l → begins l (slice_get code.ops l.head) ≡ true
   unfolding loop_due
   begins_so l there =
-      let one = bind_ok (check_order (begins l (slice_get code.ops l.head))) (λ _. check_order (ends l (op_before code l.end)) >>= λ _. each (nests code l) code.loops) tt (loop_is_due l there) in
+      let one = bind_ok (check_order (begins l (slice_get code.ops l.head))) _ tt (loop_is_due l there) in
       ordered (begins l (slice_get code.ops l.head)) one.1
 
   rest_so : (l : Loop) → In code.loops l → (ends l (op_before code l.end) ≡ true) × (each (nests code l) code.loops ≡ Ok tt)
   unfolding loop_due
   rest_so l there =
-      let one = bind_ok (check_order (begins l (slice_get code.ops l.head))) (λ _. check_order (ends l (op_before code l.end)) >>= λ _. each (nests code l) code.loops) tt (loop_is_due l there) in
-      let two = bind_ok (check_order (ends l (op_before code l.end))) (λ _. each (nests code l) code.loops) tt one.2 in
+      let one = bind_ok (check_order (begins l (slice_get code.ops l.head))) _ tt (loop_is_due l there) in
+      let two = bind_ok (check_order (ends l (op_before code l.end))) _ tt one.2 in
       (ordered (ends l (op_before code l.end)) two.1, two.2)
 
   -- a loop around another one ends no earlier, and has another local
@@ -86,7 +85,7 @@ module _ (code : Code) (inside : (l : Loop) → In code.loops l → l.head < len
   unfolding nests
   nests_so l outer there other =
       let here = each_in (nests code l) code.loops outer other (rest_so l there).1 in
-      let one = bind_ok (never (is_around outer l && nat_lt outer.end l.end)) (λ _. never (is_around outer l && is_same_local (local_of code outer) (local_of code l))) tt here in
+      let one = bind_ok (never (is_around outer l && nat_lt outer.end l.end)) _ tt here in
       (unordered (is_around outer l && nat_lt outer.end l.end) one.1, unordered (is_around outer l && is_same_local (local_of code outer) (local_of code l)) one.2)
 
   -- no loop has its head at an op that is no Next

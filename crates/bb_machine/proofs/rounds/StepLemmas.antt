@@ -32,7 +32,7 @@ passed a b h = by (nat_lt a b) refl h
 
 ahead_of : (count at place : ℕ) → ahead count at place ≡ Ok tt → at < place
 unfolding ahead
-ahead_of count at place h = passed at place (bind_ok (before at place) (λ _. before place count) tt h).1
+ahead_of count at place h = passed at place (bind_ok (before at place) _ tt h).1
 
 module _ (code : Code) (inside : (l : Loop) → In code.loops l → l.head < length code.ops) (due : (place : ℕ) (op : Op) → slice_get code.ops place ≡ Some op → place_due code place (Some op) ≡ Ok tt)
     (jumps : (place : ℕ) (op : Op) → slice_get code.ops place ≡ Some op → check_target (length code.ops) place op ≡ Ok tt) where
