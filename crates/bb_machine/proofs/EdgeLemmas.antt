@@ -1,18 +1,15 @@
 -- Steps that lead along an edge of their op.
-use Rattle.std.proofs.Common.{◌≡◌, ◌⊎◌, inl, inr, ℕ, ◌∷◌, Option, Some, None, Result, Ok, Err, refl, sym, ap, subst, ◌∙◌}
+use Rattle.std.proofs.Common.{◌≡◌, ◌⊎◌, inl, inr, ℕ, Option, Some, None, Result, Ok, Err, refl, sym, ap, subst, ◌∙◌}
 use Rattle.bb_basis.specs.Results.{◌>>=◌}
 use Rattle.bb_basis.proofs.ResultLemmas.{same_ok}
 use Rattle.bb_board.specs.Board.{Board}
 use Rattle.bb_board.specs.Fits.{Fits}
 use Rattle.bb_code.specs.Op.{Op}
-use Rattle.bb_code.specs.Kind.{Kind}
 use Rattle.bb_verify.specs.Edges.{Edges}
 use Rattle.bb_verify.specs.Flaw.{Flaw}
 use Rattle.bb_verify.specs.FrameType.{Frame}
 use Rattle.bb_verify.specs.Effect as effects
-use Rattle.bb_verify.specs.Frame as frames
 use Rattle.bb_verify.specs.Jumps.{target_of}
-use Rattle.bb_verify.proofs.Laws.{Pushed, Branched}
 use Rattle.bb_machine_step.specs.Halt.{Halt}
 use Rattle.bb_machine_step.specs.Machine.{Machine, go_to}
 use Rattle.bb_machine_step.specs.Step.{keeps}
@@ -44,19 +41,11 @@ module _ (b : Board) (fits : Fits b.schema b.world) (m : Machine) (op : Op) wher
   leads_by e effect r h makes = let one = on_edges effect e h in leads_on e one.0 r one.2 (makes one.0 one.1)
 
   -- the next op follows, or the one at the place
-  pub leads_either : (place : ℕ) (e : Option Frame × Option Frame) (left : Machine) (next g : Frame) (did r : Result Machine Halt) → target_of op ≡ Some place → (Some next, Some g) ≡ e → left.place ≡ m.place
-      → Suits b.schema b.world left g → r ≡ did → (Makes b.schema b.world left next did) ⊎ (did ≡ Ok (go_to place left)) → IsSafe b.schema m.place op e (keeps b r)
-  leads_either place e left next g did r to is same suits does (inl made) =
-      subst (λ (x : Option Frame × Option Frame). IsSafe b.schema m.place op x (keeps b r)) is
+  pub leads_either : (place : ℕ) (e : Option Frame × Option Frame) (x : Edges) (left : Machine) (next g : Frame) (did r : Result Machine Halt) → target_of op ≡ Some place → effects.either next g ≡ x → (x.on, x.target) ≡ e
+      → left.place ≡ m.place → Suits b.schema b.world left g → r ≡ did → (Makes b.schema b.world left next did) ⊎ (did ≡ Ok (go_to place left)) → IsSafe b.schema m.place op e (keeps b r)
+  leads_either place e x left next g did r to is are same suits does (inl made) =
+      subst (λ (y : Option Frame × Option Frame). IsSafe b.schema m.place op y (keeps b r)) (ap (λ (y : Edges). (y.on, y.target)) is ∙ are)
       (kept_at (Some next, Some g) r made.next (does ∙ made.is) (record { schema = refl; fits = fits; edge = inl (made.place ∙ same, made.suits) }))
-  leads_either place e left next g did r to is same suits does (inr goes) =
-      subst (λ (x : Option Frame × Option Frame). IsSafe b.schema m.place op x (keeps b r)) is
+  leads_either place e x left next g did r to is are same suits does (inr goes) =
+      subst (λ (y : Option Frame × Option Frame). IsSafe b.schema m.place op y (keeps b r)) (ap (λ (y : Edges). (y.on, y.target)) is ∙ are)
       (kept_at (Some next, Some g) r (go_to place left) (does ∙ goes) (record { schema = refl; fits = fits; edge = inr (to, record { locals = suits.locals; stack = suits.stack }) }))
-
-  -- the next op follows, with one more entry, or the one at the place
-  pub leads_branched : (place : ℕ) (e : Option Frame × Option Frame) (x : Edges) (k : Kind) (left : Machine) (g : Frame) (did r : Result Machine Halt) → target_of op ≡ Some place → (x.on, x.target) ≡ e → Branched k g x
-      → left.place ≡ m.place → Suits b.schema b.world left g → r ≡ did → ((next : Frame) → Pushed k g next → (Makes b.schema b.world left next did) ⊎ (did ≡ Ok (go_to place left)))
-      → IsSafe b.schema m.place op e (keeps b r)
-  leads_branched place e x k left g did r to is it same suits does makes =
-      let next = frames.with_stack (k ∷ g.stack) g in
-      leads_either place e left next g did r to (ap (λ (y : Edges). (y.on, y.target)) it.edges ∙ is) same suits does (makes next (record { room = it.room; left = refl }))

@@ -77,7 +77,7 @@ module _ (Holds : Frame → Type 0) where
     more kind g known it = subst Holds it.left (kept.pushes kind f known k)
 
     branched : (kind : Kind) (e : Edges) → IsKnown kind → Branched kind f e → OnEdges e
-    branched kind e known it = subst OnEdges it.edges (kept.pushes kind f known k, k)
+    branched kind e known it = subst OnEdges it.edges (more kind it.next known it.pushed, k)
 
   module _ (kept : IsKept) (s : Schema) (part : Part) (code : Code) (f : Frame) (k : Holds f) (e : Edges) where
     turned : (from to : Kind) (g : Frame) → IsKnown to → Turned from to f g → Holds g

@@ -1,13 +1,11 @@
 -- What is known of the frame that an op met, and of those that it left, where it leads on, goes to a place or ends.
-use Rattle.std.proofs.Common.{◌≡◌, ℕ, false, List, ◌∷◌, length, Some, None, Result, Ok, Err, refl, sym, ap, ◌∙◌}
-use Rattle.std.specs.Prelude.{nat_le}
+use Rattle.std.proofs.Common.{◌≡◌, ℕ, false, List, ◌∷◌, Some, None, Result, Ok, Err, refl, sym, ap, ◌∙◌}
 use Rattle.bb_basis.specs.Results.{◌>>=◌}
 use Rattle.bb_basis.proofs.ResultLemmas.{bind_ok, same_ok}
 use Rattle.bb_verify_frame.specs.Schema.{Schema}
 use Rattle.bb_verify_frame.specs.Kind.{Kind}
 use Rattle.bb_verify_frame.specs.Kind.TheVariants.{Int, Bool as Truth, Ref, Seq}
 use Rattle.bb_verify_frame.specs.Flaw.{Flaw}
-use Rattle.bb_verify_frame.specs.Limits.{STACK_LIMIT}
 use Rattle.bb_verify_frame.specs.declared.frame.Frame.{Frame}
 use Rattle.bb_verify_frame.specs.declared.part.Part.{Part}
 use Rattle.bb_verify_frame.specs.Part.{ends_done, ends_rated, ends_answered}
@@ -17,7 +15,7 @@ use Rattle.bb_verify_effect.specs.Due.{due, class_of, sequence_of, link_slot, si
 use Rattle.bb_verify_effect.specs.Edges.{Edges}
 use Rattle.bb_verify_effect.specs.Effect.{on, either, ended, one, alive, as_class, unless, next_unit, done, rate, decline, answer}
 use Rattle.bb_verify_effect.proofs.DueInversion.{due_ok, sequence_of_ok, single_slot_ok}
-use Rattle.bb_verify_effect.proofs.FrameInversion.{push_ok, pop_ok, pop_live_ok}
+use Rattle.bb_verify_effect.proofs.FrameInversion.{Pushed, push_ok, pop_ok, pop_live_ok}
 
 pub on_ok : (r : Result Frame Flaw) (e : Edges) → on r ≡ Ok e → (g : Frame) × (r ≡ Ok g) × (record { on = Some g; target = None } ≡ e)
 on_ok (Ok g) e h = (g, refl, same_ok (record { on = Some g; target = None }) e h)
@@ -25,16 +23,16 @@ on_ok (Err flaw) e h = absurd cc
 
 -- ---- ops with a place that they go to
 
--- there was room for one more entry, which the next op finds, and the op at the place does not
+-- an entry was pushed for the next op, and none for the op at the place
 pub record Branched (k : Kind) (f : Frame) (e : Edges) : Type 0 where
-  pub room : nat_le STACK_LIMIT (length f.stack) ≡ false
-  pub edges : either (with_stack (k ∷ f.stack) f) f ≡ e
+  pub next : Frame
+  pub pushed : Pushed k f next
+  pub edges : either next f ≡ e
 
 branch_ok : (k : Kind) (f : Frame) (e : Edges) → (push k f >>= λ next. Ok (either next f)) ≡ Ok e → Branched k f e
 branch_ok k f e h =
     let next = bind_ok (push k f) _ e h in
-    let pushed = push_ok k f next.0 next.1 in
-    record { room = pushed.room; edges = ap (λ g. either g f) pushed.left ∙ same_ok (either next.0 f) e next.2 }
+    record { next = next.0; pushed = push_ok k f next.0 next.1; edges = same_ok (either next.0 f) e next.2 }
 
 -- a live unit gave way to the one to which a singular link slot of its class leads, if there is one
 pub record OneFollowed (s : Schema) (slot : ℕ) (f : Frame) (e : Edges) : Type 0 where

@@ -8,7 +8,6 @@ use Rattle.bb_code.specs.Code.{Code}
 use Rattle.bb_code.specs.Kind.TheVariants as kinds
 use Rattle.bb_code.specs.Op.{Op}
 use Rattle.bb_code.specs.Op.TheVariants as ops
-use Rattle.bb_verify.specs.Edges.{Edges}
 use Rattle.bb_verify.specs.FrameType.{Frame}
 use Rattle.bb_verify.specs.PartType.{Part}
 use Rattle.bb_verify.specs.Effect as effects
@@ -29,7 +28,7 @@ use Rattle.bb_machine.specs.proving.Moves.{Makes}
 use Rattle.bb_machine.proofs.MoveLemmas.{pops, pushes}
 use Rattle.bb_machine.proofs.LiveLemmas.{of_live}
 use Rattle.bb_machine.proofs.UnitLemmas.{unit_was, pop_unit_on}
-use Rattle.bb_machine.proofs.EdgeLemmas.{edges_ok, leads_either, leads_branched}
+use Rattle.bb_machine.proofs.EdgeLemmas.{edges_ok, leads_either}
 
 unless_on : (place : ℕ) (m : Machine) (b : Bool) (rest : List Value) → m.stack ≡ values.Bool b ∷ rest → unless place m ≡ Ok (cond b (with_stack rest m) (go_to place (with_stack rest m)))
 unfolding unless pop
@@ -88,7 +87,7 @@ module _ (part : Part) (code : Code) (b : Board) (fits : Fits b.schema b.world) 
       let p = pops b.schema b.world m f kinds.Bool it.rest it.stack suits in
       let left = with_stack p.rest m in
       let g = frames.with_stack it.rest f in
-      leads_either b fits m (ops.Unless place) place e left g g (Ok (cond p.has.0 left (go_to place left))) (unless place m) refl (ap (λ (y : Edges). (y.on, y.target)) it.edges ∙ x.2) refl p.suits
+      leads_either b fits m (ops.Unless place) place e x.0 left g g (Ok (cond p.has.0 left (go_to place left))) (unless place m) refl it.edges x.2 refl p.suits
       (unless_on place m p.has.0 p.rest (p.stack ∙ ap (λ (v : Value). v ∷ p.rest) p.has.1)) (goes place left g p.has.0 p.suits)
 
   pub rate_safe : Safe ops.Rate
@@ -123,5 +122,5 @@ module _ (part : Part) (code : Code) (b : Board) (fits : Fits b.schema b.world) 
       let left = with_stack p.rest m in
       let g = frames.with_stack it.rest f in
       let live = is_live b.world.units unit.0 in
-      leads_branched b fits m (ops.Alive place) place e x.0 (kinds.Ref it.class) left g (cond live (push (values.Unit unit.0) left) (Ok (go_to place left))) (alive b place m) refl x.2 it.branched refl p.suits
-      (alive_on b place m unit.0 p.rest (p.stack ∙ ap (λ (v : Value). v ∷ p.rest) unit.1) live refl) (λ next. alive_by place unit.0 left it.class g next live refl unit.2 p.suits)
+      leads_either b fits m (ops.Alive place) place e x.0 left it.branched.next g (cond live (push (values.Unit unit.0) left) (Ok (go_to place left))) (alive b place m) refl it.branched.edges x.2 refl p.suits
+      (alive_on b place m unit.0 p.rest (p.stack ∙ ap (λ (v : Value). v ∷ p.rest) unit.1) live refl) (alive_by place unit.0 left it.class g it.branched.next live refl unit.2 p.suits it.branched.pushed)

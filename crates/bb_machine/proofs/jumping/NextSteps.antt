@@ -32,7 +32,7 @@ use Rattle.bb_machine.specs.proving.Moves.{Makes}
 use Rattle.bb_machine.proofs.LiveLemmas.{of_live}
 use Rattle.bb_machine.proofs.plain.LocalLemmas.{holds}
 use Rattle.bb_machine.proofs.MoveLemmas.{pushes}
-use Rattle.bb_machine.proofs.EdgeLemmas.{edges_ok, leads_branched}
+use Rattle.bb_machine.proofs.EdgeLemmas.{edges_ok, leads_either}
 use Rattle.bb_verify.specs.declared.checked.TheConstants.{FOUND_LIMIT}
 
 -- ---- the units of a sequence from the first live one on
@@ -108,6 +108,6 @@ module _ (part : Part) (code : Code) (b : Board) (fits : Fits b.schema b.world) 
       let q = held.2.0 in
       let at : slice_get m.locals l ≡ Some (Some (values.Seq q)) = held.1 ∙ ap (λ (v : Value). Some (Some v)) held.2.1 in
       let inside = still_there (length (set m.locals l None)) l (length m.locals) (slice_get_within m.locals l (Some held.0) held.1) (length-set m.locals l None) in
-      let goes = λ (next : Frame) (pushed : Pushed (Ref it.class) f next). goes_by l place it.class q.found next (kind_at f l it.class it.sequence) pushed held.2.3 (from_live b.world.units q.rest) (live_front b.world.units (WasOf b.schema b.world it.class) q.rest held.2.2) in
-      leads_branched b fits m (ops.Next l place) place e x.0 (Ref it.class) (moved l (first_live b q).1 m) f (after_next place (first_live b q).0 (moved l (first_live b q).1 m)) (next_unit b l place m) refl x.2 it.branched refl
-      (goes (frames.with_stack (Ref it.class ∷ f.stack) f) (record { room = it.branched.room; left = refl })).0 (next_on b l place m q at inside) (λ next pushed. (goes next pushed).1)
+      let left = moved l (first_live b q).1 m in
+      let goes = goes_by l place it.class q.found it.branched.next (kind_at f l it.class it.sequence) it.branched.pushed held.2.3 (from_live b.world.units q.rest) (live_front b.world.units (WasOf b.schema b.world it.class) q.rest held.2.2) in
+      leads_either b fits m (ops.Next l place) place e x.0 left it.branched.next f (after_next place (first_live b q).0 left) (next_unit b l place m) refl it.branched.edges x.2 refl goes.0 (next_on b l place m q at inside) goes.1

@@ -32,7 +32,7 @@ use Rattle.bb_machine.specs.proving.Moves.{Makes}
 use Rattle.bb_machine.proofs.MoveLemmas.{pushes, turns, combines}
 use Rattle.bb_machine.proofs.LiveLemmas.{is_live_of, class_at_of}
 use Rattle.bb_machine.proofs.UnitLemmas.{unit_was, pops_live, eq_unit_on}
-use Rattle.bb_machine.proofs.EdgeLemmas.{edges_ok, leads_by, leads_branched}
+use Rattle.bb_machine.proofs.EdgeLemmas.{edges_ok, leads_by, leads_either}
 use Rattle.bb_machine.proofs.plain.RangeLemmas.{found_i64}
 
 eq_label_on : (m : Machine) (set a b : ℕ) (rest : List Value) → m.stack ≡ values.Label set b ∷ values.Label set a ∷ rest → eq_label m ≡ push (values.Bool (a == b)) (with_stack rest m)
@@ -108,5 +108,5 @@ module _ (part : Part) (code : Code) (b : Board) (fits : Fits b.schema b.world) 
       let g = frames.with_stack it.rest f in
       let goes = descends b.schema (class_at b.world p.n) class in
       let is = as_on b class place m p.n p.rest entry goes p.stack there (is_live_of b.schema b.world fits.units it.own p.n p.of) refl in
-      leads_branched b fits m (ops.As class place) place e x.0 (Ref class) left g (cond goes (push (values.Unit p.n) left) (Ok (go_to place left))) (as_class b class place m) refl x.2 it.branched refl p.suits is
-      (λ next. as_by place class p.n left it.own g next goes p.of refl p.suits)
+      leads_either b fits m (ops.As class place) place e x.0 left it.branched.next g (cond goes (push (values.Unit p.n) left) (Ok (go_to place left))) (as_class b class place m) refl it.branched.edges x.2 refl p.suits is
+      (as_by place class p.n left it.own g it.branched.next goes p.of refl p.suits it.branched.pushed)

@@ -45,7 +45,7 @@ use Rattle.bb_machine.proofs.ManyLemmas.{pops_many, pop_many_on}
 use Rattle.bb_machine.proofs.reading.SlotLemmas.{reads, links_there, is_single}
 use Rattle.bb_machine.proofs.reading.PartnerLemmas.{links_lead}
 use Rattle.bb_machine.proofs.reading.FindLemmas.{query_right, operands_given, answers_are}
-use Rattle.bb_machine.proofs.EdgeLemmas.{edges_ok, leads_by, leads_branched}
+use Rattle.bb_machine.proofs.EdgeLemmas.{edges_ok, leads_by, leads_either}
 use Rattle.bb_units.specs.declared.units.TheConstants.{UNIT_LIMIT}
 use Rattle.bb_board_state.proofs.Laws.{few_ends, few_pass}
 use Rattle.std.proofs.lemmas.Bool.{le-leb}
@@ -135,8 +135,8 @@ module _ (part : Part) (code : Code) (b : Board) (sf : schemas.Fits b.schema) (f
       let left = with_stack p.rest m in
       let g = frames.with_stack it.rest f in
       let is = one_on b slot place m p.n p.rest p.stack (is_live_of b.schema b.world fits.units it.class p.n p.of) has (is_single b.schema slot it.link there.0 it.single) in
-      leads_branched b fits m (ops.One slot place) place e x.0 (Ref it.link.to) left g (push_partner first place left) (one b slot place m) refl x.2 it.branched refl p.suits is
-      (λ next pushed. partner_by b.schema b.world left g next place it.link.to first pushed p.suits (λ k at. All-at (IsOf b.schema b.world it.link.to) (ends b.world.links p.n slot) 0 k at lead))
+      leads_either b fits m (ops.One slot place) place e x.0 left it.branched.next g (push_partner first place left) (one b slot place m) refl it.branched.edges x.2 refl p.suits is
+      (partner_by b.schema b.world left g it.branched.next place it.link.to first it.branched.pushed p.suits (λ k at. All-at (IsOf b.schema b.world it.link.to) (ends b.world.links p.n slot) 0 k at lead))
 
   find_makes : (i : ℕ) (g : Frame) → effects.find b.schema code i f ≡ Ok g → Makes b.schema b.world m g (find code b i m)
   find_makes i g h =
