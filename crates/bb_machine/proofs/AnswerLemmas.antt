@@ -15,7 +15,7 @@ use Rattle.bb_verify.specs.Part.{ends_done, ends_rated, ends_answered}
 use Rattle.bb_verify.specs.Effect as effects
 use Rattle.bb_verify.specs.Effect.{effect}
 use Rattle.bb_verify.specs.Facts.{Facts}
-use Rattle.bb_verify.proofs.Laws.{done_ok, decline_ok, rate_ok, answer_ok}
+use Rattle.bb_verify.proofs.Laws.{edges_ok, done_ok, decline_ok, rate_ok, answer_ok}
 use Rattle.bb_machine_step.specs.Answer.{Answer}
 use Rattle.bb_machine_step.specs.Answer.TheVariants.{Done, Rated, Declined, Yes, No}
 use Rattle.bb_machine_step.specs.Halt.{Halt}
@@ -27,7 +27,6 @@ use Rattle.bb_machine_step.specs.Activation.{Execution, steps_from}
 use Rattle.bb_machine_step.proofs.Laws.{after_op, by_op}
 use Rattle.bb_machine.specs.NeverWrong.{Stands, is_answer_of, AnswersAs}
 use Rattle.bb_machine.specs.Safe.{edges_of, can_answer}
-use Rattle.bb_machine.proofs.EdgeLemmas.{edges_ok}
 use Rattle.bb_machine.proofs.RunLemmas.{inside}
 use Rattle.bb_machine.proofs.StandLemmas.{Advances, step_advances}
 

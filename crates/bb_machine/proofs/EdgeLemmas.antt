@@ -1,7 +1,6 @@
 -- Steps that lead along an edge of their op.
-use Rattle.std.proofs.Common.{◌≡◌, ◌⊎◌, inl, inr, ℕ, Option, Some, None, Result, Ok, Err, refl, sym, ap, subst, ◌∙◌}
+use Rattle.std.proofs.Common.{◌≡◌, ◌⊎◌, inl, inr, ℕ, Option, Some, None, Result, Ok, refl, sym, ap, subst, ◌∙◌}
 use Rattle.bb_basis.specs.Results.{◌>>=◌}
-use Rattle.bb_basis.proofs.ResultLemmas.{same_ok}
 use Rattle.bb_board.specs.Board.{Board}
 use Rattle.bb_board.specs.Fits.{Fits}
 use Rattle.bb_code.specs.Op.{Op}
@@ -10,20 +9,13 @@ use Rattle.bb_verify.specs.Flaw.{Flaw}
 use Rattle.bb_verify.specs.FrameType.{Frame}
 use Rattle.bb_verify.specs.Effect as effects
 use Rattle.bb_verify.specs.Jumps.{target_of}
+use Rattle.bb_verify.proofs.Laws.{on_edges}
 use Rattle.bb_machine_step.specs.Halt.{Halt}
 use Rattle.bb_machine_step.specs.Machine.{Machine, go_to}
 use Rattle.bb_machine_step.specs.Step.{keeps}
 use Rattle.bb_machine.specs.Kinds.{Suits}
 use Rattle.bb_machine.specs.Safe.{Leads, IsSafe}
 use Rattle.bb_machine.specs.proving.Moves.{Makes}
-
-pub edges_ok : (r : Result Edges Flaw) (e : Option Frame × Option Frame) → (r >>= λ x. Ok (x.on, x.target)) ≡ Ok e → (x : Edges) × (r ≡ Ok x) × ((x.on, x.target) ≡ e)
-edges_ok (Ok x) e h = (x, refl, same_ok (x.on, x.target) e h)
-edges_ok (Err flaw) e h = absurd cc
-
-pub on_edges : (r : Result Frame Flaw) (e : Option Frame × Option Frame) → (effects.on r >>= λ x. Ok (x.on, x.target)) ≡ Ok e → (g : Frame) × (r ≡ Ok g) × ((Some g, None) ≡ e)
-on_edges (Ok g) e h = (g, refl, same_ok (Some g, None) e h)
-on_edges (Err flaw) e h = absurd cc
 
 module _ (b : Board) (fits : Fits b.schema b.world) (m : Machine) (op : Op) where
   kept_at : (e : Option Frame × Option Frame) (r : Result Machine Halt) (next : Machine) → r ≡ Ok next → Leads b.schema m.place op e (next, b) → IsSafe b.schema m.place op e (keeps b r)

@@ -8,9 +8,8 @@ use Rattle.bb_verify.specs.FrameType.{Frame}
 use Rattle.bb_verify.specs.PartType.{Part}
 use Rattle.bb_verify.specs.Kinds.{struck}
 use Rattle.bb_verify.specs.Effect.{effect, after_delete}
-use Rattle.bb_verify.proofs.Laws.{IsKept, OnEdge, effect_keeps}
+use Rattle.bb_verify.proofs.Laws.{edges_ok, IsKept, OnEdge, effect_keeps}
 use Rattle.bb_machine.specs.Safe.{edges_of}
-use Rattle.bb_machine.proofs.EdgeLemmas.{edges_ok}
 
 abbrev SameCount : Frame → Frame → Type 0
 SameCount f g = length g.locals ≡ length f.locals

@@ -8,7 +8,7 @@ use Rattle.bb_units.specs.Fits as units
 use Rattle.bb_board.specs.State.{World}
 use Rattle.bb_board.specs.Board.{Board}
 use Rattle.bb_code.specs.Kind.{Kind}
-use Rattle.bb_code.specs.Kind.TheVariants.{Any, Int, Text, Bool as Truth, Label, Interval, Ref, Old, Seq}
+use Rattle.bb_code.specs.Kind.TheVariants.{Ref, Old}
 use Rattle.bb_verify.specs.FrameType.{Frame}
 use Rattle.bb_verify.specs.Due as dues
 use Rattle.bb_verify.specs.Frame as frames
@@ -25,15 +25,9 @@ use Rattle.bb_machine.proofs.LiveLemmas.{was_of}
 -- ---- units
 
 pub unit_was : (s : Schema) (w : World) → units.Fits w.units → (k : Kind) (class : ℕ) (v : Value) → dues.class_of k ≡ Ok class → HasKind s w k v → (n : ℕ) × (v ≡ values.Unit n) × WasOf s w class n
-unit_was s w uf Any class v is has = absurd cc
-unit_was s w uf Int class v is has = absurd cc
-unit_was s w uf Text class v is has = absurd cc
-unit_was s w uf Truth class v is has = absurd cc
-unit_was s w uf (Label set) class v is has = absurd cc
-unit_was s w uf Interval class v is has = absurd cc
-unit_was s w uf (Seq c) class v is has = absurd cc
 unit_was s w uf (Ref c) class v is has = (has.0, has.1, subst (λ d. WasOf s w d has.0) (same_ok c class is) (was_of s w uf c has.0 has.2))
 unit_was s w uf (Old c) class v is has = (has.0, has.1, subst (λ d. WasOf s w d has.0) (same_ok c class is) has.2)
+unit_was s w uf _ class v is has = absurd cc
 
 -- a unit that is live is the newest entry, where the verifier says so
 pub pops_live : (s : Schema) (w : World) (m : Machine) (f : Frame) (class : ℕ) (rest : List Kind) → f.stack ≡ Ref class ∷ rest → Suits s w m f → PopsLive s w m (class, frames.with_stack rest f)

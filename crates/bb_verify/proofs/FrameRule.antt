@@ -6,7 +6,7 @@ use Rattle.bb_verify_effect.specs.SlotKind.TheVariants as slots
 use Rattle.bb_verify_effect.specs.Schema.{Schema}
 use Rattle.bb_verify_effect.specs.Code.{Code}
 use Rattle.bb_verify_effect.specs.Kind.{Kind}
-use Rattle.bb_verify_effect.specs.Kind.TheVariants.{Any, Int, Text, Bool as Truth, Label, Interval, Ref, Old, Seq}
+use Rattle.bb_verify_effect.specs.Kind.TheVariants.{Any, Int, Text, Bool as Truth, Label, Interval, Ref, Seq}
 use Rattle.bb_verify_effect.specs.Op.{Op}
 use Rattle.bb_verify_effect.specs.Op.TheVariants as ops
 use Rattle.bb_verify_effect.specs.Edges.{Edges}
@@ -28,22 +28,13 @@ IsKnown k = is_known k ≡ true
 
 copied : (k j : Kind) → dues.copy_of k ≡ Ok j → IsKnown j
 copied Any j h = absurd cc
-copied (Seq c) j h = absurd cc
-copied Int j h = subst IsKnown (same_ok Int j h) refl
-copied Text j h = subst IsKnown (same_ok Text j h) refl
-copied Truth j h = subst IsKnown (same_ok Truth j h) refl
-copied (Label set) j h = subst IsKnown (same_ok (Label set) j h) refl
-copied Interval j h = subst IsKnown (same_ok Interval j h) refl
-copied (Ref c) j h = subst IsKnown (same_ok (Ref c) j h) refl
-copied (Old c) j h = subst IsKnown (same_ok (Old c) j h) refl
+copied _ Any h = absurd cc
+copied _ _ h = refl
 
 plain_known : (held : SlotKind) (k : Kind) → dues.plain_kind held ≡ Some k → IsKnown k
-plain_known slots.Int k h = subst IsKnown (let e : Int ≡ k = cc in e) refl
-plain_known slots.Text k h = subst IsKnown (let e : Text ≡ k = cc in e) refl
-plain_known slots.Bool k h = subst IsKnown (let e : Truth ≡ k = cc in e) refl
-plain_known (slots.Label set) k h = subst IsKnown (let e : Label set ≡ k = cc in e) refl
-plain_known slots.Interval k h = subst IsKnown (let e : Interval ≡ k = cc in e) refl
 plain_known (slots.Link l) k h = absurd cc
+plain_known _ Any h = absurd cc
+plain_known _ _ h = refl
 
 slot_known : (s : Schema) (class slot : ℕ) (k : Kind) → dues.plain_slot s class slot ≡ Ok k → IsKnown k
 slot_known s class slot k h = let held = plain_slot_ok s class slot k h in plain_known held.0 k held.2

@@ -10,7 +10,7 @@ use Rattle.bb_verify_effect.specs.Schema.{Schema}
 use Rattle.bb_verify_effect.specs.Code.{Code}
 use Rattle.bb_verify_effect.specs.FrameEntry.{FrameEntry}
 use Rattle.bb_verify_effect.specs.Kind.{Kind}
-use Rattle.bb_verify_effect.specs.Kind.TheVariants.{Any, Int, Text, Bool as Truth, Label, Interval, Ref, Old, Seq}
+use Rattle.bb_verify_effect.specs.Kind.TheVariants.{Any, Ref, Old}
 use Rattle.bb_verify_effect.specs.FrameType.{Frame}
 use Rattle.bb_verify_effect.specs.PartType.{Part}
 use Rattle.bb_verify_effect.specs.Each.{each}
@@ -60,14 +60,7 @@ edge_known (Some f) g known is = subst AreKnown (let e : f ≡ g = cc in e) know
 
 entry_known : (s : Schema) (k : Kind) → known_entry s k ≡ Ok tt → IsKnown k
 entry_known s Any h = absurd cc
-entry_known s Int h = refl
-entry_known s Text h = refl
-entry_known s Truth h = refl
-entry_known s (Label set) h = refl
-entry_known s Interval h = refl
-entry_known s (Ref c) h = refl
-entry_known s (Old c) h = refl
-entry_known s (Seq c) h = refl
+entry_known s _ h = refl
 
 -- the frame of an entry is known
 abbrev IsKnownAt : FrameEntry → Type 0

@@ -4,6 +4,7 @@ pub mod BudgetLemmas
 pub mod WalkLemmas
 pub mod PhaseLemmas
 pub mod StandLemmas
+pub mod EdgeLemmas
 pub mod FrameRule
 pub mod KnownFrames
 pub mod FactLemmas

@@ -17,7 +17,7 @@ use Rattle.bb_verify.specs.FrameType.{Frame}
 use Rattle.bb_verify.specs.PartType.{Part}
 use Rattle.bb_verify.specs.Effect as effects
 use Rattle.bb_verify.specs.Effect.{effect}
-use Rattle.bb_verify.proofs.Laws.{leave_ok}
+use Rattle.bb_verify.proofs.Laws.{on_edges, leave_ok}
 use Rattle.bb_machine_step.specs.Halt.{Halt}
 use Rattle.bb_machine_step.specs.Values.{Value}
 use Rattle.bb_machine_step.specs.Values.TheVariants as values
@@ -29,7 +29,6 @@ use Rattle.bb_machine.specs.Safe.{edges_of, IsSafe}
 use Rattle.bb_machine.proofs.LiveLemmas.{is_live_of}
 use Rattle.bb_machine.proofs.UnitLemmas.{pops_live, pop_live_on}
 use Rattle.bb_machine.proofs.changing.OutliveLemmas.{Persists, suits_persists}
-use Rattle.bb_machine.proofs.EdgeLemmas.{on_edges}
 
 -- a change that leaves the units as they were
 pub same_outlives : (u v : Units) → v ≡ u → Outlives u v

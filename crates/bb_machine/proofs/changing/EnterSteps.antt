@@ -19,7 +19,7 @@ use Rattle.bb_verify.specs.FrameType.{Frame}
 use Rattle.bb_verify.specs.PartType.{Part}
 use Rattle.bb_verify.specs.Effect as effects
 use Rattle.bb_verify.specs.Effect.{effect}
-use Rattle.bb_verify.proofs.Laws.{enter_ok}
+use Rattle.bb_verify.proofs.Laws.{on_edges, enter_ok}
 use Rattle.bb_machine_step.specs.Values.{Value}
 use Rattle.bb_machine_step.specs.Values.TheVariants as values
 use Rattle.bb_machine_step.specs.Machine.{Machine, with_stack}
@@ -30,7 +30,6 @@ use Rattle.bb_machine.specs.Safe.{edges_of, IsSafe}
 use Rattle.bb_machine.proofs.KindLemmas.{descends_on}
 use Rattle.bb_machine.proofs.LiveLemmas.{is_live_of, class_at_of}
 use Rattle.bb_machine.proofs.UnitLemmas.{pops_live, pop_unit_on}
-use Rattle.bb_machine.proofs.EdgeLemmas.{on_edges}
 use Rattle.bb_machine.proofs.changing.ChangeSteps.{same_outlives, same_persists, changes}
 
 or_weaker : (a b c d : Bool) → (a ≡ true → c ≡ true) → (b ≡ true → d ≡ true) → (a || b) ≡ true → (c || d) ≡ true

@@ -27,7 +27,7 @@ use Rattle.bb_verify.specs.Facts.{is_known}
 use Rattle.bb_verify.specs.Frame as frames
 use Rattle.bb_verify.specs.Effect as effects
 use Rattle.bb_verify.specs.Effect.{effect}
-use Rattle.bb_verify.proofs.Laws.{Pushed, new_unit_ok, set_slot_ok, relink_ok, delete_ok, say_ok}
+use Rattle.bb_verify.proofs.Laws.{on_edges, Pushed, new_unit_ok, set_slot_ok, relink_ok, delete_ok, say_ok}
 use Rattle.bb_machine_step.specs.Halt.{Halt}
 use Rattle.bb_machine_step.specs.Halt.TheVariants as halts
 use Rattle.bb_machine_step.specs.Values.{Value}
@@ -44,7 +44,6 @@ use Rattle.bb_machine.proofs.LiveLemmas.{is_live_of}
 use Rattle.bb_machine.proofs.UnitLemmas.{pops_live, pop_live_on}
 use Rattle.bb_machine.proofs.changing.OutliveLemmas.{suits_persists}
 use Rattle.bb_machine.proofs.changing.StruckLemmas.{suits_struck}
-use Rattle.bb_machine.proofs.EdgeLemmas.{on_edges}
 use Rattle.bb_machine.proofs.reading.ReadSteps.{seen}
 use Rattle.bb_machine.proofs.changing.ChangeSteps.{same_outlives, same_persists, changes}
 use Rattle.bb_machine.proofs.changing.CreatedLemmas.{created_outlives, created_persists, new_is_of, created_keeps}

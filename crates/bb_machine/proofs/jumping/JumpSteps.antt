@@ -13,7 +13,7 @@ use Rattle.bb_verify.specs.PartType.{Part}
 use Rattle.bb_verify.specs.Effect as effects
 use Rattle.bb_verify.specs.Effect.{effect}
 use Rattle.bb_verify.specs.Frame as frames
-use Rattle.bb_verify.proofs.Laws.{Pushed, unless_ok, rate_ok, answer_ok, alive_ok}
+use Rattle.bb_verify.proofs.Laws.{edges_ok, Pushed, unless_ok, rate_ok, answer_ok, alive_ok}
 use Rattle.bb_machine_step.specs.Halt.{Halt}
 use Rattle.bb_machine_step.specs.Answer.TheVariants as answers
 use Rattle.bb_machine_step.specs.Values.{Value}
@@ -28,7 +28,7 @@ use Rattle.bb_machine.specs.proving.Moves.{Makes}
 use Rattle.bb_machine.proofs.MoveLemmas.{pops, pushes}
 use Rattle.bb_machine.proofs.LiveLemmas.{of_live}
 use Rattle.bb_machine.proofs.UnitLemmas.{unit_was, pop_unit_on}
-use Rattle.bb_machine.proofs.EdgeLemmas.{edges_ok, leads_either}
+use Rattle.bb_machine.proofs.EdgeLemmas.{leads_either}
 
 unless_on : (place : ℕ) (m : Machine) (b : Bool) (rest : List Value) → m.stack ≡ values.Bool b ∷ rest → unless place m ≡ Ok (cond b (with_stack rest m) (go_to place (with_stack rest m)))
 unfolding unless pop

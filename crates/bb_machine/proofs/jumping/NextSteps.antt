@@ -18,7 +18,7 @@ use Rattle.bb_verify.specs.PartType.{Part}
 use Rattle.bb_verify.specs.Effect as effects
 use Rattle.bb_verify.specs.Effect.{effect}
 use Rattle.bb_verify.specs.Frame as frames
-use Rattle.bb_verify.proofs.Laws.{Pushed, next_unit_ok}
+use Rattle.bb_verify.proofs.Laws.{edges_ok, Pushed, next_unit_ok}
 use Rattle.bb_machine_step.specs.Halt.{Halt}
 use Rattle.bb_machine_step.specs.Values.{Value}
 use Rattle.bb_machine_step.specs.Values.TheVariants as values
@@ -32,7 +32,7 @@ use Rattle.bb_machine.specs.proving.Moves.{Makes}
 use Rattle.bb_machine.proofs.LiveLemmas.{of_live}
 use Rattle.bb_machine.proofs.plain.LocalLemmas.{holds}
 use Rattle.bb_machine.proofs.MoveLemmas.{pushes}
-use Rattle.bb_machine.proofs.EdgeLemmas.{edges_ok, leads_either}
+use Rattle.bb_machine.proofs.EdgeLemmas.{leads_either}
 use Rattle.bb_verify.specs.declared.checked.TheConstants.{FOUND_LIMIT}
 
 -- ---- the units of a sequence from the first live one on

@@ -17,7 +17,7 @@ use Rattle.bb_verify.specs.PartType.{Part}
 use Rattle.bb_verify.specs.Effect as effects
 use Rattle.bb_verify.specs.Effect.{effect}
 use Rattle.bb_verify.specs.Frame as frames
-use Rattle.bb_verify.proofs.Laws.{Pushed, eq_label_ok, eq_unit_ok, size_ok, as_class_ok}
+use Rattle.bb_verify.proofs.Laws.{edges_ok, Pushed, eq_label_ok, eq_unit_ok, size_ok, as_class_ok}
 use Rattle.bb_machine_step.specs.Halt.{Halt}
 use Rattle.bb_machine_step.specs.Values.{Value}
 use Rattle.bb_machine_step.specs.Values.TheVariants as values
@@ -32,7 +32,7 @@ use Rattle.bb_machine.specs.proving.Moves.{Makes}
 use Rattle.bb_machine.proofs.MoveLemmas.{pushes, turns, combines}
 use Rattle.bb_machine.proofs.LiveLemmas.{is_live_of, class_at_of}
 use Rattle.bb_machine.proofs.UnitLemmas.{unit_was, pops_live, eq_unit_on}
-use Rattle.bb_machine.proofs.EdgeLemmas.{edges_ok, leads_by, leads_either}
+use Rattle.bb_machine.proofs.EdgeLemmas.{leads_by, leads_either}
 use Rattle.bb_machine.proofs.plain.RangeLemmas.{found_i64}
 
 eq_label_on : (m : Machine) (set a b : ℕ) (rest : List Value) → m.stack ≡ values.Label set b ∷ values.Label set a ∷ rest → eq_label m ≡ push (values.Bool (a == b)) (with_stack rest m)

@@ -26,7 +26,7 @@ use Rattle.bb_verify.specs.PartType.{Part}
 use Rattle.bb_verify.specs.Effect as effects
 use Rattle.bb_verify.specs.Effect.{effect}
 use Rattle.bb_verify.specs.Frame as frames
-use Rattle.bb_verify.proofs.Laws.{Pushed, get_ok, links_ok, find_ok, one_ok}
+use Rattle.bb_verify.proofs.Laws.{edges_ok, Pushed, get_ok, links_ok, find_ok, one_ok}
 use Rattle.bb_machine_step.specs.Halt.{Halt}
 use Rattle.bb_machine_step.specs.Values.{Value}
 use Rattle.bb_machine_step.specs.Values.TheVariants as values
@@ -45,7 +45,7 @@ use Rattle.bb_machine.proofs.ManyLemmas.{pops_many, pop_many_on}
 use Rattle.bb_machine.proofs.reading.SlotLemmas.{reads, links_there, is_single}
 use Rattle.bb_machine.proofs.reading.PartnerLemmas.{links_lead}
 use Rattle.bb_machine.proofs.reading.FindLemmas.{query_right, operands_given, answers_are}
-use Rattle.bb_machine.proofs.EdgeLemmas.{edges_ok, leads_by, leads_either}
+use Rattle.bb_machine.proofs.EdgeLemmas.{leads_by, leads_either}
 use Rattle.bb_units.specs.declared.units.TheConstants.{UNIT_LIMIT}
 use Rattle.bb_board_state.proofs.Laws.{few_ends, few_pass}
 use Rattle.std.proofs.lemmas.Bool.{le-leb}
