@@ -1,5 +1,5 @@
 -- The frames that ops leave may stand where they lead.
-use Rattle.std.proofs.Common.{◌≡◌, ◌⊎◌, inl, inr, ℕ, zero, suc, ◌+◌, ◌<◌, ◌≤◌, Bool, true, false, cond, List, [], ◌∷◌, length, set, Option, Some, None, Result, Ok, Err, refl, sym, ap, subst, ◌∙◌, arith, add-one}
+use Rattle.std.proofs.Common.{◌≡◌, ◌⊎◌, inl, inr, ℕ, zero, suc, ◌+◌, ◌<◌, ◌≤◌, true, List, [], ◌∷◌, length, set, Option, Some, None, Result, Ok, refl, sym, ap, subst, ◌∙◌, arith, add-one}
 use Rattle.std.specs.Prelude.{nat_le, slice_get, option_and_then, replicate}
 use Rattle.std.proofs.lemmas.Bool.Decides.{nat_tests}
 use Rattle.std.proofs.lemmas.List.{length-set, length-replicate}
@@ -20,6 +20,7 @@ use Rattle.bb_verify_effect.specs.Effect.{effect}
 use Rattle.bb_verify_effect.specs.Frame.{frame_of}
 use Rattle.bb_verify.specs.Places.{with_frames, declared_frames, declared_at, declared_for, entry_frame, frame_at, fits_declared, on_due, target_due, has_next}
 use Rattle.bb_verify.specs.Facts.{StandsAt, Leaves}
+use Rattle.bb_verify_effect.proofs.Laws.{test_ok}
 use Rattle.bb_verify.proofs.WalkLemmas.{Visited, Chain, Walked}
 
 -- ---- declared frames
@@ -45,13 +46,9 @@ declared_within code place d h =
 
 -- ---- a frame stands where it was tested
 
-passed : (b : Bool) (u : Unit {0}) → (let r : Result (Unit {0}) Flaw = cond b (Ok tt) (Err flaws.Frame) in r) ≡ Ok u → b ≡ true
-passed true u h = refl
-passed false u h = absurd cc
-
 fitted : (s : Schema) (g d : Frame) → fits_declared s g d ≡ Ok tt → frame_weakens s g d ≡ true
 unfolding fits_declared
-fitted s g d h = passed (frame_weakens s g d) tt h
+fitted s g d h = (test_ok (frame_weakens s g d) flaws.Frame (Ok tt) tt h).0
 
 came : (s : Schema) (d : Option Frame) (g f : Frame) → frame_at d (Some g) ≡ Ok f → on_due s (Some g) d ≡ Ok tt → (g ≡ f) ⊎ (frame_weakens s g f ≡ true)
 came s None g f at due = inl (let e : g ≡ f = cc in e)

@@ -1,3 +1,4 @@
+pub mod LoopInversion
 pub mod LoopLemmas
 pub mod LoopTableLemmas
 pub mod OpenLemmas

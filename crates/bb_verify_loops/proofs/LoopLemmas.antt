@@ -1,20 +1,20 @@
 -- The loops of a code.
-use Rattle.std.proofs.Common.{◌≡◌, ℕ, zero, suc, ◌+◌, ◌-◌, ◌<◌, ◌≤◌, Bool, true, false, List, ◌∷◌, length, drop, get_or, Option, Some, None, Result, Ok, Err, refl, sym, ap, ◌∙◌, arith, add-one, drop-cons, cond}
-use Rattle.std.specs.Prelude.{nat_le, nat_lt, slice_get}
+use Rattle.std.proofs.Common.{◌≡◌, ℕ, zero, suc, ◌+◌, ◌-◌, ◌<◌, ◌≤◌, true, false, List, ◌∷◌, length, drop, get_or, Option, Some, Result, Ok, Err, refl, sym, ap, ◌∙◌, arith, add-one, drop-cons, cond}
+use Rattle.std.specs.Prelude.{nat_lt, slice_get}
 use Rattle.std.specs.List.{range_with_len}
 use Rattle.std.proofs.lemmas.List.{drop_all}
 use Rattle.std.proofs.lemmas.Option.{slice_get-get_or}
 use Rattle.std.proofs.lemmas.Bool.Decides.{nat_tests}
-use Rattle.bb_basis.specs.Results.{◌>>=◌, map_err}
+use Rattle.bb_basis.specs.Results.{map_err}
 use Rattle.bb_basis.proofs.ResultLemmas.{bind_ok}
 use Rattle.bb_code.specs.Code.{Code}
 use Rattle.bb_code.specs.Loop.{Loop}
 use Rattle.bb_code.specs.Op.{Op}
 use Rattle.bb_code.specs.Op.TheVariants as ops
-use Rattle.bb_verify_loops.specs.declared.loops.TheConstants.{NESTING_LIMIT}
 use Rattle.bb_code.specs.Each.{each}
 use Rattle.bb_code.specs.Flaws.{fault_at}
-use Rattle.bb_verify_loops.specs.Loops.{check_order, rising, lesser, lowest_outside, depth, head_due, op_due, place_due, loop_at, loops, none_outside}
+use Rattle.bb_verify_loops.specs.Loops.{lesser, lowest_outside, depth, place_due, loop_at, loops}
+use Rattle.bb_verify_loops.proofs.LoopInversion.{place_due_ok}
 
 -- ---- two loops of the list, one behind the other
 
@@ -59,35 +59,23 @@ pub each_at : {E : Type 0} (f : ℕ → Result (Unit {0}) E) (a n i : ℕ) → i
 unfolding each
 each_at f a zero i lt h = absurd (omega (arith, lt))
 each_at f a (suc n) zero lt h =
-    let one = bind_ok (f a) (λ _. each f (range_with_len (a + 1) n)) tt h in
+    let one = bind_ok (f a) _ tt h in
     ap f (omega arith) ∙ one.1
 each_at f a (suc n) (suc i) lt h =
-    let one = bind_ok (f a) (λ _. each f (range_with_len (a + 1) n)) tt h in
+    let one = bind_ok (f a) _ tt h in
     ap f (omega arith) ∙ each_at f (a + 1) n i (omega (arith, lt)) one.2
 
 pub without_fault : {E F : Type 0} (f : E → F) (r : Result (Unit {0}) E) → map_err f r ≡ Ok tt → r ≡ Ok tt
 without_fault f (Ok x) h = refl
 without_fault f (Err e) h = absurd cc
 
-few_of : (n : ℕ) → check_order (nat_le n NESTING_LIMIT) ≡ Ok tt → n ≤ 4
-few_of n h = by (nat_le n NESTING_LIMIT) refl h
-  where
-    by : (b : Bool) → nat_le n NESTING_LIMIT ≡ b → check_order b ≡ Ok tt → n ≤ 4
-    by true test ok = grind (arith, nat_tests)
-    by false test ok = absurd cc
-
 place_few : (code : Code) (place : ℕ) (op : Op) → place_due code place (Some op) ≡ Ok tt → depth code place ≤ 4
-unfolding place_due
-place_few code place op h =
-    let one = bind_ok (rising place code.loops) (λ _. each (head_due code place) code.loops >>= λ _. check_order (nat_le (depth code place) NESTING_LIMIT) >>= λ _. op_due code place op) tt h in
-    let two = bind_ok (each (head_due code place) code.loops) (λ _. check_order (nat_le (depth code place) NESTING_LIMIT) >>= λ _. op_due code place op) tt one.2 in
-    let three = bind_ok (check_order (nat_le (depth code place) NESTING_LIMIT)) (λ _. op_due code place op) tt two.2 in
-    few_of (depth code place) three.1
+place_few code place op h = let few = (place_due_ok code place op h).few in grind (arith, nat_tests)
 
 pub few_around : (code : Code) (place : ℕ) → loops code ≡ Ok tt → place < length code.ops → depth code place ≤ 4
 unfolding loops loop_at
 few_around code place h lt =
-    let one = bind_ok (each (loop_at code) (range_with_len 0 (length code.ops))) (λ _. none_outside (lowest_outside (length code.ops) None code.loops)) tt h in
+    let one = bind_ok (each (loop_at code) (range_with_len 0 (length code.ops))) _ tt h in
     let at : loop_at code (0 + place) ≡ Ok tt = each_at (loop_at code) 0 (length code.ops) place lt one.1 in
     let here : place_due code (0 + place) (slice_get code.ops (0 + place)) ≡ Ok tt = without_fault (fault_at (0 + place)) (place_due code (0 + place) (slice_get code.ops (0 + place))) at in
     let same : 0 + place ≡ place = omega arith in

@@ -1,5 +1,5 @@
 -- The tables of the loops of a code say what they are to say.
-use Rattle.std.proofs.Common.{◌≡◌, ◌≢◌, ℕ, zero, suc, ◌+◌, ◌-◌, ◌<◌, ◌≤◌, Bool, true, false, List, [], ◌∷◌, length, take, get_or, set, Some, Ok, Err, Result, refl, sym, ap, subst, ◌∙◌, cond, arith, length-set}
+use Rattle.std.proofs.Common.{◌≡◌, ◌≢◌, ℕ, zero, suc, ◌+◌, ◌-◌, ◌<◌, ◌≤◌, Bool, true, false, List, [], ◌∷◌, length, take, get_or, set, Some, Ok, Result, refl, sym, ap, subst, ◌∙◌, cond, arith, length-set}
 use Rattle.std.specs.Prelude.{nat_le, nat_lt, ◌==◌, ◌&&◌, ◌||◌, slice_get, slice_index}
 use Rattle.std.specs.List.{list_any}
 use Rattle.std.proofs.lemmas.List.{get_or-set_same, get_or-set_other}
@@ -9,14 +9,13 @@ use Rattle.std.proofs.lemmas.Bool.Decides.{nat_tests}
 use Rattle.std.proofs.lemmas.Bool.{or_parts, and_parts}
 use Rattle.bb_basis.proofs.BoolLemmas.{or_false, or_true}
 use Rattle.bb_basis.specs.Results.{◌>>=◌}
-use Rattle.bb_basis.proofs.ResultLemmas.{bind_ok}
 use Rattle.bb_code.specs.Loop.{Loop}
 use Rattle.bb_code.specs.Flaw.{Flaw}
-use Rattle.bb_code.specs.Flaw.TheVariants.{Jump}
 use Rattle.bb_code.specs.Each.{each}
-use Rattle.bb_verify_loops.specs.Jumps.{before, ahead}
+use Rattle.bb_verify_loops.specs.Jumps.{ahead}
 use Rattle.bb_verify_loops.specs.Loops.{check_order, never, holds, is_end, enters_at_head}
 use Rattle.bb_verify_loops.specs.proving.LoopTables.{reaches, holds_from, HasEnds, HasReach, IsDeepest, HasDeepest, HasHeads}
+use Rattle.bb_verify_loops.proofs.LoopInversion.{ahead_ok}
 
 same_number : (a b : ℕ) → (a == b) ≡ true → a ≡ b
 same_number a b h = grind (arith, nat_tests)
@@ -158,19 +157,6 @@ heads_from n ls reach deepest has tops =
 
 -- ---- a jump, and the heads that it passes
 
-pub in_ahead : (count place target : ℕ) → ahead count place target ≡ Ok tt → (place < target) × (target < count)
-unfolding ahead
-in_ahead count place target h =
-    let one = bind_ok (before place target) (λ _. before target count) tt h in
-    (is_before place target one.1, is_before target count one.2)
-  where
-    is_before : (a b : ℕ) → before a b ≡ Ok tt → a < b
-    is_before a b ok = by (nat_lt a b) refl ok
-      where
-        by : (x : Bool) → nat_lt a b ≡ x → (let r : Result (Unit {0}) Flaw = cond x (Ok tt) (Err Jump) in r) ≡ Ok tt → a < b
-        by true test so = grind (arith, nat_tests)
-        by false test not_so = absurd cc
-
 enters_at : (place target : ℕ) → place < target → (l : Loop) → enters_at_head place target l ≡ never (holds_from (place + 1) target l)
 unfolding enters_at_head
 enters_at place target lt l = by (holds target l) refl (nat_le (place + 1) l.head) refl
@@ -203,5 +189,5 @@ each_never f p is (x ∷ xs) = ap (λ r. r >>= λ _. each f xs) (is x) ∙ by (e
 pub enters_by_head : (count place target : ℕ) (ls : List Loop) (deepest : List ℕ) → HasHeads count ls deepest → ahead count place target ≡ Ok tt
     → never (nat_lt (place + 1) (slice_index deepest (target + 1))) ≡ each (enters_at_head place target) ls
 enters_by_head count place target ls deepest has right =
-    let p = in_ahead count place target right in
+    let p = ahead_ok count place target right in
     ap never (sym (has.each target p.1 (place + 1))) ∙ sym (each_never (enters_at_head place target) (holds_from (place + 1) target) (enters_at place target p.0) ls)

@@ -111,7 +111,7 @@ any_by_filter p (x ∷ xs) = by (any_by_filter p xs) (p x) refl
 rising_tail : (place : ℕ) (l : Loop) (ls : List Loop) → rising place (l ∷ ls) ≡ Ok tt → rising place ls ≡ Ok tt
 unfolding rising
 rising_tail place l [] ok = refl
-rising_tail place l (k ∷ ls) ok = (bind_ok (never (is_misplaced place l k)) (λ _. rising place (k ∷ ls)) tt ok).2
+rising_tail place l (k ∷ ls) ok = (bind_ok (never (is_misplaced place l k)) _ tt ok).2
 
 rising_drop : (place i : ℕ) (ls : List Loop) → rising place ls ≡ Ok tt → rising place (drop i ls) ≡ Ok tt
 unfolding rising
@@ -134,7 +134,7 @@ tail_above : (place : ℕ) (l : Loop) (ls : List Loop) → rising place (l ∷ l
 unfolding rising
 tail_above place l [] ok low all = All-nil (λ k. place < k.head)
 tail_above place l (k ∷ ls) ok low all =
-    let one = bind_ok (never (is_misplaced place l k)) (λ _. rising place (k ∷ ls)) tt ok in
+    let one = bind_ok (never (is_misplaced place l k)) _ tt ok in
     let high : place ≤ k.head = All-head (λ k. place ≤ k.head) k ls all in
     All-cons (λ k. place < k.head) k ls (above_one place l k one.1 low high) (tail_above place k ls one.2 high (All-tail (λ k. place ≤ k.head) k ls all))
 

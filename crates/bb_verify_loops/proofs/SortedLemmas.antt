@@ -154,7 +154,7 @@ below_error code s e le h =
 below_ok : (code : Code) (s : ℕ) (d : List ℕ) → depths_below code s ≡ Ok d → (each (loop_at code) (range_with_len 0 s) ≡ Ok tt) × (d ≡ map (depth code) (range_with_len 0 s))
 unfolding depths_below
 below_ok code s d h =
-    let one = bind_ok (each (loop_at code) (range_with_len 0 s)) (λ _. Ok (map (depth code) (range_with_len 0 s))) d h in
+    let one = bind_ok (each (loop_at code) (range_with_len 0 s)) _ d h in
     (one.1, sym (same_ok (map (depth code) (range_with_len 0 s)) d one.2))
 
 fault_here : (code : Code) (place : ℕ) → place < length code.ops → rising place code.loops ≡ Err flaws.Loop → loop_at code place ≡ Err (fault_at place flaws.Loop)

@@ -11,9 +11,9 @@ use Rattle.bb_code.specs.Loop.{Loop}
 use Rattle.bb_code.specs.Op.{Op}
 use Rattle.bb_code.specs.Op.TheVariants as ops
 use Rattle.bb_verify.specs.Flaw.{Flaw}
-use Rattle.bb_verify.specs.LoopLimits.{NESTING_LIMIT}
 use Rattle.bb_verify.specs.Each.{each}
-use Rattle.bb_verify.specs.Loops.{holds, depth, check_order, never, rising, begins, ends, op_before, local_of, local_in, is_same_local, is_around, nests, loop_due, head_due, is_head, is_end, enters_at_head, keeps_local, op_due, place_due}
+use Rattle.bb_verify.specs.Loops.{holds, check_order, begins, ends, op_before, local_of, local_in, is_same_local, is_around, nests, loop_due, head_due, is_head, is_end, enters_at_head, keeps_local, op_due, place_due}
+use Rattle.bb_verify.proofs.Laws.{check_order_ok, never_ok, nests_ok, LoopDue, loop_due_ok, place_due_ok}
 use Rattle.bb_machine.specs.proving.StepsLeft.{In}
 use Rattle.bb_machine.proofs.rounds.SumLemmas.{any_in}
 
@@ -30,25 +30,9 @@ each_in f (y ∷ ys) x (suc i, at) h =
     let one = bind_ok (f y) _ tt h in
     each_in f ys x (i, at) one.2
 
-ordered : (b : Bool) → check_order b ≡ Ok tt → b ≡ true
-ordered true h = refl
-ordered false h = absurd cc
-
-unordered : (b : Bool) → never b ≡ Ok tt → b ≡ false
-unordered true h = absurd cc
-unordered false h = refl
-
 head_by : (b : Bool) (r : Result (Unit {0}) Flaw) → b ≡ true → (let x : Result (Unit {0}) Flaw = cond b r (Ok tt) in x) ≡ Ok tt → r ≡ Ok tt
 head_by true r is h = h
 head_by false r is h = absurd cc
-
-pub parts_of : (code : Code) (place : ℕ) (op : Op) → place_due code place (Some op) ≡ Ok tt → (each (head_due code place) code.loops ≡ Ok tt) × (op_due code place op ≡ Ok tt)
-unfolding place_due
-parts_of code place op h =
-    let one = bind_ok (rising place code.loops) _ tt h in
-    let two = bind_ok (each (head_due code place) code.loops) _ tt one.2 in
-    let three = bind_ok (check_order (nat_le (depth code place) NESTING_LIMIT)) _ tt two.2 in
-    (two.1, three.2)
 
 -- loops with one head have one end
 one_end : (o : Option Op) (l other : Loop) → begins l o ≡ true → begins other o ≡ true → l.end ≡ other.end
@@ -58,40 +42,22 @@ one_end _ l other is too = absurd cc
 -- ---- each loop
 
 module _ (code : Code) (inside : (l : Loop) → In code.loops l → l.head < length code.ops) (due : (place : ℕ) (op : Op) → slice_get code.ops place ≡ Some op → place_due code place (Some op) ≡ Ok tt) where
-  loop_is_due : (l : Loop) → In code.loops l → loop_due code l ≡ Ok tt
+  loop_is_due : (l : Loop) → In code.loops l → LoopDue code l
   unfolding head_due
   loop_is_due l there =
       let op = there_is code.ops l.head (inside l there) in
-      let heads = (parts_of code l.head op.0 (due l.head op.0 op.1)).0 in
-      let here = each_in (head_due code l.head) code.loops l there heads in
+      let here = each_in (head_due code l.head) code.loops l there (place_due_ok code l.head op.0 (due l.head op.0 op.1)).heads in
       let same : (l.head == l.head) ≡ true = grind (arith, nat_tests) in
-      head_by (l.head == l.head) (loop_due code l) same here
-
-  begins_so : (l : Loop) → In code.loops l → begins l (slice_get code.ops l.head) ≡ true
-  unfolding loop_due
-  begins_so l there =
-      let one = bind_ok (check_order (begins l (slice_get code.ops l.head))) _ tt (loop_is_due l there) in
-      ordered (begins l (slice_get code.ops l.head)) one.1
-
-  rest_so : (l : Loop) → In code.loops l → (ends l (op_before code l.end) ≡ true) × (each (nests code l) code.loops ≡ Ok tt)
-  unfolding loop_due
-  rest_so l there =
-      let one = bind_ok (check_order (begins l (slice_get code.ops l.head))) _ tt (loop_is_due l there) in
-      let two = bind_ok (check_order (ends l (op_before code l.end))) _ tt one.2 in
-      (ordered (ends l (op_before code l.end)) two.1, two.2)
+      loop_due_ok code l (head_by (l.head == l.head) (loop_due code l) same here)
 
   -- a loop around another one ends no earlier, and has another local
   nests_so : (l outer : Loop) → In code.loops l → In code.loops outer → ((is_around outer l && nat_lt outer.end l.end) ≡ false) × ((is_around outer l && is_same_local (local_of code outer) (local_of code l)) ≡ false)
-  unfolding nests
-  nests_so l outer there other =
-      let here = each_in (nests code l) code.loops outer other (rest_so l there).1 in
-      let one = bind_ok (never (is_around outer l && nat_lt outer.end l.end)) _ tt here in
-      (unordered (is_around outer l && nat_lt outer.end l.end) one.1, unordered (is_around outer l && is_same_local (local_of code outer) (local_of code l)) one.2)
+  nests_so l outer there other = nests_ok code l outer (each_in (nests code l) code.loops outer other (loop_is_due l there).nested)
 
   -- no loop has its head at an op that is no Next
   pub not_headed : (p : ℕ) (op : Op) → slice_get code.ops p ≡ Some op → ((l : Loop) → begins l (Some op) ≡ false) → (l : Loop) → In code.loops l → l.head ≡ p → ⊥
   not_headed p op at none l there head =
-      let so = begins_so l there in
+      let so = (loop_is_due l there).begun in
       let here : begins l (Some op) ≡ true = sym (ap (begins l) (ap (slice_get code.ops) head ∙ at)) ∙ so in
       let not = none l in
       absurd cc
@@ -101,14 +67,14 @@ module _ (code : Code) (inside : (l : Loop) → In code.loops l → l.head < len
   unfolding enters_at_head
   enters_so p t ok l there is =
       let here = each_in (enters_at_head p t) code.loops l there ok in
-      ordered (holds p l) (head_by (holds t l) (check_order (holds p l)) is here)
+      check_order_ok (holds p l) (head_by (holds t l) (check_order (holds p l)) is here)
 
   -- a loop that holds a Store has another local
   pub stored_other : (p local : ℕ) → slice_get code.ops p ≡ Some (ops.Store local) → (l : Loop) → In code.loops l → holds p l ≡ true → is_same_local (local_of code l) (Some local) ≡ false
   unfolding op_due keeps_local
   stored_other p local at l there is =
-      let ok = (parts_of code p (ops.Store local) (due p (ops.Store local) at)).1 in
-      let here = unordered (holds p l && is_same_local (local_of code l) (Some local)) (each_in (keeps_local code p local) code.loops l there ok) in
+      let ok = (place_due_ok code p (ops.Store local) (due p (ops.Store local) at)).lets in
+      let here = never_ok (holds p l && is_same_local (local_of code l) (Some local)) (each_in (keeps_local code p local) code.loops l there ok) in
       sym (ap (λ b. b && is_same_local (local_of code l) (Some local)) is) ∙ here
 
   -- the op before the end of a loop goes back to its head
@@ -121,7 +87,7 @@ module _ (code : Code) (inside : (l : Loop) → In code.loops l → l.head < len
   last_by l (suc e) so = (e, refl, ends_by l e (slice_get code.ops e) refl so)
 
   pub last_op : (l : Loop) → In code.loops l → (e : ℕ) × (l.end ≡ suc e) × (slice_get code.ops e ≡ Some (ops.Back l.head))
-  last_op l there = last_by l l.end (rest_so l there).0
+  last_op l there = last_by l l.end (loop_is_due l there).ended
 
   -- ---- a Next
 
@@ -130,10 +96,10 @@ module _ (code : Code) (inside : (l : Loop) → In code.loops l → l.head < len
     pub next_own : (l : Loop) × In code.loops l × (l.head ≡ p) × (l.end ≡ t)
     unfolding op_due
     next_own =
-        let ok = (parts_of code p (ops.Next local t) (due p (ops.Next local t) at)).1 in
-        let found = any_in (is_head p) code.loops (ordered (list_any (is_head p) code.loops) ok) in
+        let ok = (place_due_ok code p (ops.Next local t) (due p (ops.Next local t) at)).lets in
+        let found = any_in (is_head p) code.loops (check_order_ok (list_any (is_head p) code.loops) ok) in
         let head : found.0.head ≡ p = let is = found.2 in grind (arith, nat_tests) in
-        let so : (t == found.0.end) ≡ true = sym (ap (begins found.0) (ap (slice_get code.ops) head ∙ at)) ∙ begins_so found.0 found.1 in
+        let so : (t == found.0.end) ≡ true = sym (ap (begins found.0) (ap (slice_get code.ops) head ∙ at)) ∙ (loop_is_due found.0 found.1).begun in
         (found.0, found.1, head, (let end : found.0.end ≡ t = grind (arith, nat_tests) in end))
 
     -- another loop around it has another local
@@ -174,7 +140,7 @@ module _ (code : Code) (inside : (l : Loop) → In code.loops l → l.head < len
             not_own : (b : Bool) → (l.head == p) ≡ b → l.head < p
             not_own true same =
                 let head : l.head ≡ p = grind (arith, nat_tests) in
-                let so : (t == l.end) ≡ true = sym (ap (begins l) (ap (slice_get code.ops) head ∙ at)) ∙ begins_so l there in
+                let so : (t == l.end) ≡ true = sym (ap (begins l) (ap (slice_get code.ops) head ∙ at)) ∙ (loop_is_due l there).begun in
                 absurd (let f : ⊥ = grind (arith, nat_tests) in f)
             not_own false different = grind (arith, nat_tests)
         by false other false low =
@@ -189,23 +155,23 @@ module _ (code : Code) (inside : (l : Loop) → In code.loops l → l.head < len
     back_head : (l : Loop) → In code.loops l → l.end ≡ p + 1 → l.head ≡ t
     back_head l there end =
         let next : l.end ≡ suc p = omega (arith, end) in
-        let so : (t == l.head) ≡ true = sym (ap (ends l) (ap (op_before code) next ∙ at)) ∙ (rest_so l there).0 in
+        let so : (t == l.head) ≡ true = sym (ap (ends l) (ap (op_before code) next ∙ at)) ∙ (loop_is_due l there).ended in
         grind (arith, nat_tests)
 
     -- a Back is before the end of a loop, and goes to the head of it
     pub back_own : (l : Loop) × In code.loops l × (l.head ≡ t) × (l.end ≡ p + 1)
     unfolding op_due
     back_own =
-        let ok = (parts_of code p (ops.Back t) (due p (ops.Back t) at)).1 in
-        let found = any_in (is_end (p + 1)) code.loops (ordered (list_any (is_end (p + 1)) code.loops) ok) in
+        let ok = (place_due_ok code p (ops.Back t) (due p (ops.Back t) at)).lets in
+        let found = any_in (is_end (p + 1)) code.loops (check_order_ok (list_any (is_end (p + 1)) code.loops) ok) in
         let end : found.0.end ≡ p + 1 = let is = found.2 in grind (arith, nat_tests) in
         (found.0, found.1, back_head found.0 found.1 end, end)
 
     same_ends : (l : Loop) → In code.loops l → l.head ≡ t → l.end ≡ p + 1
     same_ends l there head =
         let own = back_own in
-        let mine : begins l (slice_get code.ops t) ≡ true = subst (λ h. begins l (slice_get code.ops h) ≡ true) head (begins_so l there) in
-        let other : begins own.0 (slice_get code.ops t) ≡ true = subst (λ h. begins own.0 (slice_get code.ops h) ≡ true) own.2 (begins_so own.0 own.1) in
+        let mine : begins l (slice_get code.ops t) ≡ true = subst (λ h. begins l (slice_get code.ops h) ≡ true) head (loop_is_due l there).begun in
+        let other : begins own.0 (slice_get code.ops t) ≡ true = subst (λ h. begins own.0 (slice_get code.ops h) ≡ true) own.2 (loop_is_due own.0 own.1).begun in
         one_end (slice_get code.ops t) l own.0 mine other ∙ own.3
 
     onto : (l : Loop) → In code.loops l → holds t l ≡ true → holds p l ≡ true

@@ -1,44 +1,30 @@
 -- After each op of an accepted code fewer steps can be made.
-use Rattle.std.proofs.Common.{◌≡◌, ◌⊎◌, inl, inr, ℕ, ◌+◌, ◌<◌, ◌≤◌, Bool, true, false, cond, length, Some, Result, Ok, Err, refl, sym, ap, subst, ◌∙◌, arith}
-use Rattle.std.specs.Prelude.{nat_lt, slice_get}
-use Rattle.std.proofs.lemmas.Bool.Decides.{nat_tests}
+use Rattle.std.proofs.Common.{◌≡◌, ◌⊎◌, inl, inr, ℕ, ◌+◌, ◌<◌, ◌≤◌, true, false, length, Some, Ok, refl, sym, ap, subst, ◌∙◌, arith}
+use Rattle.std.specs.Prelude.{slice_get}
 use Rattle.std.proofs.lemmas.Option.{slice_get_within}
-use Rattle.bb_basis.proofs.ResultLemmas.{bind_ok}
 use Rattle.bb_board.specs.Board.{Board}
 use Rattle.bb_code.specs.Code.{Code}
 use Rattle.bb_code.specs.Loop.{Loop}
 use Rattle.bb_code.specs.Op.{Op}
 use Rattle.bb_code.specs.Op.TheVariants as ops
-use Rattle.bb_verify.specs.Flaw.{Flaw}
-use Rattle.bb_verify.specs.Flaw.TheVariants as flaws
 use Rattle.bb_verify.specs.Each.{each}
-use Rattle.bb_verify.specs.Jumps.{target_of, before, ahead, check_target}
+use Rattle.bb_verify.specs.Jumps.{target_of, ahead, check_target}
 use Rattle.bb_verify.specs.Loops.{holds, begins, enters_at_head, op_due, place_due}
+use Rattle.bb_verify.proofs.Laws.{before_ok, ahead_ok, place_due_ok}
 use Rattle.bb_machine_step.specs.Machine.{Machine, go_to}
 use Rattle.bb_machine.specs.proving.Sequences.{AreLow, left_of, Keeps, Takes, Moved}
 use Rattle.bb_machine.specs.proving.StepsLeft.{In, steps_left}
 use Rattle.bb_machine.proofs.rounds.FallLemmas.{on_enters, falls_ahead, plain_ahead, taken_ahead, ended_ahead, goes_back}
 use Rattle.bb_machine.proofs.rounds.LeftLemmas.{left_few, left_kept, left_stored, left_around, left_taken}
-use Rattle.bb_machine.proofs.rounds.NestLemmas.{parts_of, enters_so, stored_other, last_op, next_own}
+use Rattle.bb_machine.proofs.rounds.NestLemmas.{enters_so, stored_other, last_op, next_own}
 
 -- ---- where an op goes
-
-passed : (a b : ℕ) → before a b ≡ Ok tt → a < b
-passed a b h = by (nat_lt a b) refl h
-  where
-    by : (t : Bool) → nat_lt a b ≡ t → (let r : Result (Unit {0}) Flaw = cond t (Ok tt) (Err flaws.Jump) in r) ≡ Ok tt → a < b
-    by true is h = grind (arith, nat_tests)
-    by false is h = absurd cc
-
-ahead_of : (count at place : ℕ) → ahead count at place ≡ Ok tt → at < place
-unfolding ahead
-ahead_of count at place h = passed at place (bind_ok (before at place) _ tt h).1
 
 module _ (code : Code) (inside : (l : Loop) → In code.loops l → l.head < length code.ops) (due : (place : ℕ) (op : Op) → slice_get code.ops place ≡ Some op → place_due code place (Some op) ≡ Ok tt)
     (jumps : (place : ℕ) (op : Op) → slice_get code.ops place ≡ Some op → check_target (length code.ops) place op ≡ Ok tt) where
   back_lower : (p t : ℕ) → slice_get code.ops p ≡ Some (ops.Back t) → t < p
   unfolding check_target
-  back_lower p t at = passed t p (jumps p (ops.Back t) at)
+  back_lower p t at = before_ok t p (jumps p (ops.Back t) at)
 
   next_higher : (p local t : ℕ) → slice_get code.ops p ≡ Some (ops.Next local t) → p < t
   next_higher p local t at =
@@ -58,7 +44,7 @@ module _ (code : Code) (inside : (l : Loop) → In code.loops l → l.head < len
   unfolding Enters
   goes_to p place t goes enters to =
       let same : place ≡ t = cc in
-      subst (λ k. (p < k) × ((l : Loop) → In code.loops l → holds k l ≡ true → holds p l ≡ true)) same (ahead_of (length code.ops) p place goes, enters_so code inside due p place enters)
+      subst (λ k. (p < k) × ((l : Loop) → In code.loops l → holds k l ≡ true → holds p l ≡ true)) same ((ahead_ok (length code.ops) p place goes).0, enters_so code inside due p place enters)
 
   -- ---- one step
 
@@ -112,7 +98,7 @@ module _ (code : Code) (inside : (l : Loop) → In code.loops l → l.head < len
     jump_goes : (op : Op) (place t : ℕ) → slice_get code.ops m.place ≡ Some op → check_target (length code.ops) m.place op ≡ ahead (length code.ops) m.place place
         → op_due code m.place op ≡ each (enters_at_head m.place place) code.loops → Some place ≡ Some t → Enters m.place t
     jump_goes op place t at goes enters to =
-        goes_to m.place place t (sym goes ∙ jumps m.place op at) (sym enters ∙ (parts_of code m.place op (due m.place op at)).1) to
+        goes_to m.place place t (sym goes ∙ jumps m.place op at) (sym enters ∙ (place_due_ok code m.place op (due m.place op at)).lets) to
 
     pub step_falls : (op : Op) (b : Board) → slice_get code.ops m.place ≡ Some op → Moved op (go_to (m.place + 1) m) (next, b) → (next.place ≡ m.place + 1) ⊎ (target_of op ≡ Some next.place) → Falls
     unfolding check_target op_due

@@ -1,12 +1,13 @@
 use Rattle.std.proofs.Common.{◌∙◌, ap, arith, length, ◌+◌}
 use Rattle.std.specs.Prelude.{nat_lt, slice_index}
 use Rattle.bb_verify_loops.specs.Loops.{never}
-use Rattle.bb_verify_loops.proofs.LoopTableLemmas.{in_ahead, enters_by_head}
+use Rattle.bb_verify_loops.proofs.LoopInversion.{ahead_ok}
+use Rattle.bb_verify_loops.proofs.LoopTableLemmas.{enters_by_head}
 use Rattle.bb_verify_loops.proofs.loop_ops.enters_at_heads.Goals as goal
 
 pub bounds-as_slice-target : goal.bounds-as_slice-target
 bounds-as_slice-target c =
-    let inside = (in_ahead (length c.args.code.now.ops) c.args.place c.args.target c.requires.ahead).1 in
+    let inside = (ahead_ok (length c.args.code.now.ops) c.args.place c.args.target c.requires.ahead).1 in
     let long = c.requires.tables.heads.len in
     let same = ap (λ l. length l) c.as_slice.ensures in
     omega (arith, inside, long, same)
