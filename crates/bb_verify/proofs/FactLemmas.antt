@@ -1,5 +1,5 @@
 -- What holds at each place of an accepted code.
-use Rattle.std.proofs.Common.{◌≡◌, ◌≤◌, length, List, Ok, sym}
+use Rattle.std.proofs.Common.{◌≡◌, ◌≤◌, length, List, Ok}
 use Rattle.bb_basis.proofs.ResultLemmas.{bind_ok}
 use Rattle.bb_verify_effect.specs.Schema.{Schema}
 use Rattle.bb_verify_effect.specs.Code.{Code}
@@ -11,9 +11,10 @@ use Rattle.bb_verify_loops.specs.Loops.{loops}
 use Rattle.bb_verify.specs.Places.{frames_of}
 use Rattle.bb_verify.specs.Accepted.{accepted}
 use Rattle.bb_verify.specs.Facts.{Facts}
-use Rattle.bb_verify.proofs.TableLemmas.{tables_fit}
+use Rattle.bb_verify_loops.proofs.Laws.{loop_passed}
+use Rattle.bb_verify.proofs.TableLemmas.{tables_ok}
 use Rattle.bb_verify.proofs.WalkLemmas.{walked}
-use Rattle.bb_verify.proofs.PhaseLemmas.{table_passed, jump_passed, loop_passed, heads_passed}
+use Rattle.bb_verify.proofs.PhaseLemmas.{table_passed, jump_passed, heads_passed}
 use Rattle.bb_verify.proofs.StandLemmas.{entry_stands, op_leaves}
 use Rattle.bb_verify.proofs.KnownFrames.{frames_known}
 
@@ -23,12 +24,12 @@ pub facts_by : (s : Schema) (part : Part) (code : Code) (frames : List Frame) �
 facts_by s part code frames some one two three four =
     let w = walked s part code frames four in
     record {
-      units = tables_fit s part code tt (sym one);
+      units = (tables_ok s part code one).units;
       count = w.long;
       entry = entry_stands s part code frames w some;
       tables = λ place op is. table_passed s part code place op is one;
       jumps = λ place op is. jump_passed s part code place op is two;
-      loops = λ place op is. loop_passed s part code place op is three;
+      loops = λ place op is. loop_passed code place op is three;
       heads = heads_passed code three;
       leaves = op_leaves s part code frames w;
       known = frames_known s part code frames one w;

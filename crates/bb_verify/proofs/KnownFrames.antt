@@ -4,7 +4,6 @@ use Rattle.std.specs.Prelude.{All, slice_get, replicate}
 use Rattle.std.proofs.lemmas.List.Elements.{All-nil, All-cons, All-head, All-tail, All-set, All-replicate, All-drop, All-map, All-weaker, All-get_or}
 use Rattle.std.proofs.lemmas.List.Sorted.{All-permutation, IsPermutation-reverse}
 use Rattle.std.proofs.lemmas.Option.{slice_get_within, get_or_from_slice_get}
-use Rattle.bb_basis.specs.Results.{map_err}
 use Rattle.bb_basis.proofs.ResultLemmas.{bind_ok}
 use Rattle.bb_verify_effect.specs.Schema.{Schema}
 use Rattle.bb_verify_effect.specs.Code.{Code}
@@ -14,13 +13,13 @@ use Rattle.bb_verify_effect.specs.Kind.TheVariants.{Any, Ref, Old}
 use Rattle.bb_verify_effect.specs.FrameType.{Frame}
 use Rattle.bb_verify_effect.specs.PartType.{Part}
 use Rattle.bb_verify_effect.specs.Each.{each}
-use Rattle.bb_verify_effect.specs.Flaws.{fault_at}
-use Rattle.bb_verify.specs.Tables.{places_rise, known_kind, known_entry, known_frame, frames_in_order, tables}
+use Rattle.bb_verify.specs.Tables.{known_kind, known_entry, known_frame, tables}
 use Rattle.bb_verify_effect.specs.Effect.{after_delete}
 use Rattle.bb_verify_effect.specs.Frame.{frame_of}
 use Rattle.bb_verify_effect.specs.Kinds.{struck, related}
 use Rattle.bb_verify.specs.Places.{with_frames, declared_frames, declared_at, entry_frame, frame_at}
-use Rattle.bb_verify_effect.proofs.Laws.{each_all, no_fault}
+use Rattle.bb_verify_effect.proofs.Laws.{each_all}
+use Rattle.bb_verify.proofs.TableLemmas.{tables_ok}
 use Rattle.bb_verify.proofs.WalkLemmas.{Chain, Walked}
 use Rattle.bb_verify.proofs.StandLemmas.{is_declared}
 use Rattle.bb_verify.proofs.FrameRule.{IsKnown, IsKept, OnEdge, effect_keeps}
@@ -85,13 +84,8 @@ put_known all (e ∷ es) before known =
     put_known (set all e.place (Some (frame_of e.frame))) es (All-set Declares all e.place (Some (frame_of e.frame)) one before) (All-tail IsKnownAt e es known)
 
 entries_known : (s : Schema) (part : Part) (code : Code) → tables s part code ≡ Ok tt → All IsKnownAt code.frames
-unfolding tables frames_in_order
 entries_known s part code h =
-    let one = bind_ok (map_err (fault_at 0) (frames_in_order s part code)) _ tt h in
-    let fit : frames_in_order s part code ≡ Ok tt = no_fault (fault_at 0) (frames_in_order s part code) tt one.1 in
-    let two = bind_ok (places_rise 0 (length code.ops) code.frames) _ tt fit in
-    let three = bind_ok (each (known_frame s) code.frames) _ tt two.2 in
-    All-weaker (λ e. known_frame s e ≡ Ok tt) IsKnownAt (frame_known s) code.frames (each_all (known_frame s) code.frames three.1)
+    All-weaker (λ e. known_frame s e ≡ Ok tt) IsKnownAt (frame_known s) code.frames (each_all (known_frame s) code.frames (tables_ok s part code h).frames)
 
 declared_known : (s : Schema) (part : Part) (code : Code) → tables s part code ≡ Ok tt → (place : ℕ) → Declares (declared_at (declared_frames code) place)
 unfolding declared_frames

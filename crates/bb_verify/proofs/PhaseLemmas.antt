@@ -1,5 +1,5 @@
 -- What the tests of a place say of its op.
-use Rattle.std.proofs.Common.{◌≡◌, ℕ, ◌<◌, length, Some, None, Ok, sym, ap, ◌∙◌}
+use Rattle.std.proofs.Common.{◌≡◌, ℕ, ◌<◌, length, Some, None, Ok}
 use Rattle.std.specs.Prelude.{slice_get}
 use Rattle.std.proofs.lemmas.Option.{slice_get_within}
 use Rattle.bb_basis.specs.Results.{map_err}
@@ -10,20 +10,20 @@ use Rattle.bb_verify_effect.specs.Op.{Op}
 use Rattle.bb_verify_effect.specs.PartType.{Part}
 use Rattle.bb_verify_effect.specs.Each.{each}
 use Rattle.bb_verify_effect.specs.Flaws.{fault_at}
-use Rattle.bb_verify.specs.Tables.{in_tables, table_at, frames_in_order, tables}
+use Rattle.bb_verify.specs.Tables.{in_tables, table_at, tables}
 use Rattle.bb_verify_loops.specs.Jumps.{check_target, jump_at, jumps}
-use Rattle.bb_verify_loops.specs.Loops.{place_due, loop_at, lowest_outside, none_outside, loops}
+use Rattle.bb_verify_loops.specs.Loops.{loop_at, lowest_outside, none_outside, loops}
 use Rattle.bb_verify_effect.proofs.Laws.{range_at, no_fault}
+use Rattle.bb_verify.proofs.TableLemmas.{tables_ok}
 
 module _ (s : Schema) (part : Part) (code : Code) (place : ℕ) (op : Op) (is : slice_get code.ops place ≡ Some op) where
   inside : place < length code.ops
   inside = slice_get_within code.ops place op is
 
   pub table_passed : tables s part code ≡ Ok tt → in_tables s code op ≡ Ok tt
-  unfolding tables table_at
+  unfolding table_at
   table_passed h =
-      let one = bind_ok (map_err (fault_at 0) (frames_in_order s part code)) _ tt h in
-      let passed : table_at s code place ≡ Ok tt = range_at (table_at s code) (length code.ops) place inside one.2 in
+      let passed : table_at s code place ≡ Ok tt = range_at (table_at s code) (length code.ops) place inside (tables_ok s part code h).ops in
       let here : map_err (fault_at place) (in_tables s code op) ≡ Ok tt = rw (is, table_at) at passed in
       no_fault (fault_at place) (in_tables s code op) tt here
 
@@ -33,13 +33,6 @@ module _ (s : Schema) (part : Part) (code : Code) (place : ℕ) (op : Op) (is : 
       let passed : jump_at code place ≡ Ok tt = range_at (jump_at code) (length code.ops) place inside h in
       let here : map_err (fault_at place) (check_target (length code.ops) place op) ≡ Ok tt = rw (is, jump_at) at passed in
       no_fault (fault_at place) (check_target (length code.ops) place op) tt here
-
-  pub loop_passed : loops code ≡ Ok tt → place_due code place (Some op) ≡ Ok tt
-  unfolding loops loop_at
-  loop_passed h =
-      let one = bind_ok (each (loop_at code) (places code)) _ tt h in
-      let passed : loop_at code place ≡ Ok tt = range_at (loop_at code) (length code.ops) place inside one.1 in
-      ap (place_due code place) (sym is) ∙ no_fault (fault_at place) (place_due code place (slice_get code.ops place)) tt passed
 
 pub heads_passed : (code : Code) → loops code ≡ Ok tt → none_outside (lowest_outside (length code.ops) None code.loops) ≡ Ok tt
 unfolding loops

@@ -1,4 +1,4 @@
--- The places of declared frames rise.
+-- The places of declared frames rise, and what holds where the tables of a code are in order.
 use Rattle.std.proofs.Common.{◌≡◌, ℕ, ◌+◌, ◌<◌, ◌≤◌, true, false, List, ◌∷◌, length, drop, get_or, Result, Ok, Err, sym, ap, ◌∙◌, arith, add-one, drop-cons, cond, set, Option, Some}
 use Rattle.std.specs.Prelude.{nat_le, nat_lt, ◌||◌}
 use Rattle.std.proofs.lemmas.List.{drop_all}
@@ -7,7 +7,7 @@ use Rattle.std.proofs.lemmas.Bool.{or_right}
 use Rattle.bb_basis.specs.Results.{map_err}
 use Rattle.bb_basis.proofs.ResultLemmas.{bind_ok, guard_ok}
 use Rattle.bb_verify_effect.specs.Schema.{Schema}
-use Rattle.bb_verify_effect.specs.Code.{Code}
+use Rattle.bb_verify_effect.specs.Code.{Code, places}
 use Rattle.bb_verify_effect.specs.FrameEntry.{FrameEntry}
 use Rattle.bb_verify_effect.specs.Flaw.{Flaw}
 use Rattle.bb_verify_effect.specs.Flaw.TheVariants.{Table}
@@ -16,7 +16,7 @@ use Rattle.bb_verify_effect.specs.PartType.{Part}
 use Rattle.bb_verify_effect.specs.Each.{each}
 use Rattle.bb_verify_effect.specs.Flaws.{fault_at}
 use Rattle.bb_verify_effect.specs.Part.{units_of}
-use Rattle.bb_verify.specs.Tables.{places_rise, known_frame, enough_locals, frames_in_order, tables}
+use Rattle.bb_verify.specs.Tables.{places_rise, known_frame, enough_locals, frames_in_order, table_at, tables}
 use Rattle.bb_verify_effect.specs.Frame.{frame_of}
 use Rattle.bb_verify.specs.Places.{with_frames}
 use Rattle.bb_verify_effect.proofs.Laws.{no_fault}
@@ -59,21 +59,25 @@ pub frames_end : (all : List (Option Frame)) (fs : List FrameEntry) (i : ℕ) (t
 unfolding with_frames
 frames_end all fs i total le so_far = sym (ap (with_frames all) (drop_all i fs le)) ∙ so_far
 
--- ---- where the tables are in order, there is a local for each unit of the part
+-- ---- tables in order
+
+-- each declared frame is right, there is a local for each unit of the part, and each op names entries of its tables
+pub record InOrder (s : Schema) (part : Part) (code : Code) : Type 0 where
+  pub frames : each (known_frame s) code.frames ≡ Ok tt
+  pub units : length (units_of part) ≤ code.locals
+  pub ops : each (table_at s code) (places code) ≡ Ok tt
 
 units_fit : (part : Part) (code : Code) → enough_locals part code ≡ Ok tt → length (units_of part) ≤ code.locals
 unfolding enough_locals
 units_fit part code h = let g = guard_ok (nat_lt code.locals (length (units_of part))) Table (Ok tt) tt h in let test = g.0 in grind (arith, nat_tests)
 
-frames_fit : (s : Schema) (part : Part) (code : Code) → frames_in_order s part code ≡ Ok tt → length (units_of part) ≤ code.locals
-unfolding frames_in_order
-frames_fit s part code h =
-    let one = bind_ok (places_rise 0 (length code.ops) code.frames) _ tt h in
-    let two = bind_ok (each (known_frame s) code.frames) _ tt one.2 in
-    units_fit part code two.2
+pub tables_ok : (s : Schema) (part : Part) (code : Code) → tables s part code ≡ Ok tt → InOrder s part code
+unfolding tables frames_in_order
+tables_ok s part code h =
+    let all = bind_ok (map_err (fault_at 0) (frames_in_order s part code)) _ tt h in
+    let rise = bind_ok (places_rise 0 (length code.ops) code.frames) _ tt (no_fault (fault_at 0) (frames_in_order s part code) tt all.1) in
+    let frames = bind_ok (each (known_frame s) code.frames) _ tt rise.2 in
+    record { frames = frames.1; units = units_fit part code frames.2; ops = all.2 }
 
 pub tables_fit : (s : Schema) (part : Part) (code : Code) (x : Unit {0}) → Ok x ≡ tables s part code → length (units_of part) ≤ code.locals
-unfolding tables
-tables_fit s part code x h =
-    let one = bind_ok (map_err (fault_at 0) (frames_in_order s part code)) _ x (sym h) in
-    frames_fit s part code (no_fault (fault_at 0) (frames_in_order s part code) one.0 one.1)
+tables_fit s part code x h = (tables_ok s part code (sym h)).units

@@ -1,18 +1,17 @@
 -- The loops of a code.
-use Rattle.std.proofs.Common.{◌≡◌, ℕ, zero, suc, ◌+◌, ◌-◌, ◌<◌, ◌≤◌, true, false, List, ◌∷◌, length, drop, get_or, Option, Some, Result, Ok, Err, refl, sym, ap, ◌∙◌, arith, add-one, drop-cons, cond}
+use Rattle.std.proofs.Common.{◌≡◌, ℕ, ◌+◌, ◌-◌, ◌<◌, ◌≤◌, true, false, List, ◌∷◌, length, drop, get_or, Option, Some, Ok, sym, ap, ◌∙◌, arith, add-one, drop-cons, cond}
 use Rattle.std.specs.Prelude.{nat_lt, slice_get}
-use Rattle.std.specs.List.{range_with_len}
 use Rattle.std.proofs.lemmas.List.{drop_all}
-use Rattle.std.proofs.lemmas.Option.{slice_get-get_or}
+use Rattle.std.proofs.lemmas.Option.{slice_get_within}
 use Rattle.std.proofs.lemmas.Bool.Decides.{nat_tests}
-use Rattle.bb_basis.specs.Results.{map_err}
+use Rattle.bb_basis.proofs.AppendLemmas.{there_is}
 use Rattle.bb_basis.proofs.ResultLemmas.{bind_ok}
-use Rattle.bb_code.specs.Code.{Code}
+use Rattle.bb_code.specs.Code.{Code, places}
 use Rattle.bb_code.specs.Loop.{Loop}
 use Rattle.bb_code.specs.Op.{Op}
-use Rattle.bb_code.specs.Op.TheVariants as ops
 use Rattle.bb_code.specs.Each.{each}
 use Rattle.bb_code.specs.Flaws.{fault_at}
+use Rattle.bb_code.proofs.Laws.{range_at, no_fault}
 use Rattle.bb_verify_loops.specs.Loops.{lesser, lowest_outside, depth, place_due, loop_at, loops}
 use Rattle.bb_verify_loops.proofs.LoopInversion.{place_due_ok}
 
@@ -53,31 +52,17 @@ pub outside_end : (count : ℕ) (so_far : Option ℕ) (ls : List Loop) (i : ℕ)
 unfolding lowest_outside
 outside_end count so_far ls i total le before = sym (ap (lowest_outside count so_far) (drop_all i ls le)) ∙ before
 
--- ---- how many loops hold a place of a code whose loops are in order
+-- ---- a place of a code whose loops are in order
 
-pub each_at : {E : Type 0} (f : ℕ → Result (Unit {0}) E) (a n i : ℕ) → i < n → each f (range_with_len a n) ≡ Ok tt → f (a + i) ≡ Ok tt
-unfolding each
-each_at f a zero i lt h = absurd (omega (arith, lt))
-each_at f a (suc n) zero lt h =
-    let one = bind_ok (f a) _ tt h in
-    ap f (omega arith) ∙ one.1
-each_at f a (suc n) (suc i) lt h =
-    let one = bind_ok (f a) _ tt h in
-    ap f (omega arith) ∙ each_at f (a + 1) n i (omega (arith, lt)) one.2
-
-pub without_fault : {E F : Type 0} (f : E → F) (r : Result (Unit {0}) E) → map_err f r ≡ Ok tt → r ≡ Ok tt
-without_fault f (Ok x) h = refl
-without_fault f (Err e) h = absurd cc
-
-place_few : (code : Code) (place : ℕ) (op : Op) → place_due code place (Some op) ≡ Ok tt → depth code place ≤ 4
-place_few code place op h = let few = (place_due_ok code place op h).few in grind (arith, nat_tests)
+pub loop_passed : (code : Code) (place : ℕ) (op : Op) → slice_get code.ops place ≡ Some op → loops code ≡ Ok tt → place_due code place (Some op) ≡ Ok tt
+unfolding loops loop_at
+loop_passed code place op is h =
+    let one = bind_ok (each (loop_at code) (places code)) _ tt h in
+    let passed : loop_at code place ≡ Ok tt = range_at (loop_at code) (length code.ops) place (slice_get_within code.ops place op is) one.1 in
+    ap (place_due code place) (sym is) ∙ no_fault (fault_at place) (place_due code place (slice_get code.ops place)) tt passed
 
 pub few_around : (code : Code) (place : ℕ) → loops code ≡ Ok tt → place < length code.ops → depth code place ≤ 4
-unfolding loops loop_at
 few_around code place h lt =
-    let one = bind_ok (each (loop_at code) (range_with_len 0 (length code.ops))) _ tt h in
-    let at : loop_at code (0 + place) ≡ Ok tt = each_at (loop_at code) 0 (length code.ops) place lt one.1 in
-    let here : place_due code (0 + place) (slice_get code.ops (0 + place)) ≡ Ok tt = without_fault (fault_at (0 + place)) (place_due code (0 + place) (slice_get code.ops (0 + place))) at in
-    let same : 0 + place ≡ place = omega arith in
-    let now : place_due code place (slice_get code.ops place) ≡ Ok tt = ap (λ p. place_due code p (slice_get code.ops p)) (sym same) ∙ here in
-    place_few code place (get_or code.ops place ops.Pop) (ap (place_due code place) (sym (slice_get-get_or code.ops place ops.Pop lt)) ∙ now)
+    let op = there_is code.ops place lt in
+    let few = (place_due_ok code place op.0 (loop_passed code place op.0 op.1 h)).few in
+    grind (arith, nat_tests)

@@ -16,9 +16,9 @@ use Rattle.bb_code.specs.Flaw.TheVariants as flaws
 use Rattle.bb_verify_loops.specs.declared.loops.TheConstants.{NESTING_LIMIT}
 use Rattle.bb_code.specs.Each.{each}
 use Rattle.bb_code.specs.Flaws.{fault_at}
+use Rattle.bb_code.proofs.Laws.{range_at, no_fault}
 use Rattle.bb_verify_loops.specs.Jumps.{check_target, jump_at, jumps}
 use Rattle.bb_verify_loops.specs.Loops.{holds, depth, check_order, never, is_misplaced, rising, local_of, is_same_local, is_around, nests, loop_due, head_due, is_head, keeps_local, op_due, place_due}
-use Rattle.bb_verify_loops.proofs.LoopLemmas.{each_at, without_fault}
 use Rattle.bb_verify_loops.specs.proving.OpenLoops.{loops_at, passed, lasts, stays, entered, if_at_head, IsPassed, IsAt, rest_due}
 
 same_number : (a b : ℕ) → (a == b) ≡ true → a ≡ b
@@ -293,7 +293,7 @@ pub right_here : (code : Code) (place : ℕ) (op : Op) → jump_at code place �
 unfolding jump_at
 right_here code place op ok is =
     let now : map_err (fault_at place) (check_target (length code.ops) place op) ≡ Ok tt = sym (ap (λ o. elim o [ None ↦ Ok tt | Some k ↦ map_err (fault_at place) (check_target (length code.ops) place k) ]) is) ∙ ok in
-    without_fault (fault_at place) (check_target (length code.ops) place op) now
+    no_fault (fault_at place) (check_target (length code.ops) place op) tt now
 
 pub due_rest : (code : Code) (place : ℕ) (op : Op) → rising place code.loops ≡ Ok tt → rest_due code place op ≡ place_due code place (Some op)
 unfolding place_due rest_due
@@ -301,7 +301,7 @@ due_rest code place op ok = sym (ap (λ r. r >>= λ _. each (head_due code place
 
 pub jump_here : (code : Code) (place : ℕ) → jumps code ≡ Ok tt → place < length code.ops → jump_at code place ≡ Ok tt
 unfolding jumps
-jump_here code place ok lt = let same : 0 + place ≡ place = omega arith in ap (jump_at code) (sym same) ∙ each_at (jump_at code) 0 (length code.ops) place lt ok
+jump_here code place ok lt = range_at (jump_at code) (length code.ops) place lt ok
 
 -- ---- a turn
 
