@@ -21,8 +21,8 @@ use Rattle.bb_lang.specs.Trees.{ExprTree}
 use Rattle.bb_compile_scope.specs.declared.fault.CompileFault.{CompileFault}
 use Rattle.bb_compile_scope.specs.declared.fault.Flaw.TheVariants.{Effect, NoEnd, Limit}
 use Rattle.bb_compile_scope.specs.Ending.{ends}
-use Rattle.bb_compile_buffer.specs.declared.sheet.Sheet.{Sheet}
-use Rattle.bb_compile_buffer.specs.Sheets.{noted, due, put}
+use Rattle.bb_compile_buffer.specs.declared.buffer.Buffer.{Buffer}
+use Rattle.bb_compile_buffer.specs.Buffers.{noted, due, put}
 use Rattle.bb_compile_emit.specs.Expressions.{expr_code}
 use Rattle.bb_compile_emit.specs.Actions.{effect_noted, end_noted, values_code, say_code, end_code, action_code}
 use Rattle.bb_verify.specs.Each.{each}
@@ -36,8 +36,8 @@ use Rattle.bb_verify.specs.Effect.{effect, on, say, rate, decline, answer}
 use Rattle.bb_verify.specs.Tables.{in_tables}
 use Rattle.bb_compile_accepted.proofs.StraightLemmas.{Gives, Ends, Leads, leads_on, runs_on, nothing_follows}
 use Rattle.bb_compile_accepted.proofs.UnderLemmas.{is_due, under_copied}
-use Rattle.bb_compile_accepted.proofs.SheetLemmas.{Clean, Grown, Has, with_op, passed, never_noted, put_ok, grown_none, grown_op, grown_on, has_before}
-use Rattle.bb_compile_accepted.proofs.SheetLemmas as sheets
+use Rattle.bb_compile_accepted.proofs.BufferLemmas.{Clean, Grown, Has, with_op, passed, never_noted, put_ok, grown_none, grown_op, grown_on, has_before}
+use Rattle.bb_compile_accepted.proofs.BufferLemmas as buffers
 use Rattle.bb_compile_accepted.proofs.PutLemmas.{clean_before, due_kind}
 use Rattle.bb_compile_accepted.proofs.LayLemmas.{Known, bare, bare_op, known_same}
 use Rattle.bb_compile_accepted.proofs.QueryLemmas.{piled, pile_count}
@@ -81,19 +81,19 @@ all_said [] said = refl
 all_said (k ∷ ks) said = ap (λ (r : Result (Unit {0}) CodeFlaw). r >>= λ _. each dues.sayable ks) said.0 ∙ all_said ks said.1
 
 module _ (schema : Schema) (sf : schemas.Fits schema) (part : Part) (code : Code) (small : AreSmall schema sf part code) where
-  -- what is laid out from one sheet to another pushes the values of expressions
-  record LaysAll (space : ℕ) (s t : Sheet) (es : List ExprTree) : Type 0 where
+  -- what is laid out from one buffer to another pushes the values of expressions
+  record LaysAll (space : ℕ) (s t : Buffer) (es : List ExprTree) : Type 0 where
     grown : Grown s t
     clean : Clean s
     same : bare t ≡ bare s
     leads : (f : Frame) → Known schema sf part code f s → length f.stack + space ≡ STACK_LIMIT → (ks : List Kind) × (length ks ≡ length es) × AreSaid ks × Leads schema part code grown.ops f (with_stack (reverse ks ++ f.stack) f)
 
-  values_lay : (es : List ExprTree) (space : ℕ) (s t : Sheet) → values_code schema space es s ≡ Ok t → Clean t → Has code t → LaysAll space s t es
+  values_lay : (es : List ExprTree) (space : ℕ) (s t : Buffer) → values_code schema space es s ≡ Ok t → Clean t → Has code t → LaysAll space s t es
   unfolding values_code grown_on grown_none
   values_lay [] space s t h clean has =
       let same = same_ok s t h in
       subst (λ u. LaysAll space s u []) same
-      (record { grown = grown_none s s refl refl refl; clean = ap (λ (x : Sheet). x.flaw) same ∙ clean; same = refl; leads = λ f known count. ([], refl, tt, refl) })
+      (record { grown = grown_none s s refl refl refl; clean = ap (λ (x : Buffer). x.flaw) same ∙ clean; same = refl; leads = λ f known count. ([], refl, tt, refl) })
   values_lay (e ∷ es) space s t h clean has =
       let one = bind_ok (expr_code schema space e s) (λ p. values_code schema (space - 1) es p.1) t h in
       let u = one.0.1 in
@@ -139,14 +139,14 @@ module _ (schema : Schema) (sf : schemas.Fits schema) (part : Part) (code : Code
     unfolding effect in_tables
     say_gives count f ks same said = record { straight = refl; tables = refl; gives = ap on (say_on count f ks same said) }
 
-  say_does : (es : List ExprTree) (s t : Sheet) → (Clean s → writes part ≡ Ok tt) → say_code schema es s ≡ Ok t → Clean t → Has code t → Does schema sf part code small false s t
+  say_does : (es : List ExprTree) (s t : Buffer) → (Clean s → writes part ≡ Ok tt) → say_code schema es s ≡ Ok t → Clean t → Has code t → Does schema sf part code small false s t
   unfolding say_code grown_on grown_op
   say_does es s t may h clean has =
       let one = bind_ok (values_code schema STACK_LIMIT es s) (λ u. cond (nat_lt SAID_LIMIT (length es)) (Ok (noted Limit u)) (put (ops.Say (length es)) u)) t h in
       by_few one.0 (nat_lt SAID_LIMIT (length es)) one.1 one.2
     where
-      by_few : (u : Sheet) (many : Bool) → values_code schema STACK_LIMIT es s ≡ Ok u → (let r : Result Sheet CompileFault = cond many (Ok (noted Limit u)) (put (ops.Say (length es)) u) in r) ≡ Ok t → Does schema sf part code small false s t
-      by_few u true code_is h = never_noted Limit u (ap (λ (x : Sheet). x.flaw) (same_ok (noted Limit u) t h) ∙ clean)
+      by_few : (u : Buffer) (many : Bool) → values_code schema STACK_LIMIT es s ≡ Ok u → (let r : Result Buffer CompileFault = cond many (Ok (noted Limit u)) (put (ops.Say (length es)) u) in r) ≡ Ok t → Does schema sf part code small false s t
+      by_few u true code_is h = never_noted Limit u (ap (λ (x : Buffer). x.flaw) (same_ok (noted Limit u) t h) ∙ clean)
       by_few u false code_is h =
           let op = ops.Say (length es) in
           let put_is = put_ok op u t h in
@@ -155,7 +155,7 @@ module _ (schema : Schema) (sf : schemas.Fits schema) (part : Part) (code : Code
             grown = grown_on s u t m.grown (grown_op op u t put_is);
             clean = m.clean;
             same = ap marks put_is ∙ marks_same s u m.same;
-            locals = let e : t.locals ≡ s.locals = ap (λ (x : Sheet). x.locals) put_is ∙ ap (λ (x : Sheet). x.locals) m.same in omega (arith, e);
+            locals = let e : t.locals ≡ s.locals = ap (λ (x : Buffer). x.locals) put_is ∙ ap (λ (x : Buffer). x.locals) m.same in omega (arith, e);
             right = λ no. absurd cc;
             leads = λ few f stands.
                 let x = m.leads f stands.1 (all_room schema sf part code small f stands.0) in
@@ -165,7 +165,7 @@ module _ (schema : Schema) (sf : schemas.Fits schema) (part : Part) (code : Code
 
   -- ---- ends
 
-  end_does : (e : ExprTree) (wanted : Kind) (op : Op) (s t : Sheet) → is_ok (ends_done part) ≡ false → end_code schema e wanted op s ≡ Ok t → Clean t → Has code t
+  end_does : (e : ExprTree) (wanted : Kind) (op : Op) (s t : Buffer) → is_ok (ends_done part) ≡ false → end_code schema e wanted op s ≡ Ok t → Clean t → Has code t
       → ((f : Frame) (k : Kind) → dues.due wanted k ≡ Ok tt → Ends schema part code op (with_stack (k ∷ f.stack) f)) → Does schema sf part code small true s t
   unfolding end_code grown_on grown_op
   end_does e wanted op s t other h clean has gives =
@@ -173,14 +173,14 @@ module _ (schema : Schema) (sf : schemas.Fits schema) (part : Part) (code : Code
       let u = one.0.1 in
       let noted_put = put_ok op (due one.0.0 wanted u) t one.2 in
       let due_clean = clean_before op (due one.0.0 wanted u) t noted_put clean in
-      let put_is : t ≡ with_op op u = noted_put ∙ ap (with_op op) (sheets.is_due one.0.0 wanted u due_clean) in
+      let put_is : t ≡ with_op op u = noted_put ∙ ap (with_op op) (buffers.is_due one.0.0 wanted u due_clean) in
       let m = expr_lays schema sf part code small e STACK_LIMIT s u one.0.0 one.1 (clean_before op u t put_is clean) (has_before code u t (grown_op op u t put_is) has) in
       let same = due_kind m.kind wanted u (subst (λ o. Clean (due o wanted u)) m.made_is due_clean) in
       record {
         grown = grown_on s u t m.grown (grown_op op u t put_is);
         clean = m.clean;
         same = ap marks put_is ∙ marks_same s u m.same;
-        locals = let e : t.locals ≡ s.locals = ap (λ (x : Sheet). x.locals) put_is ∙ ap (λ (x : Sheet). x.locals) m.same in omega (arith, e);
+        locals = let e : t.locals ≡ s.locals = ap (λ (x : Buffer). x.locals) put_is ∙ ap (λ (x : Buffer). x.locals) m.same in omega (arith, e);
         right = λ yes_it_is. other;
         leads = λ few f stands.
             let x = m.leads f stands.1 (all_room schema sf part code small f stands.0) in
@@ -207,7 +207,7 @@ module _ (schema : Schema) (sf : schemas.Fits schema) (part : Part) (code : Code
   unfolding effect in_tables decline
   decline_ends f may = record { straight = refl; tables = refl; ends = ap (λ (r : Result (Unit {0}) CodeFlaw). r >>= λ _. Ok nothing_follows) may }
 
-  decline_does : (s t : Sheet) → ends_rated part ≡ Ok tt → is_ok (ends_done part) ≡ false → put ops.Decline s ≡ Ok t → Clean t → Does schema sf part code small true s t
+  decline_does : (s t : Buffer) → ends_rated part ≡ Ok tt → is_ok (ends_done part) ≡ false → put ops.Decline s ≡ Ok t → Clean t → Does schema sf part code small true s t
   unfolding grown_op
   decline_does s t may other h clean =
       let put_is = put_ok ops.Decline s t h in
@@ -215,7 +215,7 @@ module _ (schema : Schema) (sf : schemas.Fits schema) (part : Part) (code : Code
         grown = grown_op ops.Decline s t put_is;
         clean = clean_before ops.Decline s t put_is clean;
         same = ap marks put_is;
-        locals = let e : t.locals ≡ s.locals = ap (λ (x : Sheet). x.locals) put_is in omega (arith, e);
+        locals = let e : t.locals ≡ s.locals = ap (λ (x : Buffer). x.locals) put_is in omega (arith, e);
         right = λ yes_it_is. other;
         leads = λ few f stands. inl (decline_ends f may, refl);
       }
@@ -223,13 +223,13 @@ module _ (schema : Schema) (sf : schemas.Fits schema) (part : Part) (code : Code
   -- ---- all of them
 
   -- a change that a part may not make is a flaw
-  change_does : (s t : Sheet) → ((Clean (effect_noted part s) → writes part ≡ Ok tt) → Does schema sf part code small false (effect_noted part s) t) → Does schema sf part code small false s t
+  change_does : (s t : Buffer) → ((Clean (effect_noted part s) → writes part ≡ Ok tt) → Does schema sf part code small false (effect_noted part s) t) → Does schema sf part code small false s t
   change_does s t does =
       let d = does (λ clean. may_write part (passed (is_ok (writes part)) Effect s clean).0) in
       subst (λ u. Does schema sf part code small false u t) (passed (is_ok (writes part)) Effect s d.clean).1 d
 
   -- an end that a part does not have is a flaw
-  end_right : (right : Bool) (e : ExprTree) (wanted : Kind) (op : Op) (s t : Sheet) → end_code schema e wanted op (end_noted right s) ≡ Ok t → Clean t → Has code t → (right ≡ true) × (end_noted right s ≡ s)
+  end_right : (right : Bool) (e : ExprTree) (wanted : Kind) (op : Op) (s t : Buffer) → end_code schema e wanted op (end_noted right s) ≡ Ok t → Clean t → Has code t → (right ≡ true) × (end_noted right s ≡ s)
   unfolding end_code
   end_right right e wanted op s t h clean has =
       let was = end_noted right s in
@@ -237,11 +237,11 @@ module _ (schema : Schema) (sf : schemas.Fits schema) (part : Part) (code : Code
       let u = one.0.1 in
       let noted_put = put_ok op (due one.0.0 wanted u) t one.2 in
       let due_clean = clean_before op (due one.0.0 wanted u) t noted_put clean in
-      let put_is : t ≡ with_op op u = noted_put ∙ ap (with_op op) (sheets.is_due one.0.0 wanted u due_clean) in
+      let put_is : t ≡ with_op op u = noted_put ∙ ap (with_op op) (buffers.is_due one.0.0 wanted u due_clean) in
       let m = expr_lays schema sf part code small e STACK_LIMIT was u one.0.0 one.1 (clean_before op u t put_is clean) (has_before code u t (grown_op op u t put_is) has) in
       passed right NoEnd s m.clean
 
-  pub action_does : (a : Action) (s t : Sheet) → action_code schema part a s ≡ Ok t → Clean t → Has code t → Does schema sf part code small (ends a) s t
+  pub action_does : (a : Action) (s t : Buffer) → action_code schema part a s ≡ Ok t → Clean t → Has code t → Does schema sf part code small (ends a) s t
   unfolding action_code
   action_does (actions.Let name value) s t h clean has = let_does schema sf part code small name value s t h clean has
   action_does (actions.Assign name value) s t h clean has = assign_does schema sf part code small name value s t h clean has

@@ -29,8 +29,8 @@ use Rattle.bb_compile_scope.specs.Kinds.{class_of, is_live}
 use Rattle.bb_compile_scope.specs.LocalKinds.{kind_at}
 use Rattle.bb_compile_scope.specs.Scope.{name_of}
 use Rattle.bb_compile_scope.specs.Slots.{value_slot}
-use Rattle.bb_compile_buffer.specs.declared.sheet.Sheet.{Sheet}
-use Rattle.bb_compile_buffer.specs.Sheets.{noted, put, text_at, text_index}
+use Rattle.bb_compile_buffer.specs.declared.buffer.Buffer.{Buffer}
+use Rattle.bb_compile_buffer.specs.Buffers.{noted, put, text_at, text_index}
 use Rattle.bb_compile_buffer.specs.Operations.{Made}
 use Rattle.bb_compile_buffer.specs.Atoms.{pushed, unit_code, gotten, got_from, slot_code, text_noted, text_code, label_of, label_in, label_code, atom_code}
 use Rattle.bb_verify.specs.PartType.{Part}
@@ -41,7 +41,7 @@ use Rattle.bb_verify.specs.Effect.{effect, on, load, pop_live, get}
 use Rattle.bb_verify.specs.Tables.{in_tables, known_label}
 use Rattle.bb_compile_accepted.proofs.StraightLemmas.{Gives}
 use Rattle.bb_compile_accepted.proofs.UnderLemmas.{IsUnder, AreKnown, known_named, under_copied, under_class}
-use Rattle.bb_compile_accepted.proofs.SheetLemmas.{Clean, Has, with_op, passed, never_noted, put_ok, grown_op, has_before}
+use Rattle.bb_compile_accepted.proofs.BufferLemmas.{Clean, Has, with_op, passed, never_noted, put_ok, grown_op, has_before}
 use Rattle.bb_compile_accepted.proofs.PutLemmas.{pair_ok, clean_before, IsPut, pushed_ok, pushed_room, IsLoaded, variable_ok, variable_room, unit_ok, unit_room}
 use Rattle.bb_compile_accepted.proofs.HeldLemmas.{value_below, value_known}
 use Rattle.bb_compile_accepted.proofs.EffectLemmas.{OneGives, push_on, push_gives}
@@ -49,8 +49,8 @@ use Rattle.bb_compile_accepted.proofs.LayLemmas.{Lays, bare, lays_on, push_lays,
 
 -- ---- texts
 
--- a text that stands on a sheet, which has nothing else more
-record HasText (s t : Sheet) (i : ℕ) : Type 0 where
+-- a text that stands on a buffer, which has nothing else more
+record HasText (s t : Buffer) (i : ℕ) : Type 0 where
   ops : t.ops ≡ s.ops
   queries : t.queries ≡ s.queries
   more : List (List ℕ)
@@ -59,7 +59,7 @@ record HasText (s t : Sheet) (i : ℕ) : Type 0 where
   flaw : t.flaw ≡ s.flaw
   within : i < length t.texts
 
-text_ok : (text : List ℕ) (s t : Sheet) (i : ℕ) → text_index text s ≡ Ok (i, t) → HasText s t i
+text_ok : (text : List ℕ) (s t : Buffer) (i : ℕ) → text_index text s ≡ Ok (i, t) → HasText s t i
 unfolding text_index
 text_ok text s t i h = by_place (position (bytes_eq text) s.texts) refl h
   where
@@ -70,7 +70,7 @@ text_ok text s t i h = by_place (position (bytes_eq text) s.texts) refl h
         subst (λ u. HasText s u i) same.1
         (record { ops = refl; queries = refl; more = []; texts = sym (append-nil s.texts); same = refl; flaw = refl; within = subst (λ n. n < length s.texts) same.0 lt })
     by_place None at h =
-        let more : Sheet = record s { texts = s.texts ++ text ∷ [] } in
+        let more : Buffer = record s { texts = s.texts ++ text ∷ [] } in
         let same = pair_ok (length s.texts) i more t (guard_ok (nat_le TEXT_COUNT_LIMIT (length s.texts)) (At Limit s.start) (Ok (length s.texts, more)) (i, t) h).1 in
         let count : length (s.texts ++ text ∷ []) ≡ length s.texts + 1 = length-append s.texts (text ∷ []) in
         subst (λ u. HasText s u i) same.1
@@ -101,10 +101,10 @@ module _ (schema : Schema) (sf : schemas.Fits schema) (part : Part) (code : Code
     gives = ap on (load_on l f (under_copied schema sf (kind_at f.locals l) t under).0 lt);
   }
 
-  abbrev pub LaysHere : ℕ → Sheet → Sheet → Made → Type 0
+  abbrev pub LaysHere : ℕ → Buffer → Buffer → Made → Type 0
   LaysHere space s t made = Lays schema sf part code space s t made
 
-  pub name_lays : (v : Variable) (space : ℕ) (s t : Sheet) (made : Made) → 1 ≤ space → Clean t → IsLoaded v s t made → LaysHere space s t made
+  pub name_lays : (v : Variable) (space : ℕ) (s t : Buffer) (made : Made) → 1 ≤ space → Clean t → IsLoaded v s t made → LaysHere space s t made
   name_lays v space s t made some clean loaded =
       push_lays schema sf part code space s t (ops.Load loaded.0) made (kind_at s.scope.kinds loaded.0) (clean_before (ops.Load loaded.0) s t loaded.2 clean) loaded.2 loaded.3 some
       (λ f known lt.
@@ -113,7 +113,7 @@ module _ (schema : Schema) (sf : schemas.Fits schema) (part : Part) (code : Code
 
   -- ---- values that do not depend on anything
 
-  fixed_lays : (op : Op) (kind : Kind) (space : ℕ) (s t : Sheet) (made : Made) → IsUnder schema sf kind kind → Clean t → IsPut op kind s t made → 1 ≤ space
+  fixed_lays : (op : Op) (kind : Kind) (space : ℕ) (s t : Buffer) (made : Made) → IsUnder schema sf kind kind → Clean t → IsPut op kind s t made → 1 ≤ space
       → ((f : Frame) → length f.stack < STACK_LIMIT → Gives schema part code op f (with_stack (kind ∷ f.stack) f)) → LaysHere space s t made
   fixed_lays op kind space s t made known clean put some gives =
       push_lays schema sf part code space s t op made kind (clean_before op s t put.0 clean) put.0 put.1 some (λ f is_known lt. (kind, known, gives f lt))
@@ -134,7 +134,7 @@ module _ (schema : Schema) (sf : schemas.Fits schema) (part : Part) (code : Code
   unfolding effect in_tables
   label_gives set label f there lt = push_gives schema sf part code (ops.PushLabel set label) (kinds.Label set) f refl there refl lt
 
-  text_lays : (text : List ℕ) (space : ℕ) (s t : Sheet) (made : Made) → text_code text space s ≡ Ok (made, t) → Clean t → Has code t → LaysHere space s t made
+  text_lays : (text : List ℕ) (space : ℕ) (s t : Buffer) (made : Made) → text_code text space s ≡ Ok (made, t) → Clean t → Has code t → LaysHere space s t made
   unfolding text_code
   text_lays text space s t made h clean has =
       let was = text_noted text s in
@@ -148,7 +148,7 @@ module _ (schema : Schema) (sf : schemas.Fits schema) (part : Part) (code : Code
       let free = passed (nat_le (length text) TEXT_BYTES_LIMIT) Limit s (sym there.flaw ∙ last.clean) in
       subst (λ u. LaysHere space u t made) free.1 (after_text was one.0.1 one.0.0 there last)
     where
-      after_text : (was u : Sheet) (i : ℕ) → HasText was u i → LaysHere space u t made → LaysHere space was t made
+      after_text : (was u : Buffer) (i : ℕ) → HasText was u i → LaysHere space u t made → LaysHere space was t made
       after_text was u i there m = record {
         grown = record {
           ops = m.grown.ops;
@@ -163,7 +163,7 @@ module _ (schema : Schema) (sf : schemas.Fits schema) (part : Part) (code : Code
         some = m.some;
         kind = m.kind;
         made_is = m.made_is;
-        leads = λ f known count. m.leads f (known.0, subst (λ (x : Sheet). AreKnown schema sf f.locals x.scope.kinds x.scope.names) (sym there.same) known.1) count;
+        leads = λ f known count. m.leads f (known.0, subst (λ (x : Buffer). AreKnown schema sf f.locals x.scope.kinds x.scope.names) (sym there.same) known.1) count;
       }
 
   -- ---- labels
@@ -178,24 +178,24 @@ module _ (schema : Schema) (sf : schemas.Fits schema) (part : Part) (code : Code
           let at : slice_get l.values label ≡ Some (get_or l.values label []) = slice_get-get_or l.values label [] (position_within (bytes_eq name) l.values label h) in
           rw at refl
 
-  label_lays : (set name : List ℕ) (space : ℕ) (s t : Sheet) (made : Made) → label_code schema set name space s ≡ Ok (made, t) → Clean t → LaysHere space s t made
+  label_lays : (set name : List ℕ) (space : ℕ) (s t : Buffer) (made : Made) → label_code schema set name space s ≡ Ok (made, t) → Clean t → LaysHere space s t made
   unfolding label_code
   label_lays set name space s t made h clean = by_set (label_set_named schema set) h
     where
       by_label : (k : ℕ) (o : Option ℕ) → label_named schema k name ≡ o → label_of k o space s ≡ Ok (made, t) → LaysHere space s t made
-      by_label k None at h = never_noted Unknown s (ap (λ (u : Sheet). u.flaw) (pair_ok (Some (kinds.Label k)) made (noted Unknown s) t h).1 ∙ clean)
+      by_label k None at h = never_noted Unknown s (ap (λ (u : Buffer). u.flaw) (pair_ok (Some (kinds.Label k)) made (noted Unknown s) t h).1 ∙ clean)
       by_label k (Some l) at h =
           let put = pushed_ok (ops.PushLabel k l) (kinds.Label k) space s t made h clean in
           fixed_lays (ops.PushLabel k l) (kinds.Label k) space s t made refl clean put (pushed_room (ops.PushLabel k l) (kinds.Label k) space s t made h clean) (λ f lt. label_gives k l f (label_there k l name at) lt)
 
       by_set : (o : Option ℕ) → label_in schema name o space s ≡ Ok (made, t) → LaysHere space s t made
-      by_set None h = never_noted Unknown s (ap (λ (u : Sheet). u.flaw) (pair_ok None made (noted Unknown s) t h).1 ∙ clean)
+      by_set None h = never_noted Unknown s (ap (λ (u : Buffer). u.flaw) (pair_ok None made (noted Unknown s) t h).1 ∙ clean)
       by_set (Some k) h = by_label k (label_named schema k name) refl h
 
   -- ---- live units, and their slots
 
   -- the live unit of a name
-  pub record LaysUnit (space : ℕ) (s t : Sheet) (class : Option ℕ) : Type 0 where
+  pub record LaysUnit (space : ℕ) (s t : Buffer) (class : Option ℕ) : Type 0 where
     pub kind : Kind
     pub of : ℕ
     pub class_is : class ≡ Some of
@@ -203,13 +203,13 @@ module _ (schema : Schema) (sf : schemas.Fits schema) (part : Part) (code : Code
     pub live : is_live kind ≡ true
     pub lays : LaysHere space s t (Some kind)
 
-  pub unit_lays : (v : Variable) (space : ℕ) (s t : Sheet) (class : Option ℕ) → unit_code v space s ≡ Ok (class, t) → Clean t → LaysUnit space s t class
+  pub unit_lays : (v : Variable) (space : ℕ) (s t : Buffer) (class : Option ℕ) → unit_code v space s ≡ Ok (class, t) → Clean t → LaysUnit space s t class
   unit_lays v space s t class h clean =
       let u = unit_ok v space s t class h clean in
       record { kind = u.0; of = u.1; class_is = u.3; kind_of = u.4; live = u.5; lays = name_lays v space s t (Some u.0) (unit_room v space s t class h clean) clean u.2 }
 
   -- a unit is always known
-  pub no_unit : {A : Type 0} (v : Variable) (space : ℕ) (s t : Sheet) → unit_code v space s ≡ Ok (None, t) → Clean t → A
+  pub no_unit : {A : Type 0} (v : Variable) (space : ℕ) (s t : Buffer) → unit_code v space s ≡ Ok (None, t) → Clean t → A
   no_unit v space s t h clean = let u = unit_lays v space s t None h clean in absurd (let e = u.class_is in cc)
 
   pub live_on : (k : Kind) (c : ℕ) (b : Frame) (rest : List Kind) → due.class_of k ≡ Ok c → due.live k ≡ Ok tt → pop_live (with_stack (k ∷ rest) b) ≡ Ok (c, with_stack rest b)
@@ -238,13 +238,13 @@ module _ (schema : Schema) (sf : schemas.Fits schema) (part : Part) (code : Code
         },
       )
 
-  slot_lays : (v : Variable) (name : List ℕ) (space : ℕ) (s t : Sheet) (made : Made) → slot_code schema v name space s ≡ Ok (made, t) → Clean t → LaysHere space s t made
+  slot_lays : (v : Variable) (name : List ℕ) (space : ℕ) (s t : Buffer) (made : Made) → slot_code schema v name space s ≡ Ok (made, t) → Clean t → LaysHere space s t made
   unfolding slot_code
   slot_lays v name space s t made h clean =
       let one = bind_ok (unit_code v space s) (λ p. got_from schema name p.0 p.1) (made, t) h in by_class one.0.0 one.0.1 one.1 one.2
     where
-      by_slot : (c : ℕ) (u : Sheet) (r : Result (ℕ × Kind) Flaw) → unit_code v space s ≡ Ok (Some c, u) → value_slot schema c name ≡ r → gotten r u ≡ Ok (made, t) → LaysHere space s t made
-      by_slot c u (Err flaw) unit at h = never_noted flaw u (ap (λ (x : Sheet). x.flaw) (pair_ok None made (noted flaw u) t h).1 ∙ clean)
+      by_slot : (c : ℕ) (u : Buffer) (r : Result (ℕ × Kind) Flaw) → unit_code v space s ≡ Ok (Some c, u) → value_slot schema c name ≡ r → gotten r u ≡ Ok (made, t) → LaysHere space s t made
+      by_slot c u (Err flaw) unit at h = never_noted flaw u (ap (λ (x : Buffer). x.flaw) (pair_ok None made (noted flaw u) t h).1 ∙ clean)
       by_slot c u (Ok p) unit at h =
           let one = bind_ok (put (ops.Get p.0) u) (λ x. Ok (Some p.1, x)) (made, t) h in
           let same = pair_ok (Some p.1) made one.0 t one.2 in
@@ -258,13 +258,13 @@ module _ (schema : Schema) (sf : schemas.Fits schema) (part : Part) (code : Code
           let e : first.kind ≡ thought = cc in
           (p.1, sym same.0, get_gives thought c name p (ap class_of (sym e) ∙ (first.kind_of ∙ class)) (ap is_live (sym e) ∙ first.live) at)))
 
-      by_class : (class : Option ℕ) (u : Sheet) → unit_code v space s ≡ Ok (class, u) → got_from schema name class u ≡ Ok (made, t) → LaysHere space s t made
-      by_class None u unit h = no_unit v space s u unit (ap (λ (x : Sheet). x.flaw) (pair_ok None made u t h).1 ∙ clean)
+      by_class : (class : Option ℕ) (u : Buffer) → unit_code v space s ≡ Ok (class, u) → got_from schema name class u ≡ Ok (made, t) → LaysHere space s t made
+      by_class None u unit h = no_unit v space s u unit (ap (λ (x : Buffer). x.flaw) (pair_ok None made u t h).1 ∙ clean)
       by_class (Some c) u unit h = by_slot c u (value_slot schema c name) unit refl h
 
   -- ---- an expression without parts
 
-  pub atom_lays : (a : Atom) (space : ℕ) (s t : Sheet) (made : Made) → atom_code schema space a s ≡ Ok (made, t) → Clean t → Has code t → LaysHere space s t made
+  pub atom_lays : (a : Atom) (space : ℕ) (s t : Buffer) (made : Made) → atom_code schema space a s ≡ Ok (made, t) → Clean t → Has code t → LaysHere space s t made
   unfolding atom_code
   atom_lays (atoms.Int n) space s t made h clean has =
       fixed_lays (ops.PushInt n) kinds.Int space s t made refl clean (pushed_ok (ops.PushInt n) kinds.Int space s t made h clean) (pushed_room (ops.PushInt n) kinds.Int space s t made h clean) (λ f lt. int_gives n f lt)

@@ -22,10 +22,10 @@ use Rattle.bb_compile_scope.specs.Place.{Place}
 use Rattle.bb_compile_scope.specs.Ending.{block_ends, always_ends}
 use Rattle.bb_compile_scope.specs.LocalKinds.{paired}
 use Rattle.bb_compile_scope.specs.Slots.{slot_of, link_slot}
-use Rattle.bb_compile_scope.specs.Worn.{declared, unit_class, worn_name, worn_action, worn_statement, worn_statements}
+use Rattle.bb_compile_scope.specs.Killed.{declared, unit_class, killed_name, killed_action, killed_statement, killed_statements}
 use Rattle.bb_compile_buffer.specs.Atoms.{variable_code, unit_code, atom_code}
 use Rattle.bb_compile_buffer.specs.Finish.{if_within}
-use Rattle.bb_compile_buffer.specs.Sheets.{put, put_value, begun_loop, kept, labelled, take_local, declare}
+use Rattle.bb_compile_buffer.specs.Buffers.{put, put_value, begun_loop, kept, labelled, take_local, declare}
 use Rattle.bb_compile_buffer.specs.Within.{is_within}
 use Rattle.bb_compile_emit.specs.Queries.{links_code}
 use Rattle.bb_compile_emit.specs.Expressions.{expr_code, steps_code, sequence_code}
@@ -79,7 +79,7 @@ block place =
 
 -- the compiler takes `y` for a number where it asks what the loop leaves of `x`
 given : (place : Place) → part_code schema (Do 0) place (block place) ≡ Ok code
-unfolding part_code block_ends always_ends statements_code statement_code action_code let_code new_code delete_code for_code loop_begun loop_ended expr_code steps_code sequence_code links_code variable_code unit_code atom_code put put_value begun_loop kept labelled take_local declare if_within is_within paired slot_of link_slot has_name declared unit_class worn_name worn_action worn_statement worn_statements climbs struck
+unfolding part_code block_ends always_ends statements_code statement_code action_code let_code new_code delete_code for_code loop_begun loop_ended expr_code steps_code sequence_code links_code variable_code unit_code atom_code put put_value begun_loop kept labelled take_local declare if_within is_within paired slot_of link_slot has_name declared unit_class killed_name killed_action killed_statement killed_statements climbs struck
 given place = refl
 
 -- at the end of its body `x` may be deleted

@@ -7,33 +7,33 @@ use Rattle.bb_verify_frame.specs.Code.{Code}
 use Rattle.bb_verify_frame.specs.Kind.{Kind}
 use Rattle.bb_verify_frame.specs.Kind.TheVariants as kinds
 use Rattle.bb_verify_frame.specs.Op.{Op}
-use Rattle.bb_compile_buffer.specs.declared.sheet.Sheet.{Sheet}
+use Rattle.bb_compile_buffer.specs.declared.buffer.Buffer.{Buffer}
 use Rattle.bb_compile_buffer.specs.Operations.{Made}
 use Rattle.bb_verify.specs.PartType.{Part}
 use Rattle.bb_verify.specs.FrameType.{Frame}
 use Rattle.bb_verify.specs.Frame.{with_stack}
 use Rattle.bb_compile_accepted.proofs.StraightLemmas.{Gives, Leads, leads_on}
 use Rattle.bb_compile_accepted.proofs.UnderLemmas.{IsUnder, AreKnown}
-use Rattle.bb_compile_accepted.proofs.SheetLemmas.{Clean, Grown, with_op, grown_op, grown_on}
+use Rattle.bb_compile_accepted.proofs.BufferLemmas.{Clean, Grown, with_op, grown_op, grown_on}
 use Rattle.bb_compile_accepted.proofs.EffectLemmas.{OneGives, TwoGives}
 
--- a sheet but for what expressions put on it
-abbrev pub bare : Sheet → Sheet
+-- a buffer but for what expressions put on it
+abbrev pub bare : Buffer → Buffer
 bare s = record s { ops = []; texts = []; queries = []; flaw = None }
 
-pub bare_op : (op : Op) (s t : Sheet) → t ≡ with_op op s → bare t ≡ bare s
+pub bare_op : (op : Op) (s t : Buffer) → t ≡ with_op op s → bare t ≡ bare s
 bare_op op s t put = ap bare put
 
 module _ (schema : Schema) (sf : schemas.Fits schema) (part : Part) (code : Code) where
   -- the verifier knows of each name's local what the compiler takes it for
-  abbrev pub Known : Frame → Sheet → Type 0
+  abbrev pub Known : Frame → Buffer → Type 0
   Known f s = (length f.locals ≡ code.locals) × AreKnown schema sf f.locals s.scope.kinds s.scope.names
 
-  pub known_same : (f : Frame) (s t : Sheet) → bare t ≡ bare s → Known f s → Known f t
-  known_same f s t same known = (known.0, subst (λ (u : Sheet). AreKnown schema sf f.locals u.scope.kinds u.scope.names) (sym same) known.1)
+  pub known_same : (f : Frame) (s t : Buffer) → bare t ≡ bare s → Known f s → Known f t
+  known_same f s t same known = (known.0, subst (λ (u : Buffer). AreKnown schema sf f.locals u.scope.kinds u.scope.names) (sym same) known.1)
 
-  -- what is laid out from one sheet to another pushes a value of a kind, where the stack has room for `space` values
-  pub record Lays (space : ℕ) (s t : Sheet) (made : Made) : Type 0 where
+  -- what is laid out from one buffer to another pushes a value of a kind, where the stack has room for `space` values
+  pub record Lays (space : ℕ) (s t : Buffer) (made : Made) : Type 0 where
     pub grown : Grown s t
     pub clean : Clean s
     pub same : bare t ≡ bare s
@@ -42,8 +42,8 @@ module _ (schema : Schema) (sf : schemas.Fits schema) (part : Part) (code : Code
     pub made_is : made ≡ Some kind
     pub leads : (f : Frame) → Known f s → length f.stack + space ≡ STACK_LIMIT → (k : Kind) × IsUnder schema sf k kind × Leads schema part code grown.ops f (with_stack (k ∷ f.stack) f)
 
-  -- what is laid out from one sheet to another leaves a value of a kind in the place of the newest one
-  pub record Turns (space : ℕ) (s t : Sheet) (left made : Made) : Type 0 where
+  -- what is laid out from one buffer to another leaves a value of a kind in the place of the newest one
+  pub record Turns (space : ℕ) (s t : Buffer) (left made : Made) : Type 0 where
     pub grown : Grown s t
     pub clean : Clean s
     pub same : bare t ≡ bare s
@@ -51,7 +51,7 @@ module _ (schema : Schema) (sf : schemas.Fits schema) (part : Part) (code : Code
         × ((f : Frame) (k : Kind) → Known f s → IsUnder schema sf k thought → 1 ≤ space → length f.stack + space ≡ STACK_LIMIT
         → (g : Kind) × IsUnder schema sf g gives × Leads schema part code grown.ops (with_stack (k ∷ f.stack) f) (with_stack (g ∷ f.stack) f))
 
-  pub lays_on : (space : ℕ) (s t u : Sheet) (left made : Made) → Lays space s t left → Turns space t u left made → Lays space s u made
+  pub lays_on : (space : ℕ) (s t u : Buffer) (left made : Made) → Lays space s t left → Turns space t u left made → Lays space s u made
   unfolding grown_on
   lays_on space s t u left made first then =
       let turn = then.turns first.kind first.made_is in
@@ -68,7 +68,7 @@ module _ (schema : Schema) (sf : schemas.Fits schema) (part : Part) (code : Code
             (two.0, two.1, leads_on schema part code first.grown.ops then.grown.ops f (with_stack (one.0 ∷ f.stack) f) (with_stack (two.0 ∷ f.stack) f) one.2 two.2);
       }
 
-  pub turns_on : (space : ℕ) (s t u : Sheet) (left between made : Made) → Turns space s t left between → Turns space t u between made → Turns space s u left made
+  pub turns_on : (space : ℕ) (s t u : Buffer) (left between made : Made) → Turns space s t left between → Turns space t u between made → Turns space s u left made
   unfolding grown_on
   turns_on space s t u left between made first then = record {
     grown = grown_on s t u first.grown then.grown;
@@ -87,7 +87,7 @@ module _ (schema : Schema) (sf : schemas.Fits schema) (part : Part) (code : Code
   }
 
   -- an op that pushes a value
-  pub push_lays : (space : ℕ) (s t : Sheet) (op : Op) (made : Made) (kind : Kind) → Clean s → t ≡ with_op op s → made ≡ Some kind → 1 ≤ space
+  pub push_lays : (space : ℕ) (s t : Buffer) (op : Op) (made : Made) (kind : Kind) → Clean s → t ≡ with_op op s → made ≡ Some kind → 1 ≤ space
       → ((f : Frame) → Known f s → length f.stack < STACK_LIMIT → (k : Kind) × IsUnder schema sf k kind × Gives schema part code op f (with_stack (k ∷ f.stack) f)) → Lays space s t made
   unfolding grown_op
   push_lays space s t op made kind clean put made_is some gives = record {
@@ -103,7 +103,7 @@ module _ (schema : Schema) (sf : schemas.Fits schema) (part : Part) (code : Code
   }
 
   -- an op on the newest value
-  pub one_turns : (space : ℕ) (s t : Sheet) (op : Op) (left made : Made) → Clean s → t ≡ with_op op s → ((thought : Kind) → left ≡ Some thought → (gives : Kind) × (made ≡ Some gives) × OneGives schema sf part code op thought gives)
+  pub one_turns : (space : ℕ) (s t : Buffer) (op : Op) (left made : Made) → Clean s → t ≡ with_op op s → ((thought : Kind) → left ≡ Some thought → (gives : Kind) × (made ≡ Some gives) × OneGives schema sf part code op thought gives)
       → Turns space s t left made
   unfolding grown_op
   one_turns space s t op left made clean put gives = record {
@@ -121,7 +121,7 @@ module _ (schema : Schema) (sf : schemas.Fits schema) (part : Part) (code : Code
   }
 
   -- a value more, and an op on both
-  pub two_turns : (space : ℕ) (s t u : Sheet) (op : Op) (left right made : Made) → Lays (space - 1) s t right → u ≡ with_op op t
+  pub two_turns : (space : ℕ) (s t u : Buffer) (op : Op) (left right made : Made) → Lays (space - 1) s t right → u ≡ with_op op t
       → ((thought other : Kind) → left ≡ Some thought → right ≡ Some other → (gives : Kind) × (made ≡ Some gives) × TwoGives schema sf part code op thought other gives) → Turns space s u left made
   unfolding grown_on grown_op
   two_turns space s t u op left right made more put gives = record {
@@ -144,7 +144,7 @@ module _ (schema : Schema) (sf : schemas.Fits schema) (part : Part) (code : Code
   -- ---- sequences
 
   -- what is laid out pushes a sequence
-  pub record LaysUnits (space : ℕ) (s t : Sheet) : Type 0 where
+  pub record LaysUnits (space : ℕ) (s t : Buffer) : Type 0 where
     pub grown : Grown s t
     pub clean : Clean s
     pub same : bare t ≡ bare s

@@ -6,9 +6,9 @@ mod ChainRows
 pub mod StraightLemmas
 -- kinds that the verifier knows, and the compiler
 pub mod UnderLemmas
--- what is laid out on a sheet without a flaw
-pub mod SheetLemmas
--- what is put on a sheet
+-- what is laid out on a buffer without a flaw
+pub mod BufferLemmas
+-- what is put on a buffer
 pub mod PutLemmas
 -- what ops do to frames
 pub mod EffectLemmas

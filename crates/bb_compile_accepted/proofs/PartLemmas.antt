@@ -25,9 +25,9 @@ use Rattle.bb_compile_scope.specs.declared.fault.Flaw.{Flaw}
 use Rattle.bb_compile_scope.specs.declared.fault.Flaw.TheVariants.{NoEnd, Limit}
 use Rattle.bb_compile_scope.specs.Ending.{ends, always_ends, block_ends}
 use Rattle.bb_compile_scope.specs.Scope.{begin_with, mark_of}
-use Rattle.bb_compile_buffer.specs.declared.sheet.Sheet.{Sheet}
-use Rattle.bb_compile_buffer.specs.Sheets.{settled, refused_at, put, leave}
-use Rattle.bb_compile_buffer.specs.Finish.{empty_sheet, code_of, if_within}
+use Rattle.bb_compile_buffer.specs.declared.buffer.Buffer.{Buffer}
+use Rattle.bb_compile_buffer.specs.Buffers.{settled, refused_at, put, leave}
+use Rattle.bb_compile_buffer.specs.Finish.{empty_buffer, code_of, if_within}
 use Rattle.bb_code.specs.Limits.{LOCAL_LIMIT, TEXT_COUNT_LIMIT, QUERY_LIMIT, FRAME_LIMIT, LOOP_LIMIT, OP_LIMIT}
 use Rattle.bb_compile_buffer.specs.Within.{text_within, query_within, frame_within, loop_within, op_within, list_within, is_within}
 use Rattle.bb_compile_emit.specs.Actions.{action_code}
@@ -46,7 +46,7 @@ use Rattle.bb_verify.specs.Accepted.{accepted, checked}
 use Rattle.bb_compile_accepted.specs.Plain.{is_plain}
 use Rattle.bb_compile_accepted.proofs.StraightLemmas.{Ends, Leads, Runs, leads_on, runs_on, nothing_follows, straight_code, tables_pass, jumps_pass, loops_pass, frames_found}
 use Rattle.bb_compile_accepted.proofs.UnderLemmas.{AreKnown, descends_same}
-use Rattle.bb_compile_accepted.proofs.SheetLemmas.{Clean, Grown, Has, with_op, never_noted, put_ok, grown_none, grown_op, grown_on, has_before}
+use Rattle.bb_compile_accepted.proofs.BufferLemmas.{Clean, Grown, Has, with_op, never_noted, put_ok, grown_none, grown_op, grown_on, has_before}
 use Rattle.bb_compile_accepted.proofs.PutLemmas.{pair_ok}
 use Rattle.bb_compile_accepted.proofs.PatternLemmas.{AreSmall}
 use Rattle.bb_compile_accepted.proofs.StoreLemmas.{Stands, After, Does, marks}
@@ -57,19 +57,19 @@ settled_clean place None u h = refl
 settled_clean place (Some flaw) u h = absurd cc
 
 -- what comes of a statement, taken apart
-record Stated (schema : Schema) (part : Part) (place : Place) (a : Action) (s t : Sheet) (now : Bool) : Type 0 where
+record Stated (schema : Schema) (part : Part) (place : Place) (a : Action) (s t : Buffer) (now : Bool) : Type 0 where
   code_is : action_code schema part a s ≡ Ok t
   clean : Clean t
   now_is : ends a ≡ now
 
-stated : (schema : Schema) (part : Part) (place : Place) (a : Action) (s t : Sheet) (now : Bool) → action_of schema part place a s ≡ Ok (now, t) → Stated schema part place a s t now
+stated : (schema : Schema) (part : Part) (place : Place) (a : Action) (s t : Buffer) (now : Bool) → action_of schema part place a s ≡ Ok (now, t) → Stated schema part place a s t now
 stated schema part place a s t now h =
     let one = bind_ok (action_code schema part a s) (λ u. settled place u >>= λ _. Ok (ends a, u)) (now, t) h in
     let two = bind_ok (settled place one.0) (λ _. Ok (ends a, one.0)) (now, t) one.2 in
     let same = pair_ok (ends a) now one.0 t two.2 in
     record {
       code_is = one.1 ∙ ap (λ u. Ok u) same.1;
-      clean = ap (λ (x : Sheet). x.flaw) (sym same.1) ∙ settled_clean place one.0.flaw two.0 two.1;
+      clean = ap (λ (x : Buffer). x.flaw) (sym same.1) ∙ settled_clean place one.0.flaw two.0 two.1;
       now_is = same.0;
     }
 
@@ -79,9 +79,9 @@ or_assoc false b c = refl
 
 module _ (schema : Schema) (part : Part) where
   -- a statement with a flaw is refused, so there is none behind a block
-  pub block_clean : (b : BlockTree) (loops : ℕ) (was now : Bool) (s t : Sheet) → is_plain b ≡ true → Clean s → statements_code schema part loops was b s ≡ Ok (now, t) → Clean t
+  pub block_clean : (b : BlockTree) (loops : ℕ) (was now : Bool) (s t : Buffer) → is_plain b ≡ true → Clean s → statements_code schema part loops was b s ≡ Ok (now, t) → Clean t
   unfolding statements_code statement_code
-  block_clean no_statement loops was now s t plain clean h = ap (λ (x : Sheet). x.flaw) (sym (pair_ok was now s t h).1) ∙ clean
+  block_clean no_statement loops was now s t plain clean h = ap (λ (x : Buffer). x.flaw) (sym (pair_ok was now s t h).1) ∙ clean
   block_clean (before_others place (action a) others) loops was now s t plain clean h =
       let here = after_end was s in
       let one = bind_ok (action_of schema part place a here) (λ p. statements_code schema part loops (was || p.0) others p.1) (now, t) h in
@@ -91,7 +91,7 @@ module _ (schema : Schema) (part : Part) where
   block_clean (before_others place (for_of name sequence body) others) loops was now s t plain clean h = absurd cc
 
   -- whether a block ends
-  block_now : (b : BlockTree) (loops : ℕ) (was now : Bool) (s t : Sheet) → is_plain b ≡ true → statements_code schema part loops was b s ≡ Ok (now, t) → now ≡ (was || block_ends b)
+  block_now : (b : BlockTree) (loops : ℕ) (was now : Bool) (s t : Buffer) → is_plain b ≡ true → statements_code schema part loops was b s ≡ Ok (now, t) → now ≡ (was || block_ends b)
   unfolding statements_code statement_code block_ends always_ends
   block_now no_statement loops was now s t plain h = sym (pair_ok was now s t h).0 ∙ sym (or_false was)
   block_now (before_others place (action a) others) loops was now s t plain h =
@@ -105,28 +105,28 @@ module _ (schema : Schema) (part : Part) where
   block_now (before_others place (for_of name sequence body) others) loops was now s t plain h = absurd cc
 
   module _ (sf : schemas.Fits schema) (code : Code) (small : AreSmall schema sf part code) where
-    abbrev DoesHere : Bool → Sheet → Sheet → Type 0
+    abbrev DoesHere : Bool → Buffer → Buffer → Type 0
     DoesHere ended s t = Does schema sf part code small ended s t
 
     -- behind a statement that ends there is no other
-    abbrev Block : (was now : Bool) → Sheet → Sheet → Type 0
+    abbrev Block : (was now : Bool) → Buffer → Buffer → Type 0
     Block true now s t = (s ≡ t) × (now ≡ true)
     Block false now s t = DoesHere now s t
 
-    none_does : (s t : Sheet) → s ≡ t → Clean t → DoesHere false s t
+    none_does : (s t : Buffer) → s ≡ t → Clean t → DoesHere false s t
     unfolding grown_none
     none_does s t same clean =
         subst (λ u. DoesHere false s u) same
         (record {
           grown = grown_none s s refl refl refl;
-          clean = ap (λ (x : Sheet). x.flaw) same ∙ clean;
+          clean = ap (λ (x : Buffer). x.flaw) same ∙ clean;
           same = refl;
           locals = omega arith;
           right = λ h. absurd cc;
           leads = λ few f stands. (f, stands, refl);
         })
 
-    does_on : (now : Bool) (s t u : Sheet) → DoesHere false s t → DoesHere now t u → DoesHere now s u
+    does_on : (now : Bool) (s t u : Buffer) → DoesHere false s t → DoesHere now t u → DoesHere now s u
     unfolding grown_on
     does_on now s t u first then =
         let one = first.locals in
@@ -147,16 +147,16 @@ module _ (schema : Schema) (part : Part) where
         after_on false g f leads later = (later.0, later.1, leads_on schema part code first.grown.ops then.grown.ops f g later.0 leads later.2)
 
     -- a statement, and the block behind it
-    joined : (e now : Bool) (s t u : Sheet) → DoesHere e s t → Block e now t u → DoesHere now s u
+    joined : (e now : Bool) (s t u : Buffer) → DoesHere e s t → Block e now t u → DoesHere now s u
     joined true now s t u first rest = subst (λ b. DoesHere b s u) (sym rest.1) (subst (λ x. DoesHere true s x) rest.0 first)
     joined false now s t u first rest = does_on now s t u first rest
 
-    block_grown : (was now : Bool) (s t : Sheet) → Block was now s t → Grown s t
+    block_grown : (was now : Bool) (s t : Buffer) → Block was now s t → Grown s t
     unfolding grown_none
     block_grown true now s t b = subst (Grown s) b.0 (grown_none s s refl refl refl)
     block_grown false now s t b = b.grown
 
-    block_does : (b : BlockTree) (loops : ℕ) (was now : Bool) (s t : Sheet) → is_plain b ≡ true → statements_code schema part loops was b s ≡ Ok (now, t) → Clean t → Has code t → Block was now s t
+    block_does : (b : BlockTree) (loops : ℕ) (was now : Bool) (s t : Buffer) → is_plain b ≡ true → statements_code schema part loops was b s ≡ Ok (now, t) → Clean t → Has code t → Block was now s t
     unfolding statements_code statement_code
     block_does no_statement loops true now s t plain h clean has = let same = pair_ok true now s t h in (same.1, sym same.0)
     block_does no_statement loops false now s t plain h clean has =
@@ -170,7 +170,7 @@ module _ (schema : Schema) (part : Part) where
         let first = subst (λ e. DoesHere e here one.0.1) is.now_is (action_does schema sf part code small a here one.0.1 is.code_is is.clean own) in
         by_was was now s t one.0.0 one.0.1 first rest
       where
-        by_was : (w n : Bool) (x z : Sheet) (e : Bool) (y : Sheet) → DoesHere e (after_end w x) y → Block (w || e) n y z → Block w n x z
+        by_was : (w n : Bool) (x z : Buffer) (e : Bool) (y : Buffer) → DoesHere e (after_end w x) y → Block (w || e) n y z → Block w n x z
         by_was true n x z e y first rest = never_noted NoEnd x first.clean
         by_was false n x z e y first rest = joined e n x y z first rest
     block_does (before_others place (if_of test then other) others) loops was now s t plain h clean has = absurd cc
@@ -228,25 +228,25 @@ module _ (schema : Schema) (sf : schemas.Fits schema) (part : Part) where
   abbrev IsAccepted : Code → Type 0
   IsAccepted code = (frames : List Frame) × (checked schema part code ≡ Ok (record { code = code; part = part; frames = frames }))
 
-  straight_accepted : (u : Sheet) → Runs schema part (straight_code u.locals u.texts u.queries u.ops) u.ops (entry_frame part u.locals) → length (units_of part) ≤ u.locals → IsAccepted (straight_code u.locals u.texts u.queries u.ops)
+  straight_accepted : (u : Buffer) → Runs schema part (straight_code u.locals u.texts u.queries u.ops) u.ops (entry_frame part u.locals) → length (units_of part) ≤ u.locals → IsAccepted (straight_code u.locals u.texts u.queries u.ops)
   unfolding checked accepted
   straight_accepted u runs enough =
       let found = frames_found schema part u.locals u.texts u.queries u.ops runs enough in
       (found.0, rw (tables_pass schema part u.locals u.texts u.queries u.ops runs enough, jumps_pass schema part u.locals u.texts u.queries u.ops runs enough, loops_pass schema part u.locals u.texts u.queries u.ops runs enough, found.1) refl)
 
   module _ (place : Place) (block : BlockTree) (plain : is_plain block ≡ true) where
-    abbrev first : Sheet
-    first = empty_sheet part place
+    abbrev first : Buffer
+    first = empty_buffer part place
 
     -- nothing but ops, texts and queries is laid out
-    straight : (u : Sheet) → marks u ≡ marks first → code_of u ≡ straight_code u.locals u.texts u.queries u.ops
+    straight : (u : Buffer) → marks u ≡ marks first → code_of u ≡ straight_code u.locals u.texts u.queries u.ops
     straight u same =
-        let labels : u.labels ≡ [] = ap (λ (x : Sheet). x.labels) same in
-        let last : u.last ≡ None = ap (λ (x : Sheet). x.last) same in
-        let loops : u.loops ≡ [] = ap (λ (x : Sheet). x.loops) same in
+        let labels : u.labels ≡ [] = ap (λ (x : Buffer). x.labels) same in
+        let last : u.last ≡ None = ap (λ (x : Buffer). x.last) same in
+        let loops : u.loops ≡ [] = ap (λ (x : Buffer). x.loops) same in
         rw (labels, last, loops) refl
 
-    module _ (u : Sheet) (within : is_within (code_of u) ≡ true) where
+    module _ (u : Buffer) (within : is_within (code_of u) ≡ true) where
       abbrev code : Code
       code = straight_code u.locals u.texts u.queries u.ops
 
@@ -268,7 +268,7 @@ module _ (schema : Schema) (sf : schemas.Fits schema) (part : Part) where
 
       -- ---- a part that ends by its last statement
 
-      ends_accepted : (t : Sheet) → Does schema sf part code small true first t → u.ops ≡ t.ops → t.locals ≡ u.locals → IsAccepted code
+      ends_accepted : (t : Buffer) → Does schema sf part code small true first t → u.ops ≡ t.ops → t.locals ≡ u.locals → IsAccepted code
       ends_accepted t d ops locals =
           let enough = d.locals in
           let few : length (units_of part) ≤ u.locals = omega (arith, enough, locals) in
@@ -281,7 +281,7 @@ module _ (schema : Schema) (sf : schemas.Fits schema) (part : Part) where
       unfolding effect in_tables effects.done
       done_ends f may = record { straight = refl; tables = refl; ends = ap (λ (r : Result (Unit {0}) CodeFlaw). r >>= λ _. Ok nothing_follows) may }
 
-      do_accepted : (t : Sheet) → ends_done part ≡ Ok tt → Does schema sf part code small false first t → u.ops ≡ t.ops ++ ops.Done ∷ [] → t.locals ≡ u.locals → IsAccepted code
+      do_accepted : (t : Buffer) → ends_done part ≡ Ok tt → Does schema sf part code small false first t → u.ops ≡ t.ops ++ ops.Done ∷ [] → t.locals ≡ u.locals → IsAccepted code
       do_accepted t may d listed locals =
           let enough = d.locals in
           let few : length (units_of part) ≤ u.locals = omega (arith, enough, locals) in
@@ -291,7 +291,7 @@ module _ (schema : Schema) (sf : schemas.Fits schema) (part : Part) where
 
       -- ---- either
 
-      does_block : (now : Bool) (t : Sheet) → statements_code schema part LOOP_NESTING false block first ≡ Ok (now, t) → Grown t u → Does schema sf part code small now first t
+      does_block : (now : Bool) (t : Buffer) → statements_code schema part LOOP_NESTING false block first ≡ Ok (now, t) → Grown t u → Does schema sf part code small now first t
       does_block now t h more =
           block_does schema part sf code small block LOOP_NESTING false now first t plain h (block_clean schema part block LOOP_NESTING false now first t plain refl h) (has_before code t u more has)
 
@@ -306,11 +306,11 @@ module _ (schema : Schema) (sf : schemas.Fits schema) (part : Part) where
       may_end (Retrigger c of) h = absurd cc
       may_end (Revalidate c) h = absurd cc
 
-      do_whole : (now : Bool) (t : Sheet) → is_ok (ends_done part) ≡ true → statements_code schema part LOOP_NESTING false block first ≡ Ok (now, t) → put ops.Done (leave (mark_of first.scope) t) ≡ Ok u → IsAccepted (code_of u)
+      do_whole : (now : Bool) (t : Buffer) → is_ok (ends_done part) ≡ true → statements_code schema part LOOP_NESTING false block first ≡ Ok (now, t) → put ops.Done (leave (mark_of first.scope) t) ≡ Ok u → IsAccepted (code_of u)
       unfolding grown_op
       do_whole now t ends_so h last = by_now now d
         where
-          was : Sheet
+          was : Buffer
           was = leave (mark_of first.scope) t
 
           put_is : u ≡ with_op ops.Done was
@@ -319,11 +319,11 @@ module _ (schema : Schema) (sf : schemas.Fits schema) (part : Part) where
           more : Grown t u
           more = record {
             ops = ops.Done ∷ [];
-            ops_are = ap (λ (x : Sheet). x.ops) put_is;
+            ops_are = ap (λ (x : Buffer). x.ops) put_is;
             texts = [];
-            texts_are = ap (λ (x : Sheet). x.texts) put_is ∙ sym (append-nil t.texts);
+            texts_are = ap (λ (x : Buffer). x.texts) put_is ∙ sym (append-nil t.texts);
             queries = [];
-            queries_are = ap (λ (x : Sheet). x.queries) put_is ∙ sym (append-nil t.queries);
+            queries_are = ap (λ (x : Buffer). x.queries) put_is ∙ sym (append-nil t.queries);
           }
 
           d : Does schema sf part code small now first t
@@ -331,28 +331,28 @@ module _ (schema : Schema) (sf : schemas.Fits schema) (part : Part) where
 
           by_now : (n : Bool) → Does schema sf part code small n first t → IsAccepted (code_of u)
           by_now true e = absurd (let no : true ≡ false = sym ends_so ∙ e.right refl in cc)
-          by_now false e = whole (ap marks put_is ∙ e.same) (do_accepted t (may_end part ends_so) e (ap (λ (x : Sheet). x.ops) put_is) (ap (λ (x : Sheet). x.locals) (sym put_is)))
+          by_now false e = whole (ap marks put_is ∙ e.same) (do_accepted t (may_end part ends_so) e (ap (λ (x : Buffer). x.ops) put_is) (ap (λ (x : Buffer). x.locals) (sym put_is)))
 
-      ends_whole : (now : Bool) (t : Sheet) → now ≡ true → statements_code schema part LOOP_NESTING false block first ≡ Ok (now, t) → leave (mark_of first.scope) t ≡ u → IsAccepted (code_of u)
+      ends_whole : (now : Bool) (t : Buffer) → now ≡ true → statements_code schema part LOOP_NESTING false block first ≡ Ok (now, t) → leave (mark_of first.scope) t ≡ u → IsAccepted (code_of u)
       ends_whole now t ends_so h last =
           let more : Grown t u = record {
             ops = [];
-            ops_are = ap (λ (x : Sheet). x.ops) (sym last) ∙ sym (append-nil t.ops);
+            ops_are = ap (λ (x : Buffer). x.ops) (sym last) ∙ sym (append-nil t.ops);
             texts = [];
-            texts_are = ap (λ (x : Sheet). x.texts) (sym last) ∙ sym (append-nil t.texts);
+            texts_are = ap (λ (x : Buffer). x.texts) (sym last) ∙ sym (append-nil t.texts);
             queries = [];
-            queries_are = ap (λ (x : Sheet). x.queries) (sym last) ∙ sym (append-nil t.queries);
+            queries_are = ap (λ (x : Buffer). x.queries) (sym last) ∙ sym (append-nil t.queries);
           } in
           let d = does_block now t h more in
           whole (ap marks (sym last) ∙ d.same)
-          (ends_accepted t (subst (λ n. Does schema sf part code small n first t) ends_so d) (ap (λ (x : Sheet). x.ops) (sym last)) (ap (λ (x : Sheet). x.locals) last))
+          (ends_accepted t (subst (λ n. Does schema sf part code small n first t) ends_so d) (ap (λ (x : Buffer). x.ops) (sym last)) (ap (λ (x : Buffer). x.locals) last))
 
-    within_same : (u : Sheet) (b : Bool) (code : Code) → is_within (code_of u) ≡ b → (let r : Result Code CompileFault = cond b (Ok (code_of u)) (Err (At Limit u.start)) in r) ≡ Ok code → (is_within (code_of u) ≡ true) × (code_of u ≡ code)
+    within_same : (u : Buffer) (b : Bool) (code : Code) → is_within (code_of u) ≡ b → (let r : Result Code CompileFault = cond b (Ok (code_of u)) (Err (At Limit u.start)) in r) ≡ Ok code → (is_within (code_of u) ≡ true) × (code_of u ≡ code)
     within_same u true code is h = (is, same_ok (code_of u) code h)
     within_same u false code is h = absurd cc
 
-    by_end : (b : Bool) (now : Bool) (t u : Sheet) → is_ok (ends_done part) ≡ b → (not b && not (block_ends block)) ≡ false → statements_code schema part LOOP_NESTING false block first ≡ Ok (now, t)
-        → (let r : Result Sheet CompileFault = cond b (put ops.Done (leave (mark_of first.scope) t)) (Ok (leave (mark_of first.scope) t)) in r) ≡ Ok u → is_within (code_of u) ≡ true → IsAccepted (code_of u)
+    by_end : (b : Bool) (now : Bool) (t u : Buffer) → is_ok (ends_done part) ≡ b → (not b && not (block_ends block)) ≡ false → statements_code schema part LOOP_NESTING false block first ≡ Ok (now, t)
+        → (let r : Result Buffer CompileFault = cond b (put ops.Done (leave (mark_of first.scope) t)) (Ok (leave (mark_of first.scope) t)) in r) ≡ Ok u → is_within (code_of u) ≡ true → IsAccepted (code_of u)
     by_end true now t u ends_so no_end h last within = do_whole u within now t ends_so h last
     by_end false now t u other no_end h last within =
         ends_whole u within now t (block_now schema part block LOOP_NESTING false now first t plain h ∙ ended (block_ends block) no_end) h (same_ok (leave (mark_of first.scope) t) u last)

@@ -33,8 +33,8 @@ use Rattle.bb_compile_scope.specs.Slots as slots
 use Rattle.bb_compile_scope.specs.Slots.{index_of, in_byte, dimension_at, dimension}
 use Rattle.bb_compile_emit.specs.declared.asked.Asked.{Asked}
 use Rattle.bb_compile_emit.specs.Queries.{Patterned, no_operand, node_counted, node_noted, operand_kind, with_operand, operand_number, operand_noted, test_tree, test_at, test_code, query_code}
-use Rattle.bb_compile_buffer.specs.declared.sheet.Sheet.{Sheet}
-use Rattle.bb_compile_buffer.specs.Sheets.{noted, due, put_value, asked_query}
+use Rattle.bb_compile_buffer.specs.declared.buffer.Buffer.{Buffer}
+use Rattle.bb_compile_buffer.specs.Buffers.{noted, due, put_value, asked_query}
 use Rattle.bb_compile_buffer.specs.Operations.{Made}
 use Rattle.bb_verify.specs.PartType.{Part}
 use Rattle.bb_verify.specs.FrameType.{Frame}
@@ -44,7 +44,7 @@ use Rattle.bb_verify.specs.Effect.{effect, on, find}
 use Rattle.bb_verify.specs.Tables.{in_tables}
 use Rattle.bb_compile_accepted.proofs.StraightLemmas.{Gives, Leads, leads_on}
 use Rattle.bb_compile_accepted.proofs.UnderLemmas.{under_plain}
-use Rattle.bb_compile_accepted.proofs.SheetLemmas.{Clean, Grown, Has, with_op, not_failed, never_noted, is_due, put_value_ok, grown_none, grown_op, grown_on, has_before, front, seam}
+use Rattle.bb_compile_accepted.proofs.BufferLemmas.{Clean, Grown, Has, with_op, not_failed, never_noted, is_due, put_value_ok, grown_none, grown_op, grown_on, has_before, front, seam}
 use Rattle.bb_compile_accepted.proofs.PutLemmas.{pair_ok, triple_ok, clean_before, put_room, due_kind}
 use Rattle.bb_compile_accepted.proofs.EffectLemmas.{push_on}
 use Rattle.bb_compile_accepted.proofs.LayLemmas.{Known, Lays, LaysUnits, bare, known_same}
@@ -130,9 +130,9 @@ module _ (schema : Schema) (sf : schemas.Fits schema) (part : Part) (code : Code
   abbrev pub FitsTrees : Trees → (space : ℕ) → List OperandKind → Type 0
   FitsTrees made k os = all_tests_fit (dims_of schema k) os made ≡ Ok tt
 
-  -- what is laid out from one sheet to another pushes the operands of a pattern, where the stack had room for so many
+  -- what is laid out from one buffer to another pushes the operands of a pattern, where the stack had room for so many
   -- values before the first of them
-  pub record Asks (space : ℕ) (s t : Sheet) (of : Option ℕ) (asked after : Asked) (Fits : ℕ → List OperandKind → Type 0) : Type 0 where
+  pub record Asks (space : ℕ) (s t : Buffer) (of : Option ℕ) (asked after : Asked) (Fits : ℕ → List OperandKind → Type 0) : Type 0 where
     pub grown : Grown s t
     pub clean : Clean s
     pub same : bare t ≡ bare s
@@ -143,7 +143,7 @@ module _ (schema : Schema) (sf : schemas.Fits schema) (part : Part) (code : Code
         → (js : List Kind) × (length js ≤ space) × AreDue after.kinds js × Leads schema part code grown.ops (with_stack (reverse ks ++ f.stack) f) (with_stack (reverse js ++ f.stack) f)
 
   -- nothing is laid out
-  pub asks_none : (space : ℕ) (s : Sheet) (of : Option ℕ) (asked after : Asked) (Fits : ℕ → List OperandKind → Type 0) → Clean s → after.kinds ≡ asked.kinds → ((k : ℕ) (os : List OperandKind) → Fits k os) → Asks space s s of asked after Fits
+  pub asks_none : (space : ℕ) (s : Buffer) (of : Option ℕ) (asked after : Asked) (Fits : ℕ → List OperandKind → Type 0) → Clean s → after.kinds ≡ asked.kinds → ((k : ℕ) (os : List OperandKind) → Fits k os) → Asks space s s of asked after Fits
   unfolding grown_none
   asks_none space s of asked after Fits clean same fits = record {
     grown = grown_none s s refl refl refl;
@@ -156,7 +156,7 @@ module _ (schema : Schema) (sf : schemas.Fits schema) (part : Part) (code : Code
   }
 
   -- a pattern around others
-  pub asks_map : (space : ℕ) (s t : Sheet) (of : Option ℕ) (asked after : Asked) (F G : ℕ → List OperandKind → Type 0) → ((k : ℕ) (os : List OperandKind) → F k os → G k os) → Asks space s t of asked after F → Asks space s t of asked after G
+  pub asks_map : (space : ℕ) (s t : Buffer) (of : Option ℕ) (asked after : Asked) (F G : ℕ → List OperandKind → Type 0) → ((k : ℕ) (os : List OperandKind) → F k os → G k os) → Asks space s t of asked after F → Asks space s t of asked after G
   asks_map space s t of asked after F G gives m = record {
     grown = m.grown;
     clean = m.clean;
@@ -168,7 +168,7 @@ module _ (schema : Schema) (sf : schemas.Fits schema) (part : Part) (code : Code
   }
 
   -- a pattern, and others behind it
-  pub asks_on : (space : ℕ) (s t u : Sheet) (of : Option ℕ) (asked between after : Asked) (F G H : ℕ → List OperandKind → Type 0) → ((k : ℕ) (os : List OperandKind) → F k os → G k os → H k os)
+  pub asks_on : (space : ℕ) (s t u : Buffer) (of : Option ℕ) (asked between after : Asked) (F G H : ℕ → List OperandKind → Type 0) → ((k : ℕ) (os : List OperandKind) → F k os → G k os → H k os)
       → Asks space s t of asked between F → Asks space t u of between after G → Asks space s u of asked after H
   unfolding grown_on
   asks_on space s t u of asked between after F G H gives first then = record {
@@ -187,10 +187,10 @@ module _ (schema : Schema) (sf : schemas.Fits schema) (part : Part) (code : Code
   }
 
   -- behind a node of a pattern
-  pub node_free : (asked : Asked) (s : Sheet) → Clean (node_noted asked s) → node_noted asked s ≡ s
+  pub node_free : (asked : Asked) (s : Buffer) → Clean (node_noted asked s) → node_noted asked s ≡ s
   node_free asked s clean = (not_failed (asked.nodes == 0) Limit s clean).1
 
-  pub asks_node : (space : ℕ) (s t : Sheet) (of : Option ℕ) (asked after : Asked) (F : ℕ → List OperandKind → Type 0) → Asks space (node_noted asked s) t of (node_counted asked) after F → Asks space s t of asked after F
+  pub asks_node : (space : ℕ) (s t : Buffer) (of : Option ℕ) (asked after : Asked) (F : ℕ → List OperandKind → Type 0) → Asks space (node_noted asked s) t of (node_counted asked) after F → Asks space s t of asked after F
   asks_node space s t of asked after F m =
       let plain : Asks space (node_noted asked s) t of asked after F = record { grown = m.grown; clean = m.clean; same = m.same; more = m.more; asks = m.asks; fits = m.fits; leads = m.leads } in
       subst (λ u. Asks space u t of asked after F) (node_free asked s m.clean) plain
@@ -198,13 +198,13 @@ module _ (schema : Schema) (sf : schemas.Fits schema) (part : Part) (code : Code
   longer : (asked : Asked) (k : Kind) → nat_le OPERAND_LIMIT (length asked.kinds) ≡ false → (operand_number asked ≡ length asked.kinds) × ((with_operand k asked).kinds ≡ asked.kinds ++ operand_kind k ∷ [])
   longer asked k few = (rw few refl, rw few refl)
 
-  pub test_asks : (dim : List ℕ) (relation : Relation) (of : Option ℕ) (space : ℕ) (s t u : Sheet) (asked after : Asked) (operand : Made) (made : Tree)
+  pub test_asks : (dim : List ℕ) (relation : Relation) (of : Option ℕ) (space : ℕ) (s t u : Buffer) (asked after : Asked) (operand : Made) (made : Tree)
       → (Clean t → t ≡ u → Lays schema sf part code (space - length asked.kinds) s t operand) → (let r : Result (Patterned Tree) CompileFault = Ok (test_code schema of dim relation operand (node_counted asked) t) in r) ≡ Ok (made, after, u) → Clean u
       → Asks space s u of asked after (FitsTree made)
   unfolding test_code
   test_asks dim relation None space s t u asked after operand made lays h clean =
       let same = triple_ok all made (node_counted asked) after t u h in
-      let m = lays (ap (λ (x : Sheet). x.flaw) same.2 ∙ clean) same.2 in
+      let m = lays (ap (λ (x : Buffer). x.flaw) same.2 ∙ clean) same.2 in
       subst (λ x. Asks space s x None asked after (FitsTree made)) same.2
       (record {
         grown = m.grown;
@@ -218,15 +218,15 @@ module _ (schema : Schema) (sf : schemas.Fits schema) (part : Part) (code : Code
   test_asks dim relation (Some of) space s t u asked after operand made lays h clean = by_dimension (dimension schema of dim relation) refl h
     where
       by_dimension : (o : Option (ℕ × Kind)) → dimension schema of dim relation ≡ o → (let r : Result (Patterned Tree) CompileFault = Ok (test_at relation o operand (node_counted asked) t) in r) ≡ Ok (made, after, u) → Asks space s u (Some of) asked after (FitsTree made)
-      by_dimension None at h = never_noted Unknown t (ap (λ (x : Sheet). x.flaw) (triple_ok all made (node_counted asked) after (noted Unknown t) u h).2 ∙ clean)
+      by_dimension None at h = never_noted Unknown t (ap (λ (x : Buffer). x.flaw) (triple_ok all made (node_counted asked) after (noted Unknown t) u h).2 ∙ clean)
       by_dimension (Some d) at h =
           let noted_is = operand_noted (node_counted asked) (due operand d.1 t) in
           let same = triple_ok (test_tree relation d.0 (operand_number (node_counted asked))) made (with_operand d.1 (node_counted asked)) after noted_is u h in
-          let few = not_failed (nat_le OPERAND_LIMIT (length asked.kinds)) Limit (due operand d.1 t) (ap (λ (x : Sheet). x.flaw) same.2 ∙ clean) in
-          let due_clean : Clean (due operand d.1 t) = sym (ap (λ (x : Sheet). x.flaw) few.1) ∙ (ap (λ (x : Sheet). x.flaw) same.2 ∙ clean) in
+          let few = not_failed (nat_le OPERAND_LIMIT (length asked.kinds)) Limit (due operand d.1 t) (ap (λ (x : Buffer). x.flaw) same.2 ∙ clean) in
+          let due_clean : Clean (due operand d.1 t) = sym (ap (λ (x : Buffer). x.flaw) few.1) ∙ (ap (λ (x : Buffer). x.flaw) same.2 ∙ clean) in
           let right = is_due operand d.1 t due_clean in
           let here : t ≡ u = sym right ∙ (sym few.1 ∙ same.2) in
-          let m = lays (ap (λ (x : Sheet). x.flaw) here ∙ clean) here in
+          let m = lays (ap (λ (x : Buffer). x.flaw) here ∙ clean) here in
           let more = longer (node_counted asked) d.1 few.0 in
           let right_kind : is_same_plain m.kind d.1 ≡ true = due_kind m.kind d.1 t (subst (λ o. Clean (due o d.1 t)) m.made_is due_clean) in
           let is = dimension_ok of dim relation d at in
@@ -320,30 +320,30 @@ module _ (schema : Schema) (sf : schemas.Fits schema) (part : Part) (code : Code
   fits_query q fits = ap (λ (r : Result (Unit {0}) PatternFault). let a : Result (Unit {0}) CodeFlaw = elim r [ Ok _ ↦ Ok tt | Err _ ↦ Err flaws.Query ] in a) fits
 
   module _ (small : AreSmall) (c k : ℕ) (class_there : c < length schema.classes) (space_there : k < length schema.spaces) where
-    pub find_lays : (space : ℕ) (s t u : Sheet) (asked : Asked) (pattern : Tree) (found : Option ℕ) → (Clean t → Has code t → Asks space s t (Some k) no_operand asked (FitsTree pattern))
+    pub find_lays : (space : ℕ) (s t u : Buffer) (asked : Asked) (pattern : Tree) (found : Option ℕ) → (Clean t → Has code t → Asks space s t (Some k) no_operand asked (FitsTree pattern))
         → query_code (Some c) (Some k) asked pattern space t ≡ Ok (found, u) → Clean u → Has code u → LaysUnits schema sf part code space s u
     unfolding query_code asked_query grown_on grown_op
     find_lays space s t u asked pattern found asks h clean has =
         let one = bind_ok (asked_query q t) (λ p. put_value (ops.Find p.0) space p.1 >>= λ x. Ok (Some c, x)) (found, u) h in
         let two = bind_ok (put_value (ops.Find one.0.0) space one.0.1) (λ x. Ok (Some c, x)) (found, u) one.2 in
         let same = pair_ok (Some c) found two.0 u two.2 in
-        let two_clean : Clean two.0 = ap (λ (x : Sheet). x.flaw) same.1 ∙ clean in
+        let two_clean : Clean two.0 = ap (λ (x : Buffer). x.flaw) same.1 ∙ clean in
         let put = put_value_ok (ops.Find one.0.0) space one.0.1 two.0 two.1 two_clean in
         let asked_is = pair_ok (length t.queries) one.0.0 more one.0.1 (guard_ok (nat_le QUERY_LIMIT (length t.queries)) (At Limit t.start) (Ok (length t.queries, more)) one.0 one.1).1 in
         let is : u ≡ with_op (ops.Find one.0.0) more = sym same.1 ∙ (put.0 ∙ ap (with_op (ops.Find one.0.0)) (sym asked_is.1)) in
-        by_sheet one.0.0 is (sym asked_is.0) (put_room (ops.Find one.0.0) space one.0.1 two.0 two.1 two_clean)
+        by_buffer one.0.0 is (sym asked_is.0) (put_room (ops.Find one.0.0) space one.0.1 two.0 two.1 two_clean)
       where
         q : Query
         q = record { class = c; space = k; kinds = asked.kinds; pattern = pattern }
 
-        more : Sheet
+        more : Buffer
         more = record t { queries = t.queries ++ q ∷ [] }
 
         added : Grown t more
         added = record { ops = []; ops_are = sym (append-nil t.ops); texts = []; texts_are = sym (append-nil t.texts); queries = q ∷ []; queries_are = refl }
 
-        by_sheet : (i : ℕ) → u ≡ with_op (ops.Find i) more → i ≡ length t.queries → 1 ≤ space → LaysUnits schema sf part code space s u
-        by_sheet i is index some =
+        by_buffer : (i : ℕ) → u ≡ with_op (ops.Find i) more → i ≡ length t.queries → 1 ≤ space → LaysUnits schema sf part code space s u
+        by_buffer i is index some =
             let free : Clean t = clean_before (ops.Find i) more u is clean in
             let last = grown_op (ops.Find i) more u is in
             let own = has_before code more u last has in
@@ -353,7 +353,7 @@ module _ (schema : Schema) (sf : schemas.Fits schema) (part : Part) (code : Code
             let fits : FitsTree pattern k asked.kinds = subst (FitsTree pattern k) (append-nil asked.kinds) (m.fits k refl []) in
             let query = fits_query q (fits_pattern q class_there space_there limits.0 limits.1 fits) in
             record {
-              grown = grown_on s t u m.grown (record { ops = ops.Find i ∷ []; ops_are = last.ops_are; texts = []; texts_are = last.texts_are; queries = q ∷ []; queries_are = ap (λ (x : Sheet). x.queries) is });
+              grown = grown_on s t u m.grown (record { ops = ops.Find i ∷ []; ops_are = last.ops_are; texts = []; texts_are = last.texts_are; queries = q ∷ []; queries_are = ap (λ (x : Buffer). x.queries) is });
               clean = m.clean;
               same = ap bare is ∙ m.same;
               some = some;

@@ -20,8 +20,8 @@ use Rattle.bb_compile_scope.specs.Kinds.{class_of, is_live}
 use Rattle.bb_compile_scope.specs.Slots as slots
 use Rattle.bb_compile_scope.specs.Slots.{index_of, in_byte, dimension_at, dimension}
 use Rattle.bb_compile_emit.specs.Queries.{linked_by, linked_from, links_code}
-use Rattle.bb_compile_buffer.specs.declared.sheet.Sheet.{Sheet}
-use Rattle.bb_compile_buffer.specs.Sheets.{noted, put}
+use Rattle.bb_compile_buffer.specs.declared.buffer.Buffer.{Buffer}
+use Rattle.bb_compile_buffer.specs.Buffers.{noted, put}
 use Rattle.bb_compile_buffer.specs.Operations.{Made}
 use Rattle.bb_compile_buffer.specs.Atoms.{unit_code}
 use Rattle.bb_verify.specs.PartType.{Part}
@@ -32,7 +32,7 @@ use Rattle.bb_verify.specs.Effect.{effect, on, links, size}
 use Rattle.bb_verify.specs.Tables.{in_tables}
 use Rattle.bb_compile_accepted.proofs.StraightLemmas.{Gives, Leads, leads_on}
 use Rattle.bb_compile_accepted.proofs.UnderLemmas.{IsUnder, under_class}
-use Rattle.bb_compile_accepted.proofs.SheetLemmas.{Clean, with_op, never_noted, put_ok, grown_op, grown_on}
+use Rattle.bb_compile_accepted.proofs.BufferLemmas.{Clean, with_op, never_noted, put_ok, grown_op, grown_on}
 use Rattle.bb_compile_accepted.proofs.PutLemmas.{pair_ok, clean_before}
 use Rattle.bb_compile_accepted.proofs.HeldLemmas.{link_below}
 use Rattle.bb_compile_accepted.proofs.EffectLemmas.{push_on}
@@ -102,13 +102,13 @@ module _ (schema : Schema) (sf : schemas.Fits schema) (part : Part) (code : Code
       let unit = under_class schema sf k t class under of in
       record { straight = refl; tables = refl; gives = ap on (links_on k unit.0 p.0 p.1 b rest unit.1 (unit.3 live) (link_below schema sf class name unit.0 unit.2 p slot) lt) }
 
-  pub links_lay : (v : Variable) (name : List ℕ) (space : ℕ) (s t : Sheet) (class : Option ℕ) → links_code schema v name space s ≡ Ok (class, t) → Clean t → LaysUnits schema sf part code space s t
+  pub links_lay : (v : Variable) (name : List ℕ) (space : ℕ) (s t : Buffer) (class : Option ℕ) → links_code schema v name space s ≡ Ok (class, t) → Clean t → LaysUnits schema sf part code space s t
   unfolding links_code grown_on grown_op
   links_lay v name space s t class h clean =
       let one = bind_ok (unit_code v space s) (λ p. linked_from schema name p.0 p.1) (class, t) h in by_class one.0.0 one.0.1 one.1 one.2
     where
-      by_slot : (c : ℕ) (u : Sheet) (r : Result (ℕ × Link) Flaw) → unit_code v space s ≡ Ok (Some c, u) → slots.link_slot schema c name ≡ r → linked_by r u ≡ Ok (class, t) → LaysUnits schema sf part code space s t
-      by_slot c u (Err flaw) unit at h = never_noted flaw u (ap (λ (x : Sheet). x.flaw) (pair_ok None class (noted flaw u) t h).1 ∙ clean)
+      by_slot : (c : ℕ) (u : Buffer) (r : Result (ℕ × Link) Flaw) → unit_code v space s ≡ Ok (Some c, u) → slots.link_slot schema c name ≡ r → linked_by r u ≡ Ok (class, t) → LaysUnits schema sf part code space s t
+      by_slot c u (Err flaw) unit at h = never_noted flaw u (ap (λ (x : Buffer). x.flaw) (pair_ok None class (noted flaw u) t h).1 ∙ clean)
       by_slot c u (Ok p) unit at h =
           let one = bind_ok (put (ops.Links p.0) u) (λ x. Ok (Some p.1.to, x)) (class, t) h in
           let same = pair_ok (Some p.1.to) class one.0 t one.2 in
@@ -131,8 +131,8 @@ module _ (schema : Schema) (sf : schemas.Fits schema) (part : Part) (code : Code
                 (p.1.to, leads_on schema part code lays.grown.ops (ops.Links p.0 ∷ []) f (with_stack (k.0 ∷ f.stack) f) (with_stack (kinds.Seq p.1.to ∷ f.stack) f) k.2 last);
           }
 
-      by_class : (class' : Option ℕ) (u : Sheet) → unit_code v space s ≡ Ok (class', u) → linked_from schema name class' u ≡ Ok (class, t) → LaysUnits schema sf part code space s t
-      by_class None u unit h = no_unit schema sf part code v space s u unit (ap (λ (x : Sheet). x.flaw) (pair_ok None class u t h).1 ∙ clean)
+      by_class : (class' : Option ℕ) (u : Buffer) → unit_code v space s ≡ Ok (class', u) → linked_from schema name class' u ≡ Ok (class, t) → LaysUnits schema sf part code space s t
+      by_class None u unit h = no_unit schema sf part code v space s u unit (ap (λ (x : Buffer). x.flaw) (pair_ok None class u t h).1 ∙ clean)
       by_class (Some c) u unit h = by_slot c u (slots.link_slot schema c name) unit refl h
 
   -- ---- how many
@@ -145,7 +145,7 @@ module _ (schema : Schema) (sf : schemas.Fits schema) (part : Part) (code : Code
   unfolding effect in_tables
   size_gives c b rest lt = record { straight = refl; tables = refl; gives = ap on (size_on c b rest lt) }
 
-  pub size_lays : (space : ℕ) (s t u : Sheet) (made : Made) → LaysUnits schema sf part code space s t → u ≡ with_op ops.Size t → made ≡ Some kinds.Int → Lays schema sf part code space s u made
+  pub size_lays : (space : ℕ) (s t u : Buffer) (made : Made) → LaysUnits schema sf part code space s t → u ≡ with_op ops.Size t → made ≡ Some kinds.Int → Lays schema sf part code space s u made
   unfolding grown_on grown_op
   size_lays space s t u made units put_is made_is = record {
     grown = grown_on s t u units.grown (grown_op ops.Size t u put_is);

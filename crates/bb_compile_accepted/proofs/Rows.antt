@@ -13,7 +13,7 @@ use Rattle.bb_compile_scope.specs.Place.{Place}
 use Rattle.bb_compile_buffer.specs.Atoms.{pushed, atom_code}
 use Rattle.bb_compile_buffer.specs.Finish.{if_within}
 use Rattle.bb_compile_buffer.specs.Operations.{two_due}
-use Rattle.bb_compile_buffer.specs.Sheets.{put, put_value, due}
+use Rattle.bb_compile_buffer.specs.Buffers.{put, put_value, due}
 use Rattle.bb_compile_buffer.specs.Within.{is_within}
 use Rattle.bb_compile_emit.specs.Expressions.{expr_code, steps_code}
 use Rattle.bb_compile_emit.specs.Actions.{end_code, action_code}

@@ -23,8 +23,8 @@ use Rattle.bb_compile_scope.specs.declared.scope.Scope.{Scope}
 use Rattle.bb_compile_scope.specs.Kinds.{assigned}
 use Rattle.bb_compile_scope.specs.LocalKinds.{is_free, kind_at}
 use Rattle.bb_compile_scope.specs.Scope.{with_name, local_of}
-use Rattle.bb_compile_buffer.specs.declared.sheet.Sheet.{Sheet}
-use Rattle.bb_compile_buffer.specs.Sheets.{noted, put, with_kinds, taken, take_local, declare}
+use Rattle.bb_compile_buffer.specs.declared.buffer.Buffer.{Buffer}
+use Rattle.bb_compile_buffer.specs.Buffers.{noted, put, with_kinds, taken, take_local, declare}
 use Rattle.bb_compile_buffer.specs.Operations.{Made}
 use Rattle.bb_compile_emit.specs.Expressions.{expr_code}
 use Rattle.bb_compile_emit.specs.Actions.{let_as, let_code, assign_as, assign_to, assign_code, new_of, new_code}
@@ -36,56 +36,56 @@ use Rattle.bb_verify.specs.Effect.{effect, on, store_local, new_unit}
 use Rattle.bb_verify.specs.Tables.{in_tables}
 use Rattle.bb_compile_accepted.proofs.StraightLemmas.{Gives, Leads, Runs, leads_on}
 use Rattle.bb_compile_accepted.proofs.UnderLemmas.{IsUnder, AreKnown, descends_same, under_assigned, under_known, known_set, known_more, known_named, known_within, set_here, set_twice}
-use Rattle.bb_compile_accepted.proofs.SheetLemmas.{Clean, Grown, Has, with_op, never_noted, put_ok, grown_on, has_before}
+use Rattle.bb_compile_accepted.proofs.BufferLemmas.{Clean, Grown, Has, with_op, never_noted, put_ok, grown_on, has_before}
 use Rattle.bb_compile_accepted.proofs.PutLemmas.{pair_ok}
 use Rattle.bb_compile_accepted.proofs.LayLemmas.{Known, Lays, bare, push_lays}
 use Rattle.bb_compile_accepted.proofs.EffectLemmas.{push_on}
 use Rattle.bb_compile_accepted.proofs.PatternLemmas.{AreSmall, room_on}
 use Rattle.bb_compile_accepted.proofs.ExprLemmas.{expr_lays, class_there}
 
--- a sheet but for what statements put on it
-abbrev pub marks : Sheet → Sheet
+-- a buffer but for what statements put on it
+abbrev pub marks : Buffer → Buffer
 marks s = record (bare s) { scope = record { names = []; kinds = [] }; locals = 0 }
 
-pub marks_same : (s t : Sheet) → bare t ≡ bare s → marks t ≡ marks s
-marks_same s t same = ap (λ (x : Sheet). record x { scope = record { names = []; kinds = [] }; locals = 0 }) same
+pub marks_same : (s t : Buffer) → bare t ≡ bare s → marks t ≡ marks s
+marks_same s t same = ap (λ (x : Buffer). record x { scope = record { names = []; kinds = [] }; locals = 0 }) same
 
 -- a name is declared for the value on the stack
-abbrev pub declared_on : (name : List ℕ) → (local : ℕ) → Kind → Sheet → Sheet
+abbrev pub declared_on : (name : List ℕ) → (local : ℕ) → Kind → Buffer → Buffer
 declared_on name local kind s = record s {
   scope = record { names = s.scope.names ++ record { name = name; local = local } ∷ []; kinds = set (set s.scope.kinds local kind) local kind };
   locals = max s.locals (local + 1);
 }
 
-pub declare_is : (name : List ℕ) (kind : Kind) (s t : Sheet) → declare name kind s ≡ Ok t → (local : ℕ) × (position is_free s.scope.kinds ≡ Some local) × (t ≡ with_op (ops.Store local) (declared_on name local kind s))
+pub declare_is : (name : List ℕ) (kind : Kind) (s t : Buffer) → declare name kind s ≡ Ok t → (local : ℕ) × (position is_free s.scope.kinds ≡ Some local) × (t ≡ with_op (ops.Store local) (declared_on name local kind s))
 unfolding declare take_local
 declare_is name kind s t h =
     let one = bind_ok (taken (position is_free s.scope.kinds) kind s) (λ p. put (ops.Store p.0) (record p.1 { scope = with_name name p.0 kind p.1.scope })) t h in
     by_local (position is_free s.scope.kinds) refl one.0.0 one.0.1 one.1 one.2
   where
-    by_local : (o : Option ℕ) → position is_free s.scope.kinds ≡ o → (l : ℕ) (u : Sheet) → taken o kind s ≡ Ok (l, u) → put (ops.Store l) (record u { scope = with_name name l kind u.scope }) ≡ Ok t
+    by_local : (o : Option ℕ) → position is_free s.scope.kinds ≡ o → (l : ℕ) (u : Buffer) → taken o kind s ≡ Ok (l, u) → put (ops.Store l) (record u { scope = with_name name l kind u.scope }) ≡ Ok t
         → (local : ℕ) × (position is_free s.scope.kinds ≡ Some local) × (t ≡ with_op (ops.Store local) (declared_on name local kind s))
     by_local None free l u h g = absurd cc
     by_local (Some local) free l u h g =
         let same = pair_ok local l (record s { scope = record { names = s.scope.names; kinds = set s.scope.kinds local kind }; locals = max s.locals (local + 1) }) u h in
         let put_is : t ≡ with_op (ops.Store local) (declared_on name local kind s) =
         put_ok (ops.Store l) (record u { scope = with_name name l kind u.scope }) t g
-        ∙ ap (λ (x : Sheet). with_op (ops.Store l) (record x { scope = with_name name l kind x.scope })) (sym same.1)
+        ∙ ap (λ (x : Buffer). with_op (ops.Store l) (record x { scope = with_name name l kind x.scope })) (sym same.1)
         ∙ ap (λ i. with_op (ops.Store i) (record (declared_on name local kind s) { scope = record { names = s.scope.names ++ record { name = name; local = i } ∷ []; kinds = set (set s.scope.kinds local kind) i kind } })) (sym same.0) in
         (local, free, put_is)
 
 module _ (schema : Schema) (sf : schemas.Fits schema) (part : Part) (code : Code) (small : AreSmall schema sf part code) where
   -- between statements: the stack is empty, and it is known what the locals of names hold
-  abbrev pub Stands : Frame → Sheet → Type 0
+  abbrev pub Stands : Frame → Buffer → Type 0
   Stands f s = (f.stack ≡ []) × Known schema sf part code f s
 
   -- behind a statement: nothing follows it, or the next one
-  abbrev pub After : (ended : Bool) → Sheet → List Op → Frame → Type 0
+  abbrev pub After : (ended : Bool) → Buffer → List Op → Frame → Type 0
   After true t listed f = Runs schema part code listed f
   After false t listed f = (g : Frame) × Stands g t × Leads schema part code listed f g
 
-  -- what is laid out from one sheet to another leads from statement to statement
-  pub record Does (ended : Bool) (s t : Sheet) : Type 0 where
+  -- what is laid out from one buffer to another leads from statement to statement
+  pub record Does (ended : Bool) (s t : Buffer) : Type 0 where
     pub grown : Grown s t
     pub clean : Clean s
     pub same : marks t ≡ marks s
@@ -105,21 +105,21 @@ module _ (schema : Schema) (sf : schemas.Fits schema) (part : Part) (code : Code
   store_gives l k f within = record { straight = refl; tables = rw (lt-ltb l code.locals within) refl; gives = refl }
 
   -- a value, and its local, in another scope
-  stores : (s u t : Sheet) (made : Made) (local count : ℕ) (scope : Scope) → (m : Lays schema sf part code STACK_LIMIT s u made) → t ≡ with_op (ops.Store local) (record u { scope = scope; locals = count }) → u.locals ≤ count
+  stores : (s u t : Buffer) (made : Made) (local count : ℕ) (scope : Scope) → (m : Lays schema sf part code STACK_LIMIT s u made) → t ≡ with_op (ops.Store local) (record u { scope = scope; locals = count }) → u.locals ≤ count
       → ((f : Frame) (k : Kind) → Known schema sf part code f u → IsUnder schema sf k m.kind → count ≤ code.locals → (local < length f.locals) × AreKnown schema sf (set f.locals local k) scope.kinds scope.names) → Does false s t
   unfolding grown_on
   stores s u t made local count scope m put_is le known_after =
       let last : Grown u t = record {
         ops = ops.Store local ∷ [];
-        ops_are = ap (λ (x : Sheet). x.ops) put_is;
+        ops_are = ap (λ (x : Buffer). x.ops) put_is;
         texts = [];
-        texts_are = ap (λ (x : Sheet). x.texts) put_is ∙ sym (append-nil u.texts);
+        texts_are = ap (λ (x : Buffer). x.texts) put_is ∙ sym (append-nil u.texts);
         queries = [];
-        queries_are = ap (λ (x : Sheet). x.queries) put_is ∙ sym (append-nil u.queries);
+        queries_are = ap (λ (x : Buffer). x.queries) put_is ∙ sym (append-nil u.queries);
       } in
-      let locals_are : u.locals ≡ s.locals = ap (λ (x : Sheet). x.locals) m.same in
-      let count_is : t.locals ≡ count = ap (λ (x : Sheet). x.locals) put_is in
-      let scope_is : t.scope ≡ scope = ap (λ (x : Sheet). x.scope) put_is in
+      let locals_are : u.locals ≡ s.locals = ap (λ (x : Buffer). x.locals) m.same in
+      let count_is : t.locals ≡ count = ap (λ (x : Buffer). x.locals) put_is in
+      let scope_is : t.scope ≡ scope = ap (λ (x : Buffer). x.scope) put_is in
       record {
         grown = grown_on s u t m.grown last;
         clean = m.clean;
@@ -128,7 +128,7 @@ module _ (schema : Schema) (sf : schemas.Fits schema) (part : Part) (code : Code
         right = λ h. absurd cc;
         leads = λ few f stands.
             let x = m.leads f stands.1 (all_room f stands.0) in
-            let own = known_after f x.0 (stands.1.0, subst (λ (y : Sheet). AreKnown schema sf f.locals y.scope.kinds y.scope.names) (sym m.same) stands.1.1) x.1 (omega (arith, few, count_is)) in
+            let own = known_after f x.0 (stands.1.0, subst (λ (y : Buffer). AreKnown schema sf f.locals y.scope.kinds y.scope.names) (sym m.same) stands.1.1) x.1 (omega (arith, few, count_is)) in
             let within : local < code.locals = subst (λ n. local < n) stands.1.0 own.0 in
             let g = with_local local x.0 f in
             let end : Leads schema part code (ops.Store local ∷ []) (with_stack (x.0 ∷ f.stack) f) g = (g, store_gives local x.0 f within, refl) in (
@@ -139,7 +139,7 @@ module _ (schema : Schema) (sf : schemas.Fits schema) (part : Part) (code : Code
       }
 
   -- a name is declared
-  declares : (name : List ℕ) (kind : Kind) (s u t : Sheet) (m : Lays schema sf part code STACK_LIMIT s u (Some kind)) → declare name kind u ≡ Ok t → Does false s t
+  declares : (name : List ℕ) (kind : Kind) (s u t : Buffer) (m : Lays schema sf part code STACK_LIMIT s u (Some kind)) → declare name kind u ≡ Ok t → Does false s t
   declares name kind s u t m h =
       let d = declare_is name kind u t h in
       let scope = (declared_on name d.0 kind u).scope in
@@ -160,30 +160,30 @@ module _ (schema : Schema) (sf : schemas.Fits schema) (part : Part) (code : Code
 
   -- ---- let
 
-  stored_clean : (op : Op) (u t : Sheet) (scope : Scope) (count : ℕ) → t ≡ with_op op (record u { scope = scope; locals = count }) → Clean t → Clean u
-  stored_clean op u t scope count put_is clean = sym (ap (λ (x : Sheet). x.flaw) put_is) ∙ clean
+  stored_clean : (op : Op) (u t : Buffer) (scope : Scope) (count : ℕ) → t ≡ with_op op (record u { scope = scope; locals = count }) → Clean t → Clean u
+  stored_clean op u t scope count put_is clean = sym (ap (λ (x : Buffer). x.flaw) put_is) ∙ clean
 
-  stored_has : (op : Op) (u t : Sheet) (scope : Scope) (count : ℕ) → t ≡ with_op op (record u { scope = scope; locals = count }) → Has code t → Has code u
+  stored_has : (op : Op) (u t : Buffer) (scope : Scope) (count : ℕ) → t ≡ with_op op (record u { scope = scope; locals = count }) → Has code t → Has code u
   stored_has op u t scope count put_is has = has_before code u t (record {
     ops = op ∷ [];
-    ops_are = ap (λ (x : Sheet). x.ops) put_is;
+    ops_are = ap (λ (x : Buffer). x.ops) put_is;
     texts = [];
-    texts_are = ap (λ (x : Sheet). x.texts) put_is ∙ sym (append-nil u.texts);
+    texts_are = ap (λ (x : Buffer). x.texts) put_is ∙ sym (append-nil u.texts);
     queries = [];
-    queries_are = ap (λ (x : Sheet). x.queries) put_is ∙ sym (append-nil u.queries);
+    queries_are = ap (λ (x : Buffer). x.queries) put_is ∙ sym (append-nil u.queries);
   }) has
 
   -- where an expression has no kind there is a flaw
-  no_kind : {A : Type 0} (e : ExprTree) (s t : Sheet) → expr_code schema STACK_LIMIT e s ≡ Ok (None, t) → Clean t → Has code t → A
+  no_kind : {A : Type 0} (e : ExprTree) (s t : Buffer) → expr_code schema STACK_LIMIT e s ≡ Ok (None, t) → Clean t → Has code t → A
   no_kind e s t h clean has = let m = expr_lays schema sf part code small e STACK_LIMIT s t None h clean has in absurd (let no = m.made_is in cc)
 
-  pub let_does : (name : List ℕ) (e : ExprTree) (s t : Sheet) → let_code schema name e s ≡ Ok t → Clean t → Has code t → Does false s t
+  pub let_does : (name : List ℕ) (e : ExprTree) (s t : Buffer) → let_code schema name e s ≡ Ok t → Clean t → Has code t → Does false s t
   unfolding let_code
   let_does name e s t h clean has =
       let one = bind_ok (expr_code schema STACK_LIMIT e s) (λ p. let_as name p.0 p.1) t h in by_kind one.0.0 one.0.1 one.1 one.2
     where
-      by_kind : (made : Made) (u : Sheet) → expr_code schema STACK_LIMIT e s ≡ Ok (made, u) → let_as name made u ≡ Ok t → Does false s t
-      by_kind None u code_is h = let same = same_ok u t h in no_kind e s u code_is (ap (λ (x : Sheet). x.flaw) same ∙ clean) (subst (Has code) (sym same) has)
+      by_kind : (made : Made) (u : Buffer) → expr_code schema STACK_LIMIT e s ≡ Ok (made, u) → let_as name made u ≡ Ok t → Does false s t
+      by_kind None u code_is h = let same = same_ok u t h in no_kind e s u code_is (ap (λ (x : Buffer). x.flaw) same ∙ clean) (subst (Has code) (sym same) has)
       by_kind (Some kind) u code_is h =
           let d = declare_is name kind u t h in
           let to = declared_on name d.0 kind u in
@@ -192,13 +192,13 @@ module _ (schema : Schema) (sf : schemas.Fits schema) (part : Part) (code : Code
 
   -- ---- assignment
 
-  pub assign_does : (name : List ℕ) (e : ExprTree) (s t : Sheet) → assign_code schema name e s ≡ Ok t → Clean t → Has code t → Does false s t
+  pub assign_does : (name : List ℕ) (e : ExprTree) (s t : Buffer) → assign_code schema name e s ≡ Ok t → Clean t → Has code t → Does false s t
   unfolding assign_code
   assign_does name e s t h clean has =
       let one = bind_ok (expr_code schema STACK_LIMIT e s) (λ p. assign_to schema (local_of p.1.scope name) p.0 p.1) t h in by_local one.0.0 one.0.1 (local_of one.0.1.scope name) refl one.1 one.2
     where
-      by_assigned : (kind : Kind) (u : Sheet) (local : ℕ) (o : Option Kind) → assigned schema (kind_at u.scope.kinds local) kind ≡ o → local_of u.scope name ≡ Some local → expr_code schema STACK_LIMIT e s ≡ Ok (Some kind, u) → assign_as local o u ≡ Ok t → Does false s t
-      by_assigned kind u local None known at code_is h = never_noted WrongKind u (ap (λ (x : Sheet). x.flaw) (same_ok (noted WrongKind u) t h) ∙ clean)
+      by_assigned : (kind : Kind) (u : Buffer) (local : ℕ) (o : Option Kind) → assigned schema (kind_at u.scope.kinds local) kind ≡ o → local_of u.scope name ≡ Some local → expr_code schema STACK_LIMIT e s ≡ Ok (Some kind, u) → assign_as local o u ≡ Ok t → Does false s t
+      by_assigned kind u local None known at code_is h = never_noted WrongKind u (ap (λ (x : Buffer). x.flaw) (same_ok (noted WrongKind u) t h) ∙ clean)
       by_assigned kind u local (Some now) becomes at code_is h =
           let put_is = put_ok (ops.Store local) (with_kinds (set u.scope.kinds local now) u) t h in
           let scope : Scope = record { names = u.scope.names; kinds = set u.scope.kinds local now } in
@@ -211,9 +211,9 @@ module _ (schema : Schema) (sf : schemas.Fits schema) (part : Part) (code : Code
           let within = known_within u.scope.kinds local (under_known schema sf (kind_at f.locals local) (kind_at u.scope.kinds local) named.1) in
           (named.0, known_set schema sf f.locals u.scope.kinds u.scope.names local k now named.0 within own known.1))
 
-      by_local : (made : Made) (u : Sheet) (o : Option ℕ) → local_of u.scope name ≡ o → expr_code schema STACK_LIMIT e s ≡ Ok (made, u) → assign_to schema o made u ≡ Ok t → Does false s t
-      by_local made u None at code_is h = never_noted Unknown u (ap (λ (x : Sheet). x.flaw) (same_ok (noted Unknown u) t h) ∙ clean)
-      by_local None u (Some local) at code_is h = let same = same_ok u t h in no_kind e s u code_is (ap (λ (x : Sheet). x.flaw) same ∙ clean) (subst (Has code) (sym same) has)
+      by_local : (made : Made) (u : Buffer) (o : Option ℕ) → local_of u.scope name ≡ o → expr_code schema STACK_LIMIT e s ≡ Ok (made, u) → assign_to schema o made u ≡ Ok t → Does false s t
+      by_local made u None at code_is h = never_noted Unknown u (ap (λ (x : Buffer). x.flaw) (same_ok (noted Unknown u) t h) ∙ clean)
+      by_local None u (Some local) at code_is h = let same = same_ok u t h in no_kind e s u code_is (ap (λ (x : Buffer). x.flaw) same ∙ clean) (subst (Has code) (sym same) has)
       by_local (Some kind) u (Some local) at code_is h = by_assigned kind u local (assigned schema (kind_at u.scope.kinds local) kind) refl at code_is h
 
   -- ---- new
@@ -228,18 +228,18 @@ module _ (schema : Schema) (sf : schemas.Fits schema) (part : Part) (code : Code
   unfolding effect in_tables
   new_gives class f may there lt = record { straight = refl; tables = rw (lt-ltb class (length schema.classes) there) refl; gives = ap on (new_on class f may lt) }
 
-  pub new_does : (name class : List ℕ) (s t : Sheet) → (Clean s → writes part ≡ Ok tt) → new_code schema name class s ≡ Ok t → Clean t → Has code t → Does false s t
+  pub new_does : (name class : List ℕ) (s t : Buffer) → (Clean s → writes part ≡ Ok tt) → new_code schema name class s ≡ Ok t → Clean t → Has code t → Does false s t
   unfolding new_code
   new_does name class s t may h clean has = by_class (class_named schema class) refl h
     where
       by_class : (o : Option ℕ) → class_named schema class ≡ o → new_of name o s ≡ Ok t → Does false s t
-      by_class None at h = never_noted Unknown s (ap (λ (x : Sheet). x.flaw) (same_ok (noted Unknown s) t h) ∙ clean)
+      by_class None at h = never_noted Unknown s (ap (λ (x : Buffer). x.flaw) (same_ok (noted Unknown s) t h) ∙ clean)
       by_class (Some c) at h =
           let one = bind_ok (put (ops.New c) s) (declare name (kinds.Ref c)) t h in
           let d = declare_is name (kinds.Ref c) one.0 t one.2 in
           let put_is = put_ok (ops.New c) s one.0 one.1 in
           let to = declared_on name d.0 (kinds.Ref c) one.0 in
-          let free : Clean s = sym (ap (λ (x : Sheet). x.flaw) put_is) ∙ stored_clean (ops.Store d.0) one.0 t to.scope to.locals d.2 clean in
+          let free : Clean s = sym (ap (λ (x : Buffer). x.flaw) put_is) ∙ stored_clean (ops.Store d.0) one.0 t to.scope to.locals d.2 clean in
           let m = push_lays schema sf part code STACK_LIMIT s one.0 (ops.New c) (Some (kinds.Ref c)) (kinds.Ref c) free put_is refl (omega arith)
           (λ f known lt. (kinds.Ref c, (c, refl, descends_same schema sf c), new_gives c f (may free) (class_there schema class c at) lt)) in
           declares name (kinds.Ref c) s one.0 t m one.2

@@ -24,8 +24,8 @@ use Rattle.bb_compile_scope.specs.declared.fault.Flaw.{Flaw}
 use Rattle.bb_compile_scope.specs.declared.fault.Flaw.TheVariants.{Unknown, LinkClass, Space}
 use Rattle.bb_compile_scope.specs.Kinds.{class_of, is_live}
 use Rattle.bb_compile_scope.specs.Slots as slots
-use Rattle.bb_compile_buffer.specs.declared.sheet.Sheet.{Sheet}
-use Rattle.bb_compile_buffer.specs.Sheets.{noted, due, known, put, with_kinds}
+use Rattle.bb_compile_buffer.specs.declared.buffer.Buffer.{Buffer}
+use Rattle.bb_compile_buffer.specs.Buffers.{noted, due, known, put, with_kinds}
 use Rattle.bb_compile_buffer.specs.Operations.{Made}
 use Rattle.bb_compile_buffer.specs.Atoms.{unit_code}
 use Rattle.bb_compile_emit.specs.Expressions.{expr_code}
@@ -39,8 +39,8 @@ use Rattle.bb_verify.specs.Effect.{effect, set_slot, relink, enter, leave, after
 use Rattle.bb_verify.specs.Tables.{in_tables}
 use Rattle.bb_compile_accepted.proofs.StraightLemmas.{Gives, Leads, leads_on}
 use Rattle.bb_compile_accepted.proofs.UnderLemmas.{IsUnder, AreKnown, descends_on, is_due, under_class, known_struck}
-use Rattle.bb_compile_accepted.proofs.SheetLemmas.{Clean, Grown, Has, with_op, passed, never_noted, put_ok, put_clean, grown_op, grown_on, has_before}
-use Rattle.bb_compile_accepted.proofs.SheetLemmas as sheets
+use Rattle.bb_compile_accepted.proofs.BufferLemmas.{Clean, Grown, Has, with_op, passed, never_noted, put_ok, put_clean, grown_op, grown_on, has_before}
+use Rattle.bb_compile_accepted.proofs.BufferLemmas as buffers
 use Rattle.bb_compile_accepted.proofs.PutLemmas.{clean_before, due_kind}
 use Rattle.bb_compile_accepted.proofs.HeldLemmas.{value_below, link_below}
 use Rattle.bb_compile_accepted.proofs.LayLemmas.{Lays, bare_op, known_same}
@@ -50,14 +50,14 @@ use Rattle.bb_compile_accepted.proofs.ExprLemmas.{expr_lays, space_there}
 use Rattle.bb_compile_accepted.proofs.StoreLemmas.{Does, marks, marks_same, all_room}
 
 module _ (schema : Schema) (sf : schemas.Fits schema) (part : Part) (code : Code) (small : AreSmall schema sf part code) where
-  abbrev DoesHere : Sheet → Sheet → Type 0
+  abbrev DoesHere : Buffer → Buffer → Type 0
   DoesHere s t = Does schema sf part code small false s t
 
   -- the unit of an expression is live, and of a class
   abbrev IsLive : Made → (class : ℕ) → Type 0
   IsLive made c = (thought : Kind) → made ≡ Some thought → (class_of thought ≡ Some c) × (is_live thought ≡ true)
 
-  unit_live : (space : ℕ) (s t : Sheet) (class : Option ℕ) (c : ℕ) → (u : LaysUnit schema sf part code space s t class) → class ≡ Some c → IsLive (Some u.kind) c
+  unit_live : (space : ℕ) (s t : Buffer) (class : Option ℕ) (c : ℕ) → (u : LaysUnit schema sf part code space s t class) → class ≡ Some c → IsLive (Some u.kind) c
   unit_live space s t class c u h thought same =
       let e : u.kind ≡ thought = cc in
       (ap class_of (sym e) ∙ (u.kind_of ∙ (sym u.class_is ∙ h)), ap is_live (sym e) ∙ u.live)
@@ -71,14 +71,14 @@ module _ (schema : Schema) (sf : schemas.Fits schema) (part : Part) (code : Code
 
   -- ---- an op on one value, and one on two
 
-  one_does : (op : Op) (s u t : Sheet) (made : Made) → (m : Lays schema sf part code STACK_LIMIT s u made) → t ≡ with_op op u
+  one_does : (op : Op) (s u t : Buffer) (made : Made) → (m : Lays schema sf part code STACK_LIMIT s u made) → t ≡ with_op op u
       → ((f : Frame) (k : Kind) → IsUnder schema sf k m.kind → Gives schema part code op (with_stack (k ∷ f.stack) f) f) → DoesHere s t
   unfolding grown_on grown_op
   one_does op s u t made m put_is gives = record {
     grown = grown_on s u t m.grown (grown_op op u t put_is);
     clean = m.clean;
     same = ap marks put_is ∙ marks_same s u m.same;
-    locals = let e : t.locals ≡ s.locals = ap (λ (x : Sheet). x.locals) put_is ∙ ap (λ (x : Sheet). x.locals) m.same in omega (arith, e);
+    locals = let e : t.locals ≡ s.locals = ap (λ (x : Buffer). x.locals) put_is ∙ ap (λ (x : Buffer). x.locals) m.same in omega (arith, e);
     right = λ h. absurd cc;
     leads = λ few f stands.
         let x = m.leads f stands.1 (all_room schema sf part code small f stands.0) in
@@ -86,14 +86,14 @@ module _ (schema : Schema) (sf : schemas.Fits schema) (part : Part) (code : Code
         (f, (stands.0, known_same schema sf part code f s t (bare_op op u t put_is ∙ m.same) stands.1), leads_on schema part code m.grown.ops (op ∷ []) f (with_stack (x.0 ∷ f.stack) f) f x.2 end);
   }
 
-  two_does : (op : Op) (s u w t : Sheet) (made other : Made) → (m : Lays schema sf part code STACK_LIMIT s u made) → (n : Lays schema sf part code (STACK_LIMIT - 1) u w other) → t ≡ with_op op w
+  two_does : (op : Op) (s u w t : Buffer) (made other : Made) → (m : Lays schema sf part code STACK_LIMIT s u made) → (n : Lays schema sf part code (STACK_LIMIT - 1) u w other) → t ≡ with_op op w
       → ((f : Frame) (k l : Kind) → IsUnder schema sf k m.kind → IsUnder schema sf l n.kind → Gives schema part code op (with_stack (l ∷ k ∷ f.stack) f) f) → DoesHere s t
   unfolding grown_on grown_op
   two_does op s u w t made other m n put_is gives = record {
     grown = grown_on s u t m.grown (grown_on u w t n.grown (grown_op op w t put_is));
     clean = m.clean;
     same = ap marks put_is ∙ (marks_same u w n.same ∙ marks_same s u m.same);
-    locals = let e : t.locals ≡ s.locals = ap (λ (x : Sheet). x.locals) put_is ∙ (ap (λ (x : Sheet). x.locals) n.same ∙ ap (λ (x : Sheet). x.locals) m.same) in omega (arith, e);
+    locals = let e : t.locals ≡ s.locals = ap (λ (x : Buffer). x.locals) put_is ∙ (ap (λ (x : Buffer). x.locals) n.same ∙ ap (λ (x : Buffer). x.locals) m.same) in omega (arith, e);
     right = λ h. absurd cc;
     leads = λ few f stands.
         let room = all_room schema sf part code small f stands.0 in
@@ -181,16 +181,16 @@ module _ (schema : Schema) (sf : schemas.Fits schema) (part : Part) (code : Code
   unfolding after_delete
   after_stack b f none = ap (map (struck schema b)) none
 
-  pub enter_does : (v : Variable) (space : List ℕ) (s t : Sheet) → (Clean s → writes part ≡ Ok tt) → enter_code schema v space s ≡ Ok t → Clean t → DoesHere s t
+  pub enter_does : (v : Variable) (space : List ℕ) (s t : Buffer) → (Clean s → writes part ≡ Ok tt) → enter_code schema v space s ≡ Ok t → Clean t → DoesHere s t
   unfolding enter_code
   enter_does v space s t may h clean =
       let one = bind_ok (unit_code v STACK_LIMIT s) (λ p. entered schema p.0 (space_named schema space) (known (space_named schema space) p.1)) t h in
       by_names one.0.0 one.0.1 (space_named schema space) one.1 one.2
     where
-      by_names : (class : Option ℕ) (u : Sheet) (o : Option ℕ) → unit_code v STACK_LIMIT s ≡ Ok (class, u) → entered schema class o (known o u) ≡ Ok t → DoesHere s t
-      by_names None u (Some k) unit h = no_unit schema sf part code v STACK_LIMIT s u unit (ap (λ (x : Sheet). x.flaw) (same_ok u t h) ∙ clean)
-      by_names None u None unit h = never_noted Unknown u (ap (λ (x : Sheet). x.flaw) (same_ok (noted Unknown u) t h) ∙ clean)
-      by_names (Some c) u None unit h = never_noted Unknown u (ap (λ (x : Sheet). x.flaw) (same_ok (noted Unknown u) t h) ∙ clean)
+      by_names : (class : Option ℕ) (u : Buffer) (o : Option ℕ) → unit_code v STACK_LIMIT s ≡ Ok (class, u) → entered schema class o (known o u) ≡ Ok t → DoesHere s t
+      by_names None u (Some k) unit h = no_unit schema sf part code v STACK_LIMIT s u unit (ap (λ (x : Buffer). x.flaw) (same_ok u t h) ∙ clean)
+      by_names None u None unit h = never_noted Unknown u (ap (λ (x : Buffer). x.flaw) (same_ok (noted Unknown u) t h) ∙ clean)
+      by_names (Some c) u None unit h = never_noted Unknown u (ap (λ (x : Buffer). x.flaw) (same_ok (noted Unknown u) t h) ∙ clean)
       by_names (Some c) u (Some k) unit h =
           let was = space_noted schema k c u in
           let noted_put = put_ok (ops.Enter k) was t h in
@@ -200,49 +200,49 @@ module _ (schema : Schema) (sf : schemas.Fits schema) (part : Part) (code : Code
           let is_live = unit_live STACK_LIMIT s u (Some c) c first refl first.lays.kind first.lays.made_is in
           one_does (ops.Enter k) s u t (Some first.kind) first.lays put_is (λ f x under. enter_gives (may first.lays.clean) k first.lays.kind c f x is_live.0 is_live.1 free.0 under)
 
-  pub leave_does : (v : Variable) (space : List ℕ) (s t : Sheet) → (Clean s → writes part ≡ Ok tt) → leave_code schema v space s ≡ Ok t → Clean t → DoesHere s t
+  pub leave_does : (v : Variable) (space : List ℕ) (s t : Buffer) → (Clean s → writes part ≡ Ok tt) → leave_code schema v space s ≡ Ok t → Clean t → DoesHere s t
   unfolding leave_code
   leave_does v space s t may h clean =
       let one = bind_ok (unit_code v STACK_LIMIT s) (λ p. left_space (space_named schema space) p.1) t h in
       by_space one.0.0 one.0.1 (space_named schema space) refl one.1 one.2
     where
-      by_space : (class : Option ℕ) (u : Sheet) (o : Option ℕ) → space_named schema space ≡ o → unit_code v STACK_LIMIT s ≡ Ok (class, u) → left_space o u ≡ Ok t → DoesHere s t
-      by_space class u None at unit h = never_noted Unknown u (ap (λ (x : Sheet). x.flaw) (same_ok (noted Unknown u) t h) ∙ clean)
+      by_space : (class : Option ℕ) (u : Buffer) (o : Option ℕ) → space_named schema space ≡ o → unit_code v STACK_LIMIT s ≡ Ok (class, u) → left_space o u ≡ Ok t → DoesHere s t
+      by_space class u None at unit h = never_noted Unknown u (ap (λ (x : Buffer). x.flaw) (same_ok (noted Unknown u) t h) ∙ clean)
       by_space class u (Some k) at unit h =
           let put_is = put_ok (ops.Leave k) u t h in
           let first = unit_lays schema sf part code v STACK_LIMIT s u class unit (clean_before (ops.Leave k) u t put_is clean) in
           let is_live = unit_live STACK_LIMIT s u class first.of first first.class_is first.lays.kind first.lays.made_is in
           one_does (ops.Leave k) s u t (Some first.kind) first.lays put_is (λ f x under. leave_gives (may first.lays.clean) k first.lays.kind first.of f x is_live.0 is_live.1 (space_there schema space k at) under)
 
-  pub delete_does : (v : Variable) (s t : Sheet) → (Clean s → writes part ≡ Ok tt) → delete_code schema v s ≡ Ok t → Clean t → DoesHere s t
+  pub delete_does : (v : Variable) (s t : Buffer) → (Clean s → writes part ≡ Ok tt) → delete_code schema v s ≡ Ok t → Clean t → DoesHere s t
   unfolding delete_code grown_on
   delete_does v s t may h clean =
       let one = bind_ok (unit_code v STACK_LIMIT s) (λ p. deleted schema p.0 p.1) t h in by_class one.0.0 one.0.1 one.1 one.2
     where
-      by_class : (class : Option ℕ) (u : Sheet) → unit_code v STACK_LIMIT s ≡ Ok (class, u) → deleted schema class u ≡ Ok t → DoesHere s t
-      by_class None u unit h = no_unit schema sf part code v STACK_LIMIT s u unit (ap (λ (x : Sheet). x.flaw) (same_ok u t h) ∙ clean)
+      by_class : (class : Option ℕ) (u : Buffer) → unit_code v STACK_LIMIT s ≡ Ok (class, u) → deleted schema class u ≡ Ok t → DoesHere s t
+      by_class None u unit h = no_unit schema sf part code v STACK_LIMIT s u unit (ap (λ (x : Buffer). x.flaw) (same_ok u t h) ∙ clean)
       by_class (Some c) u unit h =
           let two = bind_ok (put ops.Delete u) (λ x. Ok (with_kinds (map (struck schema c) x.scope.kinds) x)) t h in
           let put_is = put_ok ops.Delete u two.0 two.1 in
-          let all : t ≡ with_kinds (map (struck schema c) u.scope.kinds) (with_op ops.Delete u) = sym (same_ok (with_kinds (map (struck schema c) two.0.scope.kinds) two.0) t two.2) ∙ ap (λ (x : Sheet). with_kinds (map (struck schema c) x.scope.kinds) x) put_is in
+          let all : t ≡ with_kinds (map (struck schema c) u.scope.kinds) (with_op ops.Delete u) = sym (same_ok (with_kinds (map (struck schema c) two.0.scope.kinds) two.0) t two.2) ∙ ap (λ (x : Buffer). with_kinds (map (struck schema c) x.scope.kinds) x) put_is in
           let last : Grown u t = record {
             ops = ops.Delete ∷ [];
-            ops_are = ap (λ (x : Sheet). x.ops) all;
+            ops_are = ap (λ (x : Buffer). x.ops) all;
             texts = [];
-            texts_are = ap (λ (x : Sheet). x.texts) all ∙ sym (append-nil u.texts);
+            texts_are = ap (λ (x : Buffer). x.texts) all ∙ sym (append-nil u.texts);
             queries = [];
-            queries_are = ap (λ (x : Sheet). x.queries) all ∙ sym (append-nil u.queries);
+            queries_are = ap (λ (x : Buffer). x.queries) all ∙ sym (append-nil u.queries);
           } in
-          let first = unit_lays schema sf part code v STACK_LIMIT s u (Some c) unit (sym (ap (λ (x : Sheet). x.flaw) all) ∙ clean) in
+          let first = unit_lays schema sf part code v STACK_LIMIT s u (Some c) unit (sym (ap (λ (x : Buffer). x.flaw) all) ∙ clean) in
           let m = first.lays in
           let is_live = unit_live STACK_LIMIT s u (Some c) c first refl m.kind m.made_is in
-          let names_are : t.scope.names ≡ s.scope.names = ap (λ (x : Sheet). x.scope.names) all ∙ ap (λ (x : Sheet). x.scope.names) m.same in
-          let kinds_are : t.scope.kinds ≡ map (struck schema c) s.scope.kinds = ap (λ (x : Sheet). x.scope.kinds) all ∙ ap (λ (x : Sheet). map (struck schema c) x.scope.kinds) m.same in
+          let names_are : t.scope.names ≡ s.scope.names = ap (λ (x : Buffer). x.scope.names) all ∙ ap (λ (x : Buffer). x.scope.names) m.same in
+          let kinds_are : t.scope.kinds ≡ map (struck schema c) s.scope.kinds = ap (λ (x : Buffer). x.scope.kinds) all ∙ ap (λ (x : Buffer). map (struck schema c) x.scope.kinds) m.same in
           record {
             grown = grown_on s u t m.grown last;
             clean = m.clean;
             same = ap marks all ∙ marks_same s u m.same;
-            locals = let e : t.locals ≡ s.locals = ap (λ (x : Sheet). x.locals) all ∙ ap (λ (x : Sheet). x.locals) m.same in omega (arith, e);
+            locals = let e : t.locals ≡ s.locals = ap (λ (x : Buffer). x.locals) all ∙ ap (λ (x : Buffer). x.locals) m.same in omega (arith, e);
             right = λ no. absurd cc;
             leads = λ few f stands.
                 let x = m.leads f stands.1 (all_room schema sf part code small f stands.0) in
@@ -258,19 +258,19 @@ module _ (schema : Schema) (sf : schemas.Fits schema) (part : Part) (code : Code
                 );
           }
 
-  pub set_does : (v : Variable) (slot : List ℕ) (e : ExprTree) (s t : Sheet) → (Clean s → writes part ≡ Ok tt) → set_code schema v slot e s ≡ Ok t → Clean t → Has code t → DoesHere s t
+  pub set_does : (v : Variable) (slot : List ℕ) (e : ExprTree) (s t : Buffer) → (Clean s → writes part ≡ Ok tt) → set_code schema v slot e s ≡ Ok t → Clean t → Has code t → DoesHere s t
   unfolding set_code
   set_does v slot e s t may h clean has =
       let one = bind_ok (unit_code v STACK_LIMIT s) (λ p. expr_code schema (STACK_LIMIT - 1) e p.1 >>= λ q. set_in schema p.0 slot q.0 q.1) t h in
       let two = bind_ok (expr_code schema (STACK_LIMIT - 1) e one.0.1) (λ q. set_in schema one.0.0 slot q.0 q.1) t one.2 in
       by_class one.0.0 one.0.1 two.0.0 two.0.1 one.1 two.1 two.2
     where
-      by_slot : (c : ℕ) (u : Sheet) (made : Made) (w : Sheet) (r : Result (ℕ × Kind) Flaw) → slots.value_slot schema c slot ≡ r → unit_code v STACK_LIMIT s ≡ Ok (Some c, u) → expr_code schema (STACK_LIMIT - 1) e u ≡ Ok (made, w) → set_by r made w ≡ Ok t → DoesHere s t
-      by_slot c u made w (Err flaw) at unit value h = never_noted flaw w (ap (λ (x : Sheet). x.flaw) (same_ok (noted flaw w) t h) ∙ clean)
+      by_slot : (c : ℕ) (u : Buffer) (made : Made) (w : Buffer) (r : Result (ℕ × Kind) Flaw) → slots.value_slot schema c slot ≡ r → unit_code v STACK_LIMIT s ≡ Ok (Some c, u) → expr_code schema (STACK_LIMIT - 1) e u ≡ Ok (made, w) → set_by r made w ≡ Ok t → DoesHere s t
+      by_slot c u made w (Err flaw) at unit value h = never_noted flaw w (ap (λ (x : Buffer). x.flaw) (same_ok (noted flaw w) t h) ∙ clean)
       by_slot c u made w (Ok p) at unit value h =
           let noted_put = put_ok (ops.Set p.0) (due made p.1 w) t h in
           let due_clean = clean_before (ops.Set p.0) (due made p.1 w) t noted_put clean in
-          let put_is : t ≡ with_op (ops.Set p.0) w = noted_put ∙ ap (with_op (ops.Set p.0)) (sheets.is_due made p.1 w due_clean) in
+          let put_is : t ≡ with_op (ops.Set p.0) w = noted_put ∙ ap (with_op (ops.Set p.0)) (buffers.is_due made p.1 w due_clean) in
           let own = has_before code w t (grown_op (ops.Set p.0) w t put_is) has in
           let second = expr_lays schema sf part code small e (STACK_LIMIT - 1) u w made value (clean_before (ops.Set p.0) w t put_is clean) own in
           let first = unit_lays schema sf part code v STACK_LIMIT s u (Some c) unit second.clean in
@@ -278,22 +278,22 @@ module _ (schema : Schema) (sf : schemas.Fits schema) (part : Part) (code : Code
           let same = due_kind second.kind p.1 w (subst (λ o. Clean (due o p.1 w)) second.made_is due_clean) in
           two_does (ops.Set p.0) s u w t (Some first.kind) made first.lays second put_is (λ f k l under other. set_gives (may first.lays.clean) first.lays.kind second.kind c slot p f k l is_live.0 is_live.1 at same under other)
 
-      by_class : (class : Option ℕ) (u : Sheet) (made : Made) (w : Sheet) → unit_code v STACK_LIMIT s ≡ Ok (class, u) → expr_code schema (STACK_LIMIT - 1) e u ≡ Ok (made, w) → set_in schema class slot made w ≡ Ok t → DoesHere s t
+      by_class : (class : Option ℕ) (u : Buffer) (made : Made) (w : Buffer) → unit_code v STACK_LIMIT s ≡ Ok (class, u) → expr_code schema (STACK_LIMIT - 1) e u ≡ Ok (made, w) → set_in schema class slot made w ≡ Ok t → DoesHere s t
       by_class None u made w unit value h =
           let same = same_ok w t h in
-          let second = expr_lays schema sf part code small e (STACK_LIMIT - 1) u w made value (ap (λ (x : Sheet). x.flaw) same ∙ clean) (subst (Has code) (sym same) has) in
+          let second = expr_lays schema sf part code small e (STACK_LIMIT - 1) u w made value (ap (λ (x : Buffer). x.flaw) same ∙ clean) (subst (Has code) (sym same) has) in
           no_unit schema sf part code v STACK_LIMIT s u unit second.clean
       by_class (Some c) u made w unit value h = by_slot c u made w (slots.value_slot schema c slot) refl unit value h
 
-  pub relink_does : (change : LinkChange) (v : Variable) (slot : List ℕ) (other : Variable) (s t : Sheet) → (Clean s → writes part ≡ Ok tt) → relink_code schema change v slot other s ≡ Ok t → Clean t → DoesHere s t
+  pub relink_does : (change : LinkChange) (v : Variable) (slot : List ℕ) (other : Variable) (s t : Buffer) → (Clean s → writes part ≡ Ok tt) → relink_code schema change v slot other s ≡ Ok t → Clean t → DoesHere s t
   unfolding relink_code
   relink_does change v slot other s t may h clean =
       let one = bind_ok (unit_code v STACK_LIMIT s) (λ p. unit_code other (STACK_LIMIT - 1) p.1 >>= λ q. relinked_in schema change p.0 slot q.0 q.1) t h in
       let two = bind_ok (unit_code other (STACK_LIMIT - 1) one.0.1) (λ q. relinked_in schema change one.0.0 slot q.0 q.1) t one.2 in
       by_class one.0.0 one.0.1 two.0.0 two.0.1 one.1 two.1 two.2
     where
-      by_slot : (c : ℕ) (u : Sheet) (of : Option ℕ) (w : Sheet) (r : Result (ℕ × Link) Flaw) → slots.link_slot schema c slot ≡ r → unit_code v STACK_LIMIT s ≡ Ok (Some c, u) → unit_code other (STACK_LIMIT - 1) u ≡ Ok (of, w) → relinked_by schema change r of w ≡ Ok t → DoesHere s t
-      by_slot c u of w (Err flaw) at unit also h = never_noted flaw w (ap (λ (x : Sheet). x.flaw) (same_ok (noted flaw w) t h) ∙ clean)
+      by_slot : (c : ℕ) (u : Buffer) (of : Option ℕ) (w : Buffer) (r : Result (ℕ × Link) Flaw) → slots.link_slot schema c slot ≡ r → unit_code v STACK_LIMIT s ≡ Ok (Some c, u) → unit_code other (STACK_LIMIT - 1) u ≡ Ok (of, w) → relinked_by schema change r of w ≡ Ok t → DoesHere s t
+      by_slot c u of w (Err flaw) at unit also h = never_noted flaw w (ap (λ (x : Buffer). x.flaw) (same_ok (noted flaw w) t h) ∙ clean)
       by_slot c u None w (Ok p) at unit also h =
           let put_is = put_ok (ops.Relink change p.0) w t h in no_unit schema sf part code other (STACK_LIMIT - 1) u w also (clean_before (ops.Relink change p.0) w t put_is clean)
       by_slot c u (Some d) w (Ok p) at unit also h =
@@ -308,9 +308,9 @@ module _ (schema : Schema) (sf : schemas.Fits schema) (part : Part) (code : Code
           two_does (ops.Relink change p.0) s u w t (Some first.kind) (Some second.kind) first.lays second.lays put_is
           (λ f k l under below. relink_gives (may first.lays.clean) change first.lays.kind second.lays.kind c d slot p f k l is_live.0 is_live.1 other_live.0 other_live.1 at free.0 under below)
 
-      by_class : (class : Option ℕ) (u : Sheet) (of : Option ℕ) (w : Sheet) → unit_code v STACK_LIMIT s ≡ Ok (class, u) → unit_code other (STACK_LIMIT - 1) u ≡ Ok (of, w) → relinked_in schema change class slot of w ≡ Ok t → DoesHere s t
+      by_class : (class : Option ℕ) (u : Buffer) (of : Option ℕ) (w : Buffer) → unit_code v STACK_LIMIT s ≡ Ok (class, u) → unit_code other (STACK_LIMIT - 1) u ≡ Ok (of, w) → relinked_in schema change class slot of w ≡ Ok t → DoesHere s t
       by_class None u of w unit also h =
           let same = same_ok w t h in
-          let second = unit_lays schema sf part code other (STACK_LIMIT - 1) u w of also (ap (λ (x : Sheet). x.flaw) same ∙ clean) in
+          let second = unit_lays schema sf part code other (STACK_LIMIT - 1) u w of also (ap (λ (x : Buffer). x.flaw) same ∙ clean) in
           no_unit schema sf part code v STACK_LIMIT s u unit second.lays.clean
       by_class (Some c) u of w unit also h = by_slot c u of w (slots.link_slot schema c slot) refl unit also h

@@ -1,8 +1,8 @@
 -- texts without branches and loops
 pub mod Plain
 -- what the compiler lays out, for crates above
-pub use Rattle.bb_compile_buffer.specs.declared.sheet.Sheet
-pub use Rattle.bb_compile_buffer.specs.Sheets
+pub use Rattle.bb_compile_buffer.specs.declared.buffer.Buffer
+pub use Rattle.bb_compile_buffer.specs.Buffers
 pub use Rattle.bb_compile_buffer.specs.Operations
 pub use Rattle.bb_compile_buffer.specs.Atoms
 pub use Rattle.bb_compile_buffer.specs.Within

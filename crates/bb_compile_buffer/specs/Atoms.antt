@@ -16,8 +16,8 @@ use Rattle.bb_compile_scope.specs.Kinds.{class_of, is_live}
 use Rattle.bb_compile_scope.specs.LocalKinds.{kind_at}
 use Rattle.bb_compile_scope.specs.Scope.{name_of, local_of}
 use Rattle.bb_compile_scope.specs.Slots.{value_slot}
-use Rattle.bb_compile_buffer.specs.declared.sheet.Sheet.{Sheet}
-use Rattle.bb_compile_buffer.specs.Sheets.{Step, Change, noted, put, put_value, text_index}
+use Rattle.bb_compile_buffer.specs.declared.buffer.Buffer.{Buffer}
+use Rattle.bb_compile_buffer.specs.Buffers.{Step, Change, noted, put, put_value, text_index}
 use Rattle.bb_compile_buffer.specs.Operations.{Made}
 
 -- an op that pushes a value of a kind
@@ -68,7 +68,7 @@ slot_code schema unit slot room s = do
   got_from schema slot class t
 
 -- a text that is too long
-abbrev pub text_noted : (text : List ℕ) → Sheet → Sheet
+abbrev pub text_noted : (text : List ℕ) → Buffer → Buffer
 text_noted text s = if nat_le (length text) TEXT_BYTES_LIMIT then s else noted Limit s
 
 -- a text

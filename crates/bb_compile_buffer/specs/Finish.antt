@@ -1,4 +1,4 @@
--- An empty sheet, and the code of one that is laid out whole.
+-- An empty buffer, and the code of one that is laid out whole.
 use Rattle.std.specs.Prelude.{ℕ, map, List, [], ◌∷◌, ◌++◌, length, Option, Some, None, Result, Ok, Err, if◌then◌else◌}
 use Rattle.std.specs.List.{range_with_len}
 use Rattle.bb_code_ops.specs.Code.{Code}
@@ -12,12 +12,12 @@ use Rattle.bb_compile_scope.specs.declared.fault.CompileFault.TheVariants.{At}
 use Rattle.bb_compile_scope.specs.LocalKinds.{kind_at}
 use Rattle.bb_compile_scope.specs.Scope.{begin_with}
 use Rattle.bb_compile_buffer.specs.declared.label.Label.{Label}
-use Rattle.bb_compile_buffer.specs.declared.sheet.Sheet.{Sheet}
+use Rattle.bb_compile_buffer.specs.declared.buffer.Buffer.{Buffer}
 use Rattle.bb_compile_buffer.specs.Within.{is_within}
 
 -- nothing is laid out yet
-abbrev pub empty_sheet : Part → Place → Sheet
-empty_sheet part start = record {
+abbrev pub empty_buffer : Part → Place → Buffer
+empty_buffer part start = record {
   start = start;
   ops = [];
   texts = [];
@@ -30,7 +30,7 @@ empty_sheet part start = record {
   flaw = None;
 }
 
--- ---- the code of a sheet
+-- ---- the code of a buffer
 
 -- the frame of a label, for `locals` locals: the stack is empty
 abbrev pub frame_of : (locals : ℕ) → Label → FrameEntry
@@ -46,7 +46,7 @@ last_frame locals (Some label) = frame_of locals label ∷ []
 abbrev pub frames_of : (locals : ℕ) → List Label → Option Label → List FrameEntry
 frames_of locals labels last = map (frame_of locals) labels ++ last_frame locals last
 
-abbrev pub code_of : Sheet → Code
+abbrev pub code_of : Buffer → Code
 code_of s = record {
   locals = s.locals;
   texts = s.texts;

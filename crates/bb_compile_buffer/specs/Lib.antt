@@ -1,10 +1,10 @@
 -- what is laid out so far of a code
-pub mod Sheets
+pub mod Buffers
 -- operations
 pub mod Operations
 -- expressions without parts
 pub mod Atoms
 -- which codes are within the limits of codes
 pub mod Within
--- an empty sheet, and the code of one that is laid out whole
+-- an empty buffer, and the code of one that is laid out whole
 pub mod Finish

@@ -21,8 +21,8 @@ use Rattle.bb_lang.specs.Division.{Division}
 use Rattle.bb_lang.specs.Division.TheVariants as divisions
 use Rattle.bb_compile_scope.specs.declared.fault.Flaw.TheVariants.{Kind as WrongKind, Limit}
 use Rattle.bb_compile_scope.specs.Kinds.{equality}
-use Rattle.bb_compile_buffer.specs.declared.sheet.Sheet.{Sheet}
-use Rattle.bb_compile_buffer.specs.Sheets.{Step, Change, noted, due, put}
+use Rattle.bb_compile_buffer.specs.declared.buffer.Buffer.{Buffer}
+use Rattle.bb_compile_buffer.specs.Buffers.{Step, Change, noted, due, put}
 
 -- the kind of what is made, as far as it is known
 abbrev pub Made : Type 0
@@ -77,7 +77,7 @@ division_op divisions.Quotient = op_divisions.DivBy
 division_op divisions.Remainder = op_divisions.ModBy
 
 -- a divisor that is less than 1
-abbrev pub divisor_noted : (divisor : ℤ) → Sheet → Sheet
+abbrev pub divisor_noted : (divisor : ℤ) → Buffer → Buffer
 divisor_noted divisor s = if int_lt divisor (pos 1) then noted Limit s else s
 
 -- /, %: by 1 or more

@@ -6,7 +6,7 @@ ghost use Rattle.bb_compile_scope.specs.declared.fault.CompileFault.TheVariants.
 ghost use Rattle.bb_compile_buffer.specs.Atoms.{pushed, variable_code, unit_code, slot_code, text_noted, text_code, label_code};
 ghost use Rattle.bb_compile_buffer.specs.Atoms.{atom_code};
 
-use crate::sheet::Sheet;
+use crate::buffer::Buffer;
 use bb_basis::Text;
 use bb_code::TEXT_BYTES_LIMIT;
 use bb_compile_scope::{
@@ -17,54 +17,54 @@ use bb_lang::Atom;
 // An op that pushes a value of a kind.
 #[tactic(auto, unfolding(crate::specs::Atoms::pushed))]
 fn emit_pushed(
-    sheet: &mut Sheet,
+    buffer: &mut Buffer,
     op: Op,
     gives: Kind,
     room: usize,
 ) -> Result<Option<Kind>, CompileFault>
-    ensures { Gives OutOfMemory (λ kind. (kind, sheet.new)) result (pushed op gives room sheet.old) }
+    ensures { Gives OutOfMemory (λ kind. (kind, buffer.new)) result (pushed op gives room buffer.old) }
 {
-    sheet.put_value(op, room)?;
+    buffer.put_value(op, room)?;
     Ok(Some(gives))
 }
 
 /// Loads what a name holds, and returns its kind.
 #[tactic(auto, unfolding(crate::specs::Atoms::variable_code))]
 pub fn emit_variable(
-    sheet: &mut Sheet,
+    buffer: &mut Buffer,
     variable: &Variable,
     room: usize,
 ) -> Result<Option<Kind>, CompileFault>
-    ensures { Gives OutOfMemory (λ kind. (kind, sheet.new)) result (variable_code variable.now room sheet.old) }
+    ensures { Gives OutOfMemory (λ kind. (kind, buffer.new)) result (variable_code variable.now room buffer.old) }
 {
-    let Some(local) = sheet.scope.local_of(name_of(variable)) else {
-        sheet.note(Flaw::Unknown);
+    let Some(local) = buffer.scope.local_of(name_of(variable)) else {
+        buffer.note(Flaw::Unknown);
         return Ok(None);
     };
-    sheet.put_value(Op::Load(local), room)?;
-    Ok(Some(sheet.scope.kinds.get(local)))
+    buffer.put_value(Op::Load(local), room)?;
+    Ok(Some(buffer.scope.kinds.get(local)))
 }
 
 /// Loads the unit of a name, which has to be live, and returns its class.
 #[tactic(auto, unfolding(crate::specs::Atoms::unit_code))]
 pub fn emit_unit(
-    sheet: &mut Sheet,
+    buffer: &mut Buffer,
     unit: &Variable,
     room: usize,
 ) -> Result<Option<ClassId>, CompileFault>
-    ensures { Gives OutOfMemory (λ class. (class, sheet.new)) result (unit_code unit.now room sheet.old) }
+    ensures { Gives OutOfMemory (λ class. (class, buffer.new)) result (unit_code unit.now room buffer.old) }
 {
-    let Some(kind) = emit_variable(sheet, unit, room)? else {
+    let Some(kind) = emit_variable(buffer, unit, room)? else {
         return Ok(None);
     };
     let Some(class) = class_of(kind) else {
-        sheet.note(Flaw::Kind);
+        buffer.note(Flaw::Kind);
         return Ok(None);
     };
     if is_live(kind) {
         return Ok(Some(class));
     }
-    sheet.note(Flaw::DeadName);
+    buffer.note(Flaw::DeadName);
     Ok(Some(class))
 }
 
@@ -72,88 +72,88 @@ pub fn emit_unit(
 #[tactic(auto, unfolding(crate::specs::Atoms::slot_code))]
 fn emit_slot(
     schema: &Schema,
-    sheet: &mut Sheet,
+    buffer: &mut Buffer,
     unit: &Variable,
     slot: &Text,
     room: usize,
 ) -> Result<Option<Kind>, CompileFault>
-    ensures { Gives OutOfMemory (λ kind. (kind, sheet.new)) result
-        (slot_code schema.now unit.now slot.now room sheet.old) }
+    ensures { Gives OutOfMemory (λ kind. (kind, buffer.new)) result
+        (slot_code schema.now unit.now slot.now room buffer.old) }
 {
-    let Some(class) = emit_unit(sheet, unit, room)? else {
+    let Some(class) = emit_unit(buffer, unit, room)? else {
         return Ok(None);
     };
     match value_slot(schema, class, slot.as_str()) {
         Err(flaw) => {
-            sheet.note(flaw);
+            buffer.note(flaw);
             Ok(None)
         }
         Ok((slot, kind)) => {
-            sheet.put(Op::Get(slot))?;
+            buffer.put(Op::Get(slot))?;
             Ok(Some(kind))
         }
     }
 }
 
 // Notes a text that is too long.
-fn check_text(sheet: &mut Sheet, text: &Text)
-    ensures { sheet.new ≡ text_noted text.now sheet.old }
+fn check_text(buffer: &mut Buffer, text: &Text)
+    ensures { buffer.new ≡ text_noted text.now buffer.old }
 {
     if text.len() <= TEXT_BYTES_LIMIT as usize {
         return;
     }
-    sheet.note(Flaw::Limit);
+    buffer.note(Flaw::Limit);
 }
 
 // A text.
 #[tactic(auto, unfolding(crate::specs::Atoms::text_code))]
-fn emit_text(sheet: &mut Sheet, text: &Text, room: usize) -> Result<Option<Kind>, CompileFault>
-    ensures { Gives OutOfMemory (λ kind. (kind, sheet.new)) result (text_code text.now room sheet.old) }
+fn emit_text(buffer: &mut Buffer, text: &Text, room: usize) -> Result<Option<Kind>, CompileFault>
+    ensures { Gives OutOfMemory (λ kind. (kind, buffer.new)) result (text_code text.now room buffer.old) }
 {
-    check_text(sheet, text);
-    let index = sheet.text(text.as_str())?;
-    emit_pushed(sheet, Op::PushText(index), Kind::Text, room)
+    check_text(buffer, text);
+    let index = buffer.text(text.as_str())?;
+    emit_pushed(buffer, Op::PushText(index), Kind::Text, room)
 }
 
 // A label of a set.
 #[tactic(auto, unfolding(crate::specs::Atoms::label_code))]
 fn emit_label(
     schema: &Schema,
-    sheet: &mut Sheet,
+    buffer: &mut Buffer,
     set: &Text,
     label: &Text,
     room: usize,
 ) -> Result<Option<Kind>, CompileFault>
-    ensures { Gives OutOfMemory (λ kind. (kind, sheet.new)) result
-        (label_code schema.now set.now label.now room sheet.old) }
+    ensures { Gives OutOfMemory (λ kind. (kind, buffer.new)) result
+        (label_code schema.now set.now label.now room buffer.old) }
 {
     let Some(set) = schema.label_set(set.as_str()) else {
-        sheet.note(Flaw::Unknown);
+        buffer.note(Flaw::Unknown);
         return Ok(None);
     };
     let Some(label) = schema.label(set, label.as_str()) else {
-        sheet.note(Flaw::Unknown);
+        buffer.note(Flaw::Unknown);
         return Ok(Some(Kind::Label(set)));
     };
-    emit_pushed(sheet, Op::PushLabel(set, label), Kind::Label(set), room)
+    emit_pushed(buffer, Op::PushLabel(set, label), Kind::Label(set), room)
 }
 
 /// An expression without parts, where the stack has room for `room` values. Returns its kind, as far as it is known.
 #[tactic(auto, unfolding(crate::specs::Atoms::atom_code))]
 pub fn emit_atom(
     schema: &Schema,
-    sheet: &mut Sheet,
+    buffer: &mut Buffer,
     atom: &Atom,
     room: usize,
 ) -> Result<Option<Kind>, CompileFault>
-    ensures { Gives OutOfMemory (λ kind. (kind, sheet.new)) result (atom_code schema.now room atom.now sheet.old) }
+    ensures { Gives OutOfMemory (λ kind. (kind, buffer.new)) result (atom_code schema.now room atom.now buffer.old) }
 {
     match atom {
-        Atom::Int(number) => emit_pushed(sheet, Op::PushInt(*number), Kind::Int, room),
-        Atom::Text(text) => emit_text(sheet, text, room),
-        Atom::Bool(truth) => emit_pushed(sheet, Op::PushBool(*truth), Kind::Bool, room),
-        Atom::Label { set, label } => emit_label(schema, sheet, set, label, room),
-        Atom::Variable(variable) => emit_variable(sheet, variable, room),
-        Atom::Slot { unit, slot } => emit_slot(schema, sheet, unit, slot, room),
+        Atom::Int(number) => emit_pushed(buffer, Op::PushInt(*number), Kind::Int, room),
+        Atom::Text(text) => emit_text(buffer, text, room),
+        Atom::Bool(truth) => emit_pushed(buffer, Op::PushBool(*truth), Kind::Bool, room),
+        Atom::Label { set, label } => emit_label(schema, buffer, set, label, room),
+        Atom::Variable(variable) => emit_variable(buffer, variable, room),
+        Atom::Slot { unit, slot } => emit_slot(schema, buffer, unit, slot, room),
     }
 }

@@ -1,4 +1,4 @@
-//! The code of a sheet that is laid out whole. The layout of parts calls `finish`.
+//! The code of a buffer that is laid out whole. The layout of parts calls `finish`.
 
 ghost use Rattle.std.specs.Prelude.{◌≡◌, IfOk, map, ◌++◌};
 ghost use Rattle.std.specs.List.{range_with_len};
@@ -7,8 +7,8 @@ ghost use Rattle.bb_compile_scope.specs.declared.fault.CompileFault.TheVariants.
 ghost use Rattle.bb_compile_scope.specs.LocalKinds.{kind_at};
 ghost use Rattle.bb_compile_buffer.specs.Finish.{frame_of, last_frame, frames_of, code_of, if_within};
 
+use crate::buffer::Buffer;
 use crate::label::Label;
-use crate::sheet::Sheet;
 use bb_basis::Items;
 use bb_code::{Code, CodeParts, Frame, FrameEntry};
 use bb_compile_scope::{CompileFault, Flaw, Kind, LocalKinds, Place};
@@ -76,20 +76,20 @@ fn checked(parts: CodeParts, place: Place) -> Result<Code, CompileFault>
     Code::new(parts).ok_or(CompileFault::At { flaw, place })
 }
 
-/// The code that a sheet has.
-pub fn finish(sheet: Sheet) -> Result<Code, CompileFault>
-    ensures { Gives OutOfMemory (λ code. code) result (if_within sheet.start (code_of sheet)) }
+/// The code that a buffer has.
+pub fn finish(buffer: Buffer) -> Result<Code, CompileFault>
+    ensures { Gives OutOfMemory (λ code. code) result (if_within buffer.start (code_of buffer)) }
 {
-    let alloc = sheet.alloc();
-    let frames = frames_of(alloc, sheet.labels.as_slice(), &sheet.last, sheet.locals)?;
-    let place = sheet.start;
+    let alloc = buffer.alloc();
+    let frames = frames_of(alloc, buffer.labels.as_slice(), &buffer.last, buffer.locals)?;
+    let place = buffer.start;
     let parts = CodeParts {
-        locals: sheet.locals,
-        texts: sheet.texts.into_items(),
-        queries: sheet.queries,
+        locals: buffer.locals,
+        texts: buffer.texts.into_items(),
+        queries: buffer.queries,
         frames,
-        loops: Items::from(sheet.loops.into_vec()),
-        ops: Items::from(sheet.ops.into_vec()),
+        loops: Items::from(buffer.loops.into_vec()),
+        ops: Items::from(buffer.ops.into_vec()),
     };
     checked(parts, place)
 }

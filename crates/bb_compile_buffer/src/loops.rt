@@ -1,7 +1,7 @@
-//! The loops of a code that is being laid out. The sheet keeps them.
+//! The loops of a code that is being laid out. The buffer keeps them.
 
 ghost use Rattle.std.specs.Prelude.{◌≡◌, [], ◌∷◌, ◌++◌, length, OnOk};
-ghost use Rattle.bb_compile_buffer.specs.Sheets.{ended_at};
+ghost use Rattle.bb_compile_buffer.specs.Buffers.{ended_at};
 
 use bb_code::Loop;
 use std::alloc::{AllocError, Global};

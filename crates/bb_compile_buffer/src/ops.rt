@@ -1,8 +1,8 @@
-//! The ops of a code that is being laid out. The sheet keeps them.
+//! The ops of a code that is being laid out. The buffer keeps them.
 
 ghost use Rattle.std.specs.Prelude.{◌≡◌, ◌<◌, ◌≤◌, ◌↔◌, [], ◌∷◌, ◌++◌, length, IsTrue, OnOk};
 ghost use Rattle.bb_code.specs.Limits.{OP_LIMIT};
-ghost use Rattle.bb_compile_buffer.specs.Sheets.{aimed, aimed_at};
+ghost use Rattle.bb_compile_buffer.specs.Buffers.{aimed, aimed_at};
 
 use bb_code::{OP_LIMIT, Op};
 use std::alloc::{AllocError, Global};

@@ -1,4 +1,4 @@
-//! The texts of a code that is being laid out. The sheet keeps them.
+//! The texts of a code that is being laid out. The buffer keeps them.
 
 ghost use Rattle.std.specs.Prelude.{◌≡◌, ◌<◌, ◌≤◌, [], ◌∷◌, ◌++◌, length, position, None, IfSome, OnOk};
 ghost use Rattle.std.specs.Str.{bytes_eq};

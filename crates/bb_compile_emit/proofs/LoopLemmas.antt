@@ -15,11 +15,11 @@ use Rattle.bb_lang.specs.View.{steps_of, patterns_of}
 use Rattle.bb_lang.specs.BlockView.{block_of, statement_of}
 use Rattle.bb_compile_scope.specs.declared.fault.CompileFault.{CompileFault}
 use Rattle.bb_compile_emit.specs.declared.asked.Asked.{Asked}
-use Rattle.bb_compile_buffer.specs.declared.sheet.Sheet.{Sheet}
+use Rattle.bb_compile_buffer.specs.declared.buffer.Buffer.{Buffer}
 use Rattle.bb_compile_buffer.specs.Operations.{Made, operator_code}
 use Rattle.bb_compile_emit.specs.Queries.{Patterned}
 use Rattle.bb_compile_emit.specs.Expressions.{expr_code, step_code, steps_code, pattern_code, patterns_code}
-use Rattle.bb_compile_buffer.specs.Sheets.{leave}
+use Rattle.bb_compile_buffer.specs.Buffers.{leave}
 use Rattle.bb_compile_emit.specs.Statements.{after_end, left, statement_code, placed_code, statements_code, block_code}
 use Rattle.bb_compile_scope.specs.Scope.{mark_of}
 use Rattle.bb_lang.specs.Blocks.{BlockTree}
@@ -49,21 +49,21 @@ after_err (Err d) f g e h = err_again d e h
 -- ---- steps of a chain
 
 module _ (schema : Schema) (room : ℕ) where
-  abbrev rest_of : List OneStep → Made × Sheet → Result (Made × Sheet) CompileFault
+  abbrev rest_of : List OneStep → Made × Buffer → Result (Made × Buffer) CompileFault
   rest_of steps r = steps_code schema room r.0 (steps_of steps) r.1
 
-  step_ok : (left : Made) (s : OneStep) (steps : List OneStep) (t : Sheet) (y : Made × Sheet) → step_code schema room left s t ≡ Ok y → steps_code schema room left (steps_of (s ∷ steps)) t ≡ steps_code schema room y.0 (steps_of steps) y.1
+  step_ok : (left : Made) (s : OneStep) (steps : List OneStep) (t : Buffer) (y : Made × Buffer) → step_code schema room left s t ≡ Ok y → steps_code schema room left (steps_of (s ∷ steps)) t ≡ steps_code schema room y.0 (steps_of steps) y.1
   unfolding steps_code
   step_ok left (Apply operator e) steps t y h = after_ok (expr_code schema (room - 1) e t) (λ r. operator_code operator left r.0 r.1) (rest_of steps) y h
   step_ok left (Divide division divisor) steps t y h = ap (λ q. q >>= rest_of steps) h
 
-  step_err : (left : Made) (s : OneStep) (steps : List OneStep) (t : Sheet) (e : CompileFault) → step_code schema room left s t ≡ Err e → steps_code schema room left (steps_of (s ∷ steps)) t ≡ Err e
+  step_err : (left : Made) (s : OneStep) (steps : List OneStep) (t : Buffer) (e : CompileFault) → step_code schema room left s t ≡ Err e → steps_code schema room left (steps_of (s ∷ steps)) t ≡ Err e
   unfolding steps_code
   step_err left (Apply operator o) steps t e h = after_err (expr_code schema (room - 1) o t) (λ r. operator_code operator left r.0 r.1) (rest_of steps) e h
   step_err left (Divide division divisor) steps t e h = ap (λ q. q >>= rest_of steps) h
 
-  module _ (steps : List OneStep) (i : ℕ) (left : Made) (t : Sheet) (total : Result (Made × Sheet) CompileFault) where
-    pub steps_next : (s : OneStep) (kind : Made) (u : Sheet) → i < length steps → s ≡ get_or steps i s → step_code schema room left s t ≡ Ok (kind, u)
+  module _ (steps : List OneStep) (i : ℕ) (left : Made) (t : Buffer) (total : Result (Made × Buffer) CompileFault) where
+    pub steps_next : (s : OneStep) (kind : Made) (u : Buffer) → i < length steps → s ≡ get_or steps i s → step_code schema room left s t ≡ Ok (kind, u)
         → steps_code schema room left (steps_of (drop i steps)) t ≡ total → steps_code schema room kind (steps_of (drop (i + 1) steps)) u ≡ total
     steps_next s kind u lt at now so_far =
         sym (step_ok left s (drop (i + 1) steps) t (kind, u) now) ∙ ap (λ l. steps_code schema room left (steps_of l) t) (sym (next_one steps i s lt at)) ∙ so_far
@@ -100,7 +100,7 @@ front_error : (made : List Tree) (e : CompileFault) → with_front made (Err e) 
 unfolding with_front
 front_error made e = refl
 
-front_none : (made : List Tree) (a : Asked) (s : Sheet) → with_front made (Ok (no_more, a, s)) ≡ Ok (trees_of made, a, s)
+front_none : (made : List Tree) (a : Asked) (s : Buffer) → with_front made (Ok (no_more, a, s)) ≡ Ok (trees_of made, a, s)
 unfolding with_front
 front_none made a s = ap (λ x. Ok (x, a, s)) (behind_none made)
 
@@ -109,7 +109,7 @@ unfolding with_front
 front_empty made (Ok r) empty = ap (λ l. with_front l (Ok r)) empty
 front_empty made (Err e) empty = refl
 
-module _ (schema : Schema) (room : ℕ) (space : Option ℕ) (ps : List PatternTree) (i : ℕ) (made : List Tree) (a : Asked) (s : Sheet) (total : Result (Patterned Trees) CompileFault) where
+module _ (schema : Schema) (room : ℕ) (space : Option ℕ) (ps : List PatternTree) (i : ℕ) (made : List Tree) (a : Asked) (s : Buffer) (total : Result (Patterned Trees) CompileFault) where
   abbrev others : Patterned Tree → Result (Patterned Trees) CompileFault
   others r = patterns_code schema room space (patterns_of (drop (i + 1) ps)) r.1 r.2 >>= in_front r.0
 
@@ -117,7 +117,7 @@ module _ (schema : Schema) (room : ℕ) (space : Option ℕ) (ps : List PatternT
   unfolding patterns_code
   more_is p lt at = ap (λ l. patterns_code schema room space (patterns_of l) a s) (next_one ps i p lt at)
 
-  pub patterns_next : (p : PatternTree) (new : List Tree) (t : Tree) (b : Asked) (u : Sheet) → i < length ps → p ≡ get_or ps i p → new ≡ made ++ t ∷ [] → pattern_code schema room space p a s ≡ Ok (t, b, u)
+  pub patterns_next : (p : PatternTree) (new : List Tree) (t : Tree) (b : Asked) (u : Buffer) → i < length ps → p ≡ get_or ps i p → new ≡ made ++ t ∷ [] → pattern_code schema room space p a s ≡ Ok (t, b, u)
       → with_front made (patterns_code schema room space (patterns_of (drop i ps)) a s) ≡ total → with_front new (patterns_code schema room space (patterns_of (drop (i + 1) ps)) b u) ≡ total
   patterns_next p new t b u lt at is now so_far =
       ap (λ l. with_front l (patterns_code schema room space (patterns_of (drop (i + 1) ps)) b u)) is
@@ -137,26 +137,26 @@ module _ (schema : Schema) (room : ℕ) (space : Option ℕ) (ps : List PatternT
 
 -- ---- statements of a block
 
-abbrev ended_by : Bool → Bool × Sheet → Result (Bool × Sheet) CompileFault
+abbrev ended_by : Bool → Bool × Buffer → Result (Bool × Buffer) CompileFault
 ended_by ended x = Ok (ended || x.0, x.1)
 
-now_ok : (r : Result (Bool × Sheet) CompileFault) (ended now : Bool) (u : Sheet) (f : Bool → Sheet → Result (Bool × Sheet) CompileFault) → (r >>= ended_by ended) ≡ Ok (now, u) → (r >>= λ x. f (ended || x.0) x.1) ≡ f now u
+now_ok : (r : Result (Bool × Buffer) CompileFault) (ended now : Bool) (u : Buffer) (f : Bool → Buffer → Result (Bool × Buffer) CompileFault) → (r >>= ended_by ended) ≡ Ok (now, u) → (r >>= λ x. f (ended || x.0) x.1) ≡ f now u
 now_ok (Ok x) ended now u f h = ap (λ y. f y.0 y.1) (same_ok (ended || x.0, x.1) (now, u) h)
 now_ok (Err e) ended now u f h = absurd cc
 
-now_err : (r : Result (Bool × Sheet) CompileFault) (ended : Bool) (e : CompileFault) (f : Bool → Sheet → Result (Bool × Sheet) CompileFault) → (r >>= ended_by ended) ≡ Err e → (r >>= λ x. f (ended || x.0) x.1) ≡ Err e
+now_err : (r : Result (Bool × Buffer) CompileFault) (ended : Bool) (e : CompileFault) (f : Bool → Buffer → Result (Bool × Buffer) CompileFault) → (r >>= ended_by ended) ≡ Err e → (r >>= λ x. f (ended || x.0) x.1) ≡ Err e
 now_err (Ok x) ended e f h = absurd cc
 now_err (Err d) ended e f h = h
 
-module _ (schema : Schema) (part : Part) (loops : ℕ) (ps : List Placed) (i : ℕ) (ended : Bool) (s : Sheet) (total : Result (Bool × Sheet) CompileFault) where
-  abbrev behind_it : Bool → Sheet → Result (Bool × Sheet) CompileFault
+module _ (schema : Schema) (part : Part) (loops : ℕ) (ps : List Placed) (i : ℕ) (ended : Bool) (s : Buffer) (total : Result (Bool × Buffer) CompileFault) where
+  abbrev behind_it : Bool → Buffer → Result (Bool × Buffer) CompileFault
   behind_it now t = statements_code schema part loops now (block_of (drop (i + 1) ps)) t
 
   statements_is : (p : Placed) → i < length ps → p ≡ get_or ps i p → statements_code schema part loops ended (block_of (drop i ps)) s ≡ (statement_code schema part loops p.place (statement_of p.statement) (after_end ended s) >>= λ x. behind_it (ended || x.0) x.1)
   unfolding statements_code
   statements_is p lt at = ap (λ l. statements_code schema part loops ended (block_of l) s) (next_one ps i p lt at)
 
-  pub block_next : (p : Placed) (now : Bool) (u : Sheet) → i < length ps → p ≡ get_or ps i p → placed_code schema part loops ended p s ≡ Ok (now, u)
+  pub block_next : (p : Placed) (now : Bool) (u : Buffer) → i < length ps → p ≡ get_or ps i p → placed_code schema part loops ended p s ≡ Ok (now, u)
       → statements_code schema part loops ended (block_of (drop i ps)) s ≡ total → statements_code schema part loops now (block_of (drop (i + 1) ps)) u ≡ total
   block_next p now u lt at is so_far =
       sym (now_ok (statement_code schema part loops p.place (statement_of p.statement) (after_end ended s)) ended now u behind_it is) ∙ sym (statements_is p lt at) ∙ so_far
@@ -173,9 +173,9 @@ module _ (schema : Schema) (part : Part) (loops : ℕ) (ps : List Placed) (i : �
 
 -- ---- the whole block
 
-pub block_fails : (schema : Schema) (part : Part) (loops : ℕ) (b : BlockTree) (s : Sheet) (out e : CompileFault) → (e ≡ out) ⊎ (statements_code schema part loops false b s ≡ Err e) → (e ≡ out) ⊎ (block_code schema part loops b s ≡ Err e)
+pub block_fails : (schema : Schema) (part : Part) (loops : ℕ) (b : BlockTree) (s : Buffer) (out e : CompileFault) → (e ≡ out) ⊎ (statements_code schema part loops false b s ≡ Err e) → (e ≡ out) ⊎ (block_code schema part loops b s ≡ Err e)
 block_fails schema part loops b s out e (inl h) = inl h
 block_fails schema part loops b s out e (inr h) = inr (ap (λ r. r >>= left (mark_of s.scope)) h)
 
-pub block_whole : (schema : Schema) (part : Part) (loops : ℕ) (b : BlockTree) (s t : Sheet) (ended : Bool) → statements_code schema part loops false b s ≡ Ok (ended, t) → block_code schema part loops b s ≡ Ok (ended, leave (mark_of s.scope) t)
+pub block_whole : (schema : Schema) (part : Part) (loops : ℕ) (b : BlockTree) (s t : Buffer) (ended : Bool) → statements_code schema part loops false b s ≡ Ok (ended, t) → block_code schema part loops b s ≡ Ok (ended, leave (mark_of s.scope) t)
 block_whole schema part loops b s t ended h = ap (λ r. r >>= left (mark_of s.scope)) h

@@ -24,18 +24,18 @@ use Rattle.bb_compile_scope.specs.Kinds.{assigned}
 use Rattle.bb_compile_scope.specs.LocalKinds.{kind_at}
 use Rattle.bb_compile_scope.specs.Scope.{local_of}
 use Rattle.bb_compile_scope.specs.Slots.{value_slot, link_slot}
-use Rattle.bb_compile_buffer.specs.declared.sheet.Sheet.{Sheet}
-use Rattle.bb_compile_buffer.specs.Sheets.{Change, noted, due, known, put, with_kinds, declare}
+use Rattle.bb_compile_buffer.specs.declared.buffer.Buffer.{Buffer}
+use Rattle.bb_compile_buffer.specs.Buffers.{Change, noted, due, known, put, with_kinds, declare}
 use Rattle.bb_compile_buffer.specs.Operations.{Made}
 use Rattle.bb_compile_buffer.specs.Atoms.{unit_code}
 use Rattle.bb_compile_emit.specs.Expressions.{expr_code}
 
 -- a change in a part that may make none
-abbrev pub effect_noted : Part → Sheet → Sheet
+abbrev pub effect_noted : Part → Buffer → Buffer
 effect_noted part s = if is_ok (writes part) then s else noted Effect s
 
 -- an end that the part does not have
-abbrev pub end_noted : (right : Bool) → Sheet → Sheet
+abbrev pub end_noted : (right : Bool) → Buffer → Buffer
 end_noted right s = if right then s else noted NoEnd s
 
 abbrev pub let_as : (name : List ℕ) → Made → Change
@@ -89,7 +89,7 @@ set_code schema unit slot value s = do
   set_in schema class slot kind u
 
 -- a unit of a class that the link does not lead to
-abbrev pub link_noted : Schema → (to : ℕ) → (other : Option ℕ) → Sheet → Sheet
+abbrev pub link_noted : Schema → (to : ℕ) → (other : Option ℕ) → Buffer → Buffer
 link_noted schema to None s = s
 link_noted schema to (Some class) s = if descends schema class to then s else noted LinkClass s
 
@@ -109,7 +109,7 @@ relink_code schema change unit slot other s = do
   relinked_in schema change class slot of u
 
 -- a space that does not admit the unit
-abbrev pub space_noted : Schema → (space class : ℕ) → Sheet → Sheet
+abbrev pub space_noted : Schema → (space class : ℕ) → Buffer → Buffer
 space_noted schema space class s = if allowed schema space class then s else noted Space s
 
 abbrev pub entered : Schema → (class space : Option ℕ) → Change

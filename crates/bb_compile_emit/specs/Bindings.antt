@@ -14,8 +14,8 @@ use Rattle.bb_compile_scope.specs.declared.fault.Flaw.TheVariants.{Unknown, Kind
 use Rattle.bb_compile_scope.specs.Kinds.{class_of, is_live}
 use Rattle.bb_compile_scope.specs.Slots.{partner_slot}
 use Rattle.bb_compile_emit.specs.declared.exits.Exits.{Exits}
-use Rattle.bb_compile_buffer.specs.declared.sheet.Sheet.{Sheet}
-use Rattle.bb_compile_buffer.specs.Sheets.{Step, Change, noted, known, put, aim, declare}
+use Rattle.bb_compile_buffer.specs.declared.buffer.Buffer.{Buffer}
+use Rattle.bb_compile_buffer.specs.Buffers.{Step, Change, noted, known, put, aim, declare}
 use Rattle.bb_compile_buffer.specs.Operations.{Made}
 use Rattle.bb_compile_buffer.specs.Atoms.{variable_code, unit_code}
 
@@ -23,12 +23,12 @@ use Rattle.bb_compile_buffer.specs.Atoms.{variable_code, unit_code}
 abbrev pub one_exit : (first : ℕ) → Exits
 one_exit first = record { first = first; second = None }
 
-abbrev pub second_aimed : Option ℕ → Sheet → Sheet
+abbrev pub second_aimed : Option ℕ → Buffer → Buffer
 second_aimed None s = s
 second_aimed (Some at) s = aim at s
 
 -- the exits of a test go to the place of the next op
-abbrev pub exits_aimed : Exits → Sheet → Sheet
+abbrev pub exits_aimed : Exits → Buffer → Buffer
 exits_aimed exits s = second_aimed exits.second (aim exits.first s)
 
 -- a unit of one class may be tested to be of the other: the other descends from it, and differs if the unit is live

@@ -11,8 +11,8 @@ use Rattle.bb_lang.specs.Step.TheVariants.{Apply, Divide}
 use Rattle.bb_lang.specs.Trees.{ExprTree, Steps, SequenceTree, PatternTree, Patterns, atom, unary, binary, chain, size_of, no_step, apply, divide, found, linked, all, and_of, or_of, not_of, test, no_pattern, more}
 use Rattle.bb_compile_scope.specs.declared.fault.CompileFault.{CompileFault}
 use Rattle.bb_compile_emit.specs.declared.asked.Asked.{Asked}
-use Rattle.bb_compile_buffer.specs.declared.sheet.Sheet.{Sheet}
-use Rattle.bb_compile_buffer.specs.Sheets.{Step, Change, known, put}
+use Rattle.bb_compile_buffer.specs.declared.buffer.Buffer.{Buffer}
+use Rattle.bb_compile_buffer.specs.Buffers.{Step, Change, known, put}
 use Rattle.bb_compile_buffer.specs.Operations.{Made, unary_code, binary_code, operator_code, division_code}
 use Rattle.bb_compile_buffer.specs.Atoms.{atom_code}
 use Rattle.bb_compile_emit.specs.Queries.{Patterned, no_operand, node_counted, node_noted, test_code, query_code, links_code}
@@ -56,7 +56,7 @@ unfoldable mutual
     query_code (class_named schema class) (space_named schema space) asked pattern room t
 
   -- a pattern, after the operands that its query has so far
-  pub pattern_code : Schema → (room : ℕ) → (space : Option ℕ) → PatternTree → Asked → Sheet → Result (Patterned Tree) CompileFault
+  pub pattern_code : Schema → (room : ℕ) → (space : Option ℕ) → PatternTree → Asked → Buffer → Result (Patterned Tree) CompileFault
   pattern_code schema room space all asked s = Ok (nodes.all, node_counted asked, node_noted asked s)
   pattern_code schema room space (and_of ps) asked s = do
     (parts, after, t) ← patterns_code schema room space ps (node_counted asked) (node_noted asked s)
@@ -71,7 +71,7 @@ unfoldable mutual
     (operand, t) ← expr_code schema (room - length asked.kinds) e (node_noted asked s)
     Ok (test_code schema space dim relation operand (node_counted asked) t)
 
-  pub patterns_code : Schema → (room : ℕ) → (space : Option ℕ) → Patterns → Asked → Sheet → Result (Patterned Trees) CompileFault
+  pub patterns_code : Schema → (room : ℕ) → (space : Option ℕ) → Patterns → Asked → Buffer → Result (Patterned Trees) CompileFault
   patterns_code schema room space no_pattern asked s = Ok (no_more, asked, s)
   patterns_code schema room space (more p ps) asked s = do
     (first, after, t) ← pattern_code schema room space p asked s

@@ -12,8 +12,8 @@ use Rattle.bb_compile_scope.specs.declared.fault.Flaw.TheVariants.{NoEnd}
 use Rattle.bb_compile_scope.specs.declared.fault.CompileFault.{CompileFault}
 use Rattle.bb_compile_scope.specs.declared.fault.CompileFault.TheVariants.{At}
 use Rattle.bb_compile_scope.specs.Ending.{block_ends}
-use Rattle.bb_compile_buffer.specs.Sheets.{Change, put}
-use Rattle.bb_compile_buffer.specs.Finish.{empty_sheet, code_of, if_within}
+use Rattle.bb_compile_buffer.specs.Buffers.{Change, put}
+use Rattle.bb_compile_buffer.specs.Finish.{empty_buffer, code_of, if_within}
 use Rattle.bb_compile_emit.specs.declared.part.TheConstants.{LOOP_NESTING}
 use Rattle.bb_compile_emit.specs.Statements.{block_code}
 
@@ -29,6 +29,6 @@ unfoldable pub part_code : Schema → Part → Place → BlockTree → Result Co
 part_code schema part start b =
     if has_no_end part b then Err (At NoEnd start)
     else (do
-      (ended, t) ← block_code schema part LOOP_NESTING b (empty_sheet part start)
+      (ended, t) ← block_code schema part LOOP_NESTING b (empty_buffer part start)
       u ← done part t
       if_within u.start (code_of u))

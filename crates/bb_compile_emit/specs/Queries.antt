@@ -18,8 +18,8 @@ use Rattle.bb_compile_scope.specs.declared.fault.Flaw.{Flaw}
 use Rattle.bb_compile_scope.specs.declared.fault.Flaw.TheVariants.{Unknown, Limit}
 use Rattle.bb_compile_scope.specs.Slots.{link_slot, dimension}
 use Rattle.bb_compile_emit.specs.declared.asked.Asked.{Asked}
-use Rattle.bb_compile_buffer.specs.declared.sheet.Sheet.{Sheet}
-use Rattle.bb_compile_buffer.specs.Sheets.{Step, noted, due, put, put_value, asked_query}
+use Rattle.bb_compile_buffer.specs.declared.buffer.Buffer.{Buffer}
+use Rattle.bb_compile_buffer.specs.Buffers.{Step, noted, due, put, put_value, asked_query}
 use Rattle.bb_compile_buffer.specs.Operations.{Made}
 use Rattle.bb_compile_buffer.specs.Atoms.{unit_code}
 
@@ -31,7 +31,7 @@ no_operand = record { kinds = []; nodes = NODE_LIMIT }
 abbrev pub node_counted : Asked → Asked
 node_counted asked = record { kinds = asked.kinds; nodes = asked.nodes - 1 }
 
-abbrev pub node_noted : Asked → Sheet → Sheet
+abbrev pub node_noted : Asked → Buffer → Buffer
 node_noted asked s = if asked.nodes == 0 then noted Limit s else s
 
 -- what an operand of a kind has to be
@@ -47,7 +47,7 @@ with_operand kind asked = if nat_le OPERAND_LIMIT (length asked.kinds) then aske
 abbrev pub operand_number : Asked → ℕ
 operand_number asked = if nat_le OPERAND_LIMIT (length asked.kinds) then 0 else length asked.kinds
 
-abbrev pub operand_noted : Asked → Sheet → Sheet
+abbrev pub operand_noted : Asked → Buffer → Buffer
 operand_noted asked s = if nat_le OPERAND_LIMIT (length asked.kinds) then noted Limit s else s
 
 -- a test of a dimension by an operand
@@ -59,17 +59,17 @@ test_tree relations.Less = ordered holding.Less
 test_tree relations.More = ordered holding.More
 test_tree relations.Is = is_label
 
--- a pattern, the query after it, and the sheet
+-- a pattern, the query after it, and the buffer
 abbrev pub Patterned : Type 0 → Type 0
-Patterned X = X × Asked × Sheet
+Patterned X = X × Asked × Buffer
 
-abbrev pub test_at : Relation → Option (ℕ × Kind) → Made → Asked → Sheet → Patterned Tree
+abbrev pub test_at : Relation → Option (ℕ × Kind) → Made → Asked → Buffer → Patterned Tree
 test_at relation None operand asked s = (all, asked, noted Unknown s)
 test_at relation (Some dim) operand asked s =
     (test_tree relation dim.0 (operand_number asked), with_operand dim.1 asked, operand_noted asked (due operand dim.1 s))
 
 -- a test, after its operand
-unfoldable pub test_code : Schema → (space : Option ℕ) → (dim : List ℕ) → Relation → Made → Asked → Sheet → Patterned Tree
+unfoldable pub test_code : Schema → (space : Option ℕ) → (dim : List ℕ) → Relation → Made → Asked → Buffer → Patterned Tree
 test_code schema None dim relation operand asked s = (all, asked, s)
 test_code schema (Some space) dim relation operand asked s = test_at relation (dimension schema space dim relation) operand asked s
 

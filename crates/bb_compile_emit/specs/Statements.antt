@@ -22,12 +22,12 @@ use Rattle.bb_compile_scope.specs.declared.fault.CompileFault.TheVariants.{At}
 use Rattle.bb_compile_scope.specs.declared.scope.Mark.{Mark}
 use Rattle.bb_compile_scope.specs.Scope.{mark_of}
 use Rattle.bb_compile_scope.specs.Ending.{ends}
-use Rattle.bb_compile_scope.specs.Worn.{worn_under}
+use Rattle.bb_compile_scope.specs.Killed.{killed_under}
 use Rattle.bb_compile_emit.specs.declared.exits.Exits.{Exits}
 use Rattle.bb_compile_emit.specs.declared.branches.Branch.{Branch}
 use Rattle.bb_compile_emit.specs.declared.looping.Begun.{Begun}
-use Rattle.bb_compile_buffer.specs.declared.sheet.Sheet.{Sheet}
-use Rattle.bb_compile_buffer.specs.Sheets.{Step, Change, noted, due, settled, put, aim, begun_loop, ended_at, labelled, with_kinds, leave, take_local, declare, met}
+use Rattle.bb_compile_buffer.specs.declared.buffer.Buffer.{Buffer}
+use Rattle.bb_compile_buffer.specs.Buffers.{Step, Change, noted, due, settled, put, aim, begun_loop, ended_at, labelled, with_kinds, leave, take_local, declare, met}
 use Rattle.bb_compile_emit.specs.Expressions.{expr_code, sequence_code}
 use Rattle.bb_compile_emit.specs.Actions.{action_code}
 use Rattle.bb_compile_emit.specs.Bindings.{one_exit, exits_aimed, binding_code}
@@ -51,7 +51,7 @@ with_code schema binding place s = do
   Ok (exits, t)
 
 -- one loop too many is nested
-abbrev pub loop_noted : (loops : ℕ) → Sheet → Sheet
+abbrev pub loop_noted : (loops : ℕ) → Buffer → Buffer
 loop_noted loops s = if loops == 0 then noted Limit s else s
 
 -- the sequence of a `for`: its class, and the local that holds it
@@ -77,13 +77,13 @@ else_begun branch s = do
   Ok (length s.ops, labelled (with_kinds branch.before.kinds (exits_aimed branch.exits t)))
 
 -- after both blocks, of which the first leaves these kinds
-unfoldable pub else_ended : Branch → (jump : ℕ) → List Kind → (ended : Bool) → Sheet → Sheet
+unfoldable pub else_ended : Branch → (jump : ℕ) → List Kind → (ended : Bool) → Buffer → Buffer
 else_ended branch jump kinds ended s =
     if branch.ended then met ended kinds branch.ended s
     else labelled (aim jump (met ended kinds branch.ended s))
 
 -- after the block, without `else`
-unfoldable pub if_ended : Branch → Sheet → Sheet
+unfoldable pub if_ended : Branch → Buffer → Buffer
 if_ended branch s = labelled (met branch.ended branch.before.kinds false (exits_aimed branch.exits s))
 
 -- ---- loops
@@ -91,18 +91,18 @@ if_ended branch s = labelled (met branch.ended branch.before.kinds false (exits_
 -- the head of a loop, and the name for its units
 unfoldable pub loop_begun : Schema → (name : List ℕ) → (class local : ℕ) → BlockTree → Step Begun
 loop_begun schema name class local body s = do
-  (index, t) ← begun_loop (labelled (record s { scope = worn_under schema s.scope name (Some class) body }))
+  (index, t) ← begun_loop (labelled (record s { scope = killed_under schema s.scope name (Some class) body }))
   u ← put (Next local 0) t
   v ← declare name (Ref class) u
   Ok (record { index = index; head = length t.ops; start = mark_of t.scope }, v)
 
 -- at the end of a loop's body the locals hold what they hold at its start
-abbrev pub at_back : Begun → (ended : Bool) → Sheet → Sheet
+abbrev pub at_back : Begun → (ended : Bool) → Buffer → Buffer
 at_back begun ended s =
     let t = with_kinds begun.start.kinds (leave begun.start s) in
     if ended then labelled t else t
 
-abbrev pub loop_closed : Begun → Sheet → Sheet
+abbrev pub loop_closed : Begun → Buffer → Buffer
 loop_closed begun s = record (aim begun.head s) { loops = ended_at begun.index (length (aim begun.head s).ops) s.loops }
 
 -- the end of a loop
@@ -114,11 +114,11 @@ loop_ended begun ended s = do
 -- ---- statements and blocks, in which `loops` loops may be nested; each says whether it always ends
 
 -- names are forgotten at the end of a block
-abbrev pub left : Mark → Bool × Sheet → Result (Bool × Sheet) CompileFault
+abbrev pub left : Mark → Bool × Buffer → Result (Bool × Buffer) CompileFault
 left mark r = Ok (r.0, leave mark r.1)
 
 -- after a statement that ends there is no other
-abbrev pub after_end : (ended : Bool) → Sheet → Sheet
+abbrev pub after_end : (ended : Bool) → Buffer → Buffer
 after_end ended s = if ended then noted NoEnd s else s
 
 -- a statement without blocks

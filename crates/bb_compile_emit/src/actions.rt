@@ -10,7 +10,7 @@ use crate::emitter::Emitter;
 use crate::expressions::{emit_expr, space_named};
 use bb_basis::Text;
 use bb_code::{LinkChange, SAID_LIMIT, STACK_LIMIT};
-use bb_compile_buffer::{Sheet, emit_unit};
+use bb_compile_buffer::{Buffer, emit_unit};
 use bb_compile_scope::{
     ClassId, CompileFault, Flaw, Kind, Op, Part, Schema, SpaceId, Variable, assigned, link_slot,
     value_slot,
@@ -18,13 +18,13 @@ use bb_compile_scope::{
 use bb_lang::{Action, Expr};
 
 // Notes the flaw of a change in a part that may make none.
-fn check_effect(part: Part, sheet: &mut Sheet)
-    ensures { sheet.new ≡ effect_noted part sheet.old }
+fn check_effect(part: Part, buffer: &mut Buffer)
+    ensures { buffer.new ≡ effect_noted part buffer.old }
 {
     if part.writes().is_ok() {
         return;
     }
-    sheet.note(Flaw::Effect);
+    buffer.note(Flaw::Effect);
 }
 
 // `let`
@@ -35,7 +35,7 @@ fn emit_let(emitter: &mut Emitter, name: &Text, value: &Expr) -> Result<(), Comp
     let Some(kind) = emit_expr(emitter, value, STACK_LIMIT)? else {
         return Ok(());
     };
-    emitter.sheet.declare(name, kind)
+    emitter.buffer.declare(name, kind)
 }
 
 // An assignment.
@@ -44,21 +44,21 @@ fn emit_assign(emitter: &mut Emitter, name: &Text, value: &Expr) -> Result<(), C
     ensures { Lays emitter.old emitter.new result (assign_code emitter.old.schema.now name.now value.now) }
 {
     let kind = emit_expr(emitter, value, STACK_LIMIT)?;
-    let Some(local) = emitter.sheet.scope.local_of(name.as_str()) else {
-        emitter.sheet.note(Flaw::Unknown);
+    let Some(local) = emitter.buffer.scope.local_of(name.as_str()) else {
+        emitter.buffer.note(Flaw::Unknown);
         return Ok(());
     };
     let Some(kind) = kind else {
         return Ok(());
     };
-    match assigned(emitter.schema, emitter.sheet.scope.kinds.get(local), kind) {
+    match assigned(emitter.schema, emitter.buffer.scope.kinds.get(local), kind) {
         None => {
-            emitter.sheet.note(Flaw::Kind);
+            emitter.buffer.note(Flaw::Kind);
             Ok(())
         }
         Some(kind) => {
-            emitter.sheet.scope.kinds.put(local, kind);
-            emitter.sheet.put(Op::Store(local))
+            emitter.buffer.scope.kinds.put(local, kind);
+            emitter.buffer.put(Op::Store(local))
         }
     }
 }
@@ -69,11 +69,11 @@ fn emit_new(emitter: &mut Emitter, name: &Text, class: &Text) -> Result<(), Comp
     ensures { Lays emitter.old emitter.new result (new_code emitter.old.schema.now name.now class.now) }
 {
     let Some(class) = emitter.schema.class(class.as_str()) else {
-        emitter.sheet.note(Flaw::Unknown);
+        emitter.buffer.note(Flaw::Unknown);
         return Ok(());
     };
-    emitter.sheet.put(Op::New(class))?;
-    emitter.sheet.declare(name, Kind::Ref(class))
+    emitter.buffer.put(Op::New(class))?;
+    emitter.buffer.declare(name, Kind::Ref(class))
 }
 
 // `set`
@@ -86,26 +86,26 @@ fn emit_set(
 ) -> Result<(), CompileFault>
     ensures { Lays emitter.old emitter.new result (set_code emitter.old.schema.now unit.now slot.now value.now) }
 {
-    let class = emit_unit(&mut emitter.sheet, unit, STACK_LIMIT)?;
+    let class = emit_unit(&mut emitter.buffer, unit, STACK_LIMIT)?;
     let kind = emit_expr(emitter, value, STACK_LIMIT - 1)?;
     let Some(class) = class else {
         return Ok(());
     };
     match value_slot(emitter.schema, class, slot.as_str()) {
         Err(flaw) => {
-            emitter.sheet.note(flaw);
+            emitter.buffer.note(flaw);
             Ok(())
         }
         Ok((slot, due)) => {
-            emitter.sheet.due(kind, due);
-            emitter.sheet.put(Op::Set(slot))
+            emitter.buffer.due(kind, due);
+            emitter.buffer.put(Op::Set(slot))
         }
     }
 }
 
 // Notes a unit of a class that the link does not lead to.
-fn check_link(schema: &Schema, sheet: &mut Sheet, to: ClassId, other: Option<ClassId>)
-    ensures { sheet.new ≡ link_noted schema.now to other sheet.old }
+fn check_link(schema: &Schema, buffer: &mut Buffer, to: ClassId, other: Option<ClassId>)
+    ensures { buffer.new ≡ link_noted schema.now to other buffer.old }
 {
     let Some(other) = other else {
         return;
@@ -113,7 +113,7 @@ fn check_link(schema: &Schema, sheet: &mut Sheet, to: ClassId, other: Option<Cla
     if schema.descends(other, to) {
         return;
     }
-    sheet.note(Flaw::LinkClass);
+    buffer.note(Flaw::LinkClass);
 }
 
 // The op that links or unlinks two units, which lie on the stack.
@@ -132,12 +132,12 @@ fn emit_change_of(
     };
     match link_slot(emitter.schema, class, slot.as_str()) {
         Err(flaw) => {
-            emitter.sheet.note(flaw);
+            emitter.buffer.note(flaw);
             Ok(())
         }
         Ok((slot, link)) => {
-            check_link(emitter.schema, &mut emitter.sheet, link.to, other);
-            emitter.sheet.put(Op::Relink(change, slot))
+            check_link(emitter.schema, &mut emitter.buffer, link.to, other);
+            emitter.buffer.put(Op::Relink(change, slot))
         }
     }
 }
@@ -154,19 +154,19 @@ fn emit_relink(
     ensures { Lays emitter.old emitter.new result
         (relink_code emitter.old.schema.now change unit.now slot.now other.now) }
 {
-    let class = emit_unit(&mut emitter.sheet, unit, STACK_LIMIT)?;
-    let of = emit_unit(&mut emitter.sheet, other, STACK_LIMIT - 1)?;
+    let class = emit_unit(&mut emitter.buffer, unit, STACK_LIMIT)?;
+    let of = emit_unit(&mut emitter.buffer, other, STACK_LIMIT - 1)?;
     emit_change_of(emitter, change, class, slot, of)
 }
 
 // Notes a space that does not admit units of a class.
-fn check_space(schema: &Schema, sheet: &mut Sheet, space: SpaceId, class: ClassId)
-    ensures { sheet.new ≡ space_noted schema.now space class sheet.old }
+fn check_space(schema: &Schema, buffer: &mut Buffer, space: SpaceId, class: ClassId)
+    ensures { buffer.new ≡ space_noted schema.now space class buffer.old }
 {
     if schema.allowed(space, class) {
         return;
     }
-    sheet.note(Flaw::Space);
+    buffer.note(Flaw::Space);
 }
 
 // `enter`
@@ -174,16 +174,16 @@ fn check_space(schema: &Schema, sheet: &mut Sheet, space: SpaceId, class: ClassI
 fn emit_enter(emitter: &mut Emitter, unit: &Variable, space: &Text) -> Result<(), CompileFault>
     ensures { Lays emitter.old emitter.new result (enter_code emitter.old.schema.now unit.now space.now) }
 {
-    let class = emit_unit(&mut emitter.sheet, unit, STACK_LIMIT)?;
-    let space = space_named(emitter.schema, &mut emitter.sheet, space);
+    let class = emit_unit(&mut emitter.buffer, unit, STACK_LIMIT)?;
+    let space = space_named(emitter.schema, &mut emitter.buffer, space);
     let Some(class) = class else {
         return Ok(());
     };
     let Some(space) = space else {
         return Ok(());
     };
-    check_space(emitter.schema, &mut emitter.sheet, space, class);
-    emitter.sheet.put(Op::Enter(space))
+    check_space(emitter.schema, &mut emitter.buffer, space, class);
+    emitter.buffer.put(Op::Enter(space))
 }
 
 // `leave`
@@ -191,12 +191,12 @@ fn emit_enter(emitter: &mut Emitter, unit: &Variable, space: &Text) -> Result<()
 fn emit_leave(emitter: &mut Emitter, unit: &Variable, space: &Text) -> Result<(), CompileFault>
     ensures { Lays emitter.old emitter.new result (leave_code emitter.old.schema.now unit.now space.now) }
 {
-    let _class = emit_unit(&mut emitter.sheet, unit, STACK_LIMIT)?;
+    let _class = emit_unit(&mut emitter.buffer, unit, STACK_LIMIT)?;
     let Some(space) = emitter.schema.space(space.as_str()) else {
-        emitter.sheet.note(Flaw::Unknown);
+        emitter.buffer.note(Flaw::Unknown);
         return Ok(());
     };
-    emitter.sheet.put(Op::Leave(space))
+    emitter.buffer.put(Op::Leave(space))
 }
 
 // `delete`
@@ -204,11 +204,11 @@ fn emit_leave(emitter: &mut Emitter, unit: &Variable, space: &Text) -> Result<()
 fn emit_delete(emitter: &mut Emitter, unit: &Variable) -> Result<(), CompileFault>
     ensures { Lays emitter.old emitter.new result (delete_code emitter.old.schema.now unit.now) }
 {
-    let Some(class) = emit_unit(&mut emitter.sheet, unit, STACK_LIMIT)? else {
+    let Some(class) = emit_unit(&mut emitter.buffer, unit, STACK_LIMIT)? else {
         return Ok(());
     };
-    emitter.sheet.put(Op::Delete)?;
-    emitter.sheet.scope.kinds.strike(emitter.schema, class);
+    emitter.buffer.put(Op::Delete)?;
+    emitter.buffer.scope.kinds.strike(emitter.schema, class);
     Ok(())
 }
 
@@ -232,10 +232,10 @@ fn emit_say(emitter: &mut Emitter, values: &[Expr]) -> Result<(), CompileFault>
 {
     emit_values(emitter, values)?;
     if values.len() > SAID_LIMIT as usize {
-        emitter.sheet.note(Flaw::Limit);
+        emitter.buffer.note(Flaw::Limit);
         return Ok(());
     }
-    emitter.sheet.put(Op::Say(values.len() as u8))
+    emitter.buffer.put(Op::Say(values.len() as u8))
 }
 
 // An end with a value of a kind.
@@ -244,18 +244,18 @@ fn emit_end(emitter: &mut Emitter, value: &Expr, due: Kind, op: Op) -> Result<()
     ensures { Lays emitter.old emitter.new result (end_code emitter.old.schema.now value.now due op) }
 {
     let kind = emit_expr(emitter, value, STACK_LIMIT)?;
-    emitter.sheet.due(kind, due);
-    emitter.sheet.put(op)
+    emitter.buffer.due(kind, due);
+    emitter.buffer.put(op)
 }
 
 // Notes the flaw of an end that the part does not have.
-fn check_end(right: bool, sheet: &mut Sheet)
-    ensures { sheet.new ≡ end_noted right sheet.old }
+fn check_end(right: bool, buffer: &mut Buffer)
+    ensures { buffer.new ≡ end_noted right buffer.old }
 {
     if right {
         return;
     }
-    sheet.note(Flaw::NoEnd);
+    buffer.note(Flaw::NoEnd);
 }
 
 // A change of a unit.
@@ -289,19 +289,19 @@ pub(crate) fn emit_action(emitter: &mut Emitter, action: &Action) -> Result<(), 
         Action::Let { name, value } => emit_let(emitter, name, value),
         Action::Assign { name, value } => emit_assign(emitter, name, value),
         Action::Rate(value) => {
-            check_end(emitter.part.ends_rated().is_ok(), &mut emitter.sheet);
+            check_end(emitter.part.ends_rated().is_ok(), &mut emitter.buffer);
             emit_end(emitter, value, Kind::Int, Op::Rate)
         }
         Action::Decline => {
-            check_end(emitter.part.ends_rated().is_ok(), &mut emitter.sheet);
-            emitter.sheet.put(Op::Decline)
+            check_end(emitter.part.ends_rated().is_ok(), &mut emitter.buffer);
+            emitter.buffer.put(Op::Decline)
         }
         Action::Answer(value) => {
-            check_end(emitter.part.ends_answered().is_ok(), &mut emitter.sheet);
+            check_end(emitter.part.ends_answered().is_ok(), &mut emitter.buffer);
             emit_end(emitter, value, Kind::Bool, Op::Answer)
         }
         _ => {
-            check_effect(emitter.part, &mut emitter.sheet);
+            check_effect(emitter.part, &mut emitter.buffer);
             emit_change(emitter, action)
         }
     }

@@ -10,7 +10,7 @@ ghost use Rattle.bb_compile_emit.specs.Queries.{operand_noted, test_tree};
 
 use bb_basis::Items;
 use bb_code::{NODE_LIMIT, Node, OPERAND_LIMIT, OperandKind, Relation as PatternRelation};
-use bb_compile_buffer::Sheet;
+use bb_compile_buffer::Buffer;
 use bb_compile_scope::{Flaw, Kind};
 use bb_lang::Relation;
 use std::alloc::{AllocError, Global};
@@ -69,26 +69,26 @@ impl Asked {
     }
 
     /// One more node. One too many is a flaw.
-    pub fn count_node(&mut self, sheet: &mut Sheet)
+    pub fn count_node(&mut self, buffer: &mut Buffer)
         ensures query { self.new ≡ node_counted self.old }
-        ensures sheet { sheet.new ≡ node_noted self.old sheet.old }
+        ensures buffer { buffer.new ≡ node_noted self.old buffer.old }
     {
         if self.nodes == 0 {
-            sheet.note(Flaw::Limit);
+            buffer.note(Flaw::Limit);
             return;
         }
         self.nodes -= 1;
     }
 
     /// One more operand of a kind, and its number. One too many is a flaw.
-    pub fn add_operand(&mut self, sheet: &mut Sheet, kind: Kind) -> Result<u8, AllocError>
+    pub fn add_operand(&mut self, buffer: &mut Buffer, kind: Kind) -> Result<u8, AllocError>
         ensures number { IfOk result (λ number. number ≡ operand_number self.old) }
         ensures query { IfOk result (λ _. self.new ≡ with_operand kind self.old) }
-        ensures sheet { IfOk result (λ _. sheet.new ≡ operand_noted self.old sheet.old) }
+        ensures buffer { IfOk result (λ _. buffer.new ≡ operand_noted self.old buffer.old) }
     {
         let number = self.kinds.len();
         if number >= OPERAND_LIMIT {
-            sheet.note(Flaw::Limit);
+            buffer.note(Flaw::Limit);
             return Ok(0);
         }
         self.kinds.push(operand_kind(kind))?;

@@ -13,7 +13,7 @@ use crate::exits::Exits;
 use crate::expressions::class_named;
 use bb_basis::Text;
 use bb_code::STACK_LIMIT;
-use bb_compile_buffer::{Sheet, emit_unit, emit_variable};
+use bb_compile_buffer::{Buffer, emit_unit, emit_variable};
 use bb_compile_scope::{
     ClassId, CompileFault, Flaw, Kind, Op, Schema, Variable, class_of, is_live, partner_slot,
 };
@@ -54,26 +54,26 @@ fn is_class(own: Option<ClassId>, class: ClassId) -> bool
 
 // The test of a live unit, which lies on the stack.
 #[tactic(auto, unfolding(crate::specs::Bindings::as_code))]
-fn emit_live(sheet: &mut Sheet, class: ClassId) -> Result<Exits, CompileFault>
-    ensures { Gives OutOfMemory (λ exits. (exits, sheet.new)) result (as_code class sheet.old) }
+fn emit_live(buffer: &mut Buffer, class: ClassId) -> Result<Exits, CompileFault>
+    ensures { Gives OutOfMemory (λ exits. (exits, buffer.new)) result (as_code class buffer.old) }
 {
-    let first = sheet.ops.here();
-    sheet.put(Op::As(class, 0))?;
+    let first = buffer.ops.here();
+    buffer.put(Op::As(class, 0))?;
     Ok(Exits::one(first))
 }
 
 // The test of a unit that may be deleted: of the class that it is known to have, or of another.
 #[tactic(auto, unfolding(crate::specs::Bindings::alive_code))]
-fn emit_old(sheet: &mut Sheet, same: bool, class: ClassId) -> Result<Exits, CompileFault>
-    ensures { Gives OutOfMemory (λ exits. (exits, sheet.new)) result (alive_code same class sheet.old) }
+fn emit_old(buffer: &mut Buffer, same: bool, class: ClassId) -> Result<Exits, CompileFault>
+    ensures { Gives OutOfMemory (λ exits. (exits, buffer.new)) result (alive_code same class buffer.old) }
 {
-    let first = sheet.ops.here();
-    sheet.put(Op::Alive(0))?;
+    let first = buffer.ops.here();
+    buffer.put(Op::Alive(0))?;
     if same {
         return Ok(Exits::one(first));
     }
-    let second = sheet.ops.here();
-    sheet.put(Op::As(class, 0))?;
+    let second = buffer.ops.here();
+    buffer.put(Op::As(class, 0))?;
     Ok(Exits {
         first,
         second: Some(second),
@@ -81,13 +81,13 @@ fn emit_old(sheet: &mut Sheet, same: bool, class: ClassId) -> Result<Exits, Comp
 }
 
 // The test that a unit, which lies on the stack, is live and of a class.
-fn emit_test(sheet: &mut Sheet, held: Kind, class: ClassId) -> Result<Exits, CompileFault>
-    ensures { Gives OutOfMemory (λ exits. (exits, sheet.new)) result (test_code held class sheet.old) }
+fn emit_test(buffer: &mut Buffer, held: Kind, class: ClassId) -> Result<Exits, CompileFault>
+    ensures { Gives OutOfMemory (λ exits. (exits, buffer.new)) result (test_code held class buffer.old) }
 {
     if is_live(held) {
-        return emit_live(sheet, class);
+        return emit_live(buffer, class);
     }
-    emit_old(sheet, is_class(class_of(held), class), class)
+    emit_old(buffer, is_class(class_of(held), class), class)
 }
 
 // A name for a unit, which lies on the stack, if it is live and of a class.
@@ -101,11 +101,11 @@ fn emit_bound(
         (bound_as emitter.old.schema.now name.now held class) }
 {
     if !is_test(emitter.schema, held, class) {
-        emitter.sheet.note(Flaw::Kind);
+        emitter.buffer.note(Flaw::Kind);
         return Ok(None);
     }
-    let exits = emit_test(&mut emitter.sheet, held, class)?;
-    emitter.sheet.declare(name, Kind::Ref(class))?;
+    let exits = emit_test(&mut emitter.buffer, held, class)?;
+    emitter.buffer.declare(name, Kind::Ref(class))?;
     Ok(Some(exits))
 }
 
@@ -120,8 +120,8 @@ fn emit_as(
     ensures { Makes emitter.old emitter.new result
         (with_as emitter.old.schema.now name.now unit.now class.now) }
 {
-    let held = emit_variable(&mut emitter.sheet, unit, STACK_LIMIT)?;
-    let class = class_named(emitter.schema, &mut emitter.sheet, class);
+    let held = emit_variable(&mut emitter.buffer, unit, STACK_LIMIT)?;
+    let class = class_named(emitter.schema, &mut emitter.buffer, class);
     let Some(held) = held else {
         return Ok(None);
     };
@@ -142,18 +142,18 @@ fn emit_partner(
     ensures { Makes emitter.old emitter.new result
         (with_partner emitter.old.schema.now name.now unit.now slot.now) }
 {
-    let Some(class) = emit_unit(&mut emitter.sheet, unit, STACK_LIMIT)? else {
+    let Some(class) = emit_unit(&mut emitter.buffer, unit, STACK_LIMIT)? else {
         return Ok(None);
     };
     match partner_slot(emitter.schema, class, slot.as_str()) {
         Err(flaw) => {
-            emitter.sheet.note(flaw);
+            emitter.buffer.note(flaw);
             Ok(None)
         }
         Ok((slot, to)) => {
-            let at = emitter.sheet.ops.here();
-            emitter.sheet.put(Op::One(slot, 0))?;
-            emitter.sheet.declare(name, Kind::Ref(to))?;
+            let at = emitter.buffer.ops.here();
+            emitter.buffer.put(Op::One(slot, 0))?;
+            emitter.buffer.declare(name, Kind::Ref(to))?;
             Ok(Some(Exits::one(at)))
         }
     }

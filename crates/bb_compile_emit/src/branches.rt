@@ -6,7 +6,7 @@ ghost use Rattle.bb_compile_scope.specs.declared.fault.CompileFault.TheVariants.
 ghost use Rattle.bb_compile_emit.specs.Statements.{jumped, else_begun, else_ended, if_ended};
 
 use crate::exits::Exits;
-use bb_compile_buffer::Sheet;
+use bb_compile_buffer::Buffer;
 use bb_compile_scope::{CompileFault, LocalKinds, Mark, Op};
 use std::alloc::AllocError;
 
@@ -21,25 +21,25 @@ pub struct Branch {
 
 impl Branch {
     // A jump over the block of `else`, unless the first block has ended.
-    fn put_jump(&self, sheet: &mut Sheet) -> Result<(), CompileFault>
-        ensures { Gives OutOfMemory (λ _. sheet.new) result (jumped self.now sheet.old) }
+    fn put_jump(&self, buffer: &mut Buffer) -> Result<(), CompileFault>
+        ensures { Gives OutOfMemory (λ _. buffer.new) result (jumped self.now buffer.old) }
     {
         if self.ended {
             return Ok(());
         }
-        sheet.put(Op::Jump(0))
+        buffer.put(Op::Jump(0))
     }
 
     /// Begins the block of `else`. Returns the place of the jump over it.
     #[tactic(auto, unfolding(crate::specs::Statements::else_begun))]
-    pub fn begin_else(&self, sheet: &mut Sheet) -> Result<u16, CompileFault>
-        ensures { Gives OutOfMemory (λ jump. (jump, sheet.new)) result (else_begun self.now sheet.old) }
+    pub fn begin_else(&self, buffer: &mut Buffer) -> Result<u16, CompileFault>
+        ensures { Gives OutOfMemory (λ jump. (jump, buffer.new)) result (else_begun self.now buffer.old) }
     {
-        let jump = sheet.ops.here();
-        self.put_jump(sheet)?;
-        self.exits.aim(sheet);
-        sheet.scope.kinds = self.before.kinds.copied();
-        sheet.label()?;
+        let jump = buffer.ops.here();
+        self.put_jump(buffer)?;
+        self.exits.aim(buffer);
+        buffer.scope.kinds = self.before.kinds.copied();
+        buffer.label()?;
         Ok(jump)
     }
 
@@ -47,28 +47,28 @@ impl Branch {
     #[tactic(auto, unfolding(crate::specs::Statements::else_ended))]
     pub fn end_else(
         &self,
-        sheet: &mut Sheet,
+        buffer: &mut Buffer,
         jump: u16,
         kinds: LocalKinds,
         ended: bool,
     ) -> Result<(), AllocError>
-        ensures { IfOk result (λ _. sheet.new ≡ else_ended self.now jump kinds ended sheet.old) }
+        ensures { IfOk result (λ _. buffer.new ≡ else_ended self.now jump kinds ended buffer.old) }
     {
-        sheet.meet(ended, kinds, self.ended);
+        buffer.meet(ended, kinds, self.ended);
         if self.ended {
             return Ok(());
         }
-        sheet.aim(jump);
-        sheet.label()
+        buffer.aim(jump);
+        buffer.label()
     }
 
     /// Ends the first block where there is no `else`.
     #[tactic(auto, unfolding(crate::specs::Statements::if_ended))]
-    pub fn end_if(&self, sheet: &mut Sheet) -> Result<(), AllocError>
-        ensures { IfOk result (λ _. sheet.new ≡ if_ended self.now sheet.old) }
+    pub fn end_if(&self, buffer: &mut Buffer) -> Result<(), AllocError>
+        ensures { IfOk result (λ _. buffer.new ≡ if_ended self.now buffer.old) }
     {
-        self.exits.aim(sheet);
-        sheet.meet(self.ended, self.before.kinds.copied(), false);
-        sheet.label()
+        self.exits.aim(buffer);
+        buffer.meet(self.ended, self.before.kinds.copied(), false);
+        buffer.label()
     }
 }

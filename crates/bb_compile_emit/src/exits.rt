@@ -3,7 +3,7 @@
 ghost use Rattle.std.specs.Prelude.{◌≡◌};
 ghost use Rattle.bb_compile_emit.specs.Bindings.{one_exit, exits_aimed};
 
-use bb_compile_buffer::Sheet;
+use bb_compile_buffer::Buffer;
 
 /// The places of the one or two ops of a test that go elsewhere where it fails.
 #[derive(Drop)]
@@ -24,13 +24,13 @@ impl Exits {
     }
 
     /// Has the ops go to the place of the next op.
-    pub fn aim(&self, sheet: &mut Sheet)
-        ensures { sheet.new ≡ exits_aimed self.now sheet.old }
+    pub fn aim(&self, buffer: &mut Buffer)
+        ensures { buffer.new ≡ exits_aimed self.now buffer.old }
     {
-        sheet.aim(self.first);
+        buffer.aim(self.first);
         let Some(second) = self.second else {
             return;
         };
-        sheet.aim(second);
+        buffer.aim(second);
     }
 }

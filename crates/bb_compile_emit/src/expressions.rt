@@ -7,7 +7,7 @@ ghost use Rattle.bb_compile_scope.specs.declared.fault.CompileFault.TheVariants.
 ghost use Rattle.bb_code_ops.specs.View.{tree_of, trees_of};
 ghost use Rattle.bb_lang.specs.View.{steps_of, sequence_of, patterns_of};
 ghost use Rattle.bb_verify_frame.specs.Schema.{class_named as class_by_name, space_named as space_by_name};
-ghost use Rattle.bb_compile_buffer.specs.Sheets.{known};
+ghost use Rattle.bb_compile_buffer.specs.Buffers.{known};
 ghost use Rattle.bb_compile_emit.specs.Queries.{links_code, query_code, test_code};
 ghost use Rattle.bb_compile_emit.specs.Expressions.{expr_code, steps_code, step_code, sequence_code, pattern_code};
 ghost use Rattle.bb_compile_emit.specs.Expressions.{patterns_code};
@@ -18,7 +18,7 @@ use crate::emitter::Emitter;
 use bb_basis::Text;
 use bb_code::{Node, Pattern as CodePattern, Query};
 use bb_compile_buffer::{
-    Sheet, emit_atom, emit_binary, emit_division, emit_operator, emit_unary, emit_unit,
+    Buffer, emit_atom, emit_binary, emit_division, emit_operator, emit_unary, emit_unit,
 };
 use bb_compile_scope::{
     ClassId, CompileFault, Flaw, Kind, Op, Schema, SpaceId, Variable, dimension, link_slot,
@@ -36,53 +36,53 @@ fn emit_links(
     ensures { Makes emitter.old emitter.new result
         (links_code emitter.old.schema.now unit.now slot.now room) }
 {
-    let Some(class) = emit_unit(&mut emitter.sheet, unit, room)? else {
+    let Some(class) = emit_unit(&mut emitter.buffer, unit, room)? else {
         return Ok(None);
     };
     match link_slot(emitter.schema, class, slot.as_str()) {
         Err(flaw) => {
-            emitter.sheet.note(flaw);
+            emitter.buffer.note(flaw);
             Ok(None)
         }
         Ok((slot, link)) => {
-            emitter.sheet.put(Op::Links(slot))?;
+            emitter.buffer.put(Op::Links(slot))?;
             Ok(Some(link.to))
         }
     }
 }
 
 /// The class of a name. A name without a class is a flaw.
-pub(crate) fn class_named(schema: &Schema, sheet: &mut Sheet, name: &Text) -> Option<ClassId>
+pub(crate) fn class_named(schema: &Schema, buffer: &mut Buffer, name: &Text) -> Option<ClassId>
     ensures value { result ≡ class_by_name schema.now name.now }
-    ensures flaw { sheet.new ≡ known (class_by_name schema.now name.now) sheet.old }
+    ensures flaw { buffer.new ≡ known (class_by_name schema.now name.now) buffer.old }
 {
     let class = schema.class(name.as_str());
-    sheet.known(class);
+    buffer.known(class);
     class
 }
 
 /// The space of a name. A name without a space is a flaw.
-pub(crate) fn space_named(schema: &Schema, sheet: &mut Sheet, name: &Text) -> Option<SpaceId>
+pub(crate) fn space_named(schema: &Schema, buffer: &mut Buffer, name: &Text) -> Option<SpaceId>
     ensures value { result ≡ space_by_name schema.now name.now }
-    ensures flaw { sheet.new ≡ known (space_by_name schema.now name.now) sheet.old }
+    ensures flaw { buffer.new ≡ known (space_by_name schema.now name.now) buffer.old }
 {
     let space = schema.space(name.as_str());
-    sheet.known(space);
+    buffer.known(space);
     space
 }
 
 // The query of a class in a space, after its operands.
 #[tactic(auto, unfolding(crate::specs::Queries::query_code))]
 fn emit_query(
-    sheet: &mut Sheet,
+    buffer: &mut Buffer,
     class: Option<ClassId>,
     space: Option<SpaceId>,
     asked: Asked,
     pattern: CodePattern,
     room: usize,
 ) -> Result<Option<ClassId>, CompileFault>
-    ensures { Gives OutOfMemory (λ class. (class, sheet.new)) result
-        (query_code class space asked pattern room sheet.old) }
+    ensures { Gives OutOfMemory (λ class. (class, buffer.new)) result
+        (query_code class space asked pattern room buffer.old) }
 {
     let Some(class) = class else {
         return Ok(None);
@@ -91,13 +91,13 @@ fn emit_query(
         return Ok(Some(class));
     };
     let kinds = asked.kinds;
-    let index = sheet.ask(Query {
+    let index = buffer.ask(Query {
         class,
         space,
         kinds,
         pattern,
     })?;
-    sheet.put_value(Op::Find(index), room)?;
+    buffer.put_value(Op::Find(index), room)?;
     Ok(Some(class))
 }
 
@@ -112,17 +112,17 @@ fn emit_test(
     operand: Option<Kind>,
 ) -> Result<CodePattern, CompileFault>
     ensures { Asks (λ p. p) asked.new emitter.old emitter.new result
-        (Ok (test_code emitter.old.schema.now space dim.now relation operand asked.old emitter.old.sheet)) }
+        (Ok (test_code emitter.old.schema.now space dim.now relation operand asked.old emitter.old.buffer)) }
 {
     let Some(space) = space else {
         return Ok(CodePattern::new(Node::All));
     };
     let Some((dim, due)) = dimension(emitter.schema, space, dim.as_str(), relation) else {
-        emitter.sheet.note(Flaw::Unknown);
+        emitter.buffer.note(Flaw::Unknown);
         return Ok(CodePattern::new(Node::All));
     };
-    emitter.sheet.due(operand, due);
-    let number = asked.add_operand(&mut emitter.sheet, due)?;
+    emitter.buffer.due(operand, due);
+    let number = asked.add_operand(&mut emitter.buffer, due)?;
     Ok(CodePattern::new(test_node(relation, dim, number)))
 }
 
@@ -137,9 +137,9 @@ fn emit_patterns(
     room: usize,
 ) -> Result<Vec<CodePattern>, CompileFault>
     ensures { Asks (λ v. trees_of v.items) asked.new emitter.old emitter.new result
-        (patterns_code emitter.old.schema.now room space (patterns_of patterns.now) asked.old emitter.old.sheet) }
+        (patterns_code emitter.old.schema.now room space (patterns_of patterns.now) asked.old emitter.old.buffer) }
 {
-    let mut made = Vec::new(emitter.sheet.alloc());
+    let mut made = Vec::new(emitter.buffer.alloc());
     for pattern in patterns {
         made.push(emit_pattern(emitter, asked, space, pattern, room)?)?;
     }
@@ -157,9 +157,9 @@ fn emit_pattern(
     room: usize,
 ) -> Result<CodePattern, CompileFault>
     ensures { Asks (λ p. p) asked.new emitter.old emitter.new result
-        (pattern_code emitter.old.schema.now room space pattern.now asked.old emitter.old.sheet) }
+        (pattern_code emitter.old.schema.now room space pattern.now asked.old emitter.old.buffer) }
 {
-    asked.count_node(&mut emitter.sheet);
+    asked.count_node(&mut emitter.buffer);
     match pattern.node() {
         PatternNode::All => Ok(CodePattern::new(Node::All)),
         PatternNode::And(parts) => {
@@ -172,7 +172,7 @@ fn emit_pattern(
         }
         PatternNode::Not(part) => {
             let part = emit_pattern(emitter, asked, space, part, room)?;
-            Ok(CodePattern::new(Node::Not(Box::new(emitter.sheet.alloc(), part)?)))
+            Ok(CodePattern::new(Node::Not(Box::new(emitter.buffer.alloc(), part)?)))
         }
         PatternNode::Test {
             dimension,
@@ -204,11 +204,11 @@ pub(crate) fn emit_sequence(
             space,
             pattern,
         } => {
-            let class = class_named(emitter.schema, &mut emitter.sheet, class);
-            let space = space_named(emitter.schema, &mut emitter.sheet, space);
-            let mut asked = Asked::new(emitter.sheet.alloc());
+            let class = class_named(emitter.schema, &mut emitter.buffer, class);
+            let space = space_named(emitter.schema, &mut emitter.buffer, space);
+            let mut asked = Asked::new(emitter.buffer.alloc());
             let pattern = emit_pattern(emitter, &mut asked, space, pattern, room)?;
-            emit_query(&mut emitter.sheet, class, space, asked, pattern, room)
+            emit_query(&mut emitter.buffer, class, space, asked, pattern, room)
         }
     }
 }
@@ -227,10 +227,10 @@ fn emit_step(
     match step {
         Step::Apply { operator, operand } => {
             let right = emit_expr(emitter, operand, room.saturating_sub(1))?;
-            emit_operator(&mut emitter.sheet, *operator, left, right)
+            emit_operator(&mut emitter.buffer, *operator, left, right)
         }
         Step::Divide { division, divisor } => emit_division(
-            &mut emitter.sheet,
+            &mut emitter.buffer,
             *division,
             *divisor,
             left,
@@ -268,10 +268,10 @@ pub(crate) fn emit_expr(
     ensures { Makes emitter.old emitter.new result (expr_code emitter.old.schema.now room expr.now) }
 {
     match expr.node() {
-        ExprNode::Atom(atom) => emit_atom(emitter.schema, &mut emitter.sheet, atom, room),
+        ExprNode::Atom(atom) => emit_atom(emitter.schema, &mut emitter.buffer, atom, room),
         ExprNode::Unary { operation, operand } => {
             let kind = emit_expr(emitter, operand, room)?;
-            emit_unary(&mut emitter.sheet, *operation, kind)
+            emit_unary(&mut emitter.buffer, *operation, kind)
         }
         ExprNode::Binary {
             operation,
@@ -280,7 +280,7 @@ pub(crate) fn emit_expr(
         } => {
             let first = emit_expr(emitter, left, room)?;
             let second = emit_expr(emitter, right, room.saturating_sub(1))?;
-            emit_binary(&mut emitter.sheet, *operation, first, second)
+            emit_binary(&mut emitter.buffer, *operation, first, second)
         }
         ExprNode::Chain { first, steps } => {
             let kind = emit_expr(emitter, first, room)?;
@@ -288,7 +288,7 @@ pub(crate) fn emit_expr(
         }
         ExprNode::Size(sequence) => {
             let _class = emit_sequence(emitter, sequence, room)?;
-            emitter.sheet.put(Op::Size)?;
+            emitter.buffer.put(Op::Size)?;
             Ok(Some(Kind::Int))
         }
     }

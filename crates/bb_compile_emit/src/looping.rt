@@ -10,9 +10,9 @@ use crate::emitter::Emitter;
 use crate::expressions::emit_sequence;
 use bb_basis::Text;
 use bb_code::STACK_LIMIT;
-use bb_compile_buffer::Sheet;
+use bb_compile_buffer::Buffer;
 use bb_compile_scope::{
-    Block, ClassId, CompileFault, Flaw, Kind, LocalId, Mark, Op, Place, Schema, wear_under,
+    Block, ClassId, CompileFault, Flaw, Kind, LocalId, Mark, Op, Place, Schema, kill_under,
 };
 use bb_lang::Sequence;
 use std::alloc::AllocError;
@@ -26,11 +26,11 @@ pub struct Begun {
 }
 
 // Notes a loop where no more may be nested.
-fn check_nesting(sheet: &mut Sheet, loops: usize)
-    ensures { sheet.new ≡ loop_noted loops sheet.old }
+fn check_nesting(buffer: &mut Buffer, loops: usize)
+    ensures { buffer.new ≡ loop_noted loops buffer.old }
 {
     if loops == 0 {
-        sheet.note(Flaw::Limit);
+        buffer.note(Flaw::Limit);
     }
 }
 
@@ -46,12 +46,12 @@ pub(crate) fn emit_over(
         (for_code emitter.old.schema.now sequence.now place loops) }
 {
     let found = emit_sequence(emitter, sequence, STACK_LIMIT)?;
-    check_nesting(&mut emitter.sheet, loops);
-    emitter.sheet.settle(place)?;
+    check_nesting(&mut emitter.buffer, loops);
+    emitter.buffer.settle(place)?;
     let flaw = Flaw::Unknown;
     let class = found.ok_or(CompileFault::At { flaw, place })?;
-    let local = emitter.sheet.take_local(Kind::Seq(class))?;
-    emitter.sheet.put(Op::Store(local))?;
+    let local = emitter.buffer.take_local(Kind::Seq(class))?;
+    emitter.buffer.put(Op::Store(local))?;
     Ok((class, local))
 }
 
@@ -67,47 +67,47 @@ pub(crate) fn begin_loop(
     ensures { Makes emitter.old emitter.new result
         (loop_begun emitter.old.schema.now name.now class local body.now) }
 {
-    let alloc = emitter.sheet.alloc();
-    wear_under(
+    let alloc = emitter.buffer.alloc();
+    kill_under(
         alloc,
         emitter.schema,
-        &mut emitter.sheet.scope,
+        &mut emitter.buffer.scope,
         name,
         Some(class),
         body,
     )?;
-    emitter.sheet.label()?;
-    let index = emitter.sheet.begin_loop()?;
-    let head = emitter.sheet.ops.here();
-    let start = emitter.sheet.scope.mark();
-    emitter.sheet.put(Op::Next(local, 0))?;
-    emitter.sheet.declare(name, Kind::Ref(class))?;
+    emitter.buffer.label()?;
+    let index = emitter.buffer.begin_loop()?;
+    let head = emitter.buffer.ops.here();
+    let start = emitter.buffer.scope.mark();
+    emitter.buffer.put(Op::Next(local, 0))?;
+    emitter.buffer.declare(name, Kind::Ref(class))?;
     Ok(Begun { index, head, start })
 }
 
 impl Begun {
     // Has the locals hold at the end of the body what they hold at its start.
-    fn go_back(&self, sheet: &mut Sheet, ended: bool) -> Result<(), AllocError>
-        ensures { IfOk result (λ _. sheet.new ≡ at_back self.now ended sheet.old) }
+    fn go_back(&self, buffer: &mut Buffer, ended: bool) -> Result<(), AllocError>
+        ensures { IfOk result (λ _. buffer.new ≡ at_back self.now ended buffer.old) }
     {
-        sheet.scope.leave(&self.start);
-        sheet.scope.kinds = self.start.kinds.copied();
+        buffer.scope.leave(&self.start);
+        buffer.scope.kinds = self.start.kinds.copied();
         if !ended {
             return Ok(());
         }
-        sheet.label()
+        buffer.label()
     }
 
     /// The end of the loop; `ended` says whether the body always ends.
     #[tactic(auto, unfolding(crate::specs::Statements::loop_ended))]
-    pub(crate) fn end(&self, sheet: &mut Sheet, ended: bool) -> Result<(), CompileFault>
-        ensures { Gives OutOfMemory (λ _. sheet.new) result (loop_ended self.now ended sheet.old) }
+    pub(crate) fn end(&self, buffer: &mut Buffer, ended: bool) -> Result<(), CompileFault>
+        ensures { Gives OutOfMemory (λ _. buffer.new) result (loop_ended self.now ended buffer.old) }
     {
-        self.go_back(sheet, ended)?;
-        sheet.put(Op::Back(self.head))?;
-        sheet.aim(self.head);
-        let end = sheet.ops.here();
-        sheet.loops.end(self.index, end);
+        self.go_back(buffer, ended)?;
+        buffer.put(Op::Back(self.head))?;
+        buffer.aim(self.head);
+        let end = buffer.ops.here();
+        buffer.loops.end(self.index, end);
         Ok(())
     }
 }

@@ -8,7 +8,7 @@ ghost use Rattle.bb_compile_emit.specs.Parts.{has_no_end, done, part_code};
 use crate::emitter::Emitter;
 use crate::statements::emit_block;
 use bb_code::Code;
-use bb_compile_buffer::{Sheet, finish};
+use bb_compile_buffer::{Buffer, finish};
 use bb_compile_scope::{Block, CompileFault, Flaw, Op, Part, Place, Schema, block_ends};
 use std::alloc::Global;
 
@@ -23,11 +23,11 @@ fn has_no_end(part: Part, block: &Block) -> bool
 }
 
 // A `do` ends after its last statement.
-fn put_done(part: Part, sheet: &mut Sheet) -> Result<(), CompileFault>
-    ensures { Gives OutOfMemory (λ _. sheet.new) result (done part sheet.old) }
+fn put_done(part: Part, buffer: &mut Buffer) -> Result<(), CompileFault>
+    ensures { Gives OutOfMemory (λ _. buffer.new) result (done part buffer.old) }
 {
     if part.ends_done().is_ok() {
-        return sheet.put(Op::Done);
+        return buffer.put(Op::Done);
     }
     Ok(())
 }
@@ -48,13 +48,13 @@ pub fn emit_part(
         let flaw = Flaw::NoEnd;
         return Err(CompileFault::At { flaw, place });
     }
-    let sheet = Sheet::new(alloc, part, place)?;
+    let buffer = Buffer::new(alloc, part, place)?;
     let mut emitter = Emitter {
         schema,
         part,
-        sheet,
+        buffer,
     };
     let _ended = emit_block(&mut emitter, block, LOOP_NESTING)?;
-    put_done(part, &mut emitter.sheet)?;
-    finish(emitter.sheet)
+    put_done(part, &mut emitter.buffer)?;
+    finish(emitter.buffer)
 }

@@ -15,7 +15,7 @@ use crate::exits::Exits;
 use crate::expressions::emit_expr;
 use crate::looping::{begin_loop, emit_over};
 use bb_code::STACK_LIMIT;
-use bb_compile_buffer::Sheet;
+use bb_compile_buffer::Buffer;
 use bb_compile_scope::{Block, CompileFault, Flaw, Kind, Mark, Op, Place, ends};
 use bb_lang::{Action, Binding, Branches, Expr, ForLoop, Placed, Statement};
 
@@ -25,10 +25,10 @@ fn emit_test(emitter: &mut Emitter, test: &Expr, place: Place) -> Result<Exits, 
     ensures { Makes emitter.old emitter.new result (if_code emitter.old.schema.now test.now place) }
 {
     let kind = emit_expr(emitter, test, STACK_LIMIT)?;
-    let first = emitter.sheet.ops.here();
-    emitter.sheet.due(kind, Kind::Bool);
-    emitter.sheet.put(Op::Unless(0))?;
-    emitter.sheet.settle(place)?;
+    let first = emitter.buffer.ops.here();
+    emitter.buffer.due(kind, Kind::Bool);
+    emitter.buffer.put(Op::Unless(0))?;
+    emitter.buffer.settle(place)?;
     Ok(Exits::one(first))
 }
 
@@ -39,17 +39,17 @@ fn emit_bound(emitter: &mut Emitter, binding: &Binding, place: Place) -> Result<
         (with_code emitter.old.schema.now binding.now place) }
 {
     let found = emit_binding(emitter, binding)?;
-    emitter.sheet.settle(place)?;
+    emitter.buffer.settle(place)?;
     let flaw = Flaw::Unknown;
     found.ok_or(CompileFault::At { flaw, place })
 }
 
 // Notes a statement after one that always ends.
-fn check_after_end(sheet: &mut Sheet, ended: bool)
-    ensures { sheet.new ≡ after_end ended sheet.old }
+fn check_after_end(buffer: &mut Buffer, ended: bool)
+    ensures { buffer.new ≡ after_end ended buffer.old }
 {
     if ended {
-        sheet.note(Flaw::NoEnd);
+        buffer.note(Flaw::NoEnd);
     }
 }
 
@@ -59,7 +59,7 @@ fn emit_plain(emitter: &mut Emitter, action: &Action, place: Place) -> Result<bo
         (action_of emitter.old.schema.now emitter.old.part place action.now) }
 {
     emit_action(emitter, action)?;
-    emitter.sheet.settle(place)?;
+    emitter.buffer.settle(place)?;
     Ok(ends(action))
 }
 
@@ -74,7 +74,7 @@ fn emit_placed(
     ensures { Makes emitter.old emitter.new result
         (placed_code emitter.old.schema.now emitter.old.part loops ended placed.now) }
 {
-    check_after_end(&mut emitter.sheet, ended);
+    check_after_end(&mut emitter.buffer, ended);
     let now = emit_statement(emitter, &placed.statement, placed.place, loops)?;
     Ok(ended || now)
 }
@@ -89,12 +89,12 @@ pub(crate) fn emit_block(
     ensures { Makes emitter.old emitter.new result
         (block_code emitter.old.schema.now emitter.old.part loops block.now) }
 {
-    let mark = emitter.sheet.scope.mark();
+    let mark = emitter.buffer.scope.mark();
     let mut ended = false;
     for placed in block.statements() {
         ended = emit_placed(emitter, placed, ended, loops)?;
     }
-    emitter.sheet.scope.leave(&mark);
+    emitter.buffer.scope.leave(&mark);
     Ok(ended)
 }
 
@@ -111,13 +111,13 @@ fn emit_otherwise(
         (otherwise_code emitter.old.schema.now emitter.old.part loops branch (otherwise_of otherwise.now)) }
 {
     let Some(block) = otherwise else {
-        branch.end_if(&mut emitter.sheet)?;
+        branch.end_if(&mut emitter.buffer)?;
         return Ok(false);
     };
-    let kinds = emitter.sheet.scope.kinds.copied();
-    let jump = branch.begin_else(&mut emitter.sheet)?;
+    let kinds = emitter.buffer.scope.kinds.copied();
+    let jump = branch.begin_else(&mut emitter.buffer)?;
     let ended = emit_block(emitter, block, loops)?;
-    branch.end_else(&mut emitter.sheet, jump, kinds, ended)?;
+    branch.end_else(&mut emitter.buffer, jump, kinds, ended)?;
     Ok(branch.ended && ended)
 }
 
@@ -135,7 +135,7 @@ fn emit_branches(
         (otherwise_of branches.now.otherwise)) }
 {
     let ended = emit_block(emitter, &branches.then, loops)?;
-    emitter.sheet.scope.leave(&before);
+    emitter.buffer.scope.leave(&before);
     let branch = Branch {
         before,
         exits,
@@ -162,13 +162,13 @@ fn emit_for(
         sequence,
         body,
     } = for_loop;
-    let before = emitter.sheet.scope.mark();
+    let before = emitter.buffer.scope.mark();
     let (class, local) = emit_over(emitter, sequence, place, loops)?;
     let begun = begin_loop(emitter, name, class, local, body)?;
     let ended = emit_block(emitter, body, loops.saturating_sub(1))?;
-    begun.end(&mut emitter.sheet, ended)?;
-    emitter.sheet.scope.leave(&before);
-    emitter.sheet.label()?;
+    begun.end(&mut emitter.buffer, ended)?;
+    emitter.buffer.scope.leave(&before);
+    emitter.buffer.label()?;
     Ok(false)
 }
 
@@ -188,11 +188,11 @@ fn emit_statement(
         Statement::Action(action) => emit_plain(emitter, action, place),
         Statement::If { test, branches } => {
             let exits = emit_test(emitter, test, place)?;
-            let before = emitter.sheet.scope.mark();
+            let before = emitter.buffer.scope.mark();
             emit_branches(emitter, before, exits, branches, loops)
         }
         Statement::With { binding, branches } => {
-            let before = emitter.sheet.scope.mark();
+            let before = emitter.buffer.scope.mark();
             let exits = emit_bound(emitter, binding, place)?;
             emit_branches(emitter, before, exits, branches, loops)
         }

@@ -11,8 +11,8 @@ use Rattle.bb_verify_frame.specs.Op.TheVariants as ops
 use Rattle.bb_compile_scope.specs.declared.scope.NamedLocal.{NamedLocal}
 use Rattle.bb_compile_scope.specs.declared.scope.Scope.{Scope}
 use Rattle.bb_compile_scope.specs.LocalKinds.{is_free, kind_at}
-use Rattle.bb_compile_accepted.specs.Sheet.{Sheet}
-use Rattle.bb_compile_accepted.specs.Sheets.{declare}
+use Rattle.bb_compile_accepted.specs.Buffer.{Buffer}
+use Rattle.bb_compile_accepted.specs.Buffers.{declare}
 use Rattle.bb_machine_state.specs.Board.{Board}
 use Rattle.bb_machine_step.specs.Changing.{State}
 use Rattle.bb_machine_step.specs.Halt.{Halt}
@@ -46,13 +46,13 @@ pub record IsScene (n : ℕ) (ns : List NamedLocal) (scene : Scene) (next : Stat
   pub board : next.1 ≡ scene.board
 
 -- one op is put, and nothing else but what the scope knows changes
-pub record Last (op : Op) (s t : Sheet) : Type 0 where
+pub record Last (op : Op) (s t : Buffer) : Type 0 where
   pub ops : t.ops ≡ s.ops ++ op ∷ []
   pub texts : t.texts ≡ s.texts
   pub queries : t.queries ≡ s.queries
   pub flaw : t.flaw ≡ s.flaw
 
-pub last_grown : (op : Op) (s t : Sheet) → Last op s t → Grown s t
+pub last_grown : (op : Op) (s t : Buffer) → Last op s t → Grown s t
 last_grown op s t l = record {
   ops = op ∷ [];
   ops_are = l.ops;
@@ -62,34 +62,34 @@ last_grown op s t l = record {
   queries_are = l.queries ∙ sym (append-nil s.queries);
 }
 
-pub last_put : (op : Op) (s t : Sheet) → t ≡ with_op op s → Last op s t
-last_put op s t is = record { ops = ap (λ (u : Sheet). u.ops) is; texts = ap (λ (u : Sheet). u.texts) is; queries = ap (λ (u : Sheet). u.queries) is; flaw = ap (λ (u : Sheet). u.flaw) is }
+pub last_put : (op : Op) (s t : Buffer) → t ≡ with_op op s → Last op s t
+last_put op s t is = record { ops = ap (λ (u : Buffer). u.ops) is; texts = ap (λ (u : Buffer). u.texts) is; queries = ap (λ (u : Buffer). u.queries) is; flaw = ap (λ (u : Buffer). u.flaw) is }
 
-pub last_clean : (op : Op) (s t : Sheet) → Last op s t → Clean t → Clean s
+pub last_clean : (op : Op) (s t : Buffer) → Last op s t → Clean t → Clean s
 last_clean op s t l clean = sym l.flaw ∙ clean
 
 -- ---- a name is declared
 
 -- the lowest free local takes the value
-pub record Declares (name : List ℕ) (kind : Kind) (s t : Sheet) : Type 0 where
+pub record Declares (name : List ℕ) (kind : Kind) (s t : Buffer) : Type 0 where
   pub local : ℕ
   pub free : position is_free s.scope.kinds ≡ Some local
   pub last : Last (ops.Store local) s t
   pub names : t.scope.names ≡ s.scope.names ++ record { name = name; local = local } ∷ []
   pub kinds : t.scope.kinds ≡ set (set s.scope.kinds local kind) local kind
 
-pub declare_ok : (name : List ℕ) (kind : Kind) (s t : Sheet) → declare name kind s ≡ Ok t → Declares name kind s t
+pub declare_ok : (name : List ℕ) (kind : Kind) (s t : Buffer) → declare name kind s ≡ Ok t → Declares name kind s t
 declare_ok name kind s t h =
     let d = declare_is name kind s t h in
     record {
       local = d.0;
       free = d.1;
-      last = record { ops = ap (λ (x : Sheet). x.ops) d.2; texts = ap (λ (x : Sheet). x.texts) d.2; queries = ap (λ (x : Sheet). x.queries) d.2; flaw = ap (λ (x : Sheet). x.flaw) d.2 };
-      names = ap (λ (x : Sheet). x.scope.names) d.2;
-      kinds = ap (λ (x : Sheet). x.scope.kinds) d.2;
+      last = record { ops = ap (λ (x : Buffer). x.ops) d.2; texts = ap (λ (x : Buffer). x.texts) d.2; queries = ap (λ (x : Buffer). x.queries) d.2; flaw = ap (λ (x : Buffer). x.flaw) d.2 };
+      names = ap (λ (x : Buffer). x.scope.names) d.2;
+      kinds = ap (λ (x : Buffer). x.scope.kinds) d.2;
     }
 
-pub declared_tidy : (name : List ℕ) (kind : Kind) (s t : Sheet) → Declares name kind s t → is_free kind ≡ false → IsTidy s.scope → IsTidy t.scope
+pub declared_tidy : (name : List ℕ) (kind : Kind) (s t : Buffer) → Declares name kind s t → is_free kind ≡ false → IsTidy s.scope → IsTidy t.scope
 declared_tidy name kind s t d known tidy =
     let n : NamedLocal = record { name = name; local = d.local } in
     let lt = position_within is_free s.scope.kinds d.local d.free in
@@ -102,15 +102,15 @@ declared_tidy name kind s t d known tidy =
     }
 
 module _ (code : Code) (start : State) where
-  -- what is laid out from one sheet to another does what a statement means
-  pub record Acts (s t : Sheet) (act : Scene → Meaning Scene) : Type 0 where
+  -- what is laid out from one buffer to another does what a statement means
+  pub record Acts (s t : Buffer) (act : Scene → Meaning Scene) : Type 0 where
     pub grown : Grown s t
     pub clean : Clean s
     pub tidy : IsTidy s.scope → IsTidy t.scope
     pub gets : IsTidy s.scope → (st : State) (scene : Scene) → Comes code start (length s.ops) (Ok st) → IsScene (length s.ops) s.scope.names scene st → Gets code start (IsScene (length t.ops) t.scope.names) (act scene) (length t.ops)
 
   -- the last op
-  pub last_gets : {X : Type 0} (op : Op) (s t : Sheet) (P : ℕ → X → State → Type 0) (r : Meaning X) (st : State) → Last op s t → Has code t → Comes code start (length s.ops) (Ok st)
+  pub last_gets : {X : Type 0} (op : Op) (s t : Buffer) (P : ℕ → X → State → Type 0) (r : Meaning X) (st : State) → Last op s t → Has code t → Comes code start (length s.ops) (Ok st)
       → ((n : ℕ) (x : X) (next : State) → P n x next → next.0.place ≡ n) → Leaves (P (length s.ops + 1)) r (done_on st.1 (step code op (go_to (length s.ops + 1) st.0, st.1)))
       → Gets code start (P (length t.ops)) r (length t.ops)
   last_gets op s t P r st last has c place leaves =
@@ -127,7 +127,7 @@ module _ (code : Code) (start : State) where
     pub board : st.1 ≡ scene.board
 
   -- an expression, and what comes of its value
-  pub act_one : (s t u : Sheet) (made : Option Kind) (value : Value₀) (f : Scene → Value → Meaning Scene) → Means code start s t made value → Grown t u
+  pub act_one : (s t u : Buffer) (made : Option Kind) (value : Value₀) (f : Scene → Value → Meaning Scene) → Means code start s t made value → Grown t u
       → ((st : State) (scene : Scene) (v : Value) → Comes code start (length t.ops) (Ok st) → Holds (length t.ops) s.scope.names scene v st → Gets code start (IsScene (length u.ops) u.scope.names) (f scene v) (length u.ops))
       → (st : State) (scene : Scene) → Comes code start (length s.ops) (Ok st) → IsScene (length s.ops) s.scope.names scene st
       → Gets code start (IsScene (length u.ops) u.scope.names) (value scene.board scene.names >>= f scene) (length u.ops)
@@ -158,7 +158,7 @@ module _ (code : Code) (start : State) where
       by_few false few = (scene, refl, record { place = place; held = held (leb-false (length m.locals) local few); stack = refl; board = board })
 
   -- the value on the stack gets a name
-  pub declare_gets : (name : List ℕ) (kind : Kind) (s t : Sheet) → Declares name kind s t → Has code t → IsTidy s.scope → (st : State) (scene : Scene) (v : Value) → Comes code start (length s.ops) (Ok st) → Holds (length s.ops) s.scope.names scene v st
+  pub declare_gets : (name : List ℕ) (kind : Kind) (s t : Buffer) → Declares name kind s t → Has code t → IsTidy s.scope → (st : State) (scene : Scene) (v : Value) → Comes code start (length s.ops) (Ok st) → Holds (length s.ops) s.scope.names scene v st
       → Gets code start (IsScene (length t.ops) t.scope.names) (Ok (where_named name v scene)) (length t.ops)
   declare_gets name kind s t d has tidy st scene v c h =
       last_gets (ops.Store d.local) s t (λ n. IsScene n t.scope.names) (Ok (where_named name v scene)) st d.last has c (λ n x next i. i.place)
@@ -167,7 +167,7 @@ module _ (code : Code) (start : State) where
       (held_declared st.0.locals s.scope.names scene.names name d.local v (free_other s.scope.names s.scope.kinds d.local tidy.taken (first_free s.scope.kinds d.local d.free)) h.held lt)))
 
   -- a name that is there gets the value on the stack
-  pub assign_gets : (local : ℕ) (s t : Sheet) → Last (ops.Store local) s t → Has code t → (st : State) (scene after : Scene) (v : Value) → Comes code start (length s.ops) (Ok st) → Holds (length s.ops) s.scope.names scene v st → after.board ≡ scene.board
+  pub assign_gets : (local : ℕ) (s t : Buffer) → Last (ops.Store local) s t → Has code t → (st : State) (scene after : Scene) (v : Value) → Comes code start (length s.ops) (Ok st) → Holds (length s.ops) s.scope.names scene v st → after.board ≡ scene.board
       → (local < length st.0.locals → AreHeld (set st.0.locals local (Some v)) t.scope.names after.names) → Gets code start (IsScene (length t.ops) t.scope.names) (Ok after) (length t.ops)
   assign_gets local s t last has st scene after v c h same held =
       last_gets (ops.Store local) s t (λ n. IsScene n t.scope.names) (Ok after) st last has c (λ n x next i. i.place)
@@ -179,7 +179,7 @@ module _ (code : Code) (start : State) where
   OneLeaf ns op P f = (n : ℕ) (m : Machine) (b : Board) (v : Value) (ms : List Name) → P b → m.place ≡ n → AreHeld m.locals ns ms → m.stack ≡ v ∷ []
       → Leaves (IsScene n ns) (f (record { names = ms; board = b }) v) (done_on b (step code op (m, b)))
 
-  pub one_gets : (ns : List NamedLocal) (op : Op) (P : Board → Type 0) (f : Scene → Value → Meaning Scene) (t u : Sheet) → ((n : ℕ) (st : State) → Comes code start n (Ok st) → P st.1) → Last op t u → Has code u → OneLeaf ns op P f
+  pub one_gets : (ns : List NamedLocal) (op : Op) (P : Board → Type 0) (f : Scene → Value → Meaning Scene) (t u : Buffer) → ((n : ℕ) (st : State) → Comes code start n (Ok st) → P st.1) → Last op t u → Has code u → OneLeaf ns op P f
       → (st : State) (scene : Scene) (v : Value) → Comes code start (length t.ops) (Ok st) → Holds (length t.ops) ns scene v st → Gets code start (IsScene (length u.ops) ns) (f scene v) (length u.ops)
   one_gets ns op P f t u good last has leaf st scene v c h =
       subst (λ b. Gets code start (IsScene (length u.ops) ns) (f (record { names = scene.names; board = b }) v) (length u.ops)) h.board
@@ -191,7 +191,7 @@ module _ (code : Code) (start : State) where
       → Leaves (IsScene n ns) (f (record { names = ms; board = b }) v w) (done_on b (step code op (m, b)))
 
   -- two values, and an op on both
-  pub two_act : (op : Op) (P : Board → Type 0) (s t u w : Sheet) (made kind : Option Kind) (one other : Value₀) (f : Scene → (v w : Value) → Meaning Scene) → ((n : ℕ) (st : State) → Comes code start n (Ok st) → P st.1)
+  pub two_act : (op : Op) (P : Board → Type 0) (s t u w : Buffer) (made kind : Option Kind) (one other : Value₀) (f : Scene → (v w : Value) → Meaning Scene) → ((n : ℕ) (st : State) → Comes code start n (Ok st) → P st.1)
       → Means code start s t made one → Means code start t u kind other → Last op u w → w.scope ≡ u.scope → Has code w → TwoLeaf s.scope.names op P f → Acts s w (λ scene. one scene.board scene.names >>= λ v. other scene.board scene.names >>= f scene v)
   two_act op P s t u w made kind one other f good first second last scope has leaf =
       let all : w.scope ≡ s.scope = scope ∙ (second.scope ∙ first.scope) in
@@ -215,7 +215,7 @@ module _ (code : Code) (start : State) where
       }
 
   -- a value, and an op on it
-  pub one_act : (op : Op) (P : Board → Type 0) (s t u : Sheet) (made : Option Kind) (one : Value₀) (f : Scene → Value → Meaning Scene) → ((n : ℕ) (st : State) → Comes code start n (Ok st) → P st.1)
+  pub one_act : (op : Op) (P : Board → Type 0) (s t u : Buffer) (made : Option Kind) (one : Value₀) (f : Scene → Value → Meaning Scene) → ((n : ℕ) (st : State) → Comes code start n (Ok st) → P st.1)
       → Means code start s t made one → Last op t u → u.scope.names ≡ s.scope.names → (IsTidy s.scope → IsTidy u.scope) → Has code u → OneLeaf s.scope.names op P f → Acts s u (λ scene. one scene.board scene.names >>= f scene)
   one_act op P s t u made one f good first last names tidy has leaf = record {
     grown = grown_on s t u first.grown (last_grown op t u last);
@@ -227,6 +227,6 @@ module _ (code : Code) (start : State) where
         st scene c is;
   }
 
-  -- what acts from a sheet acts from any that is equal to it where no flaw was noted
-  pub acts_as : (was s t : Sheet) (f : Scene → Meaning Scene) → (Clean was → was ≡ s) → Acts was t f → Acts s t f
+  -- what acts from a buffer acts from any that is equal to it where no flaw was noted
+  pub acts_as : (was s t : Buffer) (f : Scene → Meaning Scene) → (Clean was → was ≡ s) → Acts was t f → Acts s t f
   acts_as was s t f same a = subst (λ u. Acts u t f) (same a.clean) a

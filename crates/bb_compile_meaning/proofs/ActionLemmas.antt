@@ -22,8 +22,8 @@ use Rattle.bb_compile_scope.specs.declared.fault.CompileFault.{CompileFault}
 use Rattle.bb_compile_scope.specs.declared.fault.Flaw.TheVariants.{Effect, NoEnd, Limit}
 use Rattle.bb_compile_scope.specs.declared.scope.Scope.{Scope}
 use Rattle.bb_compile_scope.specs.declared.scope.NamedLocal.{NamedLocal}
-use Rattle.bb_compile_accepted.specs.Sheet.{Sheet}
-use Rattle.bb_compile_accepted.specs.Sheets.{noted, due, put}
+use Rattle.bb_compile_accepted.specs.Buffer.{Buffer}
+use Rattle.bb_compile_accepted.specs.Buffers.{noted, due, put}
 use Rattle.bb_compile_accepted.specs.Expressions.{expr_code}
 use Rattle.bb_compile_accepted.specs.Actions.{effect_noted, end_noted, values_code, say_code, end_code, action_code}
 use Rattle.bb_machine_state.specs.Board.{Board, with_world}
@@ -60,27 +60,27 @@ module _ (schema : Schema) (sf : schemas.Fits schema) (code : Code) (start : Sta
   anything : (n : ℕ) (st : State) → Comes code start n (Ok st) → Unit {0}
   anything n st c = tt
 
-  abbrev Does : Sheet → Sheet → (Scene → Meaning Scene) → Type 0
+  abbrev Does : Buffer → Buffer → (Scene → Meaning Scene) → Type 0
   Does s t f = Acts code start s t f
 
   -- ---- say
 
-  -- what is laid out from one sheet to another pushes the values of expressions
-  record Values (s t : Sheet) (es : List ExprTree) : Type 0 where
+  -- what is laid out from one buffer to another pushes the values of expressions
+  record Values (s t : Buffer) (es : List ExprTree) : Type 0 where
     grown : Grown s t
     clean : Clean s
     scope : t.scope ≡ s.scope
     gets : (st base : State) (names : List Name) (vs : List Value) → Comes code start (length s.ops) (Ok st) → Piled (length s.ops) base vs st → AreHeld base.0.locals s.scope.names names
         → Gets code start (λ ws next. Piled (length t.ops) base (vs ++ ws) next × (length ws ≡ length es)) (try_map (value_of base.1 names) es) (length t.ops)
 
-  values_mean : (es : List ExprTree) (r : ℕ) (s t : Sheet) → values_code schema r es s ≡ Ok t → Clean t → Has code t → Values s t es
+  values_mean : (es : List ExprTree) (r : ℕ) (s t : Buffer) → values_code schema r es s ≡ Ok t → Clean t → Has code t → Values s t es
   unfolding values_code try_map
   values_mean [] r s t h clean has =
       let same = same_ok s t h in
       subst (λ u. Values s u []) same
       (record {
         grown = grown_none s s refl refl refl;
-        clean = ap (λ (x : Sheet). x.flaw) same ∙ clean;
+        clean = ap (λ (x : Buffer). x.flaw) same ∙ clean;
         scope = refl;
         gets = λ st base names vs c piled held.
             gets_none code start (λ ws next. Piled (length s.ops) base (vs ++ ws) next × (length ws ≡ length (let l : List ExprTree = [] in l))) [] (length s.ops) st c (subst (λ l. Piled (length s.ops) base l st) (sym (append-nil vs)) piled, refl);
@@ -136,21 +136,21 @@ module _ (schema : Schema) (sf : schemas.Fits schema) (code : Code) (start : Sta
       by_pop (inl ok) = subst (λ r. Leaves (IsScene n ns) (all_values_said scene vs) (done_on b (r >>= λ p. try_map (said_due b) p.0 >>= λ said. Ok (p.1, with_world b (after_say b.world said))))) (sym ok) (by_said (all_said b vs))
       by_pop (inr none) = subst (λ r. Leaves (IsScene n ns) (all_values_said scene vs) (done_on b (r >>= λ p. try_map (said_due b) p.0 >>= λ said. Ok (p.1, with_world b (after_say b.world said))))) (sym none) tt
 
-  say_does : (es : List ExprTree) (s t : Sheet) → say_code schema es s ≡ Ok t → Clean t → Has code t → Does s t (λ scene. try_map (value_of scene.board scene.names) es >>= all_values_said scene)
+  say_does : (es : List ExprTree) (s t : Buffer) → say_code schema es s ≡ Ok t → Clean t → Has code t → Does s t (λ scene. try_map (value_of scene.board scene.names) es >>= all_values_said scene)
   unfolding say_code
   say_does es s t h clean has =
       let one = bind_ok (values_code schema STACK_LIMIT es s) (λ u. cond (nat_lt SAID_LIMIT (length es)) (Ok (noted Limit u)) (put (ops.Say (length es)) u)) t h in
       by_few one.0 (nat_lt SAID_LIMIT (length es)) one.1 one.2
     where
-      by_few : (u : Sheet) (many : Bool) → values_code schema STACK_LIMIT es s ≡ Ok u → (let r : Result Sheet CompileFault = cond many (Ok (noted Limit u)) (put (ops.Say (length es)) u) in r) ≡ Ok t
+      by_few : (u : Buffer) (many : Bool) → values_code schema STACK_LIMIT es s ≡ Ok u → (let r : Result Buffer CompileFault = cond many (Ok (noted Limit u)) (put (ops.Say (length es)) u) in r) ≡ Ok t
           → Does s t (λ scene. try_map (value_of scene.board scene.names) es >>= all_values_said scene)
-      by_few u true is h = never_noted Limit u (ap (λ (x : Sheet). x.flaw) (same_ok (noted Limit u) t h) ∙ clean)
+      by_few u true is h = never_noted Limit u (ap (λ (x : Buffer). x.flaw) (same_ok (noted Limit u) t h) ∙ clean)
       by_few u false is h =
           let op = ops.Say (length es) in
           let put_is = put_ok op u t h in
           let last = last_put op u t put_is in
           let m = values_mean es STACK_LIMIT s u is (clean_before op u t put_is clean) (has_before code u t (grown_op op u t put_is) has) in
-          let scope : t.scope ≡ s.scope = ap (λ (x : Sheet). x.scope) put_is ∙ m.scope in
+          let scope : t.scope ≡ s.scope = ap (λ (x : Buffer). x.scope) put_is ∙ m.scope in
           record {
             grown = grown_on s u t m.grown (grown_op op u t put_is);
             clean = m.clean;
@@ -169,7 +169,7 @@ module _ (schema : Schema) (sf : schemas.Fits schema) (code : Code) (start : Sta
 
   -- ---- ends
 
-  end_does : (e : ExprTree) (wanted : Kind) (op : Op) (f : Scene → Value → Meaning Scene) (s t : Sheet) → end_code schema e wanted op s ≡ Ok t → Clean t → Has code t → ((ns : List NamedLocal) → OneLeaf code start ns op (λ b. Unit {0}) f)
+  end_does : (e : ExprTree) (wanted : Kind) (op : Op) (f : Scene → Value → Meaning Scene) (s t : Buffer) → end_code schema e wanted op s ≡ Ok t → Clean t → Has code t → ((ns : List NamedLocal) → OneLeaf code start ns op (λ b. Unit {0}) f)
       → Does s t (λ scene. value_of scene.board scene.names e >>= f scene)
   unfolding end_code
   end_does e wanted op f s t h clean has leaf =
@@ -177,20 +177,20 @@ module _ (schema : Schema) (sf : schemas.Fits schema) (code : Code) (start : Sta
       let u = one.0.1 in
       let put_is = put_clean op u (due one.0.0 wanted u) t (is_due one.0.0 wanted u) one.2 clean in
       let m = expr_means schema sf code start good e STACK_LIMIT s u one.0.0 one.1 (clean_before op u t put_is clean) (has_before code u t (grown_op op u t put_is) has) in
-      let scope : t.scope ≡ s.scope = ap (λ (x : Sheet). x.scope) put_is ∙ m.scope in
+      let scope : t.scope ≡ s.scope = ap (λ (x : Buffer). x.scope) put_is ∙ m.scope in
       one_act code start op (λ b. Unit {0}) s u t one.0.0 (λ b names. value_of b names e) f anything m (last_put op u t put_is) (ap (λ (x : Scope). x.names) scope) (λ tidy. subst IsTidy (sym scope) tidy) has (leaf s.scope.names)
 
   decline_on : (m : Machine) (b : Board) → step code ops.Decline (m, b) ≡ answered Declined
   unfolding step
   decline_on m b = refl
 
-  decline_does : (s t : Sheet) → put ops.Decline s ≡ Ok t → Clean t → Has code t → Does s t (λ scene. Err (ends.answered Declined scene.board))
+  decline_does : (s t : Buffer) → put ops.Decline s ≡ Ok t → Clean t → Has code t → Does s t (λ scene. Err (ends.answered Declined scene.board))
   decline_does s t h clean has =
       let put_is = put_ok ops.Decline s t h in
       record {
         grown = grown_op ops.Decline s t put_is;
         clean = clean_before ops.Decline s t put_is clean;
-        tidy = λ tidy. subst IsTidy (sym (ap (λ (x : Sheet). x.scope) put_is)) tidy;
+        tidy = λ tidy. subst IsTidy (sym (ap (λ (x : Buffer). x.scope) put_is)) tidy;
         gets = λ tidy st scene c here.
             last_gets code start ops.Decline s t (λ n. IsScene n t.scope.names) (Err (ends.answered Declined scene.board)) st (last_put ops.Decline s t put_is) has c (λ n x next i. i.place)
             (subst (λ r. Leaves (IsScene (length s.ops + 1) t.scope.names) (Err (ends.answered Declined scene.board)) (done_on st.1 r)) (sym (decline_on (go_to (length s.ops + 1) st.0) st.1)) (ap (λ b. Err (ends.answered Declined b)) (sym here.board)));
@@ -199,13 +199,13 @@ module _ (schema : Schema) (sf : schemas.Fits schema) (code : Code) (start : Sta
   -- ---- all of them
 
   module _ (part : Part) where
-    effect_free : (s : Sheet) → Clean (effect_noted part s) → effect_noted part s ≡ s
+    effect_free : (s : Buffer) → Clean (effect_noted part s) → effect_noted part s ≡ s
     effect_free s clean = (passed (is_ok (writes part)) Effect s clean).1
 
-    end_free : (right : Bool) (s : Sheet) → Clean (end_noted right s) → end_noted right s ≡ s
+    end_free : (right : Bool) (s : Buffer) → Clean (end_noted right s) → end_noted right s ≡ s
     end_free right s clean = (passed right NoEnd s clean).1
 
-    pub action_does : (a : Action) (s t : Sheet) → action_code schema part a s ≡ Ok t → Clean t → Has code t → Does s t (acted a)
+    pub action_does : (a : Action) (s t : Buffer) → action_code schema part a s ≡ Ok t → Clean t → Has code t → Does s t (acted a)
     unfolding action_code acted
     action_does (actions.Let name value) s t h clean has = let_does schema sf code start good name value s t h clean has
     action_does (actions.Assign name value) s t h clean has = assign_does schema sf code start good name value s t h clean has

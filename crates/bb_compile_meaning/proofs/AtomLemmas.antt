@@ -31,8 +31,8 @@ use Rattle.bb_compile_scope.specs.declared.scope.Scope.{Scope}
 use Rattle.bb_compile_scope.specs.LocalKinds.{is_free, kind_at}
 use Rattle.bb_compile_scope.specs.Scope.{name_of}
 use Rattle.bb_compile_scope.specs.Slots.{with_kind, slot_of, value_in, link_in, value_slot, link_slot}
-use Rattle.bb_compile_accepted.specs.Sheet.{Sheet}
-use Rattle.bb_compile_accepted.specs.Sheets.{noted, put, text_at, text_index}
+use Rattle.bb_compile_accepted.specs.Buffer.{Buffer}
+use Rattle.bb_compile_accepted.specs.Buffers.{noted, put, text_at, text_index}
 use Rattle.bb_compile_accepted.specs.Atoms.{pushed, loaded, unit_code, gotten, got_from, slot_code, text_noted, text_code, label_of, label_in, label_code, atom_code}
 use Rattle.bb_machine_state.specs.Board.{Board}
 use Rattle.bb_machine_state.specs.Fits.{Fits}
@@ -187,7 +187,7 @@ module _ (schema : Schema) (sf : schemas.Fits schema) (code : Code) where
 
   module _ (start : State) (good : (n : ℕ) (st : State) → Comes code start n (Ok st) → Good schema st.1) where
     -- a name
-    pub name_means : (v : Variable) (s t : Sheet) (made : Option Kind) → Clean t → Has code t → IsLoaded v s t made → Means code start s t made (λ b names. named (name_of v) names)
+    pub name_means : (v : Variable) (s t : Buffer) (made : Option Kind) → Clean t → Has code t → IsLoaded v s t made → Means code start s t made (λ b names. named (name_of v) names)
     name_means v s t made clean has loaded =
         push_means code start s t (ops.Load loaded.0) made (λ b names. named (name_of v) names) (clean_before (ops.Load loaded.0) s t loaded.2 clean) loaded.2 has (kind_at s.scope.kinds loaded.0, loaded.3)
         (λ taken. subst IsKind (sym loaded.3) (name_taken s.scope.kinds (name_of v) loaded.0 s.scope.names taken loaded.1))
@@ -199,7 +199,7 @@ module _ (schema : Schema) (sf : schemas.Fits schema) (code : Code) where
         (copy_leaves n st (go_to n st.0) st.1 is.0 (record { place = refl; locals = refl; stack = refl; board = refl }))))
 
     -- a value that does not depend on anything
-    fixed_means : (op : Op) (v : Value) (kind : Kind) (s t : Sheet) (made : Option Kind) → is_free kind ≡ false → Clean t → Has code t → IsPut op kind s t made
+    fixed_means : (op : Op) (v : Value) (kind : Kind) (s t : Buffer) (made : Option Kind) → is_free kind ≡ false → Clean t → Has code t → IsPut op kind s t made
         → ((m : Machine) (b : Board) → step code op (m, b) ≡ keeps b (push v m)) → Means code start s t made (λ b names. Ok v)
     fixed_means op v kind s t made known clean has put does =
         push_means code start s t op made (λ b names. Ok v) (clean_before op s t put.0 clean) put.0 has (kind, put.1) (λ taken. subst IsKind (sym put.1) known)
@@ -213,23 +213,23 @@ module _ (schema : Schema) (sf : schemas.Fits schema) (code : Code) where
     unfolding step push_text
     push_text_on i text m b is = rw is refl
 
-    -- a text that stands on a sheet, which has nothing else more
-    abbrev HasText : (text : List ℕ) (s t : Sheet) → ℕ → Type 0
+    -- a text that stands on a buffer, which has nothing else more
+    abbrev HasText : (text : List ℕ) (s t : Buffer) → ℕ → Type 0
     HasText text s t i = (g : Grown s t) × (t.scope ≡ s.scope) × (t.flaw ≡ s.flaw) × (t.ops ≡ s.ops) × (slice_get t.texts i ≡ Some text)
 
-    same_text : (text : List ℕ) (s t : Sheet) (i j : ℕ) → slice_get s.texts j ≡ Some text → (let r : Result (ℕ × Sheet) CompileFault = Ok (j, s) in r) ≡ Ok (i, t) → HasText text s t i
+    same_text : (text : List ℕ) (s t : Buffer) (i j : ℕ) → slice_get s.texts j ≡ Some text → (let r : Result (ℕ × Buffer) CompileFault = Ok (j, s) in r) ≡ Ok (i, t) → HasText text s t i
     same_text text s t i j at h =
         let same = pair_ok j i s t h in
         subst (λ u. HasText text s u i) same.1 (grown_none s s refl refl refl, refl, refl, refl, ap (slice_get s.texts) (sym same.0) ∙ at)
 
-    more_text : (text : List ℕ) (s t : Sheet) (i : ℕ) → (let r : Result (ℕ × Sheet) CompileFault = Ok (length s.texts, record s { texts = s.texts ++ text ∷ [] }) in r) ≡ Ok (i, t) → HasText text s t i
+    more_text : (text : List ℕ) (s t : Buffer) (i : ℕ) → (let r : Result (ℕ × Buffer) CompileFault = Ok (length s.texts, record s { texts = s.texts ++ text ∷ [] }) in r) ≡ Ok (i, t) → HasText text s t i
     more_text text s t i h =
-        let more : Sheet = record s { texts = s.texts ++ text ∷ [] } in
+        let more : Buffer = record s { texts = s.texts ++ text ∷ [] } in
         let same = pair_ok (length s.texts) i more t h in
         let grown : Grown s more = record { ops = []; ops_are = sym (append-nil s.ops); texts = text ∷ []; texts_are = refl; queries = []; queries_are = sym (append-nil s.queries) } in
         subst (λ u. HasText text s u i) same.1 (grown, refl, refl, refl, ap (slice_get (s.texts ++ text ∷ [])) (sym same.0) ∙ seam s.texts [] text)
 
-    text_ok : (text : List ℕ) (s t : Sheet) (i : ℕ) → text_index text s ≡ Ok (i, t) → HasText text s t i
+    text_ok : (text : List ℕ) (s t : Buffer) (i : ℕ) → text_index text s ≡ Ok (i, t) → HasText text s t i
     unfolding text_index
     text_ok text s t i h = by_place (position (bytes_eq text) s.texts) refl h
       where
@@ -240,8 +240,8 @@ module _ (schema : Schema) (sf : schemas.Fits schema) (code : Code) where
         by_place None is h =
             more_text text s t i (guard_ok (nat_le TEXT_COUNT_LIMIT (length s.texts)) (At Limit s.start) (Ok (length s.texts, record s { texts = s.texts ++ text ∷ [] })) (i, t) h).1
 
-    -- what stands behind a sheet that has a text more
-    after_text : (text : List ℕ) (s u t : Sheet) (i : ℕ) (made : Option Kind) (value : Meaning Value) → HasText text s u i → Means code start u t made (λ b names. value) → Means code start s t made (λ b names. value)
+    -- what stands behind a buffer that has a text more
+    after_text : (text : List ℕ) (s u t : Buffer) (i : ℕ) (made : Option Kind) (value : Meaning Value) → HasText text s u i → Means code start u t made (λ b names. value) → Means code start s t made (λ b names. value)
     after_text text s u t i made value has m = record {
       grown = grown_on s u t has.0 m.grown;
       clean = sym has.2 ∙ m.clean;
@@ -252,7 +252,7 @@ module _ (schema : Schema) (sf : schemas.Fits schema) (code : Code) where
           m.gets st names (subst (λ l. Comes code start (length l) (Ok st)) (sym has.3) c) (subst (λ (d : Scope). AreHeld st.0.locals d.names names) (sym has.1) held);
     }
 
-    text_means : (text : List ℕ) (room : ℕ) (s t : Sheet) (made : Option Kind) → text_code text room s ≡ Ok (made, t) → Clean t → Has code t → Means code start s t made (λ b names. Ok (Text text))
+    text_means : (text : List ℕ) (room : ℕ) (s t : Buffer) (made : Option Kind) → text_code text room s ≡ Ok (made, t) → Clean t → Has code t → Means code start s t made (λ b names. Ok (Text text))
     unfolding text_code
     text_means text room s t made h clean has =
         let one = bind_ok (text_index text (text_noted text s)) (λ p. pushed (ops.PushText p.0) kinds.Text room p.1) (made, t) h in
@@ -275,12 +275,12 @@ module _ (schema : Schema) (sf : schemas.Fits schema) (code : Code) where
         by_name None = tt
         by_name (Some name) = push_leaves n st m b like (Label set label)
 
-    label_means : (set name : List ℕ) (room : ℕ) (s t : Sheet) (made : Option Kind) → label_code schema set name room s ≡ Ok (made, t) → Clean t → Has code t → Means code start s t made (λ b names. label b set name)
+    label_means : (set name : List ℕ) (room : ℕ) (s t : Buffer) (made : Option Kind) → label_code schema set name room s ≡ Ok (made, t) → Clean t → Has code t → Means code start s t made (λ b names. label b set name)
     unfolding label_code label
     label_means set name room s t made h clean has = by_set (label_set_named schema set) refl h
       where
         by_label : (k : ℕ) (o : Option ℕ) → label_set_named schema set ≡ Some k → label_named schema k name ≡ o → label_of k o room s ≡ Ok (made, t) → Means code start s t made (λ b names. label b set name)
-        by_label k None is at h = never_noted Unknown s (ap (λ (u : Sheet). u.flaw) (pair_ok (Some (kinds.Label k)) made (noted Unknown s) t h).1 ∙ clean)
+        by_label k None is at h = never_noted Unknown s (ap (λ (u : Buffer). u.flaw) (pair_ok (Some (kinds.Label k)) made (noted Unknown s) t h).1 ∙ clean)
         by_label k (Some l) is at h =
             let put = pushed_ok (ops.PushLabel k l) (kinds.Label k) room s t made h clean in
             push_means code start s t (ops.PushLabel k l) made (λ b names. label b set name) (clean_before (ops.PushLabel k l) s t put.0 clean) put.0 has (kinds.Label k, put.1) (λ taken. subst IsKind (sym put.1) refl)
@@ -292,18 +292,18 @@ module _ (schema : Schema) (sf : schemas.Fits schema) (code : Code) where
             (label_leaves k l (length s.ops + 1) st (go_to (length s.ops + 1) st.0) st.1 (record { place = refl; locals = refl; stack = refl; board = refl })))
 
         by_set : (o : Option ℕ) → label_set_named schema set ≡ o → label_in schema name o room s ≡ Ok (made, t) → Means code start s t made (λ b names. label b set name)
-        by_set None is h = never_noted Unknown s (ap (λ (u : Sheet). u.flaw) (pair_ok None made (noted Unknown s) t h).1 ∙ clean)
+        by_set None is h = never_noted Unknown s (ap (λ (u : Buffer). u.flaw) (pair_ok None made (noted Unknown s) t h).1 ∙ clean)
         by_set (Some k) is h = by_label k (label_named schema k name) is refl h
 
     -- ---- slots
 
-    slot_means : (v : Variable) (name : List ℕ) (room : ℕ) (s t : Sheet) (made : Option Kind) → slot_code schema v name room s ≡ Ok (made, t) → Clean t → Has code t → Means code start s t made (λ b names. texts.value_in b names v name)
+    slot_means : (v : Variable) (name : List ℕ) (room : ℕ) (s t : Buffer) (made : Option Kind) → slot_code schema v name room s ≡ Ok (made, t) → Clean t → Has code t → Means code start s t made (λ b names. texts.value_in b names v name)
     unfolding slot_code texts.value_in
     slot_means v name room s t made h clean has =
         let one = bind_ok (unit_code v room s) (λ p. got_from schema name p.0 p.1) (made, t) h in by_class one.0.0 one.0.1 one.1 one.2
       where
-        by_slot : (class : Option ℕ) (c : ℕ) (u : Sheet) (r : Result (ℕ × Kind) Flaw) → unit_code v room s ≡ Ok (class, u) → value_slot schema c name ≡ r → gotten r u ≡ Ok (made, t) → Means code start s t made (λ b names. texts.value_in b names v name)
-        by_slot class c u (Err flaw) code_is is h = never_noted flaw u (ap (λ (x : Sheet). x.flaw) (pair_ok None made (noted flaw u) t h).1 ∙ clean)
+        by_slot : (class : Option ℕ) (c : ℕ) (u : Buffer) (r : Result (ℕ × Kind) Flaw) → unit_code v room s ≡ Ok (class, u) → value_slot schema c name ≡ r → gotten r u ≡ Ok (made, t) → Means code start s t made (λ b names. texts.value_in b names v name)
+        by_slot class c u (Err flaw) code_is is h = never_noted flaw u (ap (λ (x : Buffer). x.flaw) (pair_ok None made (noted flaw u) t h).1 ∙ clean)
         by_slot class c u (Ok p) code_is is h =
             let one = bind_ok (put (ops.Get p.0) u) (λ x. Ok (Some p.1, x)) (made, t) h in
             let same = pair_ok (Some p.1) made one.0 t one.2 in
@@ -320,16 +320,16 @@ module _ (schema : Schema) (sf : schemas.Fits schema) (code : Code) where
             by_assoc b (Ok w) = refl
             by_assoc b (Err e) = refl
 
-        by_class : (class : Option ℕ) (u : Sheet) → unit_code v room s ≡ Ok (class, u) → got_from schema name class u ≡ Ok (made, t) → Means code start s t made (λ b names. texts.value_in b names v name)
+        by_class : (class : Option ℕ) (u : Buffer) → unit_code v room s ≡ Ok (class, u) → got_from schema name class u ≡ Ok (made, t) → Means code start s t made (λ b names. texts.value_in b names v name)
         by_class None u code_is h =
             let same = pair_ok None made u t h in
-            let unit_is = unit_ok v room s u None code_is (ap (λ (x : Sheet). x.flaw) same.1 ∙ clean) in
+            let unit_is = unit_ok v room s u None code_is (ap (λ (x : Buffer). x.flaw) same.1 ∙ clean) in
             absurd (let e = unit_is.3 in cc)
         by_class (Some c) u code_is h = by_slot (Some c) c u (value_slot schema c name) code_is refl h
 
     -- ---- an expression without parts
 
-    pub atom_means : (a : Atom) (room : ℕ) (s t : Sheet) (made : Option Kind) → atom_code schema room a s ≡ Ok (made, t) → Clean t → Has code t → Means code start s t made (λ b names. atom_value b names a)
+    pub atom_means : (a : Atom) (room : ℕ) (s t : Buffer) (made : Option Kind) → atom_code schema room a s ≡ Ok (made, t) → Clean t → Has code t → Means code start s t made (λ b names. atom_value b names a)
     unfolding atom_code atom_value step
     atom_means (atoms.Int n) room s t made h clean has = fixed_means (ops.PushInt n) (Int n) kinds.Int s t made refl clean has (pushed_ok (ops.PushInt n) kinds.Int room s t made h clean) (λ m b. refl)
     atom_means (atoms.Text text) room s t made h clean has = text_means text room s t made h clean has

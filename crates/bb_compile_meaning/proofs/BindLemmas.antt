@@ -20,8 +20,8 @@ use Rattle.bb_compile_scope.specs.declared.scope.NamedLocal.{NamedLocal}
 use Rattle.bb_compile_scope.specs.Kinds.{assigned, assigned_unit, class_of, is_live, unit_of}
 use Rattle.bb_compile_scope.specs.LocalKinds.{is_free, kind_at}
 use Rattle.bb_compile_scope.specs.Scope.{local_of}
-use Rattle.bb_compile_accepted.specs.Sheet.{Sheet}
-use Rattle.bb_compile_accepted.specs.Sheets.{noted, known, put, with_kinds, declare}
+use Rattle.bb_compile_accepted.specs.Buffer.{Buffer}
+use Rattle.bb_compile_accepted.specs.Buffers.{noted, known, put, with_kinds, declare}
 use Rattle.bb_compile_accepted.specs.Operations.{Made}
 use Rattle.bb_compile_accepted.specs.Expressions.{expr_code}
 use Rattle.bb_compile_accepted.specs.Actions.{let_as, let_code, assign_as, assign_to, assign_code, new_of, new_code}
@@ -73,20 +73,20 @@ assigned_known s held value k h known = by_plain (is_same_plain held value) h
     by_plain false h = by_class (class_of held) h
 
 module _ (schema : Schema) (sf : schemas.Fits schema) (code : Code) (start : State) (good : (n : ℕ) (st : State) → Comes code start n (Ok st) → Good schema st.1) where
-  abbrev Does : Sheet → Sheet → (Scene → Meaning Scene) → Type 0
+  abbrev Does : Buffer → Buffer → (Scene → Meaning Scene) → Type 0
   Does s t f = Acts code start s t f
 
   -- ---- let
 
-  pub let_does : (name : List ℕ) (e : ExprTree) (s t : Sheet) → let_code schema name e s ≡ Ok t → Clean t → Has code t → Does s t (acted (actions.Let name e))
+  pub let_does : (name : List ℕ) (e : ExprTree) (s t : Buffer) → let_code schema name e s ≡ Ok t → Clean t → Has code t → Does s t (acted (actions.Let name e))
   unfolding let_code acted
   let_does name e s t h clean has =
       let one = bind_ok (expr_code schema STACK_LIMIT e s) (λ p. let_as name p.0 p.1) t h in by_kind one.0.0 one.0.1 one.1 one.2
     where
-      by_kind : (made : Made) (u : Sheet) → expr_code schema STACK_LIMIT e s ≡ Ok (made, u) → let_as name made u ≡ Ok t → Does s t (acted (actions.Let name e))
+      by_kind : (made : Made) (u : Buffer) → expr_code schema STACK_LIMIT e s ≡ Ok (made, u) → let_as name made u ≡ Ok t → Does s t (acted (actions.Let name e))
       by_kind None u is h =
           let same = same_ok u t h in
-          let m = expr_means schema sf code start good e STACK_LIMIT s u None is (ap (λ (x : Sheet). x.flaw) same ∙ clean) (subst (Has code) (sym same) has) in
+          let m = expr_means schema sf code start good e STACK_LIMIT s u None is (ap (λ (x : Buffer). x.flaw) same ∙ clean) (subst (Has code) (sym same) has) in
           absurd (let no = m.some.1 in cc)
       by_kind (Some kind) u is h =
           let d = declare_ok name kind u t h in
@@ -104,21 +104,21 @@ module _ (schema : Schema) (sf : schemas.Fits schema) (code : Code) (start : Sta
 
   -- ---- assignment
 
-  pub assign_does : (name : List ℕ) (e : ExprTree) (s t : Sheet) → assign_code schema name e s ≡ Ok t → Clean t → Has code t → Does s t (acted (actions.Assign name e))
+  pub assign_does : (name : List ℕ) (e : ExprTree) (s t : Buffer) → assign_code schema name e s ≡ Ok t → Clean t → Has code t → Does s t (acted (actions.Assign name e))
   unfolding assign_code acted
   assign_does name e s t h clean has =
       let one = bind_ok (expr_code schema STACK_LIMIT e s) (λ p. assign_to schema (local_of p.1.scope name) p.0 p.1) t h in by_local one.0.0 one.0.1 (local_of one.0.1.scope name) refl one.1 one.2
     where
-      by_assigned : (kind : Kind) (u : Sheet) (local : ℕ) (o : Option Kind) → assigned schema (kind_at u.scope.kinds local) kind ≡ o → local_of u.scope name ≡ Some local → expr_code schema STACK_LIMIT e s ≡ Ok (Some kind, u) → assign_as local o u ≡ Ok t
+      by_assigned : (kind : Kind) (u : Buffer) (local : ℕ) (o : Option Kind) → assigned schema (kind_at u.scope.kinds local) kind ≡ o → local_of u.scope name ≡ Some local → expr_code schema STACK_LIMIT e s ≡ Ok (Some kind, u) → assign_as local o u ≡ Ok t
           → Does s t (acted (actions.Assign name e))
-      by_assigned kind u local None known at is h = never_noted WrongKind u (ap (λ (x : Sheet). x.flaw) (same_ok (noted WrongKind u) t h) ∙ clean)
+      by_assigned kind u local None known at is h = never_noted WrongKind u (ap (λ (x : Buffer). x.flaw) (same_ok (noted WrongKind u) t h) ∙ clean)
       by_assigned kind u local (Some k) known at is h =
           let put_is = put_ok (ops.Store local) (with_kinds (set u.scope.kinds local k) u) t h in
-          let last : Last (ops.Store local) u t = record { ops = ap (λ (x : Sheet). x.ops) put_is; texts = ap (λ (x : Sheet). x.texts) put_is; queries = ap (λ (x : Sheet). x.queries) put_is; flaw = ap (λ (x : Sheet). x.flaw) put_is } in
+          let last : Last (ops.Store local) u t = record { ops = ap (λ (x : Buffer). x.ops) put_is; texts = ap (λ (x : Buffer). x.texts) put_is; queries = ap (λ (x : Buffer). x.queries) put_is; flaw = ap (λ (x : Buffer). x.flaw) put_is } in
           let grown = last_grown (ops.Store local) u t last in
           let m = expr_means schema sf code start good e STACK_LIMIT s u (Some kind) is (last_clean (ops.Store local) u t last clean) (has_before code u t grown has) in
-          let names_are : t.scope.names ≡ u.scope.names = ap (λ (x : Sheet). x.scope.names) put_is in
-          let kinds_are : t.scope.kinds ≡ set u.scope.kinds local k = ap (λ (x : Sheet). x.scope.kinds) put_is in
+          let names_are : t.scope.names ≡ u.scope.names = ap (λ (x : Buffer). x.scope.names) put_is in
+          let kinds_are : t.scope.kinds ≡ set u.scope.kinds local k = ap (λ (x : Buffer). x.scope.kinds) put_is in
           record {
             grown = grown_on s u t m.grown grown;
             clean = m.clean;
@@ -142,11 +142,11 @@ module _ (schema : Schema) (sf : schemas.Fits schema) (code : Code) (start : Sta
                 st scene c here;
           }
 
-      by_local : (made : Made) (u : Sheet) (o : Option ℕ) → local_of u.scope name ≡ o → expr_code schema STACK_LIMIT e s ≡ Ok (made, u) → assign_to schema o made u ≡ Ok t → Does s t (acted (actions.Assign name e))
-      by_local made u None at is h = never_noted Unknown u (ap (λ (x : Sheet). x.flaw) (same_ok (noted Unknown u) t h) ∙ clean)
+      by_local : (made : Made) (u : Buffer) (o : Option ℕ) → local_of u.scope name ≡ o → expr_code schema STACK_LIMIT e s ≡ Ok (made, u) → assign_to schema o made u ≡ Ok t → Does s t (acted (actions.Assign name e))
+      by_local made u None at is h = never_noted Unknown u (ap (λ (x : Buffer). x.flaw) (same_ok (noted Unknown u) t h) ∙ clean)
       by_local None u (Some local) at is h =
           let same = same_ok u t h in
-          let m = expr_means schema sf code start good e STACK_LIMIT s u None is (ap (λ (x : Sheet). x.flaw) same ∙ clean) (subst (Has code) (sym same) has) in
+          let m = expr_means schema sf code start good e STACK_LIMIT s u None is (ap (λ (x : Buffer). x.flaw) same ∙ clean) (subst (Has code) (sym same) has) in
           absurd (let no = m.some.1 in cc)
       by_local (Some kind) u (Some local) at is h = by_assigned kind u local (assigned schema (kind_at u.scope.kinds local) kind) refl at is h
 
@@ -180,7 +180,7 @@ module _ (schema : Schema) (sf : schemas.Fits schema) (code : Code) (start : Sta
     created_as scene true = refl
     created_as scene false = refl
 
-    pub class_does : (s t : Sheet) → new_of name (Some class) s ≡ Ok t → Clean t → Has code t → Does s t (created name class)
+    pub class_does : (s t : Buffer) → new_of name (Some class) s ≡ Ok t → Clean t → Has code t → Does s t (created name class)
     unfolding created
     class_does s t h clean has =
         let one = bind_ok (put (ops.New class) s) (declare name (kinds.Ref class)) t h in
@@ -188,7 +188,7 @@ module _ (schema : Schema) (sf : schemas.Fits schema) (code : Code) (start : Sta
         let put_is = put_ok (ops.New class) s one.0 one.1 in
         let first = last_put (ops.New class) s one.0 put_is in
         let last = last_grown (ops.Store d.local) one.0 t d.last in
-        let scope : one.0.scope ≡ s.scope = ap (λ (x : Sheet). x.scope) put_is in
+        let scope : one.0.scope ≡ s.scope = ap (λ (x : Buffer). x.scope) put_is in
         let own = has_before code one.0 t last has in
         record {
           grown = grown_on s one.0 t (last_grown (ops.New class) s one.0 first) last;
@@ -207,7 +207,7 @@ module _ (schema : Schema) (sf : schemas.Fits schema) (code : Code) (start : Sta
         }
 
   -- a meaning may be replaced by one that is equal on the blackboards that can come
-  acts_where : (s t : Sheet) (f g : Scene → Meaning Scene) → ((scene : Scene) → Good schema scene.board → f scene ≡ g scene) → Does s t f → Does s t g
+  acts_where : (s t : Buffer) (f g : Scene → Meaning Scene) → ((scene : Scene) → Good schema scene.board → f scene ≡ g scene) → Does s t f → Does s t g
   acts_where s t f g same a = record {
     grown = a.grown;
     clean = a.clean;
@@ -216,12 +216,12 @@ module _ (schema : Schema) (sf : schemas.Fits schema) (code : Code) (start : Sta
         subst (λ r. Gets code start (IsScene (length t.ops) t.scope.names) r (length t.ops)) (same scene (subst (Good schema) here.board (good (length s.ops) st c))) (a.gets tidy st scene c here);
   }
 
-  pub new_does : (name class : List ℕ) (s t : Sheet) → new_code schema name class s ≡ Ok t → Clean t → Has code t → Does s t (acted (actions.New name class))
+  pub new_does : (name class : List ℕ) (s t : Buffer) → new_code schema name class s ≡ Ok t → Clean t → Has code t → Does s t (acted (actions.New name class))
   unfolding new_code acted
   new_does name class s t h clean has = by_class (class_named schema class) refl h
     where
       by_class : (o : Option ℕ) → class_named schema class ≡ o → new_of name o s ≡ Ok t → Does s t (acted (actions.New name class))
-      by_class None is h = never_noted Unknown s (ap (λ (x : Sheet). x.flaw) (same_ok (noted Unknown s) t h) ∙ clean)
+      by_class None is h = never_noted Unknown s (ap (λ (x : Buffer). x.flaw) (same_ok (noted Unknown s) t h) ∙ clean)
       by_class (Some c) is h =
           acts_where s t (created name c) (acted (actions.New name class))
           (λ scene g. let here : class_named scene.board.schema class ≡ Some c = ap (λ z. class_named z class) g.schema ∙ is in rw here refl)

@@ -16,8 +16,8 @@ use Rattle.bb_compile_accepted.specs.Queries.{Patterned, no_operand, node_counte
 use Rattle.bb_compile_scope.specs.Slots.{index_of}
 use Rattle.bb_compile_scope.specs.declared.scope.Scope.{Scope}
 use Rattle.bb_compile_scope.specs.declared.fault.CompileFault.{CompileFault}
-use Rattle.bb_compile_accepted.specs.Sheet.{Sheet}
-use Rattle.bb_compile_accepted.specs.Sheets.{known, put}
+use Rattle.bb_compile_accepted.specs.Buffer.{Buffer}
+use Rattle.bb_compile_accepted.specs.Buffers.{known, put}
 use Rattle.bb_compile_accepted.specs.Operations.{Made, unary_code, binary_code, operator_code, division_code}
 use Rattle.bb_machine_state.specs.Board.{Board}
 use Rattle.bb_machine_step.specs.Changing.{State}
@@ -37,7 +37,7 @@ use Rattle.bb_compile_meaning.proofs.FindLemmas.{Asks, found_by, asks_none, asks
 
 module _ (schema : Schema) (sf : schemas.Fits schema) (code : Code) (start : State) (good : (n : ℕ) (st : State) → Comes code start n (Ok st) → Good schema st.1) where
   -- a meaning may be replaced by one that is equal on the blackboards that can come
-  means_where : (s t : Sheet) (made : Made) (a b : Board → List Name → Meaning Value) → ((board : Board) (names : List Name) → Good schema board → a board names ≡ b board names) → Means code start s t made a → Means code start s t made b
+  means_where : (s t : Buffer) (made : Made) (a b : Board → List Name → Meaning Value) → ((board : Board) (names : List Name) → Good schema board → a board names ≡ b board names) → Means code start s t made a → Means code start s t made b
   means_where s t made a b same m = record {
     grown = m.grown;
     clean = m.clean;
@@ -58,20 +58,20 @@ module _ (schema : Schema) (sf : schemas.Fits schema) (code : Code) (start : Sta
       operands ← try_map operand values
       Ok (found_units b c k pattern operands)
 
-    module _ (room : ℕ) (s t u : Sheet) (asked : Asked) (tree : Tree) (made : Option ℕ) (clean : Clean u) (has : Has code u) where
+    module _ (room : ℕ) (s t u : Buffer) (asked : Asked) (tree : Tree) (made : Option ℕ) (clean : Clean u) (has : Has code u) where
       by_names : (c k : Option ℕ) → class_named schema class ≡ c → space_named schema space ≡ k
           → (Clean t → Has code t → Asks schema code start good (known k (known c s)) t k no_operand asked tree (λ b names n vs. pattern_of b names n p vs))
           → query_code c k asked tree room t ≡ Ok (made, u) → MeansUnits schema sf code start good s u units
       unfolding query_code
       by_names None k class_is space_is asks h =
           let same = pair_ok None made t u h in
-          let m = asks (ap (λ (x : Sheet). x.flaw) same.1 ∙ clean) (subst (Has code) (sym same.1) has) in
+          let m = asks (ap (λ (x : Buffer). x.flaw) same.1 ∙ clean) (subst (Has code) (sym same.1) has) in
           let outer = is_known k (known None s) m.clean in
-          let inner = is_known None s (ap (λ (x : Sheet). x.flaw) (sym outer.2) ∙ m.clean) in
+          let inner = is_known None s (ap (λ (x : Buffer). x.flaw) (sym outer.2) ∙ m.clean) in
           absurd (let e = inner.1 in cc)
       by_names (Some c) None class_is space_is asks h =
           let same = pair_ok (Some c) made t u h in
-          let m = asks (ap (λ (x : Sheet). x.flaw) same.1 ∙ clean) (subst (Has code) (sym same.1) has) in
+          let m = asks (ap (λ (x : Buffer). x.flaw) same.1 ∙ clean) (subst (Has code) (sym same.1) has) in
           let outer = is_known None s m.clean in
           absurd (let e = outer.1 in cc)
       by_names (Some c) (Some k) class_is space_is asks h =
@@ -88,25 +88,25 @@ module _ (schema : Schema) (sf : schemas.Fits schema) (code : Code) (start : Sta
   -- ---- all
 
   -- where the same was made
-  around : {X : Type 0} (x y : Patterned X) (s : Sheet) (space : Option ℕ) (asked : Asked) (pattern : Board → List Name → ℕ → List Value → Meaning (X × List Value)) → x ≡ y → Asks schema code start good s x.2 space asked x.1 x.0 pattern → Asks schema code start good s y.2 space asked y.1 y.0 pattern
+  around : {X : Type 0} (x y : Patterned X) (s : Buffer) (space : Option ℕ) (asked : Asked) (pattern : Board → List Name → ℕ → List Value → Meaning (X × List Value)) → x ≡ y → Asks schema code start good s x.2 space asked x.1 x.0 pattern → Asks schema code start good s y.2 space asked y.1 y.0 pattern
   around x y s space asked pattern same m = subst (λ z. Asks schema code start good s z.2 space asked z.1 z.0 pattern) same m
 
   -- the steps of a chain
-  record Steps' (s t : Sheet) (left made : Made) (turn : Board → List Name → Value → Meaning Value) : Type 0 where
+  record Steps' (s t : Buffer) (left made : Made) (turn : Board → List Name → Value → Meaning Value) : Type 0 where
     grown : Grown s t
     clean : Clean s
     turns : IsMade left → (AreTaken s.scope.kinds s.scope.names → IsKind left) → Turns code start s t made turn
 
-  steps_end : (left : Made) (s t : Sheet) (made : Made) → (let r : Result (Made × Sheet) CompileFault = Ok (left, s) in r) ≡ Ok (made, t) → Clean t → Steps' s t left made (λ b names v. Ok v)
+  steps_end : (left : Made) (s t : Buffer) (made : Made) → (let r : Result (Made × Buffer) CompileFault = Ok (left, s) in r) ≡ Ok (made, t) → Clean t → Steps' s t left made (λ b names v. Ok v)
   steps_end left s t made h clean =
       let same = pair_ok left made s t h in
       subst (λ u. Steps' s u left made (λ b names v. Ok v)) same.1
       (record {
         grown = grown_none s s refl refl refl;
-        clean = ap (λ (x : Sheet). x.flaw) same.1 ∙ clean;
+        clean = ap (λ (x : Buffer). x.flaw) same.1 ∙ clean;
         turns = λ some known. record {
           grown = grown_none s s refl refl refl;
-          clean = ap (λ (x : Sheet). x.flaw) same.1 ∙ clean;
+          clean = ap (λ (x : Buffer). x.flaw) same.1 ∙ clean;
           scope = refl;
           some = (some.0, sym same.0 ∙ some.1);
           kind = λ taken. subst IsKind same.0 (known taken);
@@ -117,7 +117,7 @@ module _ (schema : Schema) (sf : schemas.Fits schema) (code : Code) (start : Sta
   mutual
     unfolding expr_code steps_code sequence_code pattern_code patterns_code value_of after_steps units_of pattern_of patterns_of
 
-    pub expr_means : (e : ExprTree) (room : ℕ) (s t : Sheet) (made : Made) → expr_code schema room e s ≡ Ok (made, t) → Clean t → Has code t → Means code start s t made (λ b names. value_of b names e)
+    pub expr_means : (e : ExprTree) (room : ℕ) (s t : Buffer) (made : Made) → expr_code schema room e s ≡ Ok (made, t) → Clean t → Has code t → Means code start s t made (λ b names. value_of b names e)
     expr_means (atom a) room s t made h clean has = atom_means schema sf code start good a room s t made h clean has
     expr_means (unary operation e) room s t made h clean has =
         let one = bind_ok (expr_code schema room e s) (λ p. unary_code operation p.0 p.1) (made, t) h in
@@ -147,7 +147,7 @@ module _ (schema : Schema) (sf : schemas.Fits schema) (code : Code) (start : Sta
         let units = sequence_means sequence room s one.0.1 one.0.0 one.1 (clean_before ops.Size one.0.1 t is clean) (has_before code one.0.1 t (grown_op ops.Size one.0.1 t is) has) in
         size_means schema sf code start good s one.0.1 t made (λ b names. units_of b names sequence) units is clean has (sym same.0)
 
-    steps_mean : (steps : Steps) (room : ℕ) (left : Made) (s t : Sheet) (made : Made) → steps_code schema room left steps s ≡ Ok (made, t) → Clean t → Has code t → Steps' s t left made (λ b names v. after_steps b names steps v)
+    steps_mean : (steps : Steps) (room : ℕ) (left : Made) (s t : Buffer) (made : Made) → steps_code schema room left steps s ≡ Ok (made, t) → Clean t → Has code t → Steps' s t left made (λ b names v. after_steps b names steps v)
     steps_mean no_step room left s t made h clean has = steps_end left s t made h clean
     steps_mean (apply operator e steps) room left s t made h clean has =
         let one = bind_ok (expr_code schema (room - 1) e s) (λ p. operator_code operator left p.0 p.1 >>= λ q. steps_code schema room q.0 steps q.1) (made, t) h in
@@ -177,7 +177,7 @@ module _ (schema : Schema) (sf : schemas.Fits schema) (code : Code) (start : Sta
               (more.turns turn.some (λ taken. turn.kind (subst (λ (c : Scope). AreTaken c.kinds c.names) turn.scope taken)));
         }
 
-    pub sequence_means : (sequence : SequenceTree) (room : ℕ) (s t : Sheet) (class : Option ℕ) → sequence_code schema room sequence s ≡ Ok (class, t) → Clean t → Has code t → MeansUnits schema sf code start good s t (λ b names. units_of b names sequence)
+    pub sequence_means : (sequence : SequenceTree) (room : ℕ) (s t : Buffer) (class : Option ℕ) → sequence_code schema room sequence s ≡ Ok (class, t) → Clean t → Has code t → MeansUnits schema sf code start good s t (λ b names. units_of b names sequence)
     sequence_means (linked unit slot) room s t class h clean has = links_mean schema sf code start good unit slot room s t class h clean has
     sequence_means (found name space p) room s t class h clean has =
         let was = known (space_named schema space) (known (class_named schema name) s) in
@@ -185,33 +185,33 @@ module _ (schema : Schema) (sf : schemas.Fits schema) (code : Code) (start : Sta
         by_names name space p room s one.0.2 t one.0.1 one.0.0 class clean has (class_named schema name) (space_named schema space) refl refl
         (λ free own. pattern_means p room (space_named schema space) was one.0.2 no_operand one.0.1 one.0.0 one.1 free own) one.2
 
-    pattern_means : (p : PatternTree) (room : ℕ) (space : Option ℕ) (s t : Sheet) (asked after : Asked) (made : Tree) → pattern_code schema room space p asked s ≡ Ok (made, after, t) → Clean t → Has code t
+    pattern_means : (p : PatternTree) (room : ℕ) (space : Option ℕ) (s t : Buffer) (asked after : Asked) (made : Tree) → pattern_code schema room space p asked s ≡ Ok (made, after, t) → Clean t → Has code t
         → Asks schema code start good s t space asked after made (λ b names k vs. pattern_of b names k p vs)
     pattern_means all room space s t asked after made h clean has =
         let same = triple_ok nodes.all made (node_counted asked) after (node_noted asked s) t h in
-        let free : node_noted asked s ≡ s = node_free schema code start good asked s (ap (λ (x : Sheet). x.flaw) same.2 ∙ clean) in
+        let free : node_noted asked s ≡ s = node_free schema code start good asked s (ap (λ (x : Buffer). x.flaw) same.2 ∙ clean) in
         let here : s ≡ t = sym free ∙ same.2 in
         subst (λ u. Asks schema code start good s u space asked after made (λ b names k vs. Ok (nodes.all, vs))) here
         (subst (λ m. Asks schema code start good s s space asked after m (λ b names k vs. Ok (nodes.all, vs))) same.0
-        (asks_none schema code start good s space asked after nodes.all (ap (λ (x : Sheet). x.flaw) here ∙ clean) (ap (λ (a : Asked). length a.kinds) same.1)))
+        (asks_none schema code start good s space asked after nodes.all (ap (λ (x : Buffer). x.flaw) here ∙ clean) (ap (λ (a : Asked). length a.kinds) same.1)))
     pattern_means (and_of ps) room space s t asked after made h clean has =
         let one = bind_ok (patterns_code schema room space ps (node_counted asked) (node_noted asked s)) (λ (q : Patterned Trees). Ok (nodes.and_of q.0, q.1, q.2)) (made, after, t) h in
         let same = triple_ok (nodes.and_of one.0.0) made one.0.1 after one.0.2 t one.2 in
-        let inner = patterns_mean ps room space (node_noted asked s) one.0.2 (node_counted asked) one.0.1 one.0.0 one.1 (ap (λ (x : Sheet). x.flaw) same.2 ∙ clean) (subst (Has code) (sym same.2) has) in
+        let inner = patterns_mean ps room space (node_noted asked s) one.0.2 (node_counted asked) one.0.1 one.0.0 one.1 (ap (λ (x : Buffer). x.flaw) same.2 ∙ clean) (subst (Has code) (sym same.2) has) in
         around (nodes.and_of one.0.0, one.0.1, one.0.2) (made, after, t) s space asked (λ b names k vs. patterns_of b names k ps vs >>= λ q. Ok (nodes.and_of q.0, q.1)) (same_ok (nodes.and_of one.0.0, one.0.1, one.0.2) (made, after, t) one.2)
         (asks_map schema code start good nodes.and_of s one.0.2 space asked one.0.1 one.0.0 (λ b names k vs. patterns_of b names k ps vs)
         (asks_node schema code start good s one.0.2 space asked one.0.1 one.0.0 (λ b names k vs. patterns_of b names k ps vs) inner))
     pattern_means (or_of ps) room space s t asked after made h clean has =
         let one = bind_ok (patterns_code schema room space ps (node_counted asked) (node_noted asked s)) (λ (q : Patterned Trees). Ok (nodes.or_of q.0, q.1, q.2)) (made, after, t) h in
         let same = triple_ok (nodes.or_of one.0.0) made one.0.1 after one.0.2 t one.2 in
-        let inner = patterns_mean ps room space (node_noted asked s) one.0.2 (node_counted asked) one.0.1 one.0.0 one.1 (ap (λ (x : Sheet). x.flaw) same.2 ∙ clean) (subst (Has code) (sym same.2) has) in
+        let inner = patterns_mean ps room space (node_noted asked s) one.0.2 (node_counted asked) one.0.1 one.0.0 one.1 (ap (λ (x : Buffer). x.flaw) same.2 ∙ clean) (subst (Has code) (sym same.2) has) in
         around (nodes.or_of one.0.0, one.0.1, one.0.2) (made, after, t) s space asked (λ b names k vs. patterns_of b names k ps vs >>= λ q. Ok (nodes.or_of q.0, q.1)) (same_ok (nodes.or_of one.0.0, one.0.1, one.0.2) (made, after, t) one.2)
         (asks_map schema code start good nodes.or_of s one.0.2 space asked one.0.1 one.0.0 (λ b names k vs. patterns_of b names k ps vs)
         (asks_node schema code start good s one.0.2 space asked one.0.1 one.0.0 (λ b names k vs. patterns_of b names k ps vs) inner))
     pattern_means (not_of p) room space s t asked after made h clean has =
         let one = bind_ok (pattern_code schema room space p (node_counted asked) (node_noted asked s)) (λ (q : Patterned Tree). Ok (nodes.not_of q.0, q.1, q.2)) (made, after, t) h in
         let same = triple_ok (nodes.not_of one.0.0) made one.0.1 after one.0.2 t one.2 in
-        let inner = pattern_means p room space (node_noted asked s) one.0.2 (node_counted asked) one.0.1 one.0.0 one.1 (ap (λ (x : Sheet). x.flaw) same.2 ∙ clean) (subst (Has code) (sym same.2) has) in
+        let inner = pattern_means p room space (node_noted asked s) one.0.2 (node_counted asked) one.0.1 one.0.0 one.1 (ap (λ (x : Buffer). x.flaw) same.2 ∙ clean) (subst (Has code) (sym same.2) has) in
         around (nodes.not_of one.0.0, one.0.1, one.0.2) (made, after, t) s space asked (λ b names k vs. pattern_of b names k p vs >>= λ q. Ok (nodes.not_of q.0, q.1)) (same_ok (nodes.not_of one.0.0, one.0.1, one.0.2) (made, after, t) one.2)
         (asks_map schema code start good nodes.not_of s one.0.2 space asked one.0.1 one.0.0 (λ b names k vs. pattern_of b names k p vs)
         (asks_node schema code start good s one.0.2 space asked one.0.1 one.0.0 (λ b names k vs. pattern_of b names k p vs) inner))
@@ -222,18 +222,18 @@ module _ (schema : Schema) (sf : schemas.Fits schema) (code : Code) (start : Sta
         (test_asks schema code start good dim relation space was one.0.1 t asked after one.0.0 made (λ b names. value_of b names e)
         (λ free here. expr_means e (room - length asked.kinds) was one.0.1 one.0.0 one.1 free (subst (Has code) (sym here) has)) one.2 clean)
 
-    patterns_mean : (ps : Patterns) (room : ℕ) (space : Option ℕ) (s t : Sheet) (asked after : Asked) (made : Trees) → patterns_code schema room space ps asked s ≡ Ok (made, after, t) → Clean t → Has code t
+    patterns_mean : (ps : Patterns) (room : ℕ) (space : Option ℕ) (s t : Buffer) (asked after : Asked) (made : Trees) → patterns_code schema room space ps asked s ≡ Ok (made, after, t) → Clean t → Has code t
         → Asks schema code start good s t space asked after made (λ b names k vs. patterns_of b names k ps vs)
     patterns_mean no_pattern room space s t asked after made h clean has =
         let same = triple_ok no_more made asked after s t h in
         around (no_more, asked, s) (made, after, t) s space asked (λ b names k vs. Ok (no_more, vs)) (same_ok (no_more, asked, s) (made, after, t) h)
-        (asks_none schema code start good s space asked asked no_more (ap (λ (x : Sheet). x.flaw) same.2 ∙ clean) refl)
+        (asks_none schema code start good s space asked asked no_more (ap (λ (x : Buffer). x.flaw) same.2 ∙ clean) refl)
     patterns_mean (more p ps) room space s t asked after made h clean has =
         let one = bind_ok (pattern_code schema room space p asked s) (λ (q : Patterned Tree). patterns_code schema room space ps q.1 q.2 >>= λ (r : Patterned Trees). Ok (nodes.more q.0 r.0, r.1, r.2)) (made, after, t) h in
         let two = bind_ok (patterns_code schema room space ps one.0.1 one.0.2) (λ (r : Patterned Trees). Ok (nodes.more one.0.0 r.0, r.1, r.2)) (made, after, t) one.2 in
         let same = triple_ok (nodes.more one.0.0 two.0.0) made two.0.1 after two.0.2 t two.2 in
         let own : Has code two.0.2 = subst (Has code) (sym same.2) has in
-        let rest = patterns_mean ps room space one.0.2 two.0.2 one.0.1 two.0.1 two.0.0 two.1 (ap (λ (x : Sheet). x.flaw) same.2 ∙ clean) own in
+        let rest = patterns_mean ps room space one.0.2 two.0.2 one.0.1 two.0.1 two.0.0 two.1 (ap (λ (x : Buffer). x.flaw) same.2 ∙ clean) own in
         let first = pattern_means p room space s one.0.2 asked one.0.1 one.0.0 one.1 rest.clean (has_before code one.0.2 two.0.2 rest.grown own) in
         around (nodes.more one.0.0 two.0.0, two.0.1, two.0.2) (made, after, t) s space asked (λ b names k vs. pattern_of b names k p vs >>= λ x. patterns_of b names k ps x.1 >>= λ y. Ok (nodes.more x.0 y.0, y.1)) (same_ok (nodes.more one.0.0 two.0.0, two.0.1, two.0.2) (made, after, t) two.2)
         (asks_on schema code start good nodes.more s one.0.2 two.0.2 space asked one.0.1 two.0.1 one.0.0 two.0.0 (λ b names k vs. pattern_of b names k p vs) (λ b names k vs. patterns_of b names k ps vs) first rest)

@@ -30,8 +30,8 @@ use Rattle.bb_compile_scope.specs.declared.scope.Scope.{Scope}
 use Rattle.bb_compile_scope.specs.Slots.{index_of, in_byte, operand_due, dimension_at, dimension}
 use Rattle.bb_compile_accepted.specs.Asked.{Asked}
 use Rattle.bb_compile_accepted.specs.Queries.{Patterned, no_operand, node_counted, node_noted, with_operand, operand_number, operand_noted, test_tree, test_at, test_code, query_code}
-use Rattle.bb_compile_accepted.specs.Sheet.{Sheet}
-use Rattle.bb_compile_accepted.specs.Sheets.{noted, due, put_value, asked_query}
+use Rattle.bb_compile_accepted.specs.Buffer.{Buffer}
+use Rattle.bb_compile_accepted.specs.Buffers.{noted, due, put_value, asked_query}
 use Rattle.bb_compile_accepted.specs.Operations.{Made}
 use Rattle.bb_machine_state.specs.Board.{Board}
 use Rattle.bb_machine_step.specs.Changing.{State}
@@ -137,8 +137,8 @@ module _ (schema : Schema) (code : Code) (start : State) (good : (n : ℕ) (st :
   abbrev pub Pattern₁ : Type 0 → Type 0
   Pattern₁ X = Board → List Name → (space : ℕ) → List Value → Meaning (X × List Value)
 
-  -- what is laid out from one sheet to another pushes the operands of a pattern
-  pub record Asks {X : Type 0} (s t : Sheet) (space : Option ℕ) (asked after : Asked) (made : X) (pattern : Pattern₁ X) : Type 0 where
+  -- what is laid out from one buffer to another pushes the operands of a pattern
+  pub record Asks {X : Type 0} (s t : Buffer) (space : Option ℕ) (asked after : Asked) (made : X) (pattern : Pattern₁ X) : Type 0 where
     pub grown : Grown s t
     pub clean : Clean s
     pub scope : t.scope ≡ s.scope
@@ -146,7 +146,7 @@ module _ (schema : Schema) (code : Code) (start : State) (good : (n : ℕ) (st :
         → length vs ≡ length asked.kinds → Gets code start (Ready (length t.ops) base made after) (pattern base.1 names k vs) (length t.ops)
 
   -- nothing is laid out
-  pub asks_none : {X : Type 0} (s : Sheet) (space : Option ℕ) (asked after : Asked) (made : X) → Clean s → length asked.kinds ≡ length after.kinds → Asks s s space asked after made (λ b names k vs. Ok (made, vs))
+  pub asks_none : {X : Type 0} (s : Buffer) (space : Option ℕ) (asked after : Asked) (made : X) → Clean s → length asked.kinds ≡ length after.kinds → Asks s s space asked after made (λ b names k vs. Ok (made, vs))
   asks_none s space asked after made clean same = record {
     grown = grown_none s s refl refl refl;
     clean = clean;
@@ -156,7 +156,7 @@ module _ (schema : Schema) (code : Code) (start : State) (good : (n : ℕ) (st :
   }
 
   -- a pattern around others
-  pub asks_map : {X Y : Type 0} (f : X → Y) (s t : Sheet) (space : Option ℕ) (asked after : Asked) (made : X) (pattern : Pattern₁ X) → Asks s t space asked after made pattern
+  pub asks_map : {X Y : Type 0} (f : X → Y) (s t : Buffer) (space : Option ℕ) (asked after : Asked) (made : X) (pattern : Pattern₁ X) → Asks s t space asked after made pattern
       → Asks s t space asked after (f made) (λ b names k vs. pattern b names k vs >>= λ p. Ok (f p.0, p.1))
   asks_map {X} {Y} f s t space asked after made pattern m = record {
     grown = m.grown;
@@ -168,7 +168,7 @@ module _ (schema : Schema) (code : Code) (start : State) (good : (n : ℕ) (st :
   }
 
   -- a pattern, and others behind it
-  pub asks_on : {X Y Z : Type 0} (f : X → Y → Z) (s t u : Sheet) (space : Option ℕ) (asked between after : Asked) (one : X) (more : Y) (p : Pattern₁ X) (q : Pattern₁ Y) → Asks s t space asked between one p → Asks t u space between after more q
+  pub asks_on : {X Y Z : Type 0} (f : X → Y → Z) (s t u : Buffer) (space : Option ℕ) (asked between after : Asked) (one : X) (more : Y) (p : Pattern₁ X) (q : Pattern₁ Y) → Asks s t space asked between one p → Asks t u space between after more q
       → Asks s u space asked after (f one more) (λ b names k vs. p b names k vs >>= λ x. q b names k x.1 >>= λ y. Ok (f x.0 y.0, y.1))
   asks_on {X} {Y} f s t u space asked between after one more p q first then = record {
     grown = grown_on s t u first.grown then.grown;
@@ -184,15 +184,15 @@ module _ (schema : Schema) (code : Code) (start : State) (good : (n : ℕ) (st :
         (record { tree = ap (λ v. f v y.0) r.tree ∙ ap (f one) z.tree; piled = z.piled; count = z.count })));
   }
 
-  -- what asks from a sheet asks from any that is equal to it where no flaw was noted
-  pub asks_as : {X : Type 0} (s was t : Sheet) (space : Option ℕ) (asked after : Asked) (made : X) (pattern : Pattern₁ X) → (Clean was → was ≡ s) → Asks was t space asked after made pattern → Asks s t space asked after made pattern
+  -- what asks from a buffer asks from any that is equal to it where no flaw was noted
+  pub asks_as : {X : Type 0} (s was t : Buffer) (space : Option ℕ) (asked after : Asked) (made : X) (pattern : Pattern₁ X) → (Clean was → was ≡ s) → Asks was t space asked after made pattern → Asks s t space asked after made pattern
   asks_as s was t space asked after made pattern same m = subst (λ u. Asks u t space asked after made pattern) (same m.clean) m
 
-  pub node_free : (asked : Asked) (s : Sheet) → Clean (node_noted asked s) → node_noted asked s ≡ s
+  pub node_free : (asked : Asked) (s : Buffer) → Clean (node_noted asked s) → node_noted asked s ≡ s
   node_free asked s clean = (not_failed (asked.nodes == 0) Limit s clean).1
 
   -- behind a node of a pattern
-  pub asks_node : {X : Type 0} (s t : Sheet) (space : Option ℕ) (asked after : Asked) (made : X) (pattern : Pattern₁ X) → Asks (node_noted asked s) t space (node_counted asked) after made pattern → Asks s t space asked after made pattern
+  pub asks_node : {X : Type 0} (s t : Buffer) (space : Option ℕ) (asked after : Asked) (made : X) (pattern : Pattern₁ X) → Asks (node_noted asked s) t space (node_counted asked) after made pattern → Asks s t space asked after made pattern
   asks_node s t space asked after made pattern m =
       let n = asks_as s (node_noted asked s) t space (node_counted asked) after made pattern (node_free asked s) m in
       record { grown = n.grown; clean = n.clean; scope = n.scope; gets = λ k is st base names vs c piled held count. n.gets k is st base names vs c piled held count }
@@ -235,27 +235,27 @@ module _ (schema : Schema) (code : Code) (start : State) (good : (n : ℕ) (st :
   longer : (asked : Asked) (k : Kind) → nat_le OPERAND_LIMIT (length asked.kinds) ≡ false → (operand_number asked ≡ length asked.kinds) × (length (with_operand k asked).kinds ≡ length asked.kinds + 1)
   longer asked k few = (rw few refl, rw few (length-append asked.kinds _))
 
-  pub test_asks : (dim : List ℕ) (relation : Relation) (space : Option ℕ) (s t u : Sheet) (asked after : Asked) (operand : Made) (made : Tree) (value : Value₀)
+  pub test_asks : (dim : List ℕ) (relation : Relation) (space : Option ℕ) (s t u : Buffer) (asked after : Asked) (operand : Made) (made : Tree) (value : Value₀)
       → (Clean t → t ≡ u → Means code start s t operand value) → (let r : Result (Patterned Tree) CompileFault = Ok (test_code schema space dim relation operand (node_counted asked) t) in r) ≡ Ok (made, after, u) → Clean u
       → Asks s u space asked after made (λ b names k vs. value b names >>= test_value dim relation b k vs)
   unfolding test_code
   test_asks dim relation None s t u asked after operand made value means h clean =
       let same = triple_ok all made (node_counted asked) after t u h in
-      let m = means (ap (λ (x : Sheet). x.flaw) same.2 ∙ clean) same.2 in
+      let m = means (ap (λ (x : Buffer). x.flaw) same.2 ∙ clean) same.2 in
       subst (λ x. Asks s x None asked after made (λ b names k vs. value b names >>= test_value dim relation b k vs)) same.2
       (record { grown = m.grown; clean = m.clean; scope = m.scope; gets = λ k is st base names vs c piled held count. absurd (let e = is in cc) })
   test_asks dim relation (Some space) s t u asked after operand made value means h clean = by_dimension (dimension schema space dim relation) refl h
     where
       by_dimension : (o : Option (ℕ × Kind)) → dimension schema space dim relation ≡ o → (let r : Result (Patterned Tree) CompileFault = Ok (test_at relation o operand (node_counted asked) t) in r) ≡ Ok (made, after, u)
           → Asks s u (Some space) asked after made (λ b names k vs. value b names >>= test_value dim relation b k vs)
-      by_dimension None is h = never_noted Unknown t (ap (λ (x : Sheet). x.flaw) (triple_ok all made (node_counted asked) after (noted Unknown t) u h).2 ∙ clean)
+      by_dimension None is h = never_noted Unknown t (ap (λ (x : Buffer). x.flaw) (triple_ok all made (node_counted asked) after (noted Unknown t) u h).2 ∙ clean)
       by_dimension (Some d) is h =
           let noted_is = operand_noted (node_counted asked) (due operand d.1 t) in
           let same = triple_ok (test_tree relation d.0 (operand_number (node_counted asked))) made (with_operand d.1 (node_counted asked)) after noted_is u h in
-          let few = not_failed (nat_le OPERAND_LIMIT (length asked.kinds)) Limit (due operand d.1 t) (ap (λ (x : Sheet). x.flaw) same.2 ∙ clean) in
-          let right = is_due operand d.1 t (sym (ap (λ (x : Sheet). x.flaw) few.1) ∙ (ap (λ (x : Sheet). x.flaw) same.2 ∙ clean)) in
+          let few = not_failed (nat_le OPERAND_LIMIT (length asked.kinds)) Limit (due operand d.1 t) (ap (λ (x : Buffer). x.flaw) same.2 ∙ clean) in
+          let right = is_due operand d.1 t (sym (ap (λ (x : Buffer). x.flaw) few.1) ∙ (ap (λ (x : Buffer). x.flaw) same.2 ∙ clean)) in
           let here : t ≡ u = sym right ∙ (sym few.1 ∙ same.2) in
-          let m = means (ap (λ (x : Sheet). x.flaw) here ∙ clean) here in
+          let m = means (ap (λ (x : Buffer). x.flaw) here ∙ clean) here in
           let more = longer (node_counted asked) d.1 few.0 in
           subst (λ x. Asks s x (Some space) asked after made (λ b names k vs. value b names >>= test_value dim relation b k vs)) here
           (record {
@@ -329,7 +329,7 @@ module _ (schema : Schema) (code : Code) (start : State) (good : (n : ℕ) (st :
             subst (λ r. Leaves (Pushed n base) says (done_on b (keeps b (r >>= λ p. right_query b q >>= λ _. operands_due q.kinds p.0 >>= λ ds. push_found (answer b.schema b.world.units b.world.spaces q ds) p.1)))) (sym none) tt
 
     -- a query behind its operands
-    pub find_means : (room : ℕ) (s t u : Sheet) (found : Option ℕ) (value : Pattern₁ Tree) → (Clean t → Has code t → Asks s t (Some space) no_operand asked pattern value)
+    pub find_means : (room : ℕ) (s t u : Buffer) (found : Option ℕ) (value : Pattern₁ Tree) → (Clean t → Has code t → Asks s t (Some space) no_operand asked pattern value)
         → query_code (Some class) (Some space) asked pattern room t ≡ Ok (found, u) → Clean u → Has code u
         → Means code start s u (Some kinds.Int) (λ b names. (value b names space [] >>= found_by b) >>= as_sequence)
     unfolding query_code asked_query
@@ -337,19 +337,19 @@ module _ (schema : Schema) (code : Code) (start : State) (good : (n : ℕ) (st :
         let one = bind_ok (asked_query q t) (λ p. put_value (ops.Find p.0) room p.1 >>= λ x. Ok (Some class, x)) (found, u) h in
         let two = bind_ok (put_value (ops.Find one.0.0) room one.0.1) (λ x. Ok (Some class, x)) (found, u) one.2 in
         let same = pair_ok (Some class) found two.0 u two.2 in
-        let put = put_value_ok (ops.Find one.0.0) room one.0.1 two.0 two.1 (ap (λ (x : Sheet). x.flaw) same.1 ∙ clean) in
+        let put = put_value_ok (ops.Find one.0.0) room one.0.1 two.0 two.1 (ap (λ (x : Buffer). x.flaw) same.1 ∙ clean) in
         let asked_is = pair_ok (length t.queries) one.0.0 more one.0.1 (guard_ok (nat_le QUERY_LIMIT (length t.queries)) (At Limit t.start) (Ok (length t.queries, more)) one.0 one.1).1 in
         let is : u ≡ with_op (ops.Find one.0.0) more = sym same.1 ∙ (put.0 ∙ ap (with_op (ops.Find one.0.0)) (sym asked_is.1)) in
-        by_sheet one.0.0 is (sym asked_is.0)
+        by_buffer one.0.0 is (sym asked_is.0)
       where
-        more : Sheet
+        more : Buffer
         more = record t { queries = t.queries ++ q ∷ [] }
 
         grown : Grown t more
         grown = record { ops = []; ops_are = sym (append-nil t.ops); texts = []; texts_are = sym (append-nil t.texts); queries = q ∷ []; queries_are = refl }
 
-        by_sheet : (i : ℕ) → u ≡ with_op (ops.Find i) more → i ≡ length t.queries → Means code start s u (Some kinds.Int) (λ b names. (value b names space [] >>= found_by b) >>= as_sequence)
-        by_sheet i is index =
+        by_buffer : (i : ℕ) → u ≡ with_op (ops.Find i) more → i ≡ length t.queries → Means code start s u (Some kinds.Int) (λ b names. (value b names space [] >>= found_by b) >>= as_sequence)
+        by_buffer i is index =
             let free : Clean t = clean_before (ops.Find i) more u is clean in
             let last = grown_op (ops.Find i) more u is in
             let own = has_before code more u last has in
@@ -358,7 +358,7 @@ module _ (schema : Schema) (code : Code) (start : State) (good : (n : ℕ) (st :
             record {
               grown = grown_on s t u m.grown (grown_on t more u grown last);
               clean = m.clean;
-              scope = ap (λ (x : Sheet). x.scope) is ∙ m.scope;
+              scope = ap (λ (x : Buffer). x.scope) is ∙ m.scope;
               some = (kinds.Int, refl);
               kind = λ taken. refl;
               gets = λ st names c held.

@@ -6,7 +6,7 @@ use Rattle.bb_verify_frame.specs.Kind.{Kind}
 use Rattle.bb_verify_frame.specs.Op.{Op}
 use Rattle.bb_compile_scope.specs.LocalKinds.{is_free}
 use Rattle.bb_compile_scope.specs.declared.scope.Scope.{Scope}
-use Rattle.bb_compile_accepted.specs.Sheet.{Sheet}
+use Rattle.bb_compile_accepted.specs.Buffer.{Buffer}
 use Rattle.bb_machine_state.specs.Board.{Board}
 use Rattle.bb_machine_step.specs.Changing.{State}
 use Rattle.bb_machine_step.specs.Machine.{Machine, with_stack, go_to}
@@ -53,8 +53,8 @@ TwoOp code op f = (n : ℕ) (base : State) (m : Machine) (b : Board) (v w : Valu
     → Leaves (Pushed n base) (f v w) (done_on b (step code op (m, b)))
 
 module _ (code : Code) (start : State) where
-  -- what is laid out from one sheet to another pushes the value that a meaning says
-  pub record Means (s t : Sheet) (made : Option Kind) (value : Value₀) : Type 0 where
+  -- what is laid out from one buffer to another pushes the value that a meaning says
+  pub record Means (s t : Buffer) (made : Option Kind) (value : Value₀) : Type 0 where
     pub grown : Grown s t
     pub clean : Clean s
     pub scope : t.scope ≡ s.scope
@@ -63,8 +63,8 @@ module _ (code : Code) (start : State) where
     pub gets : (st : State) (names : List Name) → Comes code start (length s.ops) (Ok st) → AreHeld st.0.locals s.scope.names names
         → Gets code start (Pushed (length t.ops) st) (value st.1 names) (length t.ops)
 
-  -- what is laid out from one sheet to another makes of the newest entry the value that a meaning says
-  pub record Turns (s t : Sheet) (made : Option Kind) (turn : Value₁) : Type 0 where
+  -- what is laid out from one buffer to another makes of the newest entry the value that a meaning says
+  pub record Turns (s t : Buffer) (made : Option Kind) (turn : Value₁) : Type 0 where
     pub grown : Grown s t
     pub clean : Clean s
     pub scope : t.scope ≡ s.scope
@@ -74,7 +74,7 @@ module _ (code : Code) (start : State) where
         → Gets code start (Pushed (length t.ops) base) (turn base.1 names v) (length t.ops)
 
   -- a part after another
-  pub part_gets : {X Y : Type 0} (s t : Sheet) (P : X → State → Type 0) (Q : Y → State → Type 0) (r : Meaning X) (f : X → Meaning Y) → Grown s t → Gets code start P r (length s.ops)
+  pub part_gets : {X Y : Type 0} (s t : Buffer) (P : X → State → Type 0) (Q : Y → State → Type 0) (r : Meaning X) (f : X → Meaning Y) → Grown s t → Gets code start P r (length s.ops)
       → ((x : X) (st : State) → Comes code start (length s.ops) (Ok st) → P x st → Gets code start Q (f x) (length t.ops)) → Gets code start Q (r >>= f) (length t.ops)
   part_gets s t P Q r f g first next =
       let count = count_of s t g in
@@ -82,14 +82,14 @@ module _ (code : Code) (start : State) where
       (gets_then code start P Q r f (length s.ops) (length g.ops) first (λ x st c p. subst (Gets code start Q (f x)) count (next x st c p)))
 
   -- an op
-  pub op_gets : {X : Type 0} (s t : Sheet) (op : Op) (P : ℕ → X → State → Type 0) (r : Meaning X) (st : State) → t ≡ with_op op s → Has code t → Comes code start (length s.ops) (Ok st)
+  pub op_gets : {X : Type 0} (s t : Buffer) (op : Op) (P : ℕ → X → State → Type 0) (r : Meaning X) (st : State) → t ≡ with_op op s → Has code t → Comes code start (length s.ops) (Ok st)
       → ((n : ℕ) (x : X) (next : State) → P n x next → next.0.place ≡ n) → Leaves (P (length s.ops + 1)) r (done_on st.1 (step code op (go_to (length s.ops + 1) st.0, st.1)))
       → Gets code start (P (length t.ops)) r (length t.ops)
   op_gets s t op P r st is has c place leaves =
       subst (λ n. Gets code start (P n) r n) (sym (count_op s t op is))
       (gets_op code start (P (length s.ops + 1)) r (length s.ops) st op c (op_at code s t op is has) (place (length s.ops + 1)) leaves)
 
-  pub means_on : (s t u : Sheet) (made kind : Option Kind) (value : Value₀) (turn : Value₁) → Means s t made value → Turns t u kind turn → Means s u kind (λ b names. value b names >>= turn b names)
+  pub means_on : (s t u : Buffer) (made kind : Option Kind) (value : Value₀) (turn : Value₁) → Means s t made value → Turns t u kind turn → Means s u kind (λ b names. value b names >>= turn b names)
   means_on s t u made kind value turn first then = record {
     grown = grown_on s t u first.grown then.grown;
     clean = first.clean;
@@ -101,7 +101,7 @@ module _ (code : Code) (start : State) where
         (λ v next here p. then.gets next st v names here p (subst (λ (d : Scope). AreHeld st.0.locals d.names names) (sym first.scope) held));
   }
 
-  pub turns_on : (s t u : Sheet) (made kind : Option Kind) (f g : Value₁) → Turns s t made f → Turns t u kind g → Turns s u kind (λ b names v. f b names v >>= g b names)
+  pub turns_on : (s t u : Buffer) (made kind : Option Kind) (f g : Value₁) → Turns s t made f → Turns t u kind g → Turns s u kind (λ b names v. f b names v >>= g b names)
   turns_on s t u made kind f g first then = record {
     grown = grown_on s t u first.grown then.grown;
     clean = first.clean;
@@ -114,12 +114,12 @@ module _ (code : Code) (start : State) where
   }
 
   -- an op on the newest entry
-  pub one_turns_on : (P : Board → Type 0) (s t : Sheet) (op : Op) (made : Option Kind) (f : Board → Value → Meaning Value) → ((n : ℕ) (st : State) → Comes code start n (Ok st) → P st.1) → Clean s → t ≡ with_op op s → Has code t
+  pub one_turns_on : (P : Board → Type 0) (s t : Buffer) (op : Op) (made : Option Kind) (f : Board → Value → Meaning Value) → ((n : ℕ) (st : State) → Comes code start n (Ok st) → P st.1) → Clean s → t ≡ with_op op s → Has code t
       → IsMade made → IsKind made → OneOpOn P code op f → Turns s t made (λ b names v. f b v)
   one_turns_on P s t op made f good clean is has some kind does = record {
     grown = grown_op op s t is;
     clean = clean;
-    scope = ap (λ (u : Sheet). u.scope) is;
+    scope = ap (λ (u : Buffer). u.scope) is;
     some = some;
     kind = λ taken. kind;
     gets = λ st base v names c p held.
@@ -128,17 +128,17 @@ module _ (code : Code) (start : State) where
         (does (length s.ops + 1) base (go_to (length s.ops + 1) st.0) st.1 v base.0.stack (good (length s.ops) st c) p.stack (record { place = refl; locals = p.locals; stack = refl; board = p.board })));
   }
 
-  pub one_turns : (s t : Sheet) (op : Op) (made : Option Kind) (f : Board → Value → Meaning Value) → Clean s → t ≡ with_op op s → Has code t → IsMade made → IsKind made → OneOp code op f → Turns s t made (λ b names v. f b v)
+  pub one_turns : (s t : Buffer) (op : Op) (made : Option Kind) (f : Board → Value → Meaning Value) → Clean s → t ≡ with_op op s → Has code t → IsMade made → IsKind made → OneOp code op f → Turns s t made (λ b names v. f b v)
   one_turns s t op made f clean is has some kind does =
       one_turns_on (λ b. Unit {0}) s t op made f (λ n st c. tt) clean is has some kind (λ n base m b v rest good stack like. does n base m b v rest stack like)
 
   -- an operand more, and an op on both
-  pub two_turns : (s t u : Sheet) (op : Op) (made kind : Option Kind) (value : Value₀) (f : Value → Value → Meaning Value) → Means s t made value → u ≡ with_op op t → Has code u → IsMade kind → IsKind kind → TwoOp code op f
+  pub two_turns : (s t u : Buffer) (op : Op) (made kind : Option Kind) (value : Value₀) (f : Value → Value → Meaning Value) → Means s t made value → u ≡ with_op op t → Has code u → IsMade kind → IsKind kind → TwoOp code op f
       → Turns s u kind (λ b names v. value b names >>= f v)
   two_turns s t u op made kind value f right is has some known does = record {
     grown = grown_on s t u right.grown (grown_op op t u is);
     clean = right.clean;
-    scope = ap (λ (x : Sheet). x.scope) is ∙ right.scope;
+    scope = ap (λ (x : Buffer). x.scope) is ∙ right.scope;
     some = some;
     kind = λ taken. known;
     gets = λ st base v names c p held.
@@ -152,20 +152,20 @@ module _ (code : Code) (start : State) where
   }
 
   -- an op that pushes a value
-  pub push_means : (s t : Sheet) (op : Op) (made : Option Kind) (value : Value₀) → Clean s → t ≡ with_op op s → Has code t → IsMade made → (AreTaken s.scope.kinds s.scope.names → IsKind made)
+  pub push_means : (s t : Buffer) (op : Op) (made : Option Kind) (value : Value₀) → Clean s → t ≡ with_op op s → Has code t → IsMade made → (AreTaken s.scope.kinds s.scope.names → IsKind made)
       → ((st : State) (names : List Name) → Comes code start (length s.ops) (Ok st) → AreHeld st.0.locals s.scope.names names → Leaves (Pushed (length s.ops + 1) st) (value st.1 names) (done_on st.1 (step code op (go_to (length s.ops + 1) st.0, st.1))))
       → Means s t made value
   push_means s t op made value clean is has some kind does = record {
     grown = grown_op op s t is;
     clean = clean;
-    scope = ap (λ (u : Sheet). u.scope) is;
+    scope = ap (λ (u : Buffer). u.scope) is;
     some = some;
     kind = kind;
     gets = λ st names c held. op_gets s t op (λ n. Pushed n st) (value st.1 names) st is has c (λ n x next q. q.place) (does st names c held);
   }
 
   -- a meaning may be replaced by an equal one, and its kind by an equal one
-  pub means_as : (s t : Sheet) (made kind : Option Kind) (a b : Value₀) → made ≡ kind → ((board : Board) (names : List Name) → a board names ≡ b board names) → Means s t made a → Means s t kind b
+  pub means_as : (s t : Buffer) (made kind : Option Kind) (a b : Value₀) → made ≡ kind → ((board : Board) (names : List Name) → a board names ≡ b board names) → Means s t made a → Means s t kind b
   means_as s t made kind a b is same m = record {
     grown = m.grown;
     clean = m.clean;
@@ -175,7 +175,7 @@ module _ (code : Code) (start : State) where
     gets = λ st names c held. subst (λ r. Gets code start (Pushed (length t.ops) st) r (length t.ops)) (same st.1 names) (m.gets st names c held);
   }
 
-  pub turns_as : (s t : Sheet) (made kind : Option Kind) (f g : Value₁) → made ≡ kind → ((board : Board) (names : List Name) (v : Value) → f board names v ≡ g board names v) → Turns s t made f → Turns s t kind g
+  pub turns_as : (s t : Buffer) (made kind : Option Kind) (f g : Value₁) → made ≡ kind → ((board : Board) (names : List Name) (v : Value) → f board names v ≡ g board names v) → Turns s t made f → Turns s t kind g
   turns_as s t made kind f g is same m = record {
     grown = m.grown;
     clean = m.clean;

@@ -29,8 +29,8 @@ use Rattle.bb_compile_scope.specs.declared.fault.CompileFault.{CompileFault}
 use Rattle.bb_compile_scope.specs.declared.fault.Flaw.TheVariants.{Kind as WrongKind, Limit}
 use Rattle.bb_compile_scope.specs.Kinds.{class_of, plain_equality, equality}
 use Rattle.bb_compile_scope.specs.LocalKinds.{is_free}
-use Rattle.bb_compile_accepted.specs.Sheet.{Sheet}
-use Rattle.bb_compile_accepted.specs.Sheets.{noted, put}
+use Rattle.bb_compile_accepted.specs.Buffer.{Buffer}
+use Rattle.bb_compile_accepted.specs.Buffers.{noted, put}
 use Rattle.bb_compile_accepted.specs.Operations.{Made, unary_code, equality_by, binary_code, operator_code, division_op, divisor_noted, division_code}
 use Rattle.bb_machine_step.specs.Arithmetic.{calculated, compared, combined, divided}
 use Rattle.bb_machine_step.specs.Changing.{State}
@@ -46,14 +46,14 @@ use Rattle.bb_compile_meaning.proofs.MeansLemmas.{IsKind, IsMade, OneOp, TwoOp, 
 
 module _ (code : Code) where
   -- an op is put that does with two operands what a meaning says
-  pub record Puts (s t : Sheet) (made : Made) (f : Value → Value → Meaning Value) : Type 0 where
+  pub record Puts (s t : Buffer) (made : Made) (f : Value → Value → Meaning Value) : Type 0 where
     pub op : Op
     pub is : t ≡ with_op op s
     pub some : IsMade made
     pub kind : IsKind made
     pub does : TwoOp code op f
 
-  puts : (op : Op) (gives : Kind) (s t : Sheet) (made : Made) (f : Value → Value → Meaning Value) → is_free gives ≡ false → TwoOp code op f → IsPut op gives s t made → Puts s t made f
+  puts : (op : Op) (gives : Kind) (s t : Buffer) (made : Made) (f : Value → Value → Meaning Value) → is_free gives ≡ false → TwoOp code op f → IsPut op gives s t made → Puts s t made f
   puts op gives s t made f known does put = record { op = op; is = put.0; some = (gives, put.1); kind = subst IsKind (sym put.1) known; does = does }
 
   calculates : (c : Calculation) → TwoOp code (ops.Calculate c) (of_numbers (λ a b. Int (calculated c a b)))
@@ -117,29 +117,29 @@ module _ (code : Code) where
   unfolding equality
   equal_does l r op h = equal_by l op (is_some (class_of l) && is_some (class_of r)) (is_same_plain l r) h
 
-  abbrev as_truth : Sheet → Result (Made × Sheet) CompileFault
+  abbrev as_truth : Buffer → Result (Made × Buffer) CompileFault
   as_truth u = Ok (Some kinds.Bool, u)
 
-  equal_puts : (l r : Kind) (s t : Sheet) (made : Made) → (equality_by (equality l r) s >>= as_truth) ≡ Ok (made, t) → Clean t → Puts s t made equal
+  equal_puts : (l r : Kind) (s t : Buffer) (made : Made) → (equality_by (equality l r) s >>= as_truth) ≡ Ok (made, t) → Clean t → Puts s t made equal
   equal_puts l r s t made h clean =
       let one = bind_ok (equality_by (equality l r) s) as_truth (made, t) h in
       let same = pair_ok (Some kinds.Bool) made one.0 t one.2 in
       by_op (equality l r) refl one.0 one.1 same.1 same.0
     where
-      by_op : (o : Option Op) → equality l r ≡ o → (u : Sheet) → equality_by o s ≡ Ok u → u ≡ t → Some kinds.Bool ≡ made → Puts s t made equal
-      by_op None is u h same kind = never_noted WrongKind s (ap (λ (x : Sheet). x.flaw) (same_ok (noted WrongKind s) u h ∙ same) ∙ clean)
+      by_op : (o : Option Op) → equality l r ≡ o → (u : Buffer) → equality_by o s ≡ Ok u → u ≡ t → Some kinds.Bool ≡ made → Puts s t made equal
+      by_op None is u h same kind = never_noted WrongKind s (ap (λ (x : Buffer). x.flaw) (same_ok (noted WrongKind s) u h ∙ same) ∙ clean)
       by_op (Some op) is u h same kind = puts op kinds.Bool s t made equal refl (equal_does l r op is) (sym same ∙ put_ok op s u h, sym kind)
 
   -- ---- two operands
 
-  -- a sheet has no flaw before an operation where it has none behind it
-  op_clean : (op : Op) (s t : Sheet) → t ≡ with_op op s → Clean t → Clean s × Grown s t
+  -- a buffer has no flaw before an operation where it has none behind it
+  op_clean : (op : Op) (s t : Buffer) → t ≡ with_op op s → Clean t → Clean s × Grown s t
   op_clean op s t is clean = (clean_before op s t is clean, grown_op op s t is)
 
-  same_clean : (s t : Sheet) → s ≡ t → Clean t → Clean s × Grown s t
-  same_clean s t is clean = (ap (λ (x : Sheet). x.flaw) is ∙ clean, grown_none s t (ap (λ (x : Sheet). x.ops) (sym is)) (ap (λ (x : Sheet). x.texts) (sym is)) (ap (λ (x : Sheet). x.queries) (sym is)))
+  same_clean : (s t : Buffer) → s ≡ t → Clean t → Clean s × Grown s t
+  same_clean s t is clean = (ap (λ (x : Buffer). x.flaw) is ∙ clean, grown_none s t (ap (λ (x : Buffer). x.ops) (sym is)) (ap (λ (x : Buffer). x.texts) (sym is)) (ap (λ (x : Buffer). x.queries) (sym is)))
 
-  pub binary_clean : (operation : Binary) (left right : Made) (s t : Sheet) (made : Made) → binary_code operation left right s ≡ Ok (made, t) → Clean t → Clean s × Grown s t
+  pub binary_clean : (operation : Binary) (left right : Made) (s t : Buffer) (made : Made) → binary_code operation left right s ≡ Ok (made, t) → Clean t → Clean s × Grown s t
   unfolding binary_code
   binary_clean binaries.Less l r s t made h clean = op_clean (ops.Compare comparisons.Lt) s t (two_due_ok l r kinds.Int (ops.Compare comparisons.Lt) kinds.Bool s t made h clean).0 clean
   binary_clean binaries.AtMost l r s t made h clean = op_clean (ops.Compare comparisons.Le) s t (two_due_ok l r kinds.Int (ops.Compare comparisons.Le) kinds.Bool s t made h clean).0 clean
@@ -150,7 +150,7 @@ module _ (code : Code) where
   binary_clean binaries.Equal (Some l) None s t made h clean = same_clean s t (pair_ok (Some kinds.Bool) made s t h).1 clean
   binary_clean binaries.Equal None r s t made h clean = same_clean s t (pair_ok (Some kinds.Bool) made s t h).1 clean
 
-  pub binary_puts : (operation : Binary) (left right : Made) (s t : Sheet) (made : Made) → IsMade left → IsMade right → binary_code operation left right s ≡ Ok (made, t) → Clean t → Puts s t made (binary_value operation)
+  pub binary_puts : (operation : Binary) (left right : Made) (s t : Buffer) (made : Made) → IsMade left → IsMade right → binary_code operation left right s ≡ Ok (made, t) → Clean t → Puts s t made (binary_value operation)
   unfolding binary_code binary_value
   binary_puts binaries.Less l r s t made k j h clean =
       puts (ops.Compare comparisons.Lt) kinds.Bool s t made (binary_value binaries.Less) refl (compares comparisons.Lt) (two_due_ok l r kinds.Int (ops.Compare comparisons.Lt) kinds.Bool s t made h clean)
@@ -166,7 +166,7 @@ module _ (code : Code) where
   binary_puts binaries.Equal (Some l) None s t made k j h clean = absurd (let e = j.1 in cc)
   binary_puts binaries.Equal None r s t made k j h clean = absurd (let e = k.1 in cc)
 
-  pub operator_puts : (operator : Operator) (left right : Made) (s t : Sheet) (made : Made) → operator_code operator left right s ≡ Ok (made, t) → Clean t → Puts s t made (operator_value operator)
+  pub operator_puts : (operator : Operator) (left right : Made) (s t : Buffer) (made : Made) → operator_code operator left right s ≡ Ok (made, t) → Clean t → Puts s t made (operator_value operator)
   unfolding operator_value
   operator_puts operators.Or l r s t made h clean =
       puts (ops.Combine logics.Or) kinds.Bool s t made (operator_value operators.Or) refl (combines logics.Or) (two_due_ok l r kinds.Bool (ops.Combine logics.Or) kinds.Bool s t made h clean)
@@ -203,12 +203,12 @@ module _ (code : Code) where
       (number_leaves n base (with_stack rest m) b like (λ x. Int (divided (division_op divisions.Remainder) x by)) v)
 
   module _ (start : State) where
-    turned : (op : Op) (gives : Kind) (s t : Sheet) (made : Made) (f : Value → Meaning Value) → is_free gives ≡ false → Clean t → Has code t → OneOp code op (λ b v. f v) → IsPut op gives s t made
+    turned : (op : Op) (gives : Kind) (s t : Buffer) (made : Made) (f : Value → Meaning Value) → is_free gives ≡ false → Clean t → Has code t → OneOp code op (λ b v. f v) → IsPut op gives s t made
         → Turns code start s t made (λ b names v. f v)
     turned op gives s t made f known clean has does put =
         one_turns code start s t op made (λ b v. f v) (clean_before op s t put.0 clean) put.0 has (gives, put.1) (subst IsKind (sym put.1) known) does
 
-    pub unary_turns : (operation : Unary) (operand : Made) (s t : Sheet) (made : Made) → unary_code operation operand s ≡ Ok (made, t) → Clean t → Has code t → Turns code start s t made (λ b names v. unary_value operation v)
+    pub unary_turns : (operation : Unary) (operand : Made) (s t : Buffer) (made : Made) → unary_code operation operand s ≡ Ok (made, t) → Clean t → Has code t → Turns code start s t made (λ b names v. unary_value operation v)
     unary_turns unaries.Not operand s t made h clean has =
         turned ops.Not kinds.Bool s t made (unary_value unaries.Not) refl clean has negates (one_due_ok operand kinds.Bool ops.Not kinds.Bool s t made h clean)
     unary_turns unaries.Low operand s t made h clean has =
@@ -216,7 +216,7 @@ module _ (code : Code) where
     unary_turns unaries.High operand s t made h clean has =
         turned (ops.BoundOf bounds.High) kinds.Int s t made (unary_value unaries.High) refl clean has highs (one_due_ok operand kinds.Interval (ops.BoundOf bounds.High) kinds.Int s t made h clean)
 
-    pub division_turns : (d : Division) (by : ℤ) (left : Made) (s t : Sheet) (made : Made) → division_code d by left s ≡ Ok (made, t) → Clean t → Has code t → Turns code start s t made (λ b names v. division_value d by v)
+    pub division_turns : (d : Division) (by : ℤ) (left : Made) (s t : Buffer) (made : Made) → division_code d by left s ≡ Ok (made, t) → Clean t → Has code t → Turns code start s t made (λ b names v. division_value d by v)
     unfolding division_code
     division_turns d by left s t made h clean has =
         let put = one_due_ok left kinds.Int (ops.Divide (division_op d) by) kinds.Int (divisor_noted by s) t made h clean in

@@ -18,9 +18,9 @@ use Rattle.bb_compile_scope.specs.declared.fault.CompileFault.TheVariants.{At}
 use Rattle.bb_compile_scope.specs.declared.fault.Flaw.TheVariants.{NoEnd, Limit}
 use Rattle.bb_compile_scope.specs.Ending.{ends}
 use Rattle.bb_compile_scope.specs.Scope.{begin_with, of_unit, of_event, mark_of}
-use Rattle.bb_compile_accepted.specs.Sheet.{Sheet}
-use Rattle.bb_compile_accepted.specs.Sheets.{settled, put, leave}
-use Rattle.bb_compile_accepted.specs.Finish.{empty_sheet, code_of, if_within}
+use Rattle.bb_compile_accepted.specs.Buffer.{Buffer}
+use Rattle.bb_compile_accepted.specs.Buffers.{settled, put, leave}
+use Rattle.bb_compile_accepted.specs.Finish.{empty_buffer, code_of, if_within}
 use Rattle.bb_compile_accepted.specs.Within.{is_within}
 use Rattle.bb_compile_accepted.specs.Actions.{action_code}
 use Rattle.bb_compile_accepted.specs.Statements.{left, after_end, action_of, statement_code, statements_code, block_code}
@@ -65,7 +65,7 @@ use Rattle.bb_compile_meaning.proofs.ActionLemmas.{action_does}
 -- ---- statements, one after another
 
 module _ (schema : Schema) (sf : schemas.Fits schema) (part : Part) (code : Code) (start : State) (good : (n : ℕ) (st : State) → Comes code start n (Ok st) → Good schema st.1) where
-  acts_on : (s t u : Sheet) (f g : Scene → Meaning Scene) → Acts code start s t f → Acts code start t u g → Acts code start s u (λ scene. f scene >>= g)
+  acts_on : (s t u : Buffer) (f g : Scene → Meaning Scene) → Acts code start s t f → Acts code start t u g → Acts code start s u (λ scene. f scene >>= g)
   acts_on s t u f g first then = record {
     grown = grown_on s t u first.grown then.grown;
     clean = first.clean;
@@ -75,17 +75,17 @@ module _ (schema : Schema) (sf : schemas.Fits schema) (part : Part) (code : Code
         (λ after next there is. then.gets (first.tidy tidy) next after there is);
   }
 
-  acts_none : (s t : Sheet) → s ≡ t → Clean t → Acts code start s t (λ scene. Ok scene)
+  acts_none : (s t : Buffer) → s ≡ t → Clean t → Acts code start s t (λ scene. Ok scene)
   acts_none s t same clean =
       subst (λ u. Acts code start s u (λ scene. Ok scene)) same
       (record {
         grown = grown_none s s refl refl refl;
-        clean = ap (λ (x : Sheet). x.flaw) same ∙ clean;
+        clean = ap (λ (x : Buffer). x.flaw) same ∙ clean;
         tidy = λ tidy. tidy;
         gets = λ tidy st scene c here. gets_none code start (IsScene (length s.ops) s.scope.names) scene (length s.ops) st c here;
       })
 
-  pub block_does : (b : BlockTree) (loops : ℕ) (was now : Bool) (s t : Sheet) → is_plain b ≡ true → statements_code schema part loops was b s ≡ Ok (now, t) → Clean t → Has code t → Acts code start s t (statements b)
+  pub block_does : (b : BlockTree) (loops : ℕ) (was now : Bool) (s t : Buffer) → is_plain b ≡ true → statements_code schema part loops was b s ≡ Ok (now, t) → Clean t → Has code t → Acts code start s t (statements b)
   unfolding statements_code statement_code statements statement
   block_does no_statement loops was now s t plain h clean has = acts_none s t (pair_ok was now s t h).1 clean
   block_does (before_others place (action a) others) loops was now s t plain h clean has =
@@ -196,7 +196,7 @@ module _ (part : Part) (frames : List Frame) (code : Code) (entry : Entry) (b : 
   done_on m left = refl
 
   -- a `do` has done its work
-  told_done : (class : ℕ) (r : Meaning Scene) (t : Sheet) (limit : ℕ) (st : State) (x : Scene) → part ≡ Do class → slice_get code.ops (length t.ops) ≡ Some ops.Done → length t.ops + 1 ≤ limit → Comes code start (length t.ops) (Ok st) → r ≡ Ok x → st.1 ≡ x.board
+  told_done : (class : ℕ) (r : Meaning Scene) (t : Buffer) (limit : ℕ) (st : State) (x : Scene) → part ≡ Do class → slice_get code.ops (length t.ops) ≡ Some ops.Done → length t.ops + 1 ≤ limit → Comes code start (length t.ops) (Ok st) → r ≡ Ok x → st.1 ≡ x.board
       → IsTold (ended part r) (activation limit code entry b)
   told_done class r t limit st x do_is at le c means board =
       let after = comes_on code start (length t.ops) st ops.Done (answered Done) c at (done_on (go_to (length t.ops + 1) st.0) st.1) tt in
@@ -215,19 +215,19 @@ module _ (part : Part) (frames : List Frame) (code : Code) (entry : Entry) (b : 
   -- ---- the whole
 
   module _ (place : Place) (block : BlockTree) (limit : ℕ) (enough_steps : length code.ops ≤ limit) (plain : is_plain block ≡ true) where
-    abbrev first : Sheet
-    first = empty_sheet part place
+    abbrev first : Buffer
+    first = empty_buffer part place
 
-    block_gets : (now : Bool) (t : Sheet) → statements_code b.schema part LOOP_NESTING false block first ≡ Ok (now, t) → Has code t → Gets code start (IsScene (length t.ops) t.scope.names) (statements block (first_scene entry b)) (length t.ops)
+    block_gets : (now : Bool) (t : Buffer) → statements_code b.schema part LOOP_NESTING false block first ≡ Ok (now, t) → Has code t → Gets code start (IsScene (length t.ops) t.scope.names) (statements block (first_scene entry b)) (length t.ops)
     block_gets now t h has =
         let clean = block_clean b.schema part block LOOP_NESTING false now first t plain refl h in
         (block_does b.schema sf part code start good block LOOP_NESTING false now first t plain h clean has).gets (begin_tidy part) start (first_scene entry b)
         (refl, (λ k. let e : 0 + k ≡ k = omega arith in ap (λ i. steps_from i 0 code start) e))
         (record { place = refl; held = begin_held b.schema b.world part code entry begins.units; stack = refl; board = refl })
 
-    -- the code is that of a sheet
-    sheet_has : (u : Sheet) → code_of u ≡ code → Has code u
-    sheet_has u same = record {
+    -- the code is that of a buffer
+    buffer_has : (u : Buffer) → code_of u ≡ code → Has code u
+    buffer_has u same = record {
       ops = [];
       ops_are = ap (λ (c : Code). c.ops) (sym same) ∙ sym (append-nil u.ops);
       texts = [];
@@ -236,41 +236,41 @@ module _ (part : Part) (frames : List Frame) (code : Code) (entry : Entry) (b : 
       queries_are = ap (λ (c : Code). c.queries) (sym same) ∙ sym (append-nil u.queries);
     }
 
-    left_grown : (t : Sheet) → Grown t (leave (mark_of first.scope) t)
+    left_grown : (t : Buffer) → Grown t (leave (mark_of first.scope) t)
     left_grown t = grown_none t (leave (mark_of first.scope) t) refl refl refl
 
-    by_came : (t : Sheet) (class : ℕ) → part ≡ Do class → slice_get code.ops (length t.ops) ≡ Some ops.Done → length t.ops + 1 ≤ length code.ops → (came : Came) → Comes code start (length t.ops) came
+    by_came : (t : Buffer) (class : ℕ) → part ≡ Do class → slice_get code.ops (length t.ops) ≡ Some ops.Done → length t.ops + 1 ≤ length code.ops → (came : Came) → Comes code start (length t.ops) came
         → Leaves (IsScene (length t.ops) t.scope.names) (statements block (first_scene entry b)) came → IsTold (ended part (statements block (first_scene entry b))) (activation limit code entry b)
     by_came t class part_is at le (Ok st) c l = told_done class (statements block (first_scene entry b)) t limit st l.0 part_is at (omega (arith, le, enough_steps)) c l.1 l.2.board
     by_came t class part_is at le (Err (halt, left)) c l = told (statements block (first_scene entry b)) (IsScene (length t.ops) t.scope.names) (length t.ops) limit halt left (omega (arith, le, enough_steps)) c l
 
-    by_end : (t : Sheet) → length code.ops ≡ length t.ops → (came : Came) → Comes code start (length t.ops) came → Leaves (IsScene (length t.ops) t.scope.names) (statements block (first_scene entry b)) came
+    by_end : (t : Buffer) → length code.ops ≡ length t.ops → (came : Came) → Comes code start (length t.ops) came → Leaves (IsScene (length t.ops) t.scope.names) (statements block (first_scene entry b)) came
         → IsTold (ended part (statements block (first_scene entry b))) (activation limit code entry b)
     by_end t count (Ok st) c l = told_else (length t.ops) st (omega (arith, count)) c
     by_end t count (Err (halt, left)) c l = told (statements block (first_scene entry b)) (IsScene (length t.ops) t.scope.names) (length t.ops) limit halt left (omega (arith, count, enough_steps)) c l
 
-    do_told : (now : Bool) (t u : Sheet) (class : ℕ) → part ≡ Do class → statements_code b.schema part LOOP_NESTING false block first ≡ Ok (now, t) → put ops.Done (leave (mark_of first.scope) t) ≡ Ok u → code_of u ≡ code
+    do_told : (now : Bool) (t u : Buffer) (class : ℕ) → part ≡ Do class → statements_code b.schema part LOOP_NESTING false block first ≡ Ok (now, t) → put ops.Done (leave (mark_of first.scope) t) ≡ Ok u → code_of u ≡ code
         → IsTold (ended part (statements block (first_scene entry b))) (activation limit code entry b)
     do_told now t u class part_is h last same =
         let was = leave (mark_of first.scope) t in
         let put_is = put_ok ops.Done was u last in
-        let has = sheet_has u same in
+        let has = buffer_has u same in
         let own = has_before code t u (grown_on t was u (left_grown t) (grown_op ops.Done was u put_is)) has in
         let at : slice_get code.ops (length t.ops) ≡ Some ops.Done = op_at code was u ops.Done put_is has in
-        let e : length code.ops ≡ length t.ops + 1 = ap (λ (c : Code). length c.ops) (sym same) ∙ (ap (λ (x : Sheet). length x.ops) put_is ∙ length-append t.ops (ops.Done ∷ [])) in
+        let e : length code.ops ≡ length t.ops + 1 = ap (λ (c : Code). length c.ops) (sym same) ∙ (ap (λ (x : Buffer). length x.ops) put_is ∙ length-append t.ops (ops.Done ∷ [])) in
         let g = block_gets now t h own in
         by_came t class part_is at (omega (arith, e)) g.0 g.1 g.2
 
-    else_told : (now : Bool) (t u : Sheet) → statements_code b.schema part LOOP_NESTING false block first ≡ Ok (now, t) → leave (mark_of first.scope) t ≡ u → code_of u ≡ code
+    else_told : (now : Bool) (t u : Buffer) → statements_code b.schema part LOOP_NESTING false block first ≡ Ok (now, t) → leave (mark_of first.scope) t ≡ u → code_of u ≡ code
         → IsTold (ended part (statements block (first_scene entry b))) (activation limit code entry b)
     else_told now t u h last same =
-        let has = sheet_has u same in
+        let has = buffer_has u same in
         let own = has_before code t (leave (mark_of first.scope) t) (left_grown t) (subst (Has code) (sym last) has) in
-        let e : length code.ops ≡ length t.ops = ap (λ (c : Code). length c.ops) (sym same) ∙ ap (λ (x : Sheet). length x.ops) (sym last) in
+        let e : length code.ops ≡ length t.ops = ap (λ (c : Code). length c.ops) (sym same) ∙ ap (λ (x : Buffer). length x.ops) (sym last) in
         let g = block_gets now t h own in
         by_end t e g.0 g.1 g.2
 
-    by_part : (p : Part) → part ≡ p → (now : Bool) (t u : Sheet) → statements_code b.schema part LOOP_NESTING false block first ≡ Ok (now, t) → done p (leave (mark_of first.scope) t) ≡ Ok u → code_of u ≡ code
+    by_part : (p : Part) → part ≡ p → (now : Bool) (t u : Buffer) → statements_code b.schema part LOOP_NESTING false block first ≡ Ok (now, t) → done p (leave (mark_of first.scope) t) ≡ Ok u → code_of u ≡ code
         → IsTold (ended part (statements block (first_scene entry b))) (activation limit code entry b)
     by_part (Do class) part_is now t u h last same = do_told now t u class part_is h last same
     by_part (Require c) part_is now t u h last same = else_told now t u h (same_ok (leave (mark_of first.scope) t) u last) same
@@ -278,7 +278,7 @@ module _ (part : Part) (frames : List Frame) (code : Code) (entry : Entry) (b : 
     by_part (Retrigger c of) part_is now t u h last same = else_told now t u h (same_ok (leave (mark_of first.scope) t) u last) same
     by_part (Revalidate c) part_is now t u h last same = else_told now t u h (same_ok (leave (mark_of first.scope) t) u last) same
 
-    within_same : (u : Sheet) (c : Bool) → (let r : Result Code CompileFault = cond c (Ok (code_of u)) (Err (At Limit u.start)) in r) ≡ Ok code → code_of u ≡ code
+    within_same : (u : Buffer) (c : Bool) → (let r : Result Code CompileFault = cond c (Ok (code_of u)) (Err (At Limit u.start)) in r) ≡ Ok code → code_of u ≡ code
     within_same u true h = same_ok (code_of u) code h
     within_same u false h = absurd cc
 

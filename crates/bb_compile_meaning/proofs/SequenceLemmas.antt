@@ -15,8 +15,8 @@ use Rattle.bb_lang.specs.Variable.{Variable}
 use Rattle.bb_compile_scope.specs.declared.fault.Flaw.{Flaw}
 use Rattle.bb_compile_scope.specs.Scope.{name_of}
 use Rattle.bb_compile_scope.specs.Slots.{link_slot}
-use Rattle.bb_compile_accepted.specs.Sheet.{Sheet}
-use Rattle.bb_compile_accepted.specs.Sheets.{noted, put}
+use Rattle.bb_compile_accepted.specs.Buffer.{Buffer}
+use Rattle.bb_compile_accepted.specs.Buffers.{noted, put}
 use Rattle.bb_compile_accepted.specs.Operations.{Made}
 use Rattle.bb_compile_accepted.specs.Atoms.{unit_code}
 use Rattle.bb_compile_accepted.specs.Queries.{linked_by, linked_from, links_code}
@@ -100,16 +100,16 @@ module _ (schema : Schema) (sf : schemas.Fits schema) (code : Code) where
           subst (λ r. Leaves (Pushed n base) (linked name b v) (done_on b (keeps b (r >>= λ u. any_link b u.0 slot >>= λ _. push_found (ends b.world.links u.0 slot) u.1)))) (sym dead.1) tt
 
   module _ (start : State) (good : (n : ℕ) (st : State) → Comes code start n (Ok st) → Good schema st.1) where
-    abbrev pub MeansUnits : Sheet → Sheet → (Board → List Name → Meaning (List ℕ)) → Type 0
+    abbrev pub MeansUnits : Buffer → Buffer → (Board → List Name → Meaning (List ℕ)) → Type 0
     MeansUnits s t us = Means code start s t (Some kinds.Int) (λ b names. us b names >>= as_sequence)
 
-    pub links_mean : (v : Variable) (name : List ℕ) (room : ℕ) (s t : Sheet) (class : Option ℕ) → links_code schema v name room s ≡ Ok (class, t) → Clean t → Has code t → MeansUnits s t (λ b names. texts.linked_units b names v name)
+    pub links_mean : (v : Variable) (name : List ℕ) (room : ℕ) (s t : Buffer) (class : Option ℕ) → links_code schema v name room s ≡ Ok (class, t) → Clean t → Has code t → MeansUnits s t (λ b names. texts.linked_units b names v name)
     unfolding links_code texts.linked_units
     links_mean v name room s t class h clean has =
         let one = bind_ok (unit_code v room s) (λ p. linked_from schema name p.0 p.1) (class, t) h in by_class one.0.0 one.0.1 one.1 one.2
       where
-        by_slot : (class' : Option ℕ) (c : ℕ) (u : Sheet) (r : Result (ℕ × Link) Flaw) → unit_code v room s ≡ Ok (class', u) → link_slot schema c name ≡ r → linked_by r u ≡ Ok (class, t) → MeansUnits s t (λ b names. texts.linked_units b names v name)
-        by_slot class' c u (Err flaw) code_is is h = never_noted flaw u (ap (λ (x : Sheet). x.flaw) (pair_ok None class (noted flaw u) t h).1 ∙ clean)
+        by_slot : (class' : Option ℕ) (c : ℕ) (u : Buffer) (r : Result (ℕ × Link) Flaw) → unit_code v room s ≡ Ok (class', u) → link_slot schema c name ≡ r → linked_by r u ≡ Ok (class, t) → MeansUnits s t (λ b names. texts.linked_units b names v name)
+        by_slot class' c u (Err flaw) code_is is h = never_noted flaw u (ap (λ (x : Buffer). x.flaw) (pair_ok None class (noted flaw u) t h).1 ∙ clean)
         by_slot class' c u (Ok p) code_is is h =
             let one = bind_ok (put (ops.Links p.0) u) (λ x. Ok (Some p.1.to, x)) (class, t) h in
             let same = pair_ok (Some p.1.to) class one.0 t one.2 in
@@ -135,10 +135,10 @@ module _ (schema : Schema) (sf : schemas.Fits schema) (code : Code) where
             by_assoc b (Ok w) = by_units b (unit w >>= texts.live b)
             by_assoc b (Err e) = refl
 
-        by_class : (class' : Option ℕ) (u : Sheet) → unit_code v room s ≡ Ok (class', u) → linked_from schema name class' u ≡ Ok (class, t) → MeansUnits s t (λ b names. texts.linked_units b names v name)
+        by_class : (class' : Option ℕ) (u : Buffer) → unit_code v room s ≡ Ok (class', u) → linked_from schema name class' u ≡ Ok (class, t) → MeansUnits s t (λ b names. texts.linked_units b names v name)
         by_class None u code_is h =
             let same = pair_ok None class u t h in
-            let unit_is = unit_ok v room s u None code_is (ap (λ (x : Sheet). x.flaw) same.1 ∙ clean) in
+            let unit_is = unit_ok v room s u None code_is (ap (λ (x : Buffer). x.flaw) same.1 ∙ clean) in
             absurd (let e = unit_is.3 in cc)
         by_class (Some c) u code_is h = by_slot (Some c) c u (link_slot schema c name) code_is refl h
 
@@ -160,7 +160,7 @@ module _ (schema : Schema) (sf : schemas.Fits schema) (code : Code) where
         by_value _ = tt
 
     -- how many units are in a sequence
-    pub size_means : (s t u : Sheet) (made : Made) (us : Board → List Name → Meaning (List ℕ)) → MeansUnits s t us → u ≡ with_op ops.Size t → Clean u → Has code u → made ≡ Some kinds.Int
+    pub size_means : (s t u : Buffer) (made : Made) (us : Board → List Name → Meaning (List ℕ)) → MeansUnits s t us → u ≡ with_op ops.Size t → Clean u → Has code u → made ≡ Some kinds.Int
         → Means code start s u made (λ b names. us b names >>= λ xs. Ok (Int (pos (length xs))))
     size_means s t u made us first is clean has kind =
         means_as code start s u (Some kinds.Int) made (λ b names. (us b names >>= as_sequence) >>= counted) (λ b names. us b names >>= λ xs. Ok (Int (pos (length xs)))) (sym kind) (λ b names. by_units (us b names))

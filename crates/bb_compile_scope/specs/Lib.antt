@@ -11,7 +11,7 @@ pub mod Slots
 -- which statements always end
 pub mod Ending
 -- what the body of a loop leaves of the names that are live
-pub mod Worn
+pub mod Killed
 -- what crates above know of codes, texts and schemas
 pub use Rattle.bb_verify_frame.specs.Part
 pub use Rattle.bb_verify_frame.specs.Kinds as FrameKinds

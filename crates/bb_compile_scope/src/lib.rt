@@ -4,18 +4,18 @@
 
 mod ending;
 mod fault;
+mod killed;
 mod kinds;
 mod local_kinds;
 mod scope;
 mod slots;
-mod worn;
 
 pub use bb_lang::{Block, Place, Variable};
 pub use bb_verify_frame::{ClassId, Kind, LocalId, Op, Part, Schema, SlotId, SpaceId};
 pub use ending::{block_ends, ends};
 pub use fault::{CompileFault, Flaw, lowest};
+pub use killed::kill_under;
 pub use kinds::{assigned, class_of, equality, is_live};
 pub use local_kinds::LocalKinds;
 pub use scope::{Mark, NamedLocal, Scope, name_of};
 pub use slots::{dimension, link_slot, partner_slot, value_slot};
-pub use worn::wear_under;

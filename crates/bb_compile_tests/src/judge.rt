@@ -1,7 +1,7 @@
 //! Tests of what is known where a statement stands, with memory: the names of a part, and what a loop's body leaves.
 
 use bb_basis::Text;
-use bb_compile_scope::{Kind, LocalId, Part, Scope, wear_under};
+use bb_compile_scope::{Kind, LocalId, Part, Scope, kill_under};
 use bb_lang::{ActText, Block, parse};
 use bb_schema::Schema;
 use std::alloc::Global;
@@ -42,25 +42,25 @@ fn three_names(alloc: Global) -> Result<Scope, Fail> {
 fn behind(alloc: Global, schema: &Schema, body: &Block) -> Result<Scope, Fail> {
     let each = Text::from_str(alloc, "each")?;
     let mut scope = three_names(alloc)?;
-    wear_under(alloc, schema, &mut scope, &each, Some(1), body)?;
+    kill_under(alloc, schema, &mut scope, &each, Some(1), body)?;
     Ok(scope)
 }
 
 // Whether a note that is assigned and a word of which one is deleted may be gone, and another note not.
-fn is_worn(scope: &Scope) -> bool {
+fn is_killed(scope: &Scope) -> bool {
     knows(scope, "one", 1, Kind::Old(1))
         && knows(scope, "other", 2, Kind::Old(2))
         && knows(scope, "third", 3, Kind::Ref(1))
         && scope.kind_of("each").is_none()
 }
 
-// Whether `is_worn` holds after the body of each source of a text.
-fn all_worn(alloc: Global, text: &str) -> Result<bool, Fail> {
+// Whether `is_killed` holds after the body of each source of a text.
+fn all_killed(alloc: Global, text: &str) -> Result<bool, Fail> {
     let schema = Schema::read(alloc, SCHEMA)?;
     let mut all = true;
     for source in parse(alloc, text)? {
         all = match &source.act {
-            ActText::Do(part) => all && is_worn(&behind(alloc, &schema, &part.block)?),
+            ActText::Do(part) => all && is_killed(&behind(alloc, &schema, &part.block)?),
             ActText::Native => false,
         };
     }
@@ -69,6 +69,6 @@ fn all_worn(alloc: Global, text: &str) -> Result<bool, Fail> {
 
 #[test]
 fn names_behind_a_body(rt: HostRuntime) -> Result<(), Fail> {
-    assert!(rt; all_worn(rt.alloc(), BODY)?);
+    assert!(rt; all_killed(rt.alloc(), BODY)?);
     Ok(())
 }

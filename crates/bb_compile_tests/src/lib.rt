@@ -3,8 +3,8 @@
 #![tactic(auto)]
 
 #[cfg(test)]
+mod buffer;
+#[cfg(test)]
 mod emit;
 #[cfg(test)]
 mod judge;
-#[cfg(test)]
-mod sheet;

@@ -1,8 +1,8 @@
--- What a call leaves of an emitter: its sheet as a definition says, and all else as it was. Or memory ran out.
+-- What a call leaves of an emitter: its buffer as a definition says, and all else as it was. Or memory ran out.
 use Rattle.std.specs.Prelude.{◌≡◌, ◌⊎◌, Result, Ok, Err}
 use Rattle.bb_compile_scope.specs.declared.fault.CompileFault.{CompileFault}
 use Rattle.bb_compile_scope.specs.declared.fault.CompileFault.TheVariants.{Memory}
-use Rattle.bb_compile_buffer.specs.Sheets.{Step, Change}
+use Rattle.bb_compile_buffer.specs.Buffers.{Step, Change}
 use Rattle.bb_compile_emit.specs.declared.asked.Asked.{Asked}
 use Rattle.bb_compile_emit.specs.declared.emitter.Emitter.{Emitter}
 use Rattle.bb_compile_emit.specs.Queries.{Patterned}
@@ -11,17 +11,17 @@ use Rattle.bb_compile_emit.specs.Queries.{Patterned}
 abbrev pub Same : (before after : Emitter) → Type 0
 Same before after = (after.schema ≡ before.schema) × (after.part ≡ before.part)
 
--- the call made nothing, and left the sheet that the definition says
+-- the call made nothing, and left the buffer that the definition says
 abbrev pub Lays : {X : Type 0} → (before after : Emitter) → Result X CompileFault → Change → Type 0
-Lays before after (Ok x) change = (change before.sheet ≡ Ok after.sheet) × Same before after
-Lays before after (Err fault) change = (fault ≡ Memory) ⊎ (change before.sheet ≡ Err fault)
+Lays before after (Ok x) change = (change before.buffer ≡ Ok after.buffer) × Same before after
+Lays before after (Err fault) change = (fault ≡ Memory) ⊎ (change before.buffer ≡ Err fault)
 
--- what the call made, and the sheet that it left, are those of the definition
+-- what the call made, and the buffer that it left, are those of the definition
 abbrev pub Makes : {X : Type 0} → (before after : Emitter) → Result X CompileFault → Step X → Type 0
-Makes before after (Ok x) step = (step before.sheet ≡ Ok (x, after.sheet)) × Same before after
-Makes before after (Err fault) step = (fault ≡ Memory) ⊎ (step before.sheet ≡ Err fault)
+Makes before after (Ok x) step = (step before.buffer ≡ Ok (x, after.buffer)) × Same before after
+Makes before after (Err fault) step = (fault ≡ Memory) ⊎ (step before.buffer ≡ Err fault)
 
--- so are the pattern that the call made, seen by view, the query after it, and the sheet
+-- so are the pattern that the call made, seen by view, the query after it, and the buffer
 abbrev pub Asks : {X Y : Type 0} → (view : X → Y) → (asked : Asked) → (before after : Emitter) → Result X CompileFault → Result (Patterned Y) CompileFault → Type 0
-Asks view asked before after (Ok x) patterned = (patterned ≡ Ok (view x, asked, after.sheet)) × Same before after
+Asks view asked before after (Ok x) patterned = (patterned ≡ Ok (view x, asked, after.buffer)) × Same before after
 Asks view asked before after (Err fault) patterned = (fault ≡ Memory) ⊎ (patterned ≡ Err fault)

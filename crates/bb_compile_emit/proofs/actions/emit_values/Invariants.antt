@@ -7,5 +7,5 @@ use Rattle.bb_compile_emit.proofs.actions.emit_values.Given as goal
 -- what is laid out, and what is still to be
 abbrev pub invariant-loop-value : goal.invariant-loop-value
 invariant-loop-value l =
-    (values_code l.fn.emitter.schema.now l.room (drop l.value-index l.values) l.emitter.sheet ≡ values_code l.fn.emitter.schema.now STACK_LIMIT l.values l.fn.emitter.sheet)
+    (values_code l.fn.emitter.schema.now l.room (drop l.value-index l.values) l.emitter.buffer ≡ values_code l.fn.emitter.schema.now STACK_LIMIT l.values l.fn.emitter.buffer)
     × Same l.fn.emitter l.emitter

@@ -39,19 +39,19 @@ emit_patterns-emit_pattern-requires t c =
 pub emit_steps-returns-in_err-kind : goal.emit_steps-returns-in_err-kind
 emit_steps-returns-in_err-kind t c =
     let p = err_from_is_err_and c.from_residual.result c.from_residual.ensures.1 in
-    rw (p.1, p.2) (steps_fail c.args.emitter.now.schema.now c.args.room c.args.steps.now c.loop-step.step-index c.loop-step.kind c.loop-step.emitter.sheet _ c.step-item.result Memory c.in_err-kind.field-0.0 c.loop-step-test.true c.step-item.is
+    rw (p.1, p.2) (steps_fail c.args.emitter.now.schema.now c.args.room c.args.steps.now c.loop-step.step-index c.loop-step.kind c.loop-step.emitter.buffer _ c.step-item.result Memory c.in_err-kind.field-0.0 c.loop-step-test.true c.step-item.is
     (rw c.loop-step.invariant.1.0 at c.in_err-kind.ensures) c.loop-step.invariant.0)
 
 pub emit_steps-loop-step-preserved : goal.emit_steps-loop-step-preserved
 emit_steps-loop-step-preserved t c = (
-  steps_next c.args.emitter.now.schema.now c.args.room c.args.steps.now c.loop-step.step-index c.loop-step.kind c.loop-step.emitter.sheet _ c.step-item.result c.in_ok-kind.kind c.emit_step.new.emitter.sheet c.loop-step-test.true c.step-item.is
+  steps_next c.args.emitter.now.schema.now c.args.room c.args.steps.now c.loop-step.step-index c.loop-step.kind c.loop-step.emitter.buffer _ c.step-item.result c.in_ok-kind.kind c.emit_step.new.emitter.buffer c.loop-step-test.true c.step-item.is
       (rw c.loop-step.invariant.1.0 at c.in_ok-kind.ensures.0) c.loop-step.invariant.0,
   same_on c.args.emitter.now c.loop-step.emitter c.emit_step.new.emitter c.loop-step.invariant.1 c.in_ok-kind.ensures.1,
 )
 
 pub emit_steps-returns : goal.emit_steps-returns
 emit_steps-returns t c = (
-  steps_end c.args.emitter.now.schema.now c.args.room c.args.steps.now c.loop-step.step-index c.loop-step.kind c.loop-step.emitter.sheet _ c.loop-step-test.false c.loop-step.invariant.0,
+  steps_end c.args.emitter.now.schema.now c.args.room c.args.steps.now c.loop-step.step-index c.loop-step.kind c.loop-step.emitter.buffer _ c.loop-step-test.false c.loop-step.invariant.0,
   c.loop-step.invariant.1,
 )
 
@@ -63,18 +63,18 @@ emit_patterns-loop-pattern-init t c = (front_empty c.new-made.result.items _ c.n
 pub emit_patterns-returns-in_err-emit_pattern : goal.emit_patterns-returns-in_err-emit_pattern
 emit_patterns-returns-in_err-emit_pattern t c =
     let p = err_from_is_err_and c.from_residual.result c.from_residual.ensures.1 in
-    rw (p.1, p.2) (patterns_fail c.args.emitter.now.schema.now c.args.room c.args.space c.args.patterns.now c.loop-pattern.pattern-index c.loop-pattern.made.items c.loop-pattern.asked c.loop-pattern.emitter.sheet _ c.pattern-item.result Memory c.in_err-emit_pattern.field-0.0 c.loop-pattern-test.true c.pattern-item.is
+    rw (p.1, p.2) (patterns_fail c.args.emitter.now.schema.now c.args.room c.args.space c.args.patterns.now c.loop-pattern.pattern-index c.loop-pattern.made.items c.loop-pattern.asked c.loop-pattern.emitter.buffer _ c.pattern-item.result Memory c.in_err-emit_pattern.field-0.0 c.loop-pattern-test.true c.pattern-item.is
     (rw c.loop-pattern.invariant.1.0 at c.in_err-emit_pattern.ensures) c.loop-pattern.invariant.0)
 
 pub emit_patterns-loop-pattern-preserved : goal.emit_patterns-loop-pattern-preserved
 emit_patterns-loop-pattern-preserved t c = (
-  patterns_next c.args.emitter.now.schema.now c.args.room c.args.space c.args.patterns.now c.loop-pattern.pattern-index c.loop-pattern.made.items c.loop-pattern.asked c.loop-pattern.emitter.sheet _ c.pattern-item.result c.push.new.self.items c.in_ok-emit_pattern.field-0 c.emit_pattern.new.asked c.emit_pattern.new.emitter.sheet c.loop-pattern-test.true c.pattern-item.is
+  patterns_next c.args.emitter.now.schema.now c.args.room c.args.space c.args.patterns.now c.loop-pattern.pattern-index c.loop-pattern.made.items c.loop-pattern.asked c.loop-pattern.emitter.buffer _ c.pattern-item.result c.push.new.self.items c.in_ok-emit_pattern.field-0 c.emit_pattern.new.asked c.emit_pattern.new.emitter.buffer c.loop-pattern-test.true c.pattern-item.is
       (search rules) (rw c.loop-pattern.invariant.1.0 at c.in_ok-emit_pattern.ensures.0) c.loop-pattern.invariant.0,
   same_on c.args.emitter.now c.loop-pattern.emitter c.emit_pattern.new.emitter c.loop-pattern.invariant.1 c.in_ok-emit_pattern.ensures.1,
 )
 
 pub emit_patterns-returns : goal.emit_patterns-returns
 emit_patterns-returns t c = (
-  patterns_end c.args.emitter.now.schema.now c.args.room c.args.space c.args.patterns.now c.loop-pattern.pattern-index c.loop-pattern.made.items c.loop-pattern.asked c.loop-pattern.emitter.sheet _ c.loop-pattern-test.false c.loop-pattern.invariant.0,
+  patterns_end c.args.emitter.now.schema.now c.args.room c.args.space c.args.patterns.now c.loop-pattern.pattern-index c.loop-pattern.made.items c.loop-pattern.asked c.loop-pattern.emitter.buffer _ c.loop-pattern-test.false c.loop-pattern.invariant.0,
   c.loop-pattern.invariant.1,
 )

@@ -28,12 +28,12 @@ decreases-emit_patterns l = 4 * patterns_size l.patterns.now + 1
 -- what is laid out, and what is still to be
 abbrev pub invariant-emit_steps-loop-step : goal.invariant-emit_steps-loop-step
 invariant-emit_steps-loop-step l =
-    (steps_code l.fn.emitter.schema.now l.room l.kind (steps_of (drop l.step-index l.steps)) l.emitter.sheet
-    ≡ steps_code l.fn.emitter.schema.now l.room l.fn.first (steps_of l.steps) l.fn.emitter.sheet)
+    (steps_code l.fn.emitter.schema.now l.room l.kind (steps_of (drop l.step-index l.steps)) l.emitter.buffer
+    ≡ steps_code l.fn.emitter.schema.now l.room l.fn.first (steps_of l.steps) l.fn.emitter.buffer)
     × Same l.fn.emitter l.emitter
 
 abbrev pub invariant-emit_patterns-loop-pattern : goal.invariant-emit_patterns-loop-pattern
 invariant-emit_patterns-loop-pattern l =
-    (with_front l.made.items (patterns_code l.fn.emitter.schema.now l.room l.space (patterns_of (drop l.pattern-index l.patterns)) l.asked l.emitter.sheet)
-    ≡ patterns_code l.fn.emitter.schema.now l.room l.space (patterns_of l.patterns) l.fn.asked l.fn.emitter.sheet)
+    (with_front l.made.items (patterns_code l.fn.emitter.schema.now l.room l.space (patterns_of (drop l.pattern-index l.patterns)) l.asked l.emitter.buffer)
+    ≡ patterns_code l.fn.emitter.schema.now l.room l.space (patterns_of l.patterns) l.fn.asked l.fn.emitter.buffer)
     × Same l.fn.emitter l.emitter

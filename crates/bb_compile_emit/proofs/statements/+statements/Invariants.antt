@@ -27,6 +27,6 @@ decreases-emit_placed l = 8 * statement_size (statement_of l.placed.now.statemen
 -- what is laid out, and what is still to be
 abbrev pub invariant-emit_block-loop-placed : goal.invariant-emit_block-loop-placed
 invariant-emit_block-loop-placed l =
-    (statements_code l.fn.emitter.schema.now l.fn.emitter.part l.loops l.ended (block_of (drop l.placed-index l.placed-items)) l.emitter.sheet
-    ≡ statements_code l.fn.emitter.schema.now l.fn.emitter.part l.loops false l.block l.fn.emitter.sheet)
+    (statements_code l.fn.emitter.schema.now l.fn.emitter.part l.loops l.ended (block_of (drop l.placed-index l.placed-items)) l.emitter.buffer
+    ≡ statements_code l.fn.emitter.schema.now l.fn.emitter.part l.loops false l.block l.fn.emitter.buffer)
     × Same l.fn.emitter l.emitter

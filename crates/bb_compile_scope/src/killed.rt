@@ -1,11 +1,11 @@
 //! What a loop's body leaves of the names that are live: at the loop's start a name is not live if the body assigns to
-//! it, or may delete a unit of its class. Whoever lays a loop out calls `wear_under`.
+//! it, or may delete a unit of its class. Whoever lays a loop out calls `kill_under`.
 
 ghost use Rattle.std.specs.Prelude.{◌≡◌, OnOk};
 ghost use Rattle.bb_lang.specs.BlockView.{statement_of, otherwise_of};
-ghost use Rattle.bb_compile_scope.specs.Worn.{unit_kind, declared, unit_class, value_class, sequence_class, bound_name};
-ghost use Rattle.bb_compile_scope.specs.Worn.{bound_class};
-ghost use Rattle.bb_compile_scope.specs.Worn.{worn_name, worn_action, worn_statement, worn_otherwise, worn_under, worn_block};
+ghost use Rattle.bb_compile_scope.specs.Killed.{unit_kind, declared, unit_class, value_class, sequence_class, bound_name};
+ghost use Rattle.bb_compile_scope.specs.Killed.{bound_class};
+ghost use Rattle.bb_compile_scope.specs.Killed.{killed_name, killed_action, killed_statement, killed_otherwise, killed_under, killed_block};
 
 use crate::kinds::class_of;
 use crate::scope::{Scope, name_of};
@@ -26,7 +26,7 @@ fn unit_kind(class: Option<ClassId>) -> Kind
 }
 
 // Declares a name for the lowest free local, if there is one.
-#[tactic(auto, unfolding(crate::specs::Worn::declared))]
+#[tactic(auto, unfolding(crate::specs::Killed::declared))]
 fn declare(
     alloc: Global,
     scope: &mut Scope,
@@ -42,7 +42,7 @@ fn declare(
 }
 
 // The class of the unit of a name.
-#[tactic(auto, unfolding(crate::specs::Worn::unit_class))]
+#[tactic(auto, unfolding(crate::specs::Killed::unit_class))]
 fn unit_class(scope: &Scope, unit: &Variable) -> Option<ClassId>
     ensures { result ≡ unit_class scope.now unit.now }
 {
@@ -98,9 +98,9 @@ fn bound_class(schema: &Schema, scope: &Scope, binding: &Binding) -> Option<Clas
 }
 
 // Marks the unit of a name that is assigned to, which may be deleted from then on.
-#[tactic(auto, unfolding(crate::specs::Worn::worn_name))]
-fn wear_name(scope: &mut Scope, name: &Text)
-    ensures { scope.new ≡ worn_name name.now scope.old }
+#[tactic(auto, unfolding(crate::specs::Killed::killed_name))]
+fn kill_name(scope: &mut Scope, name: &Text)
+    ensures { scope.new ≡ killed_name name.now scope.old }
 {
     let Some(local) = scope.local_of(name.as_str()) else {
         return;
@@ -111,14 +111,14 @@ fn wear_name(scope: &mut Scope, name: &Text)
 }
 
 // Goes over a statement without blocks.
-#[tactic(auto, unfolding(crate::specs::Worn::worn_action))]
-fn wear_action(
+#[tactic(auto, unfolding(crate::specs::Killed::killed_action))]
+fn kill_action(
     alloc: Global,
     schema: &Schema,
     scope: &mut Scope,
     action: &Action,
 ) -> Result<(), AllocError>
-    ensures { OnOk result (scope.new ≡ worn_action schema.now scope.old action.now) }
+    ensures { OnOk result (scope.new ≡ killed_action schema.now scope.old action.now) }
 {
     match action {
         Action::Let { name, value } => {
@@ -130,7 +130,7 @@ fn wear_action(
             declare(alloc, scope, name, class)
         }
         Action::Assign { name, .. } => {
-            wear_name(scope, name);
+            kill_name(scope, name);
             Ok(())
         }
         Action::Delete { unit } => {
@@ -144,26 +144,26 @@ fn wear_action(
 }
 
 // Goes over the block of an `else`, where there is one.
-#[cycle(wear)]
-#[tactic(auto, unfolding(crate::specs::Worn::worn_otherwise))]
-fn wear_otherwise(
+#[cycle(kill)]
+#[tactic(auto, unfolding(crate::specs::Killed::killed_otherwise))]
+fn kill_otherwise(
     alloc: Global,
     schema: &Schema,
     scope: &mut Scope,
     otherwise: &Option<Block>,
 ) -> Result<(), AllocError>
-    ensures { OnOk result (scope.new ≡ worn_otherwise schema.now scope.old (otherwise_of otherwise.now)) }
+    ensures { OnOk result (scope.new ≡ killed_otherwise schema.now scope.old (otherwise_of otherwise.now)) }
 {
     match otherwise {
         None => Ok(()),
-        Some(block) => wear(alloc, schema, scope, block),
+        Some(block) => kill(alloc, schema, scope, block),
     }
 }
 
 /// Goes over a block in which a name is declared for a unit, and marks the names that are not live after some path
 /// through it.
-#[cycle(wear)]
-pub fn wear_under(
+#[cycle(kill)]
+pub fn kill_under(
     alloc: Global,
     schema: &Schema,
     scope: &mut Scope,
@@ -171,35 +171,35 @@ pub fn wear_under(
     class: Option<ClassId>,
     block: &Block,
 ) -> Result<(), AllocError>
-    ensures { OnOk result (scope.new ≡ worn_under schema.now scope.old name.now class block.now) }
+    ensures { OnOk result (scope.new ≡ killed_under schema.now scope.old name.now class block.now) }
 {
     let mark = scope.mark();
     declare(alloc, scope, name, class)?;
-    wear(alloc, schema, scope, block)?;
+    kill(alloc, schema, scope, block)?;
     scope.leave(&mark);
     Ok(())
 }
 
 // Goes over a statement.
-#[cycle(wear)]
-#[tactic(auto, unfolding(crate::specs::Worn::worn_statement))]
-fn wear_statement(
+#[cycle(kill)]
+#[tactic(auto, unfolding(crate::specs::Killed::killed_statement))]
+fn kill_statement(
     alloc: Global,
     schema: &Schema,
     scope: &mut Scope,
     statement: &Statement,
 ) -> Result<(), AllocError>
-    ensures { OnOk result (scope.new ≡ worn_statement schema.now scope.old (statement_of statement.now)) }
+    ensures { OnOk result (scope.new ≡ killed_statement schema.now scope.old (statement_of statement.now)) }
 {
     match statement {
-        Statement::Action(action) => wear_action(alloc, schema, scope, action),
+        Statement::Action(action) => kill_action(alloc, schema, scope, action),
         Statement::If { branches, .. } => {
-            wear(alloc, schema, scope, &branches.then)?;
-            wear_otherwise(alloc, schema, scope, &branches.otherwise)
+            kill(alloc, schema, scope, &branches.then)?;
+            kill_otherwise(alloc, schema, scope, &branches.otherwise)
         }
         Statement::With { binding, branches } => {
             let class = bound_class(schema, scope, binding);
-            wear_under(
+            kill_under(
                 alloc,
                 schema,
                 scope,
@@ -207,24 +207,24 @@ fn wear_statement(
                 class,
                 &branches.then,
             )?;
-            wear_otherwise(alloc, schema, scope, &branches.otherwise)
+            kill_otherwise(alloc, schema, scope, &branches.otherwise)
         }
         Statement::For(for_loop) => {
             let class = sequence_class(schema, scope, &for_loop.sequence);
-            wear_under(alloc, schema, scope, &for_loop.name, class, &for_loop.body)
+            kill_under(alloc, schema, scope, &for_loop.name, class, &for_loop.body)
         }
     }
 }
 
 // Goes over a block.
-#[cycle(wear)]
-#[tactic(auto, unfolding(crate::specs::Worn::worn_statements))]
-fn wear(alloc: Global, schema: &Schema, scope: &mut Scope, block: &Block) -> Result<(), AllocError>
-    ensures { OnOk result (scope.new ≡ worn_block schema.now scope.old block.now) }
+#[cycle(kill)]
+#[tactic(auto, unfolding(crate::specs::Killed::killed_statements))]
+fn kill(alloc: Global, schema: &Schema, scope: &mut Scope, block: &Block) -> Result<(), AllocError>
+    ensures { OnOk result (scope.new ≡ killed_block schema.now scope.old block.now) }
 {
     let mark = scope.mark();
     for placed in block.statements() {
-        wear_statement(alloc, schema, scope, &placed.statement)?;
+        kill_statement(alloc, schema, scope, &placed.statement)?;
     }
     scope.leave(&mark);
     Ok(())

@@ -1,11 +1,11 @@
-//! Tests of the sheet on which a part's code is laid out, with memory: what each call puts there, and the code of it.
+//! Tests of the buffer on which a part's code is laid out, with memory: what each call puts there, and the code of it.
 
 use bb_basis::{Items, Text};
 use bb_code::{
     Calculation, Code, Comparison, Division as OpDivision, Loop, Node, OperandKind, Pattern, Query,
 };
 use bb_compile_buffer::{
-    Loops, Ops, Sheet, Texts, emit_atom, emit_binary, emit_division, emit_operator, emit_unary,
+    Buffer, Loops, Ops, Texts, emit_atom, emit_binary, emit_division, emit_operator, emit_unary,
     emit_unit, emit_variable, finish,
 };
 use bb_compile_scope::{Kind, Op, Part, Place};
@@ -19,9 +19,9 @@ const START: Place = Place { line: 1, column: 1 };
 // How many values the stack may have.
 const ROOM: usize = 64;
 
-// An empty sheet for the act of a source on class 1, whose unit is in local 0.
-fn empty(alloc: Global) -> Result<Sheet, AllocError> {
-    Sheet::new(alloc, Part::Do { class: 1 }, START)
+// An empty buffer for the act of a source on class 1, whose unit is in local 0.
+fn empty(alloc: Global) -> Result<Buffer, AllocError> {
+    Buffer::new(alloc, Part::Do { class: 1 }, START)
 }
 
 #[test]
@@ -41,10 +41,10 @@ fn texts_with_their_indices(rt: HostRuntime) -> Result<(), Fail> {
     let mut texts = Texts::new(rt.alloc());
     texts.push("a")?;
     assert_eq!(rt; texts.index_of("a"), Some(0));
-    let mut sheet = empty(rt.alloc())?;
-    assert_eq!(rt; sheet.text("a")?, 0);
-    assert_eq!(rt; sheet.text("b")?, 1);
-    assert_eq!(rt; sheet.text("a")?, 0);
+    let mut buffer = empty(rt.alloc())?;
+    assert_eq!(rt; buffer.text("a")?, 0);
+    assert_eq!(rt; buffer.text("b")?, 1);
+    assert_eq!(rt; buffer.text("a")?, 0);
     Ok(())
 }
 
@@ -53,35 +53,35 @@ fn texts_with_their_indices(rt: HostRuntime) -> Result<(), Fail> {
 fn values(rt: HostRuntime) -> Result<(), Fail> {
     let schema = Schema::read(rt.alloc(), "{}")?;
     let name = Text::from_str(rt.alloc(), "one")?;
-    let mut sheet = empty(rt.alloc())?;
-    let it = emit_variable(&mut sheet, &Variable::It, ROOM)?;
+    let mut buffer = empty(rt.alloc())?;
+    let it = emit_variable(&mut buffer, &Variable::It, ROOM)?;
     assert_eq!(rt; it, Some(Kind::Old(1)));
-    sheet.declare(&name, Kind::Ref(1))?;
-    let class = emit_unit(&mut sheet, &Variable::Named(name), ROOM)?;
+    buffer.declare(&name, Kind::Ref(1))?;
+    let class = emit_unit(&mut buffer, &Variable::Named(name), ROOM)?;
     assert_eq!(rt; class, Some(1));
-    let seven = emit_atom(&schema, &mut sheet, &Atom::Int(7), ROOM)?;
+    let seven = emit_atom(&schema, &mut buffer, &Atom::Int(7), ROOM)?;
     assert_eq!(rt; seven, Some(Kind::Int));
     let ops = [Op::Load(0), Op::Store(1), Op::Load(1), Op::PushInt(7)];
-    assert_eq!(rt; sheet.ops.into_vec().as_slice(), ops.as_slice());
+    assert_eq!(rt; buffer.ops.into_vec().as_slice(), ops.as_slice());
     Ok(())
 }
 
 #[test]
 fn operations(rt: HostRuntime) -> Result<(), Fail> {
-    let mut sheet = empty(rt.alloc())?;
+    let mut buffer = empty(rt.alloc())?;
     let number = Some(Kind::Int);
     let truth = Some(Kind::Bool);
-    assert_eq!(rt; emit_unary(&mut sheet, Unary::Not, truth)?, truth);
+    assert_eq!(rt; emit_unary(&mut buffer, Unary::Not, truth)?, truth);
     assert_eq!(rt;
-        emit_binary(&mut sheet, Binary::Less, number, number)?,
+        emit_binary(&mut buffer, Binary::Less, number, number)?,
         truth
     );
     assert_eq!(rt;
-        emit_operator(&mut sheet, Operator::Minus, number, number)?,
+        emit_operator(&mut buffer, Operator::Minus, number, number)?,
         number
     );
     assert_eq!(rt;
-        emit_division(&mut sheet, Division::Quotient, 3, number)?,
+        emit_division(&mut buffer, Division::Quotient, 3, number)?,
         number
     );
     let ops = [
@@ -90,8 +90,8 @@ fn operations(rt: HostRuntime) -> Result<(), Fail> {
         Op::Calculate(Calculation::Sub),
         Op::Divide(OpDivision::DivBy, 3),
     ];
-    assert_eq!(rt; sheet.ops.into_vec().as_slice(), ops.as_slice());
-    assert_eq!(rt; sheet.flaw, None);
+    assert_eq!(rt; buffer.ops.into_vec().as_slice(), ops.as_slice());
+    assert_eq!(rt; buffer.flaw, None);
     Ok(())
 }
 
@@ -107,23 +107,23 @@ fn query(alloc: Global) -> Query {
 
 // The first query, a loop at the first op and the local after that of the unit.
 fn first_numbers(alloc: Global) -> Result<bool, Fail> {
-    let mut sheet = empty(alloc)?;
-    let query = sheet.ask(query(alloc))?;
-    let head = sheet.begin_loop()?;
-    let local = sheet.take_local(Kind::Int)?;
+    let mut buffer = empty(alloc)?;
+    let query = buffer.ask(query(alloc))?;
+    let head = buffer.begin_loop()?;
+    let local = buffer.take_local(Kind::Int)?;
     Ok(query == 0 && head == 0 && local == 1)
 }
 
 // A label after the only op but `Done`, where local 1 has been taken.
 fn laid_out(alloc: Global) -> Result<Code, Fail> {
-    let mut sheet = empty(alloc)?;
-    sheet.ask(query(alloc))?;
-    sheet.begin_loop()?;
-    sheet.take_local(Kind::Int)?;
-    sheet.put_value(Op::PushBool(true), ROOM)?;
-    sheet.label()?;
-    sheet.put(Op::Done)?;
-    Ok(finish(sheet)?)
+    let mut buffer = empty(alloc)?;
+    buffer.ask(query(alloc))?;
+    buffer.begin_loop()?;
+    buffer.take_local(Kind::Int)?;
+    buffer.put_value(Op::PushBool(true), ROOM)?;
+    buffer.label()?;
+    buffer.put(Op::Done)?;
+    Ok(finish(buffer)?)
 }
 
 fn has_its_tables(code: &Code) -> bool {
@@ -144,7 +144,7 @@ fn has_its_frame(code: &Code) -> bool {
 }
 
 #[test]
-fn the_code_of_a_sheet(rt: HostRuntime) -> Result<(), Fail> {
+fn the_code_of_a_buffer(rt: HostRuntime) -> Result<(), Fail> {
     assert!(rt; first_numbers(rt.alloc())?);
     let code = laid_out(rt.alloc())?;
     assert_eq!(rt; code.ops(), [Op::PushBool(true), Op::Done].as_slice());

@@ -68,8 +68,8 @@ with_old local None scope = scope
 with_old local (Some class) scope = record scope { kinds = set scope.kinds local (kinds.Old class) }
 
 -- a name to which another unit may be assigned
-unfoldable pub worn_name : (name : List ℕ) → Scope → Scope
-worn_name name scope =
+unfoldable pub killed_name : (name : List ℕ) → Scope → Scope
+killed_name name scope =
     option_map_or (λ local. with_old local (class_of (kind_at scope.kinds local)) scope) (local_of scope name) scope
 
 -- the units that may be deleted once a unit of a class is
@@ -78,12 +78,12 @@ struck_units s None scope = scope
 struck_units s (Some class) scope = record scope { kinds = map (struck s class) scope.kinds }
 
 -- a statement without blocks
-unfoldable pub worn_action : Schema → Scope → Action → Scope
-worn_action s scope (Let name value) = declared name (value_class scope value) scope
-worn_action s scope (New name class) = declared name (class_named s class) scope
-worn_action s scope (Assign name value) = worn_name name scope
-worn_action s scope (Delete unit) = struck_units s (unit_class scope unit) scope
-worn_action s scope _ = scope
+unfoldable pub killed_action : Schema → Scope → Action → Scope
+killed_action s scope (Let name value) = declared name (value_class scope value) scope
+killed_action s scope (New name class) = declared name (class_named s class) scope
+killed_action s scope (Assign name value) = killed_name name scope
+killed_action s scope (Delete unit) = struck_units s (unit_class scope unit) scope
+killed_action s scope _ = scope
 
 -- a block, where its statements leave this scope
 abbrev pub after_block : (before after : Scope) → Scope
@@ -91,28 +91,28 @@ after_block before after = back_to (mark_of before) after
 
 -- statements, each once: all paths are taken
 unfoldable mutual
-  pub worn_statement : Schema → Scope → StatementTree → Scope
-  worn_statement s scope (action a) = worn_action s scope a
-  worn_statement s scope (if_of test then other) = worn_otherwise s (after_block scope (worn_statements s scope then)) other
-  worn_statement s scope (with_of binding then other) =
+  pub killed_statement : Schema → Scope → StatementTree → Scope
+  killed_statement s scope (action a) = killed_action s scope a
+  killed_statement s scope (if_of test then other) = killed_otherwise s (after_block scope (killed_statements s scope then)) other
+  killed_statement s scope (with_of binding then other) =
       let inner = declared (bound_name binding) (bound_class s scope binding) scope in
-      worn_otherwise s (after_block scope (after_block inner (worn_statements s inner then))) other
-  worn_statement s scope (for_of name sequence body) =
+      killed_otherwise s (after_block scope (after_block inner (killed_statements s inner then))) other
+  killed_statement s scope (for_of name sequence body) =
       let inner = declared name (sequence_class s scope sequence) scope in
-      after_block scope (after_block inner (worn_statements s inner body))
+      after_block scope (after_block inner (killed_statements s inner body))
 
-  pub worn_otherwise : Schema → Scope → OtherwiseTree → Scope
-  worn_otherwise s scope absent = scope
-  worn_otherwise s scope (otherwise b) = after_block scope (worn_statements s scope b)
+  pub killed_otherwise : Schema → Scope → OtherwiseTree → Scope
+  killed_otherwise s scope absent = scope
+  killed_otherwise s scope (otherwise b) = after_block scope (killed_statements s scope b)
 
-  pub worn_statements : Schema → Scope → BlockTree → Scope
-  worn_statements s scope no_statement = scope
-  worn_statements s scope (before_others place statement others) = worn_statements s (worn_statement s scope statement) others
+  pub killed_statements : Schema → Scope → BlockTree → Scope
+  killed_statements s scope no_statement = scope
+  killed_statements s scope (before_others place statement others) = killed_statements s (killed_statement s scope statement) others
 
 -- a block
-abbrev pub worn_block : Schema → Scope → BlockTree → Scope
-worn_block s scope b = after_block scope (worn_statements s scope b)
+abbrev pub killed_block : Schema → Scope → BlockTree → Scope
+killed_block s scope b = after_block scope (killed_statements s scope b)
 
 -- a block after the declaration of a name for a unit
-abbrev pub worn_under : Schema → Scope → (name : List ℕ) → (class : Option ℕ) → BlockTree → Scope
-worn_under s scope name class b = after_block scope (worn_block s (declared name class scope) b)
+abbrev pub killed_under : Schema → Scope → (name : List ℕ) → (class : Option ℕ) → BlockTree → Scope
+killed_under s scope name class b = after_block scope (killed_block s (declared name class scope) b)

@@ -1,4 +1,4 @@
--- What a part of a text lays out, where its sheet has no flaw behind it.
+-- What a part of a text lays out, where its buffer has no flaw behind it.
 use Rattle.std.proofs.Common.{◌≡◌, ℕ, zero, suc, ◌+◌, Bool, true, false, cond, List, [], ◌∷◌, ◌++◌, length, Option, Some, None, Ok, refl, sym, ap, ◌∙◌, append_assoc, length-append}
 use Rattle.std.specs.Prelude.{slice_get, nat_le, ◌==◌}
 use Rattle.std.proofs.lemmas.List.{append-nil}
@@ -12,60 +12,60 @@ use Rattle.bb_verify_frame.specs.Query.{Query}
 use Rattle.bb_compile_scope.specs.declared.fault.CompileFault.TheVariants.{At}
 use Rattle.bb_compile_scope.specs.declared.fault.Flaw.{Flaw}
 use Rattle.bb_compile_scope.specs.declared.fault.Flaw.TheVariants.{Unknown, Kind as WrongKind, Limit}
-use Rattle.bb_compile_buffer.specs.declared.sheet.Sheet.{Sheet}
-use Rattle.bb_compile_buffer.specs.Sheets.{noted, due, known, put, put_value}
+use Rattle.bb_compile_buffer.specs.declared.buffer.Buffer.{Buffer}
+use Rattle.bb_compile_buffer.specs.Buffers.{noted, due, known, put, put_value}
 
 -- ---- no flaw
 
-abbrev pub Clean : Sheet → Type 0
+abbrev pub Clean : Buffer → Type 0
 Clean s = s.flaw ≡ None
 
 -- what is noted where a test fails was not noted where there is no flaw
-pub passed : (c : Bool) (flaw : Flaw) (s : Sheet) → Clean (cond c s (noted flaw s)) → (c ≡ true) × (cond c s (noted flaw s) ≡ s)
+pub passed : (c : Bool) (flaw : Flaw) (s : Buffer) → Clean (cond c s (noted flaw s)) → (c ≡ true) × (cond c s (noted flaw s) ≡ s)
 passed true flaw s clean = (refl, refl)
 passed false flaw s clean = absurd cc
 
-pub not_failed : (c : Bool) (flaw : Flaw) (s : Sheet) → Clean (cond c (noted flaw s) s) → (c ≡ false) × (cond c (noted flaw s) s ≡ s)
+pub not_failed : (c : Bool) (flaw : Flaw) (s : Buffer) → Clean (cond c (noted flaw s) s) → (c ≡ false) × (cond c (noted flaw s) s ≡ s)
 not_failed true flaw s clean = absurd cc
 not_failed false flaw s clean = (refl, refl)
 
-pub never_noted : {A : Type 0} (flaw : Flaw) (s : Sheet) → Clean (noted flaw s) → A
+pub never_noted : {A : Type 0} (flaw : Flaw) (s : Buffer) → Clean (noted flaw s) → A
 never_noted flaw s clean = absurd cc
 
-pub is_due : (made : Option Kind) (wanted : Kind) (s : Sheet) → Clean (due made wanted s) → due made wanted s ≡ s
+pub is_due : (made : Option Kind) (wanted : Kind) (s : Buffer) → Clean (due made wanted s) → due made wanted s ≡ s
 unfolding due
 is_due None wanted s clean = refl
 is_due (Some kind) wanted s clean = (passed (is_same_plain kind wanted) WrongKind s clean).1
 
-pub is_known : (o : Option ℕ) (s : Sheet) → Clean (known o s) → (n : ℕ) × (o ≡ Some n) × (known o s ≡ s)
+pub is_known : (o : Option ℕ) (s : Buffer) → Clean (known o s) → (n : ℕ) × (o ≡ Some n) × (known o s ≡ s)
 is_known None s clean = never_noted Unknown s clean
 is_known (Some n) s clean = (n, refl, refl)
 
 -- ---- ops
 
-abbrev pub with_op : Op → Sheet → Sheet
+abbrev pub with_op : Op → Buffer → Buffer
 with_op op s = record s { ops = s.ops ++ op ∷ [] }
 
-pub put_ok : (op : Op) (s t : Sheet) → put op s ≡ Ok t → t ≡ with_op op s
+pub put_ok : (op : Op) (s t : Buffer) → put op s ≡ Ok t → t ≡ with_op op s
 unfolding put
 put_ok op s t h = sym (same_ok (with_op op s) t (guard_ok (nat_le OP_LIMIT (length s.ops)) (At Limit s.start) (Ok (with_op op s)) t h).1)
 
--- an op behind a sheet that may have had a flaw noted
-pub put_clean : (op : Op) (s was t : Sheet) → (Clean was → was ≡ s) → put op was ≡ Ok t → Clean t → t ≡ with_op op s
+-- an op behind a buffer that may have had a flaw noted
+pub put_clean : (op : Op) (s was t : Buffer) → (Clean was → was ≡ s) → put op was ≡ Ok t → Clean t → t ≡ with_op op s
 put_clean op s was t same h clean =
     let is = put_ok op was t h in
-    is ∙ ap (with_op op) (same (sym (ap (λ (u : Sheet). u.flaw) is) ∙ clean))
+    is ∙ ap (with_op op) (same (sym (ap (λ (u : Buffer). u.flaw) is) ∙ clean))
 
-pub put_value_ok : (op : Op) (room : ℕ) (s t : Sheet) → put_value op room s ≡ Ok t → Clean t → (t ≡ with_op op s) × ((room == 0) ≡ false)
+pub put_value_ok : (op : Op) (room : ℕ) (s t : Buffer) → put_value op room s ≡ Ok t → Clean t → (t ≡ with_op op s) × ((room == 0) ≡ false)
 unfolding put_value
 put_value_ok op room s t h clean =
     let is = put_ok op (cond (room == 0) (noted Limit s) s) t h in
-    let free = not_failed (room == 0) Limit s (sym (ap (λ (u : Sheet). u.flaw) is) ∙ clean) in
+    let free = not_failed (room == 0) Limit s (sym (ap (λ (u : Buffer). u.flaw) is) ∙ clean) in
     (is ∙ ap (with_op op) free.1, free.0)
 
--- ---- what a sheet has more than another
+-- ---- what a buffer has more than another
 
-pub record Grown (s t : Sheet) : Type 0 where
+pub record Grown (s t : Buffer) : Type 0 where
   pub ops : List Op
   pub ops_are : t.ops ≡ s.ops ++ ops
   pub texts : List (List ℕ)
@@ -73,7 +73,7 @@ pub record Grown (s t : Sheet) : Type 0 where
   pub queries : List Query
   pub queries_are : t.queries ≡ s.queries ++ queries
 
-unfoldable pub grown_none : (s t : Sheet) → t.ops ≡ s.ops → t.texts ≡ s.texts → t.queries ≡ s.queries → Grown s t
+unfoldable pub grown_none : (s t : Buffer) → t.ops ≡ s.ops → t.texts ≡ s.texts → t.queries ≡ s.queries → Grown s t
 grown_none s t o x q = record {
   ops = [];
   ops_are = o ∙ sym (append-nil s.ops);
@@ -83,20 +83,20 @@ grown_none s t o x q = record {
   queries_are = q ∙ sym (append-nil s.queries);
 }
 
-unfoldable pub grown_op : (op : Op) (s t : Sheet) → t ≡ with_op op s → Grown s t
+unfoldable pub grown_op : (op : Op) (s t : Buffer) → t ≡ with_op op s → Grown s t
 grown_op op s t is = record {
   ops = op ∷ [];
-  ops_are = ap (λ (u : Sheet). u.ops) is;
+  ops_are = ap (λ (u : Buffer). u.ops) is;
   texts = [];
-  texts_are = ap (λ (u : Sheet). u.texts) is ∙ sym (append-nil s.texts);
+  texts_are = ap (λ (u : Buffer). u.texts) is ∙ sym (append-nil s.texts);
   queries = [];
-  queries_are = ap (λ (u : Sheet). u.queries) is ∙ sym (append-nil s.queries);
+  queries_are = ap (λ (u : Buffer). u.queries) is ∙ sym (append-nil s.queries);
 }
 
 pub both_grown : {A : Type 0} (a b c x y : List A) → b ≡ a ++ x → c ≡ b ++ y → c ≡ a ++ (x ++ y)
 both_grown a b c x y one two = two ∙ (ap (λ l. l ++ y) one ∙ append_assoc a x y)
 
-unfoldable pub grown_on : (s t u : Sheet) → Grown s t → Grown t u → Grown s u
+unfoldable pub grown_on : (s t u : Buffer) → Grown s t → Grown t u → Grown s u
 grown_on s t u g h = record {
   ops = g.ops ++ h.ops;
   ops_are = both_grown s.ops t.ops u.ops g.ops h.ops g.ops_are h.ops_are;
@@ -107,12 +107,12 @@ grown_on s t u g h = record {
 }
 
 -- how many ops
-pub count_of : (s t : Sheet) → (g : Grown s t) → length t.ops ≡ length s.ops + length g.ops
+pub count_of : (s t : Buffer) → (g : Grown s t) → length t.ops ≡ length s.ops + length g.ops
 count_of s t g = ap length g.ops_are ∙ length-append s.ops g.ops
 
--- ---- a code that begins as a sheet does
+-- ---- a code that begins as a buffer does
 
-pub record Has (code : Code) (t : Sheet) : Type 0 where
+pub record Has (code : Code) (t : Buffer) : Type 0 where
   pub ops : List Op
   pub ops_are : code.ops ≡ t.ops ++ ops
   pub texts : List (List ℕ)
@@ -120,7 +120,7 @@ pub record Has (code : Code) (t : Sheet) : Type 0 where
   pub queries : List Query
   pub queries_are : code.queries ≡ t.queries ++ queries
 
-pub has_before : (code : Code) (s t : Sheet) → Grown s t → Has code t → Has code s
+pub has_before : (code : Code) (s t : Buffer) → Grown s t → Has code t → Has code s
 has_before code s t g h = record {
   ops = g.ops ++ h.ops;
   ops_are = both_grown s.ops t.ops code.ops g.ops h.ops g.ops_are h.ops_are;
@@ -135,13 +135,13 @@ seam [] ys x = refl
 seam (y ∷ xs) ys x = seam xs ys x
 
 -- the op that was put last stands at its place
-pub op_at : (code : Code) (s t : Sheet) (op : Op) → t ≡ with_op op s → Has code t → slice_get code.ops (length s.ops) ≡ Some op
+pub op_at : (code : Code) (s t : Buffer) (op : Op) → t ≡ with_op op s → Has code t → slice_get code.ops (length s.ops) ≡ Some op
 op_at code s t op is h =
-    let all : code.ops ≡ s.ops ++ op ∷ h.ops = h.ops_are ∙ (ap (λ (u : Sheet). u.ops ++ h.ops) is ∙ append_assoc s.ops (op ∷ []) h.ops) in
+    let all : code.ops ≡ s.ops ++ op ∷ h.ops = h.ops_are ∙ (ap (λ (u : Buffer). u.ops ++ h.ops) is ∙ append_assoc s.ops (op ∷ []) h.ops) in
     ap (λ l. slice_get l (length s.ops)) all ∙ seam s.ops h.ops op
 
-pub count_op : (s t : Sheet) (op : Op) → t ≡ with_op op s → length t.ops ≡ length s.ops + 1
-count_op s t op is = ap (λ (u : Sheet). length u.ops) is ∙ length-append s.ops (op ∷ [])
+pub count_op : (s t : Buffer) (op : Op) → t ≡ with_op op s → length t.ops ≡ length s.ops + 1
+count_op s t op is = ap (λ (u : Buffer). length u.ops) is ∙ length-append s.ops (op ∷ [])
 
 -- ---- texts and queries
 

@@ -19,28 +19,28 @@ use Rattle.bb_compile_scope.specs.Faults.{lowest}
 use Rattle.bb_compile_scope.specs.LocalKinds.{is_free, kinds_met}
 use Rattle.bb_compile_scope.specs.Scope.{with_name, back_to}
 use Rattle.bb_compile_buffer.specs.declared.label.Label.{Label}
-use Rattle.bb_compile_buffer.specs.declared.sheet.Sheet.{Sheet}
+use Rattle.bb_compile_buffer.specs.declared.buffer.Buffer.{Buffer}
 
--- one step: what it makes and the sheet after it, or a fault
+-- one step: what it makes and the buffer after it, or a fault
 abbrev pub Step : Type 0 → Type 0
-Step X = Sheet → Result (X × Sheet) CompileFault
+Step X = Buffer → Result (X × Buffer) CompileFault
 
--- one step that makes nothing: the sheet after it, or a fault
+-- one step that makes nothing: the buffer after it, or a fault
 abbrev pub Change : Type 0
-Change = Sheet → Result Sheet CompileFault
+Change = Buffer → Result Buffer CompileFault
 
 -- a code that is too large is refused at its part
-abbrev pub too_large : {X : Type 0} → Sheet → Result X CompileFault
+abbrev pub too_large : {X : Type 0} → Buffer → Result X CompileFault
 too_large s = Err (At Limit s.start)
 
 -- ---- flaws
 
 -- one more flaw of this statement
-abbrev pub noted : Flaw → Sheet → Sheet
+abbrev pub noted : Flaw → Buffer → Buffer
 noted flaw s = record s { flaw = Some (lowest s.flaw flaw) }
 
 -- a value, as far as its kind is known, is of the kind that is wanted
-unfoldable pub due : Option Kind → (wanted : Kind) → Sheet → Sheet
+unfoldable pub due : Option Kind → (wanted : Kind) → Buffer → Buffer
 due None wanted s = s
 due (Some kind) wanted s = if is_same_plain kind wanted then s else noted WrongKind s
 
@@ -49,11 +49,11 @@ abbrev pub refused_at : Place → Option Flaw → Result (Unit {0}) CompileFault
 refused_at place None = Ok tt
 refused_at place (Some flaw) = Err (At flaw place)
 
-abbrev pub settled : Place → Sheet → Result (Unit {0}) CompileFault
+abbrev pub settled : Place → Buffer → Result (Unit {0}) CompileFault
 settled place s = refused_at place s.flaw
 
 -- what a name means, if it is known
-abbrev pub known : Option ℕ → Sheet → Sheet
+abbrev pub known : Option ℕ → Buffer → Buffer
 known None s = noted Unknown s
 known (Some n) s = s
 
@@ -85,7 +85,7 @@ with_aimed ops at (Some op) = set ops at (aimed op (length ops))
 abbrev pub aimed_at : (at : ℕ) → List Op → List Op
 aimed_at at ops = with_aimed ops at (slice_get ops at)
 
-abbrev pub aim : (at : ℕ) → Sheet → Sheet
+abbrev pub aim : (at : ℕ) → Buffer → Buffer
 aim at s = record s { ops = aimed_at at s.ops }
 
 -- ---- texts, queries and loops, with their indexes
@@ -128,7 +128,7 @@ kept labels None place = labels
 kept labels (Some last) place = if last.place == place then labels else labels ++ last ∷ []
 
 -- a label is put at the place of the next op
-unfoldable pub labelled : Sheet → Sheet
+unfoldable pub labelled : Buffer → Buffer
 labelled s = record s {
   labels = kept s.labels s.last (length s.ops);
   last = Some (record { place = length s.ops; kinds = s.scope.kinds });
@@ -137,10 +137,10 @@ labelled s = record s {
 -- ---- names
 
 -- another scope, or what the locals hold in it
-abbrev pub with_kinds : List Kind → Sheet → Sheet
+abbrev pub with_kinds : List Kind → Buffer → Buffer
 with_kinds kinds s = record s { scope = record { names = s.scope.names; kinds = kinds } }
 
-abbrev pub leave : Mark → Sheet → Sheet
+abbrev pub leave : Mark → Buffer → Buffer
 leave mark s = record s { scope = back_to mark s.scope }
 
 abbrev pub taken : Option ℕ → Kind → Step ℕ
@@ -165,7 +165,7 @@ declare name kind s = do
   put (Store local) (record t { scope = with_name name local kind t.scope })
 
 -- a branch is merged with another, after which the locals hold `other`; a branch that has ended does not count
-unfoldable pub met : (ended : Bool) → (other : List Kind) → (other_ended : Bool) → Sheet → Sheet
+unfoldable pub met : (ended : Bool) → (other : List Kind) → (other_ended : Bool) → Buffer → Buffer
 met ended other other_ended s =
     if ended then with_kinds other s
     else if other_ended then s

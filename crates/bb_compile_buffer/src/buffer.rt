@@ -1,12 +1,12 @@
-//! What is laid out so far of a part's code. All that lays out code writes on a sheet.
+//! What is laid out so far of a part's code. All that lays out code writes on a buffer.
 
 ghost use Rattle.std.specs.Prelude.{◌≡◌, IfOk, [], length, None};
 ghost use Rattle.bb_basis.specs.Results.{Gives};
 ghost use Rattle.bb_compile_scope.specs.declared.fault.CompileFault.TheVariants.{Memory as OutOfMemory};
-ghost use Rattle.bb_compile_buffer.specs.Sheets.{noted, due, settled, known, put, put_value, aim, text_index, text_at};
-ghost use Rattle.bb_compile_buffer.specs.Sheets.{asked_query};
-ghost use Rattle.bb_compile_buffer.specs.Sheets.{begun_loop, kept, labelled, with_kinds, leave, take_local, declare, met};
-ghost use Rattle.bb_compile_buffer.specs.Finish.{empty_sheet};
+ghost use Rattle.bb_compile_buffer.specs.Buffers.{noted, due, settled, known, put, put_value, aim, text_index, text_at};
+ghost use Rattle.bb_compile_buffer.specs.Buffers.{asked_query};
+ghost use Rattle.bb_compile_buffer.specs.Buffers.{begun_loop, kept, labelled, with_kinds, leave, take_local, declare, met};
+ghost use Rattle.bb_compile_buffer.specs.Finish.{empty_buffer};
 
 use crate::label::Label;
 use crate::loops::Loops;
@@ -23,7 +23,7 @@ use std::mem;
 
 /// What is laid out so far of a part's code, the names that are in scope here, and the least flaw of this statement.
 #[derive(Drop)]
-pub struct Sheet {
+pub struct Buffer {
     /// The place of the part's first token.
     pub start: Place,
     pub ops: Ops,
@@ -40,7 +40,7 @@ pub struct Sheet {
 }
 
 // Keeps the last label, unless another at the same place replaces it.
-#[tactic(auto, unfolding(crate::specs::Sheets::kept))]
+#[tactic(auto, unfolding(crate::specs::Buffers::kept))]
 fn keep(labels: &mut Items<Label>, last: Option<Label>, place: u16) -> Result<(), AllocError>
     ensures { IfOk result (λ _. labels.new ≡ kept labels.old last place) }
 {
@@ -53,13 +53,13 @@ fn keep(labels: &mut Items<Label>, last: Option<Label>, place: u16) -> Result<()
     labels.push(last)
 }
 
-impl Sheet {
-    /// An empty sheet for a part.
-    pub fn new(alloc: Global, part: Part, start: Place) -> Result<Sheet, AllocError>
-        ensures { IfOk result (λ sheet. sheet ≡ empty_sheet part start) }
+impl Buffer {
+    /// An empty buffer for a part.
+    pub fn new(alloc: Global, part: Part, start: Place) -> Result<Buffer, AllocError>
+        ensures { IfOk result (λ buffer. buffer ≡ empty_buffer part start) }
     {
         let scope = Scope::of_part(alloc, part)?;
-        Ok(Sheet {
+        Ok(Buffer {
             start,
             ops: Ops::new(alloc),
             texts: Texts::new(alloc),
@@ -73,7 +73,7 @@ impl Sheet {
         })
     }
 
-    /// The allocator of the sheet. Whoever lays code out on it takes memory from it too.
+    /// The allocator of the buffer. Whoever lays code out on it takes memory from it too.
     pub fn alloc(&self) -> Global {
         self.texts.alloc()
     }
@@ -88,7 +88,7 @@ impl Sheet {
     }
 
     /// Notes a value of another kind than `wanted`.
-    #[tactic(auto, unfolding(crate::specs::Sheets::due))]
+    #[tactic(auto, unfolding(crate::specs::Buffers::due))]
     pub fn due(&mut self, kind: Option<Kind>, wanted: Kind)
         ensures { self.new ≡ due kind wanted self.old }
     {
@@ -124,7 +124,7 @@ impl Sheet {
     // ---- ops
 
     /// Appends an op.
-    #[tactic(auto, unfolding(crate::specs::Sheets::put))]
+    #[tactic(auto, unfolding(crate::specs::Buffers::put))]
     pub fn put(&mut self, op: Op) -> Result<(), CompileFault>
         ensures { Gives OutOfMemory (λ _. self.new) result (put op self.old) }
     {
@@ -140,7 +140,7 @@ impl Sheet {
     }
 
     /// Appends an op that pushes a value, where the stack has room for `room` values.
-    #[tactic(auto, unfolding(crate::specs::Sheets::put_value))]
+    #[tactic(auto, unfolding(crate::specs::Buffers::put_value))]
     pub fn put_value(&mut self, op: Op, room: usize) -> Result<(), CompileFault>
         ensures { Gives OutOfMemory (λ _. self.new) result (put_value op room self.old) }
     {
@@ -161,7 +161,7 @@ impl Sheet {
     // ---- texts, queries and loops
 
     /// The index of a text.
-    #[tactic(auto, unfolding(crate::specs::Sheets::text_index))]
+    #[tactic(auto, unfolding(crate::specs::Buffers::text_index))]
     pub fn text(&mut self, text: &str) -> Result<u16, CompileFault>
         ensures { Gives OutOfMemory (λ index. (index, self.new)) result (text_index text.now self.old) }
     {
@@ -181,7 +181,7 @@ impl Sheet {
     }
 
     /// Appends a query, and returns its index.
-    #[tactic(auto, unfolding(crate::specs::Sheets::asked_query))]
+    #[tactic(auto, unfolding(crate::specs::Buffers::asked_query))]
     pub fn ask(&mut self, query: Query) -> Result<u16, CompileFault>
         ensures { Gives OutOfMemory (λ index. (index, self.new)) result (asked_query query self.old) }
     {
@@ -198,7 +198,7 @@ impl Sheet {
     }
 
     /// Begins a loop here, and returns its index.
-    #[tactic(auto, unfolding(crate::specs::Sheets::begun_loop))]
+    #[tactic(auto, unfolding(crate::specs::Buffers::begun_loop))]
     pub fn begin_loop(&mut self) -> Result<usize, CompileFault>
         ensures { Gives OutOfMemory (λ index. (index, self.new)) result (begun_loop self.old) }
     {
@@ -218,7 +218,7 @@ impl Sheet {
     // ---- labels
 
     /// Puts a label at the place of the next op. Of several labels at a place the last one stays.
-    #[tactic(auto, unfolding(crate::specs::Sheets::labelled))]
+    #[tactic(auto, unfolding(crate::specs::Buffers::labelled))]
     pub fn label(&mut self) -> Result<(), AllocError>
         ensures { IfOk result (λ _. self.new ≡ labelled self.old) }
     {
@@ -231,7 +231,7 @@ impl Sheet {
     // ---- names
 
     /// The lowest free local, which holds a value of this kind from now on.
-    #[tactic(auto, unfolding(crate::specs::Sheets::take_local))]
+    #[tactic(auto, unfolding(crate::specs::Buffers::take_local))]
     pub fn take_local(&mut self, kind: Kind) -> Result<LocalId, CompileFault>
         ensures { Gives OutOfMemory (λ local. (local, self.new)) result (take_local kind self.old) }
     {
@@ -248,7 +248,7 @@ impl Sheet {
     }
 
     /// Declares a name for the value on the stack, which is of this kind.
-    #[tactic(auto, unfolding(crate::specs::Sheets::declare))]
+    #[tactic(auto, unfolding(crate::specs::Buffers::declare))]
     pub fn declare(&mut self, name: &Text, kind: Kind) -> Result<(), CompileFault>
         ensures { Gives OutOfMemory (λ _. self.new) result (declare name.now kind self.old) }
     {
@@ -259,7 +259,7 @@ impl Sheet {
     }
 
     /// Merges this branch with another, after which the locals hold `other`. A branch that has ended does not count.
-    #[tactic(auto, unfolding(crate::specs::Sheets::met))]
+    #[tactic(auto, unfolding(crate::specs::Buffers::met))]
     pub fn meet(&mut self, ended: bool, other: LocalKinds, other_ended: bool)
         ensures { self.new ≡ met ended other other_ended self.old }
     {
