@@ -4,7 +4,7 @@ ghost use Rattle.std.specs.Prelude.{◌≡◌, ℕ, [], OnOk, OnErr, IsSome, if�
 ghost use Rattle.std.specs.Ordering.{nat_cmp};
 ghost use Rattle.std.specs.BTreeMap.{get};
 ghost use Rattle.bb_agenda.specs.proving.Lists.{Rising, listed, one_more, one_less, without_last};
-ghost use Rattle.bb_agenda.specs.proving.Lists.{HasMore, HasLess, AreSame, Rise};
+ghost use Rattle.bb_agenda.specs.proving.Lists.{HasMore, HasLess, HasNoEmpty, AreSame, Rise};
 
 use crate::row::Row;
 use bb_agenda_foci::Activation;
@@ -90,7 +90,8 @@ fn remove_from(lists: &mut BTreeMap<u64, Row>, key: u64, number: u64)
 
 // Forgets the list of a key where it has no numbers.
 fn drop_empty(lists: &mut BTreeMap<u64, Row>, key: u64)
-    ensures { (k : ℕ) → listed lists.new k ≡ listed lists.old k }
+    ensures same { (k : ℕ) → listed lists.new k ≡ listed lists.old k }
+    ensures bare { HasNoEmpty lists.new key }
 {
     if list_of(lists, key).is_empty() {
         lists.remove(&key);

@@ -1,5 +1,5 @@
 -- Lists of numbers that rise, and a list for each key.
-use Rattle.std.specs.Prelude.{◌≡◌, ◌<◌, ◌-◌, ℕ, Bool, ◌==◌, not, List, [], ◌∷◌, ◌++◌, filter, length, take, slice_index_or}
+use Rattle.std.specs.Prelude.{◌≡◌, ◌<◌, ◌-◌, ℕ, Bool, ◌==◌, not, List, [], ◌∷◌, ◌++◌, filter, length, take, slice_index_or, None}
 use Rattle.std.specs.Prelude.{if◌then◌else◌}
 use Rattle.std.specs.List.{list_any}
 use Rattle.std.specs.Option.{option_map_or}
@@ -48,10 +48,15 @@ pub record HasMore (old : Lists) (a : Activation) (new : Lists) : Type 0 where
   pub sources : (k : ℕ) → listed new.by_source k ≡ one_more old.by_source a.source a.number k
   pub units : (k : ℕ) → listed new.by_unit k ≡ one_more old.by_unit a.unit a.number k
 
+-- no list is kept for a key that has no numbers
+abbrev pub HasNoEmpty : BTreeMap ℕ (List ℕ) → ℕ → Type 0
+HasNoEmpty lists key = listed lists key ≡ [] → get nat_cmp lists key ≡ None
+
 -- the number of an activation left the lists of its source and its unit
 pub record HasLess (old : Lists) (a : Activation) (new : Lists) : Type 0 where
   pub sources : (k : ℕ) → listed new.by_source k ≡ one_less old.by_source a.source a.number k
   pub units : (k : ℕ) → listed new.by_unit k ≡ one_less old.by_unit a.unit a.number k
+  pub bare : HasNoEmpty new.by_unit a.unit
 
 -- the list of each source and of each unit is as it was
 pub record AreSame (old new : Lists) : Type 0 where
