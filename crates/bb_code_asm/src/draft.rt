@@ -1,6 +1,6 @@
 //! From a text to its code.
 
-use crate::fault::{AsmFault, Halt, Slip};
+use crate::fault::{AsmFault, Slip, StatementFault};
 use crate::labels::Labels;
 use crate::names::{kind_of, operand_kind_of};
 use crate::op::op_of;
@@ -65,7 +65,11 @@ impl Draft {
     }
 
     // Adds what a statement says.
-    fn add(&mut self, statement: &Statement<'_>, operands: &mut Operands<'_>) -> Result<(), Halt> {
+    fn add(
+        &mut self,
+        statement: &Statement<'_>,
+        operands: &mut Operands<'_>,
+    ) -> Result<(), StatementFault> {
         match statement.name {
             "" => Ok(()),
             "locals" => self.set_locals(operands),
@@ -78,36 +82,36 @@ impl Draft {
     }
 
     // `locals COUNT`
-    fn set_locals(&mut self, operands: &mut Operands<'_>) -> Result<(), Halt> {
+    fn set_locals(&mut self, operands: &mut Operands<'_>) -> Result<(), StatementFault> {
         if self.parts.frames.len() > 0 {
-            return Err(Halt::Slip(Slip::Late));
+            return Err(StatementFault::Slip(Slip::Late));
         }
         let count = operands.number()?;
         operands.end()?;
         if count == 0 || count > LOCAL_LIMIT {
-            return Err(Halt::Slip(Slip::Limit));
+            return Err(StatementFault::Slip(Slip::Limit));
         }
         self.parts.locals = count;
         Ok(())
     }
 
     // `text "TEXT"`
-    fn add_text(&mut self, operands: &mut Operands<'_>) -> Result<(), Halt> {
+    fn add_text(&mut self, operands: &mut Operands<'_>) -> Result<(), StatementFault> {
         room(self.parts.texts.len(), TEXT_COUNT_LIMIT)?;
         let word = operands.word()?;
         operands.end()?;
         let Ok(Value::String(text)) = Value::from_str(self.alloc, word) else {
-            return Err(Halt::Slip(Slip::Text));
+            return Err(StatementFault::Slip(Slip::Text));
         };
         if text.len() > usize::from(TEXT_BYTES_LIMIT) {
-            return Err(Halt::Slip(Slip::Limit));
+            return Err(StatementFault::Slip(Slip::Limit));
         }
         self.parts.texts.push(Text::new(self.alloc, text)?)?;
         Ok(())
     }
 
     // `query CLASS SPACE KIND.. where PATTERN`
-    fn add_query(&mut self, operands: &mut Operands<'_>) -> Result<(), Halt> {
+    fn add_query(&mut self, operands: &mut Operands<'_>) -> Result<(), StatementFault> {
         room(self.parts.queries.len(), QUERY_LIMIT)?;
         let class = operands.number()?;
         let space = operands.number()?;
@@ -119,7 +123,7 @@ impl Draft {
             kinds.push(operand_kind_of(operands.word()?)?)?;
         }
         if kinds.len() > OPERAND_LIMIT {
-            return Err(Halt::Slip(Slip::Limit));
+            return Err(StatementFault::Slip(Slip::Limit));
         }
         let mut nodes = NODE_LIMIT;
         let pattern = read_pattern(self.alloc, NODE_LIMIT, &mut nodes, operands)?;
@@ -135,17 +139,17 @@ impl Draft {
     }
 
     // `frame PLACE KIND.. / KIND..`
-    fn add_frame(&mut self, operands: &mut Operands<'_>) -> Result<(), Halt> {
+    fn add_frame(&mut self, operands: &mut Operands<'_>) -> Result<(), StatementFault> {
         room(self.parts.frames.len(), FRAME_LIMIT)?;
         let place = operands.place()?;
         let locals = kinds_of(self.alloc, operands)?;
         let stack = kinds_of(self.alloc, operands)?;
         operands.end()?;
         if locals.len() != usize::from(self.parts.locals) {
-            return Err(Halt::Slip(Slip::Locals));
+            return Err(StatementFault::Slip(Slip::Locals));
         }
         if stack.len() > STACK_LIMIT {
-            return Err(Halt::Slip(Slip::Limit));
+            return Err(StatementFault::Slip(Slip::Limit));
         }
         let frame = Frame { locals, stack };
         self.parts.frames.push(FrameEntry { place, frame })?;
@@ -153,7 +157,7 @@ impl Draft {
     }
 
     // `loop HEAD-END`
-    fn add_loop(&mut self, operands: &mut Operands<'_>) -> Result<(), Halt> {
+    fn add_loop(&mut self, operands: &mut Operands<'_>) -> Result<(), StatementFault> {
         room(self.parts.loops.len(), LOOP_LIMIT)?;
         let (head, end) = operands.word()?.split_once('-').ok_or(Slip::Loop)?;
         let head = operands.place_of(head)?;
@@ -163,7 +167,7 @@ impl Draft {
         Ok(())
     }
 
-    fn add_op(&mut self, name: &str, operands: &mut Operands<'_>) -> Result<(), Halt> {
+    fn add_op(&mut self, name: &str, operands: &mut Operands<'_>) -> Result<(), StatementFault> {
         room(self.parts.ops.len(), OP_LIMIT)?;
         let op = op_of(name, operands)?;
         self.parts.ops.push(op)?;
@@ -172,7 +176,7 @@ impl Draft {
 }
 
 // The kinds up to a `/` or the end.
-fn kinds_of(alloc: Global, operands: &mut Operands<'_>) -> Result<Items<Kind>, Halt> {
+fn kinds_of(alloc: Global, operands: &mut Operands<'_>) -> Result<Items<Kind>, StatementFault> {
     let mut kinds = Items::new(alloc);
     // More kinds than a frame may have are a fault, so there is no need to read on.
     for _ in 0..=STACK_LIMIT {

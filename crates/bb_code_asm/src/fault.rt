@@ -82,35 +82,35 @@ impl<T: Drop> From<AllocFailed<T>> for AsmFault {
 
 /// What stops the reading of one statement.
 #[derive(Clone, Copy, Debug, PartialEq, Eq)]
-pub(crate) enum Halt {
+pub(crate) enum StatementFault {
     Slip(Slip),
     Memory,
 }
 
-impl Halt {
+impl StatementFault {
     /// The fault of a text in which a statement of this line is wrong.
     pub(crate) fn at(self, line: u32) -> AsmFault {
         match self {
-            Halt::Slip(slip) => AsmFault::At { line, slip },
-            Halt::Memory => AsmFault::Memory,
+            StatementFault::Slip(slip) => AsmFault::At { line, slip },
+            StatementFault::Memory => AsmFault::Memory,
         }
     }
 }
 
-impl From<Slip> for Halt {
-    fn from(slip: Slip) -> Halt {
-        Halt::Slip(slip)
+impl From<Slip> for StatementFault {
+    fn from(slip: Slip) -> StatementFault {
+        StatementFault::Slip(slip)
     }
 }
 
-impl From<AllocError> for Halt {
-    fn from(_error: AllocError) -> Halt {
-        Halt::Memory
+impl From<AllocError> for StatementFault {
+    fn from(_error: AllocError) -> StatementFault {
+        StatementFault::Memory
     }
 }
 
-impl<T: Drop> From<AllocFailed<T>> for Halt {
-    fn from(_error: AllocFailed<T>) -> Halt {
-        Halt::Memory
+impl<T: Drop> From<AllocFailed<T>> for StatementFault {
+    fn from(_error: AllocFailed<T>) -> StatementFault {
+        StatementFault::Memory
     }
 }

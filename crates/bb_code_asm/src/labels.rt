@@ -1,6 +1,6 @@
 //! The labels of a text. Operands that are places may be labels.
 
-use crate::fault::{AsmFault, Halt, Slip};
+use crate::fault::{AsmFault, Slip, StatementFault};
 use crate::statement::Statement;
 use bb_code::Place;
 use std::alloc::{AllocError, Global};
@@ -40,9 +40,9 @@ impl Labels {
         Ok(labels)
     }
 
-    fn add(&mut self, name: &str, place: Place) -> Result<(), Halt> {
+    fn add(&mut self, name: &str, place: Place) -> Result<(), StatementFault> {
         if !is_label(name) || self.places.contains_key(name) {
-            return Err(Halt::Slip(Slip::Label));
+            return Err(StatementFault::Slip(Slip::Label));
         }
         let name = String::from_str(self.alloc, name)?;
         self.places.insert(name, place)?;

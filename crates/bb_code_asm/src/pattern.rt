@@ -1,7 +1,7 @@
 //! Patterns as they are written: `all`, `and(P, P)`, `or(P, P)`, `not(P)`, `within DIM OPERAND` and the other
 //! relations, `is DIM OPERAND`. The assembler calls it for queries.
 
-use crate::fault::{Halt, Slip};
+use crate::fault::{Slip, StatementFault};
 use crate::operands::Operands;
 use bb_code::{Node, Pattern};
 use bb_code_text::relation_of;
@@ -14,9 +14,9 @@ pub(crate) fn read_pattern(
     depth: usize,
     room: &mut usize,
     operands: &mut Operands<'_>,
-) -> Result<Pattern, Halt> {
+) -> Result<Pattern, StatementFault> {
     if depth == 0 || *room == 0 {
-        return Err(Halt::Slip(Slip::Limit));
+        return Err(StatementFault::Slip(Slip::Limit));
     }
     *room -= 1;
     let name = operands.word()?;
@@ -31,11 +31,11 @@ pub(crate) fn read_pattern(
 }
 
 // Takes a word that has to come next.
-fn expect(operands: &mut Operands<'_>, word: &str) -> Result<(), Halt> {
+fn expect(operands: &mut Operands<'_>, word: &str) -> Result<(), StatementFault> {
     if operands.takes(word) {
         Ok(())
     } else {
-        Err(Halt::Slip(Slip::Pattern))
+        Err(StatementFault::Slip(Slip::Pattern))
     }
 }
 
@@ -46,7 +46,7 @@ fn read_part(
     depth: usize,
     room: &mut usize,
     operands: &mut Operands<'_>,
-) -> Result<Pattern, Halt> {
+) -> Result<Pattern, StatementFault> {
     expect(operands, "(")?;
     let part = read_pattern(alloc, depth, room, operands)?;
     expect(operands, ")")?;
@@ -60,7 +60,7 @@ fn read_parts(
     depth: usize,
     room: &mut usize,
     operands: &mut Operands<'_>,
-) -> Result<Vec<Pattern>, Halt> {
+) -> Result<Vec<Pattern>, StatementFault> {
     let mut parts = Vec::new(alloc);
     expect(operands, "(")?;
     if operands.takes(")") {
@@ -74,7 +74,7 @@ fn read_parts(
         }
         expect(operands, ",")?;
     }
-    Err(Halt::Slip(Slip::Limit))
+    Err(StatementFault::Slip(Slip::Limit))
 }
 
 // Reads the dimension and the operand of a test.

@@ -12,7 +12,7 @@ use Rattle.bb_lang.specs.PartTexts.{PartTexts}
 use Rattle.bb_lang.specs.ReactionText.{ReactionText}
 use Rattle.bb_lang.specs.SourceText.{SourceText}
 use Rattle.bb_compile_scope.specs.Place.{Place}
-use Rattle.bb_compile_scope.specs.declared.fault.Flaw.TheVariants.{Unknown, NoEnd}
+use Rattle.bb_compile_scope.specs.declared.fault.TextFlaw.TheVariants.{Unknown, NoEnd}
 use Rattle.bb_compile_scope.specs.declared.fault.CompileFault.{CompileFault}
 use Rattle.bb_compile_scope.specs.declared.fault.CompileFault.TheVariants.{At}
 use Rattle.bb_compile_scope.specs.Ending.{block_ends}

@@ -16,6 +16,6 @@ mod source;
 pub use bb_bundle::{
     ActDraft, BundleFault, ReactionDraft, SourceCode, SourceDraft, bundle, unbundle,
 };
-pub use bb_compile_scope::{CompileFault, Flaw, Place};
+pub use bb_compile_scope::{CompileFault, Place, TextFlaw};
 pub use bb_lang::{LangFault, SourceText, parse};
 pub use source::compile;

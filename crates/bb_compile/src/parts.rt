@@ -11,7 +11,7 @@ use bb_basis::Text;
 use bb_bundle::{Parts, ReactionDraft};
 use bb_code::Code;
 use bb_compile_emit::emit_part;
-use bb_compile_scope::{CompileFault, Flaw, Place, block_ends};
+use bb_compile_scope::{CompileFault, Place, TextFlaw, block_ends};
 use bb_lang::{PartText, PartTexts, ReactionText};
 use bb_verify_frame::{ClassId, Part, Schema};
 use std::alloc::Global;
@@ -20,7 +20,7 @@ use std::alloc::Global;
 pub(crate) fn class_on(schema: &Schema, name: &Text, place: Place) -> Result<ClassId, CompileFault>
     ensures { result ≡ class_on schema.now name.now place }
 {
-    let flaw = Flaw::Unknown;
+    let flaw = TextFlaw::Unknown;
     schema
         .class(name.as_str())
         .ok_or(CompileFault::At { flaw, place })
@@ -31,7 +31,7 @@ fn class_of_events(schema: &Schema, text: &ReactionText) -> Result<ClassId, Comp
     ensures { result ≡ class_of_events schema.now text.now }
 {
     if !block_ends(&text.block) {
-        let flaw = Flaw::NoEnd;
+        let flaw = TextFlaw::NoEnd;
         let place = text.place;
         return Err(CompileFault::At { flaw, place });
     }

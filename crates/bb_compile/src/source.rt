@@ -9,7 +9,7 @@ use crate::parts::{class_on, parts_of};
 use bb_bundle::{ActDraft, Header, SourceCode, SourceDraft};
 use bb_code::Code;
 use bb_compile_emit::emit_part;
-use bb_compile_scope::{CompileFault, Flaw};
+use bb_compile_scope::{CompileFault, TextFlaw};
 use bb_lang::{ActText, SourceText};
 use bb_verify_frame::{ClassId, Part, Schema};
 use std::alloc::{AllocError, Global};
@@ -71,7 +71,7 @@ pub fn compile(
     ensures { Gives OutOfMemory (λ s. s) result (compiled schema.now text.now) }
 {
     let draft = draft_of(alloc, schema, text)?;
-    let flaw = Flaw::Unknown;
+    let flaw = TextFlaw::Unknown;
     let place = text.header.on;
     SourceCode::new(draft).ok_or(CompileFault::At { flaw, place })
 }

@@ -19,7 +19,7 @@ use Rattle.bb_lang.specs.Action.{Action}
 use Rattle.bb_lang.specs.Action.TheVariants as actions
 use Rattle.bb_lang.specs.Trees.{ExprTree}
 use Rattle.bb_compile_scope.specs.declared.fault.CompileFault.{CompileFault}
-use Rattle.bb_compile_scope.specs.declared.fault.Flaw.TheVariants.{Effect, NoEnd, Limit}
+use Rattle.bb_compile_scope.specs.declared.fault.TextFlaw.TheVariants.{Effect, NoEnd, Limit}
 use Rattle.bb_compile_scope.specs.Ending.{ends}
 use Rattle.bb_compile_buffer.specs.declared.buffer.Buffer.{Buffer}
 use Rattle.bb_compile_buffer.specs.Buffers.{noted, due, put}

@@ -23,8 +23,8 @@ use Rattle.bb_lang.specs.Atom.{Atom}
 use Rattle.bb_lang.specs.Atom.TheVariants as atoms
 use Rattle.bb_lang.specs.Variable.{Variable}
 use Rattle.bb_compile_scope.specs.declared.fault.CompileFault.TheVariants.{At}
-use Rattle.bb_compile_scope.specs.declared.fault.Flaw.{Flaw}
-use Rattle.bb_compile_scope.specs.declared.fault.Flaw.TheVariants.{Unknown, Limit}
+use Rattle.bb_compile_scope.specs.declared.fault.TextFlaw.{TextFlaw}
+use Rattle.bb_compile_scope.specs.declared.fault.TextFlaw.TheVariants.{Unknown, Limit}
 use Rattle.bb_compile_scope.specs.Kinds.{class_of, is_live}
 use Rattle.bb_compile_scope.specs.LocalKinds.{kind_at}
 use Rattle.bb_compile_scope.specs.Scope.{name_of}
@@ -243,7 +243,7 @@ module _ (schema : Schema) (sf : schemas.Fits schema) (part : Part) (code : Code
   slot_lays v name space s t made h clean =
       let one = bind_ok (unit_code v space s) (λ p. got_from schema name p.0 p.1) (made, t) h in by_class one.0.0 one.0.1 one.1 one.2
     where
-      by_slot : (c : ℕ) (u : Buffer) (r : Result (ℕ × Kind) Flaw) → unit_code v space s ≡ Ok (Some c, u) → value_slot schema c name ≡ r → gotten r u ≡ Ok (made, t) → LaysHere space s t made
+      by_slot : (c : ℕ) (u : Buffer) (r : Result (ℕ × Kind) TextFlaw) → unit_code v space s ≡ Ok (Some c, u) → value_slot schema c name ≡ r → gotten r u ≡ Ok (made, t) → LaysHere space s t made
       by_slot c u (Err flaw) unit at h = never_noted flaw u (ap (λ (x : Buffer). x.flaw) (pair_ok None made (noted flaw u) t h).1 ∙ clean)
       by_slot c u (Ok p) unit at h =
           let one = bind_ok (put (ops.Get p.0) u) (λ x. Ok (Some p.1, x)) (made, t) h in

@@ -10,8 +10,8 @@ use Rattle.bb_verify_frame.specs.Kinds.{is_same_plain}
 use Rattle.bb_verify_frame.specs.Op.{Op}
 use Rattle.bb_verify_frame.specs.Query.{Query}
 use Rattle.bb_compile_scope.specs.declared.fault.CompileFault.TheVariants.{At}
-use Rattle.bb_compile_scope.specs.declared.fault.Flaw.{Flaw}
-use Rattle.bb_compile_scope.specs.declared.fault.Flaw.TheVariants.{Unknown, Kind as WrongKind, Limit}
+use Rattle.bb_compile_scope.specs.declared.fault.TextFlaw.{TextFlaw}
+use Rattle.bb_compile_scope.specs.declared.fault.TextFlaw.TheVariants.{Unknown, Kind as WrongKind, Limit}
 use Rattle.bb_compile_buffer.specs.declared.buffer.Buffer.{Buffer}
 use Rattle.bb_compile_buffer.specs.Buffers.{noted, due, known, put, put_value}
 
@@ -21,15 +21,15 @@ abbrev pub Clean : Buffer → Type 0
 Clean s = s.flaw ≡ None
 
 -- what is noted where a test fails was not noted where there is no flaw
-pub passed : (c : Bool) (flaw : Flaw) (s : Buffer) → Clean (cond c s (noted flaw s)) → (c ≡ true) × (cond c s (noted flaw s) ≡ s)
+pub passed : (c : Bool) (flaw : TextFlaw) (s : Buffer) → Clean (cond c s (noted flaw s)) → (c ≡ true) × (cond c s (noted flaw s) ≡ s)
 passed true flaw s clean = (refl, refl)
 passed false flaw s clean = absurd cc
 
-pub not_failed : (c : Bool) (flaw : Flaw) (s : Buffer) → Clean (cond c (noted flaw s) s) → (c ≡ false) × (cond c (noted flaw s) s ≡ s)
+pub not_failed : (c : Bool) (flaw : TextFlaw) (s : Buffer) → Clean (cond c (noted flaw s) s) → (c ≡ false) × (cond c (noted flaw s) s ≡ s)
 not_failed true flaw s clean = absurd cc
 not_failed false flaw s clean = (refl, refl)
 
-pub never_noted : {A : Type 0} (flaw : Flaw) (s : Buffer) → Clean (noted flaw s) → A
+pub never_noted : {A : Type 0} (flaw : TextFlaw) (s : Buffer) → Clean (noted flaw s) → A
 never_noted flaw s clean = absurd cc
 
 pub is_due : (made : Option Kind) (wanted : Kind) (s : Buffer) → Clean (due made wanted s) → due made wanted s ≡ s

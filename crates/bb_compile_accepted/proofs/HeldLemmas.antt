@@ -19,8 +19,8 @@ use Rattle.bb_schema.specs.Schema.{Schema, has_name, slot_named, slots_of, kind_
 use Rattle.bb_schema.specs.Fits as schemas
 use Rattle.bb_verify_frame.specs.Kind.{Kind}
 use Rattle.bb_verify_frame.specs.Kind.TheVariants as kinds
-use Rattle.bb_compile_scope.specs.declared.fault.Flaw.{Flaw}
-use Rattle.bb_compile_scope.specs.declared.fault.Flaw.TheVariants.{Unknown}
+use Rattle.bb_compile_scope.specs.declared.fault.TextFlaw.{TextFlaw}
+use Rattle.bb_compile_scope.specs.declared.fault.TextFlaw.TheVariants.{Unknown}
 use Rattle.bb_compile_scope.specs.Slots.{with_kind, slot_of, value_in, link_in, value_slot, link_slot}
 use Rattle.bb_verify.specs.Due as due
 use Rattle.bb_compile_accepted.proofs.UnderLemmas.{IsUnder, descends_on}
@@ -95,10 +95,10 @@ module _ (s : Schema) (sf : schemas.Fits s) (c : ℕ) (name : List ℕ) where
         let there : due.held_in s b p.0 ≡ Some one.0.1 = ap (due.held_in s b) (sym plain.0) ∙ held_below one.0 one.1 in
         rw (there, plain.1) refl
       where
-        by_pair : (slot : ℕ) (k : Kind) → (let r : Result (ℕ × Kind) Flaw = Ok (slot, k) in r) ≡ Ok p → (slot ≡ p.0) × (k ≡ p.1)
+        by_pair : (slot : ℕ) (k : Kind) → (let r : Result (ℕ × Kind) TextFlaw = Ok (slot, k) in r) ≡ Ok p → (slot ≡ p.0) × (k ≡ p.1)
         by_pair slot k h = let e = same_ok (slot, k) p h in (ap (λ (q : ℕ × Kind). q.0) e, ap (λ (q : ℕ × Kind). q.1) e)
 
-        plain_of : (slot : ℕ) (k : Kind) → (let r : Result (ℕ × Kind) Flaw = Ok (slot, k) in r) ≡ Ok p → (slot ≡ p.0) × (Some k ≡ Some p.1)
+        plain_of : (slot : ℕ) (k : Kind) → (let r : Result (ℕ × Kind) TextFlaw = Ok (slot, k) in r) ≡ Ok p → (slot ≡ p.0) × (Some k ≡ Some p.1)
         plain_of slot k h = let e = by_pair slot k h in (e.0, ap (λ x. Some x) e.1)
 
         by_kind : (slot : ℕ) (k : SlotKind) → value_in slot k ≡ Ok p → (slot ≡ p.0) × (due.plain_kind k ≡ Some p.1)
@@ -133,7 +133,7 @@ module _ (s : Schema) (sf : schemas.Fits s) (c : ℕ) (name : List ℕ) where
       let one = bind_ok (slot_of s c name) (λ q. value_in q.0 q.1) p h in
       by_kind one.0.0 one.0.1 one.2
     where
-      by_pair : (slot : ℕ) (k : Kind) → IsUnder s sf k k → (let r : Result (ℕ × Kind) Flaw = Ok (slot, k) in r) ≡ Ok p → IsUnder s sf p.1 p.1
+      by_pair : (slot : ℕ) (k : Kind) → IsUnder s sf k k → (let r : Result (ℕ × Kind) TextFlaw = Ok (slot, k) in r) ≡ Ok p → IsUnder s sf p.1 p.1
       by_pair slot k known h = subst (λ (q : ℕ × Kind). IsUnder s sf q.1 q.1) (same_ok (slot, k) p h) known
 
       by_kind : (slot : ℕ) (k : SlotKind) → value_in slot k ≡ Ok p → IsUnder s sf p.1 p.1

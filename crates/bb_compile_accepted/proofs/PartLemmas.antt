@@ -21,8 +21,8 @@ use Rattle.bb_lang.specs.Blocks.{BlockTree, no_statement, before_others, action,
 use Rattle.bb_compile_scope.specs.Place.{Place}
 use Rattle.bb_compile_scope.specs.declared.fault.CompileFault.{CompileFault}
 use Rattle.bb_compile_scope.specs.declared.fault.CompileFault.TheVariants.{At}
-use Rattle.bb_compile_scope.specs.declared.fault.Flaw.{Flaw}
-use Rattle.bb_compile_scope.specs.declared.fault.Flaw.TheVariants.{NoEnd, Limit}
+use Rattle.bb_compile_scope.specs.declared.fault.TextFlaw.{TextFlaw}
+use Rattle.bb_compile_scope.specs.declared.fault.TextFlaw.TheVariants.{NoEnd, Limit}
 use Rattle.bb_compile_scope.specs.Ending.{ends, always_ends, block_ends}
 use Rattle.bb_compile_scope.specs.Scope.{begin_with, mark_of}
 use Rattle.bb_compile_buffer.specs.declared.buffer.Buffer.{Buffer}
@@ -52,7 +52,7 @@ use Rattle.bb_compile_accepted.proofs.PatternLemmas.{AreSmall}
 use Rattle.bb_compile_accepted.proofs.StoreLemmas.{Stands, After, Does, marks}
 use Rattle.bb_compile_accepted.proofs.ActionLemmas.{action_does}
 
-pub settled_clean : (place : Place) (o : Option Flaw) (u : Unit {0}) → refused_at place o ≡ Ok u → o ≡ None
+pub settled_clean : (place : Place) (o : Option TextFlaw) (u : Unit {0}) → refused_at place o ≡ Ok u → o ≡ None
 settled_clean place None u h = refl
 settled_clean place (Some flaw) u h = absurd cc
 

@@ -15,7 +15,7 @@ use Rattle.bb_verify_frame.specs.Kind.TheVariants as kinds
 use Rattle.bb_verify_frame.specs.Op.TheVariants as ops
 use Rattle.bb_verify_frame.specs.OperandKind.{OperandKind}
 use Rattle.bb_lang.specs.Variable.{Variable}
-use Rattle.bb_compile_scope.specs.declared.fault.Flaw.{Flaw}
+use Rattle.bb_compile_scope.specs.declared.fault.TextFlaw.{TextFlaw}
 use Rattle.bb_compile_scope.specs.Kinds.{class_of, is_live}
 use Rattle.bb_compile_scope.specs.Slots as slots
 use Rattle.bb_compile_scope.specs.Slots.{index_of, in_byte, dimension_at, dimension}
@@ -107,7 +107,7 @@ module _ (schema : Schema) (sf : schemas.Fits schema) (part : Part) (code : Code
   links_lay v name space s t class h clean =
       let one = bind_ok (unit_code v space s) (λ p. linked_from schema name p.0 p.1) (class, t) h in by_class one.0.0 one.0.1 one.1 one.2
     where
-      by_slot : (c : ℕ) (u : Buffer) (r : Result (ℕ × Link) Flaw) → unit_code v space s ≡ Ok (Some c, u) → slots.link_slot schema c name ≡ r → linked_by r u ≡ Ok (class, t) → LaysUnits schema sf part code space s t
+      by_slot : (c : ℕ) (u : Buffer) (r : Result (ℕ × Link) TextFlaw) → unit_code v space s ≡ Ok (Some c, u) → slots.link_slot schema c name ≡ r → linked_by r u ≡ Ok (class, t) → LaysUnits schema sf part code space s t
       by_slot c u (Err flaw) unit at h = never_noted flaw u (ap (λ (x : Buffer). x.flaw) (pair_ok None class (noted flaw u) t h).1 ∙ clean)
       by_slot c u (Ok p) unit at h =
           let one = bind_ok (put (ops.Links p.0) u) (λ x. Ok (Some p.1.to, x)) (class, t) h in

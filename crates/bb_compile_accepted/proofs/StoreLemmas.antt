@@ -17,7 +17,7 @@ use Rattle.bb_verify_frame.specs.Kind.TheVariants as kinds
 use Rattle.bb_verify_frame.specs.Op.{Op}
 use Rattle.bb_verify_frame.specs.Op.TheVariants as ops
 use Rattle.bb_lang.specs.Trees.{ExprTree}
-use Rattle.bb_compile_scope.specs.declared.fault.Flaw.TheVariants.{Unknown, Kind as WrongKind}
+use Rattle.bb_compile_scope.specs.declared.fault.TextFlaw.TheVariants.{Unknown, Kind as WrongKind}
 use Rattle.bb_compile_scope.specs.declared.scope.NamedLocal.{NamedLocal}
 use Rattle.bb_compile_scope.specs.declared.scope.Scope.{Scope}
 use Rattle.bb_compile_scope.specs.Kinds.{assigned}

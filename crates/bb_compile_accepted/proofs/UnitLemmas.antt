@@ -20,8 +20,8 @@ use Rattle.bb_verify_frame.specs.Op.{Op}
 use Rattle.bb_verify_frame.specs.Op.TheVariants as ops
 use Rattle.bb_lang.specs.Variable.{Variable}
 use Rattle.bb_lang.specs.Trees.{ExprTree}
-use Rattle.bb_compile_scope.specs.declared.fault.Flaw.{Flaw}
-use Rattle.bb_compile_scope.specs.declared.fault.Flaw.TheVariants.{Unknown, LinkClass, Space}
+use Rattle.bb_compile_scope.specs.declared.fault.TextFlaw.{TextFlaw}
+use Rattle.bb_compile_scope.specs.declared.fault.TextFlaw.TheVariants.{Unknown, LinkClass, Space}
 use Rattle.bb_compile_scope.specs.Kinds.{class_of, is_live}
 use Rattle.bb_compile_scope.specs.Slots as slots
 use Rattle.bb_compile_buffer.specs.declared.buffer.Buffer.{Buffer}
@@ -265,7 +265,7 @@ module _ (schema : Schema) (sf : schemas.Fits schema) (part : Part) (code : Code
       let two = bind_ok (expr_code schema (STACK_LIMIT - 1) e one.0.1) (λ q. set_in schema one.0.0 slot q.0 q.1) t one.2 in
       by_class one.0.0 one.0.1 two.0.0 two.0.1 one.1 two.1 two.2
     where
-      by_slot : (c : ℕ) (u : Buffer) (made : Made) (w : Buffer) (r : Result (ℕ × Kind) Flaw) → slots.value_slot schema c slot ≡ r → unit_code v STACK_LIMIT s ≡ Ok (Some c, u) → expr_code schema (STACK_LIMIT - 1) e u ≡ Ok (made, w) → set_by r made w ≡ Ok t → DoesHere s t
+      by_slot : (c : ℕ) (u : Buffer) (made : Made) (w : Buffer) (r : Result (ℕ × Kind) TextFlaw) → slots.value_slot schema c slot ≡ r → unit_code v STACK_LIMIT s ≡ Ok (Some c, u) → expr_code schema (STACK_LIMIT - 1) e u ≡ Ok (made, w) → set_by r made w ≡ Ok t → DoesHere s t
       by_slot c u made w (Err flaw) at unit value h = never_noted flaw w (ap (λ (x : Buffer). x.flaw) (same_ok (noted flaw w) t h) ∙ clean)
       by_slot c u made w (Ok p) at unit value h =
           let noted_put = put_ok (ops.Set p.0) (due made p.1 w) t h in
@@ -292,7 +292,7 @@ module _ (schema : Schema) (sf : schemas.Fits schema) (part : Part) (code : Code
       let two = bind_ok (unit_code other (STACK_LIMIT - 1) one.0.1) (λ q. relinked_in schema change one.0.0 slot q.0 q.1) t one.2 in
       by_class one.0.0 one.0.1 two.0.0 two.0.1 one.1 two.1 two.2
     where
-      by_slot : (c : ℕ) (u : Buffer) (of : Option ℕ) (w : Buffer) (r : Result (ℕ × Link) Flaw) → slots.link_slot schema c slot ≡ r → unit_code v STACK_LIMIT s ≡ Ok (Some c, u) → unit_code other (STACK_LIMIT - 1) u ≡ Ok (of, w) → relinked_by schema change r of w ≡ Ok t → DoesHere s t
+      by_slot : (c : ℕ) (u : Buffer) (of : Option ℕ) (w : Buffer) (r : Result (ℕ × Link) TextFlaw) → slots.link_slot schema c slot ≡ r → unit_code v STACK_LIMIT s ≡ Ok (Some c, u) → unit_code other (STACK_LIMIT - 1) u ≡ Ok (of, w) → relinked_by schema change r of w ≡ Ok t → DoesHere s t
       by_slot c u of w (Err flaw) at unit also h = never_noted flaw w (ap (λ (x : Buffer). x.flaw) (same_ok (noted flaw w) t h) ∙ clean)
       by_slot c u None w (Ok p) at unit also h =
           let put_is = put_ok (ops.Relink change p.0) w t h in no_unit schema sf part code other (STACK_LIMIT - 1) u w also (clean_before (ops.Relink change p.0) w t put_is clean)

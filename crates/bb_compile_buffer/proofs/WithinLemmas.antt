@@ -22,7 +22,7 @@ use Rattle.bb_verify_frame.specs.Op.{Op}
 use Rattle.bb_verify_frame.specs.Op.TheVariants as ops
 use Rattle.bb_basis.specs.Results.{ok_or}
 use Rattle.bb_compile_scope.specs.Place.{Place}
-use Rattle.bb_compile_scope.specs.declared.fault.Flaw.TheVariants.{Limit}
+use Rattle.bb_compile_scope.specs.declared.fault.TextFlaw.TheVariants.{Limit}
 use Rattle.bb_compile_scope.specs.declared.fault.CompileFault.{CompileFault}
 use Rattle.bb_compile_scope.specs.declared.fault.CompileFault.TheVariants.{At}
 use Rattle.bb_compile_buffer.specs.Finish.{if_within}

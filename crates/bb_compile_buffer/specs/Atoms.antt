@@ -10,8 +10,8 @@ use Rattle.bb_verify_frame.specs.Schema.{Schema, label_set_named, label_named}
 use Rattle.bb_lang.specs.Atom.{Atom}
 use Rattle.bb_lang.specs.Atom.TheVariants as atoms
 use Rattle.bb_lang.specs.Variable.{Variable}
-use Rattle.bb_compile_scope.specs.declared.fault.Flaw.{Flaw}
-use Rattle.bb_compile_scope.specs.declared.fault.Flaw.TheVariants.{Unknown, Kind as WrongKind, DeadName, Limit}
+use Rattle.bb_compile_scope.specs.declared.fault.TextFlaw.{TextFlaw}
+use Rattle.bb_compile_scope.specs.declared.fault.TextFlaw.TheVariants.{Unknown, Kind as WrongKind, DeadName, Limit}
 use Rattle.bb_compile_scope.specs.Kinds.{class_of, is_live}
 use Rattle.bb_compile_scope.specs.LocalKinds.{kind_at}
 use Rattle.bb_compile_scope.specs.Scope.{name_of, local_of}
@@ -51,7 +51,7 @@ unit_code v room s = do
   (kind, t) ← variable_code v room s
   unit_of kind t
 
-abbrev pub gotten : Result (ℕ × Kind) Flaw → Step Made
+abbrev pub gotten : Result (ℕ × Kind) TextFlaw → Step Made
 gotten (Err flaw) s = Ok (None, noted flaw s)
 gotten (Ok slot) s = do
   t ← put (ops.Get slot.0) s

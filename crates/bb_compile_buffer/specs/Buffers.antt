@@ -10,8 +10,8 @@ use Rattle.bb_verify_frame.specs.Op.TheVariants.{One, Alive, As, Jump, Unless, N
 use Rattle.bb_verify_frame.specs.Query.{Query}
 use Rattle.bb_code.specs.Limits.{OP_LIMIT, TEXT_COUNT_LIMIT, QUERY_LIMIT, LOOP_LIMIT}
 use Rattle.bb_code.specs.Loop.{Loop}
-use Rattle.bb_compile_scope.specs.declared.fault.Flaw.{Flaw}
-use Rattle.bb_compile_scope.specs.declared.fault.Flaw.TheVariants.{Unknown, Kind as WrongKind, Limit}
+use Rattle.bb_compile_scope.specs.declared.fault.TextFlaw.{TextFlaw}
+use Rattle.bb_compile_scope.specs.declared.fault.TextFlaw.TheVariants.{Unknown, Kind as WrongKind, Limit}
 use Rattle.bb_compile_scope.specs.declared.fault.CompileFault.{CompileFault}
 use Rattle.bb_compile_scope.specs.declared.fault.CompileFault.TheVariants.{At}
 use Rattle.bb_compile_scope.specs.declared.scope.Mark.{Mark}
@@ -36,7 +36,7 @@ too_large s = Err (At Limit s.start)
 -- ---- flaws
 
 -- one more flaw of this statement
-abbrev pub noted : Flaw → Buffer → Buffer
+abbrev pub noted : TextFlaw → Buffer → Buffer
 noted flaw s = record s { flaw = Some (lowest s.flaw flaw) }
 
 -- a value, as far as its kind is known, is of the kind that is wanted
@@ -45,7 +45,7 @@ due None wanted s = s
 due (Some kind) wanted s = if is_same_plain kind wanted then s else noted WrongKind s
 
 -- a statement with a flaw is refused
-abbrev pub refused_at : Place → Option Flaw → Result (Unit {0}) CompileFault
+abbrev pub refused_at : Place → Option TextFlaw → Result (Unit {0}) CompileFault
 refused_at place None = Ok tt
 refused_at place (Some flaw) = Err (At flaw place)
 

@@ -19,7 +19,7 @@ use Rattle.bb_lang.specs.Operator.{Operator}
 use Rattle.bb_lang.specs.Operator.TheVariants as operators
 use Rattle.bb_lang.specs.Division.{Division}
 use Rattle.bb_lang.specs.Division.TheVariants as divisions
-use Rattle.bb_compile_scope.specs.declared.fault.Flaw.TheVariants.{Kind as WrongKind, Limit}
+use Rattle.bb_compile_scope.specs.declared.fault.TextFlaw.TheVariants.{Kind as WrongKind, Limit}
 use Rattle.bb_compile_scope.specs.Kinds.{equality}
 use Rattle.bb_compile_buffer.specs.declared.buffer.Buffer.{Buffer}
 use Rattle.bb_compile_buffer.specs.Buffers.{Step, Change, noted, due, put}

@@ -10,7 +10,8 @@ use crate::buffer::Buffer;
 use bb_basis::Text;
 use bb_code::TEXT_BYTES_LIMIT;
 use bb_compile_scope::{
-    ClassId, CompileFault, Flaw, Kind, Op, Schema, Variable, class_of, is_live, name_of, value_slot,
+    ClassId, CompileFault, Kind, Op, Schema, TextFlaw, Variable, class_of, is_live, name_of,
+    value_slot,
 };
 use bb_lang::Atom;
 
@@ -38,7 +39,7 @@ pub fn emit_variable(
     ensures { Gives OutOfMemory (λ kind. (kind, buffer.new)) result (variable_code variable.now room buffer.old) }
 {
     let Some(local) = buffer.scope.local_of(name_of(variable)) else {
-        buffer.note(Flaw::Unknown);
+        buffer.note(TextFlaw::Unknown);
         return Ok(None);
     };
     buffer.put_value(Op::Load(local), room)?;
@@ -58,13 +59,13 @@ pub fn emit_unit(
         return Ok(None);
     };
     let Some(class) = class_of(kind) else {
-        buffer.note(Flaw::Kind);
+        buffer.note(TextFlaw::Kind);
         return Ok(None);
     };
     if is_live(kind) {
         return Ok(Some(class));
     }
-    buffer.note(Flaw::DeadName);
+    buffer.note(TextFlaw::DeadName);
     Ok(Some(class))
 }
 
@@ -102,7 +103,7 @@ fn check_text(buffer: &mut Buffer, text: &Text)
     if text.len() <= TEXT_BYTES_LIMIT as usize {
         return;
     }
-    buffer.note(Flaw::Limit);
+    buffer.note(TextFlaw::Limit);
 }
 
 // A text.
@@ -128,11 +129,11 @@ fn emit_label(
         (label_code schema.now set.now label.now room buffer.old) }
 {
     let Some(set) = schema.label_set(set.as_str()) else {
-        buffer.note(Flaw::Unknown);
+        buffer.note(TextFlaw::Unknown);
         return Ok(None);
     };
     let Some(label) = schema.label(set, label.as_str()) else {
-        buffer.note(Flaw::Unknown);
+        buffer.note(TextFlaw::Unknown);
         return Ok(Some(Kind::Label(set)));
     };
     emit_pushed(buffer, Op::PushLabel(set, label), Kind::Label(set), room)

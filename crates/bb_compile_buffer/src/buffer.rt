@@ -15,7 +15,7 @@ use crate::texts::Texts;
 use bb_basis::{Items, Text};
 use bb_code::{LOOP_LIMIT, QUERY_LIMIT, Query, TEXT_COUNT_LIMIT};
 use bb_compile_scope::{
-    CompileFault, Flaw, Kind, LocalId, LocalKinds, Op, Part, Place, Scope, lowest,
+    CompileFault, Kind, LocalId, LocalKinds, Op, Part, Place, Scope, TextFlaw, lowest,
 };
 use bb_verify_frame::is_same_plain;
 use std::alloc::{AllocError, Global};
@@ -36,7 +36,7 @@ pub struct Buffer {
     pub scope: Scope,
     /// The number of locals.
     pub locals: u8,
-    pub flaw: Option<Flaw>,
+    pub flaw: Option<TextFlaw>,
 }
 
 // Keeps the last label, unless another at the same place replaces it.
@@ -81,7 +81,7 @@ impl Buffer {
     // ---- flaws
 
     /// Notes a flaw of this statement.
-    pub fn note(&mut self, flaw: Flaw)
+    pub fn note(&mut self, flaw: TextFlaw)
         ensures { self.new ≡ noted flaw self.old }
     {
         self.flaw = Some(lowest(self.flaw, flaw));
@@ -98,7 +98,7 @@ impl Buffer {
         if is_same_plain(kind, wanted) {
             return;
         }
-        self.note(Flaw::Kind);
+        self.note(TextFlaw::Kind);
     }
 
     /// Notes that a name is unknown, if it means nothing.
@@ -108,7 +108,7 @@ impl Buffer {
         if meant.is_some() {
             return;
         }
-        self.note(Flaw::Unknown);
+        self.note(TextFlaw::Unknown);
     }
 
     /// Refuses the statement at a place if it has a flaw.
@@ -131,7 +131,7 @@ impl Buffer {
         if self.ops.is_full() {
             let place = self.start;
             return Err(CompileFault::At {
-                flaw: Flaw::Limit,
+                flaw: TextFlaw::Limit,
                 place,
             });
         }
@@ -145,7 +145,7 @@ impl Buffer {
         ensures { Gives OutOfMemory (λ _. self.new) result (put_value op room self.old) }
     {
         if room == 0 {
-            self.note(Flaw::Limit);
+            self.note(TextFlaw::Limit);
             return self.put(op);
         }
         self.put(op)
@@ -172,7 +172,7 @@ impl Buffer {
         if index >= TEXT_COUNT_LIMIT {
             let place = self.start;
             return Err(CompileFault::At {
-                flaw: Flaw::Limit,
+                flaw: TextFlaw::Limit,
                 place,
             });
         }
@@ -189,7 +189,7 @@ impl Buffer {
         if index >= QUERY_LIMIT as usize {
             let place = self.start;
             return Err(CompileFault::At {
-                flaw: Flaw::Limit,
+                flaw: TextFlaw::Limit,
                 place,
             });
         }
@@ -206,7 +206,7 @@ impl Buffer {
         if index >= LOOP_LIMIT as usize {
             let place = self.start;
             return Err(CompileFault::At {
-                flaw: Flaw::Limit,
+                flaw: TextFlaw::Limit,
                 place,
             });
         }
@@ -238,7 +238,7 @@ impl Buffer {
         let Some(local) = self.scope.kinds.free() else {
             let place = self.start;
             return Err(CompileFault::At {
-                flaw: Flaw::Limit,
+                flaw: TextFlaw::Limit,
                 place,
             });
         };

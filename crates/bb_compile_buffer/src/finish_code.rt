@@ -11,7 +11,7 @@ use crate::buffer::Buffer;
 use crate::label::Label;
 use bb_basis::Items;
 use bb_code::{Code, CodeParts, Frame, FrameEntry};
-use bb_compile_scope::{CompileFault, Flaw, Kind, LocalKinds, Place};
+use bb_compile_scope::{CompileFault, Kind, LocalKinds, Place, TextFlaw};
 use std::alloc::{AllocError, Global};
 
 // The kinds of the first `locals` locals.
@@ -72,7 +72,7 @@ fn frames_of(
 fn checked(parts: CodeParts, place: Place) -> Result<Code, CompileFault>
     ensures { result ≡ if_within place parts }
 {
-    let flaw = Flaw::Limit;
+    let flaw = TextFlaw::Limit;
     Code::new(parts).ok_or(CompileFault::At { flaw, place })
 }
 

@@ -10,7 +10,7 @@ ghost use Rattle.bb_compile_buffer.specs.Operations.{division_op, divisor_noted,
 
 use crate::buffer::Buffer;
 use bb_code::{Bound, Calculation, Comparison, Division as OpDivision, Logic};
-use bb_compile_scope::{CompileFault, Flaw, Kind, Op, equality};
+use bb_compile_scope::{CompileFault, Kind, Op, TextFlaw, equality};
 use bb_lang::{Binary, Division, Operator, Unary};
 
 // An op on one operand of a kind.
@@ -84,7 +84,7 @@ fn emit_equality(
     };
     match equality(left, right) {
         None => {
-            buffer.note(Flaw::Kind);
+            buffer.note(TextFlaw::Kind);
             Ok(())
         }
         Some(op) => buffer.put(op),
@@ -192,7 +192,7 @@ fn check_divisor(buffer: &mut Buffer, divisor: i64)
     ensures { buffer.new ≡ divisor_noted divisor buffer.old }
 {
     if divisor < 1 {
-        buffer.note(Flaw::Limit);
+        buffer.note(TextFlaw::Limit);
     }
 }
 

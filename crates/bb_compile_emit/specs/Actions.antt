@@ -18,8 +18,8 @@ use Rattle.bb_lang.specs.Variable.{Variable}
 use Rattle.bb_lang.specs.Action.{Action}
 use Rattle.bb_lang.specs.Action.TheVariants as actions
 use Rattle.bb_lang.specs.Trees.{ExprTree}
-use Rattle.bb_compile_scope.specs.declared.fault.Flaw.{Flaw}
-use Rattle.bb_compile_scope.specs.declared.fault.Flaw.TheVariants.{Unknown, Kind as WrongKind, LinkClass, Space, Effect, NoEnd, Limit}
+use Rattle.bb_compile_scope.specs.declared.fault.TextFlaw.{TextFlaw}
+use Rattle.bb_compile_scope.specs.declared.fault.TextFlaw.TheVariants.{Unknown, Kind as WrongKind, LinkClass, Space, Effect, NoEnd, Limit}
 use Rattle.bb_compile_scope.specs.Kinds.{assigned}
 use Rattle.bb_compile_scope.specs.LocalKinds.{kind_at}
 use Rattle.bb_compile_scope.specs.Scope.{local_of}
@@ -73,7 +73,7 @@ new_of name (Some class) s = do
 unfoldable pub new_code : Schema → (name class : List ℕ) → Change
 new_code schema name class s = new_of name (class_named schema class) s
 
-abbrev pub set_by : Result (ℕ × Kind) Flaw → Made → Change
+abbrev pub set_by : Result (ℕ × Kind) TextFlaw → Made → Change
 set_by (Err flaw) kind s = Ok (noted flaw s)
 set_by (Ok slot) kind s = put (ops.Set slot.0) (due kind slot.1 s)
 
@@ -93,7 +93,7 @@ abbrev pub link_noted : Schema → (to : ℕ) → (other : Option ℕ) → Buffe
 link_noted schema to None s = s
 link_noted schema to (Some class) s = if descends schema class to then s else noted LinkClass s
 
-abbrev pub relinked_by : Schema → LinkChange → Result (ℕ × Link) Flaw → (other : Option ℕ) → Change
+abbrev pub relinked_by : Schema → LinkChange → Result (ℕ × Link) TextFlaw → (other : Option ℕ) → Change
 relinked_by schema change (Err flaw) other s = Ok (noted flaw s)
 relinked_by schema change (Ok slot) other s = put (ops.Relink change slot.0) (link_noted schema slot.1.to other s)
 

@@ -9,8 +9,8 @@ use Rattle.bb_verify_frame.specs.Schema.{Schema, class_named, descends}
 use Rattle.bb_lang.specs.Variable.{Variable}
 use Rattle.bb_lang.specs.Binding.{Binding}
 use Rattle.bb_lang.specs.Binding.TheVariants as bindings
-use Rattle.bb_compile_scope.specs.declared.fault.Flaw.{Flaw}
-use Rattle.bb_compile_scope.specs.declared.fault.Flaw.TheVariants.{Unknown, Kind as WrongKind}
+use Rattle.bb_compile_scope.specs.declared.fault.TextFlaw.{TextFlaw}
+use Rattle.bb_compile_scope.specs.declared.fault.TextFlaw.TheVariants.{Unknown, Kind as WrongKind}
 use Rattle.bb_compile_scope.specs.Kinds.{class_of, is_live}
 use Rattle.bb_compile_scope.specs.Slots.{partner_slot}
 use Rattle.bb_compile_emit.specs.declared.exits.Exits.{Exits}
@@ -88,7 +88,7 @@ with_as schema name unit class s = do
   (held, t) ← variable_code unit STACK_LIMIT s
   as_named schema name held (class_named schema class) (known (class_named schema class) t)
 
-abbrev pub partner_by : (name : List ℕ) → Result (ℕ × ℕ) Flaw → Step (Option Exits)
+abbrev pub partner_by : (name : List ℕ) → Result (ℕ × ℕ) TextFlaw → Step (Option Exits)
 partner_by name (Err flaw) s = Ok (None, noted flaw s)
 partner_by name (Ok slot) s = do
   t ← put (One slot.0 0) s

@@ -8,7 +8,7 @@ use Rattle.bb_verify_frame.specs.Op.TheVariants.{Done}
 use Rattle.bb_verify_frame.specs.Schema.{Schema}
 use Rattle.bb_lang.specs.Blocks.{BlockTree}
 use Rattle.bb_compile_scope.specs.Place.{Place}
-use Rattle.bb_compile_scope.specs.declared.fault.Flaw.TheVariants.{NoEnd}
+use Rattle.bb_compile_scope.specs.declared.fault.TextFlaw.TheVariants.{NoEnd}
 use Rattle.bb_compile_scope.specs.declared.fault.CompileFault.{CompileFault}
 use Rattle.bb_compile_scope.specs.declared.fault.CompileFault.TheVariants.{At}
 use Rattle.bb_compile_scope.specs.Ending.{block_ends}

@@ -14,8 +14,8 @@ use Rattle.bb_lang.specs.Relation.{Relation}
 use Rattle.bb_lang.specs.Relation.TheVariants as relations
 use Rattle.bb_lang.specs.Variable.{Variable}
 use Rattle.bb_schema_classes.specs.declared.kind.Link.{Link}
-use Rattle.bb_compile_scope.specs.declared.fault.Flaw.{Flaw}
-use Rattle.bb_compile_scope.specs.declared.fault.Flaw.TheVariants.{Unknown, Limit}
+use Rattle.bb_compile_scope.specs.declared.fault.TextFlaw.{TextFlaw}
+use Rattle.bb_compile_scope.specs.declared.fault.TextFlaw.TheVariants.{Unknown, Limit}
 use Rattle.bb_compile_scope.specs.Slots.{link_slot, dimension}
 use Rattle.bb_compile_emit.specs.declared.asked.Asked.{Asked}
 use Rattle.bb_compile_buffer.specs.declared.buffer.Buffer.{Buffer}
@@ -81,7 +81,7 @@ query_code (Some class) (Some space) asked pattern room s = do
   Ok (Some class, u)
 query_code class space asked pattern room s = Ok (class, s)
 
-abbrev pub linked_by : Result (ℕ × Link) Flaw → Step (Option ℕ)
+abbrev pub linked_by : Result (ℕ × Link) TextFlaw → Step (Option ℕ)
 linked_by (Err flaw) s = Ok (None, noted flaw s)
 linked_by (Ok slot) s = do
   t ← put (Links slot.0) s

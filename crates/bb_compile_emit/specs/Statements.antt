@@ -16,7 +16,7 @@ use Rattle.bb_lang.specs.View.{sequence_of}
 use Rattle.bb_lang.specs.BlockView.{statement_of}
 use Rattle.bb_lang.specs.Blocks.{BlockTree, StatementTree, OtherwiseTree, no_statement, before_others, action, if_of, with_of, for_of, absent, otherwise}
 use Rattle.bb_compile_scope.specs.Place.{Place}
-use Rattle.bb_compile_scope.specs.declared.fault.Flaw.TheVariants.{Unknown, NoEnd, Limit}
+use Rattle.bb_compile_scope.specs.declared.fault.TextFlaw.TheVariants.{Unknown, NoEnd, Limit}
 use Rattle.bb_compile_scope.specs.declared.fault.CompileFault.{CompileFault}
 use Rattle.bb_compile_scope.specs.declared.fault.CompileFault.TheVariants.{At}
 use Rattle.bb_compile_scope.specs.declared.scope.Mark.{Mark}

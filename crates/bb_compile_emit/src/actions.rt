@@ -12,8 +12,8 @@ use bb_basis::Text;
 use bb_code::{LinkChange, SAID_LIMIT, STACK_LIMIT};
 use bb_compile_buffer::{Buffer, emit_unit};
 use bb_compile_scope::{
-    ClassId, CompileFault, Flaw, Kind, Op, Part, Schema, SpaceId, Variable, assigned, link_slot,
-    value_slot,
+    ClassId, CompileFault, Kind, Op, Part, Schema, SpaceId, TextFlaw, Variable, assigned,
+    link_slot, value_slot,
 };
 use bb_lang::{Action, Expr};
 
@@ -24,7 +24,7 @@ fn check_effect(part: Part, buffer: &mut Buffer)
     if part.writes().is_ok() {
         return;
     }
-    buffer.note(Flaw::Effect);
+    buffer.note(TextFlaw::Effect);
 }
 
 // `let`
@@ -45,7 +45,7 @@ fn emit_assign(emitter: &mut Emitter, name: &Text, value: &Expr) -> Result<(), C
 {
     let kind = emit_expr(emitter, value, STACK_LIMIT)?;
     let Some(local) = emitter.buffer.scope.local_of(name.as_str()) else {
-        emitter.buffer.note(Flaw::Unknown);
+        emitter.buffer.note(TextFlaw::Unknown);
         return Ok(());
     };
     let Some(kind) = kind else {
@@ -53,7 +53,7 @@ fn emit_assign(emitter: &mut Emitter, name: &Text, value: &Expr) -> Result<(), C
     };
     match assigned(emitter.schema, emitter.buffer.scope.kinds.get(local), kind) {
         None => {
-            emitter.buffer.note(Flaw::Kind);
+            emitter.buffer.note(TextFlaw::Kind);
             Ok(())
         }
         Some(kind) => {
@@ -69,7 +69,7 @@ fn emit_new(emitter: &mut Emitter, name: &Text, class: &Text) -> Result<(), Comp
     ensures { Lays emitter.old emitter.new result (new_code emitter.old.schema.now name.now class.now) }
 {
     let Some(class) = emitter.schema.class(class.as_str()) else {
-        emitter.buffer.note(Flaw::Unknown);
+        emitter.buffer.note(TextFlaw::Unknown);
         return Ok(());
     };
     emitter.buffer.put(Op::New(class))?;
@@ -113,7 +113,7 @@ fn check_link(schema: &Schema, buffer: &mut Buffer, to: ClassId, other: Option<C
     if schema.descends(other, to) {
         return;
     }
-    buffer.note(Flaw::LinkClass);
+    buffer.note(TextFlaw::LinkClass);
 }
 
 // The op that links or unlinks two units, which lie on the stack.
@@ -166,7 +166,7 @@ fn check_space(schema: &Schema, buffer: &mut Buffer, space: SpaceId, class: Clas
     if schema.allowed(space, class) {
         return;
     }
-    buffer.note(Flaw::Space);
+    buffer.note(TextFlaw::Space);
 }
 
 // `enter`
@@ -193,7 +193,7 @@ fn emit_leave(emitter: &mut Emitter, unit: &Variable, space: &Text) -> Result<()
 {
     let _class = emit_unit(&mut emitter.buffer, unit, STACK_LIMIT)?;
     let Some(space) = emitter.schema.space(space.as_str()) else {
-        emitter.buffer.note(Flaw::Unknown);
+        emitter.buffer.note(TextFlaw::Unknown);
         return Ok(());
     };
     emitter.buffer.put(Op::Leave(space))
@@ -232,7 +232,7 @@ fn emit_say(emitter: &mut Emitter, values: &[Expr]) -> Result<(), CompileFault>
 {
     emit_values(emitter, values)?;
     if values.len() > SAID_LIMIT as usize {
-        emitter.buffer.note(Flaw::Limit);
+        emitter.buffer.note(TextFlaw::Limit);
         return Ok(());
     }
     emitter.buffer.put(Op::Say(values.len() as u8))
@@ -255,7 +255,7 @@ fn check_end(right: bool, buffer: &mut Buffer)
     if right {
         return;
     }
-    buffer.note(Flaw::NoEnd);
+    buffer.note(TextFlaw::NoEnd);
 }
 
 // A change of a unit.

@@ -11,7 +11,7 @@ ghost use Rattle.bb_compile_emit.specs.Queries.{operand_noted, test_tree};
 use bb_basis::Items;
 use bb_code::{NODE_LIMIT, Node, OPERAND_LIMIT, OperandKind, Relation as PatternRelation};
 use bb_compile_buffer::Buffer;
-use bb_compile_scope::{Flaw, Kind};
+use bb_compile_scope::{Kind, TextFlaw};
 use bb_lang::Relation;
 use std::alloc::{AllocError, Global};
 
@@ -74,7 +74,7 @@ impl Asked {
         ensures buffer { buffer.new ≡ node_noted self.old buffer.old }
     {
         if self.nodes == 0 {
-            buffer.note(Flaw::Limit);
+            buffer.note(TextFlaw::Limit);
             return;
         }
         self.nodes -= 1;
@@ -88,7 +88,7 @@ impl Asked {
     {
         let number = self.kinds.len();
         if number >= OPERAND_LIMIT {
-            buffer.note(Flaw::Limit);
+            buffer.note(TextFlaw::Limit);
             return Ok(0);
         }
         self.kinds.push(operand_kind(kind))?;

@@ -15,7 +15,7 @@ use bb_basis::Text;
 use bb_code::STACK_LIMIT;
 use bb_compile_buffer::{Buffer, emit_unit, emit_variable};
 use bb_compile_scope::{
-    ClassId, CompileFault, Flaw, Kind, Op, Schema, Variable, class_of, is_live, partner_slot,
+    ClassId, CompileFault, Kind, Op, Schema, TextFlaw, Variable, class_of, is_live, partner_slot,
 };
 use bb_lang::Binding;
 
@@ -101,7 +101,7 @@ fn emit_bound(
         (bound_as emitter.old.schema.now name.now held class) }
 {
     if !is_test(emitter.schema, held, class) {
-        emitter.buffer.note(Flaw::Kind);
+        emitter.buffer.note(TextFlaw::Kind);
         return Ok(None);
     }
     let exits = emit_test(&mut emitter.buffer, held, class)?;

@@ -21,7 +21,7 @@ use bb_compile_buffer::{
     Buffer, emit_atom, emit_binary, emit_division, emit_operator, emit_unary, emit_unit,
 };
 use bb_compile_scope::{
-    ClassId, CompileFault, Flaw, Kind, Op, Schema, SpaceId, Variable, dimension, link_slot,
+    ClassId, CompileFault, Kind, Op, Schema, SpaceId, TextFlaw, Variable, dimension, link_slot,
 };
 use bb_lang::{Expr, ExprNode, Pattern, PatternNode, Relation, Sequence, Step};
 
@@ -118,7 +118,7 @@ fn emit_test(
         return Ok(CodePattern::new(Node::All));
     };
     let Some((dim, due)) = dimension(emitter.schema, space, dim.as_str(), relation) else {
-        emitter.buffer.note(Flaw::Unknown);
+        emitter.buffer.note(TextFlaw::Unknown);
         return Ok(CodePattern::new(Node::All));
     };
     emitter.buffer.due(operand, due);

@@ -13,5 +13,5 @@ mod looping;
 mod part;
 mod statements;
 
-pub use bb_compile_scope::{CompileFault, Flaw, Place};
+pub use bb_compile_scope::{CompileFault, Place, TextFlaw};
 pub use part::emit_part;

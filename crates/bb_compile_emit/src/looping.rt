@@ -12,7 +12,7 @@ use bb_basis::Text;
 use bb_code::STACK_LIMIT;
 use bb_compile_buffer::Buffer;
 use bb_compile_scope::{
-    Block, ClassId, CompileFault, Flaw, Kind, LocalId, Mark, Op, Place, Schema, kill_under,
+    Block, ClassId, CompileFault, Kind, LocalId, Mark, Op, Place, Schema, TextFlaw, kill_under,
 };
 use bb_lang::Sequence;
 use std::alloc::AllocError;
@@ -30,7 +30,7 @@ fn check_nesting(buffer: &mut Buffer, loops: usize)
     ensures { buffer.new ≡ loop_noted loops buffer.old }
 {
     if loops == 0 {
-        buffer.note(Flaw::Limit);
+        buffer.note(TextFlaw::Limit);
     }
 }
 
@@ -48,7 +48,7 @@ pub(crate) fn emit_over(
     let found = emit_sequence(emitter, sequence, STACK_LIMIT)?;
     check_nesting(&mut emitter.buffer, loops);
     emitter.buffer.settle(place)?;
-    let flaw = Flaw::Unknown;
+    let flaw = TextFlaw::Unknown;
     let class = found.ok_or(CompileFault::At { flaw, place })?;
     let local = emitter.buffer.take_local(Kind::Seq(class))?;
     emitter.buffer.put(Op::Store(local))?;

@@ -9,7 +9,7 @@ use crate::emitter::Emitter;
 use crate::statements::emit_block;
 use bb_code::Code;
 use bb_compile_buffer::{Buffer, finish};
-use bb_compile_scope::{Block, CompileFault, Flaw, Op, Part, Place, Schema, block_ends};
+use bb_compile_scope::{Block, CompileFault, Op, Part, Place, Schema, TextFlaw, block_ends};
 use std::alloc::Global;
 
 /// How many loops may be nested.
@@ -45,7 +45,7 @@ pub fn emit_part(
     ensures { Gives OutOfMemory (λ code. code) result (part_code schema.now part place block.now) }
 {
     if has_no_end(part, block) {
-        let flaw = Flaw::NoEnd;
+        let flaw = TextFlaw::NoEnd;
         return Err(CompileFault::At { flaw, place });
     }
     let buffer = Buffer::new(alloc, part, place)?;

@@ -16,7 +16,7 @@ use crate::expressions::emit_expr;
 use crate::looping::{begin_loop, emit_over};
 use bb_code::STACK_LIMIT;
 use bb_compile_buffer::Buffer;
-use bb_compile_scope::{Block, CompileFault, Flaw, Kind, Mark, Op, Place, ends};
+use bb_compile_scope::{Block, CompileFault, Kind, Mark, Op, Place, TextFlaw, ends};
 use bb_lang::{Action, Binding, Branches, Expr, ForLoop, Placed, Statement};
 
 // The test of an `if`.
@@ -40,7 +40,7 @@ fn emit_bound(emitter: &mut Emitter, binding: &Binding, place: Place) -> Result<
 {
     let found = emit_binding(emitter, binding)?;
     emitter.buffer.settle(place)?;
-    let flaw = Flaw::Unknown;
+    let flaw = TextFlaw::Unknown;
     found.ok_or(CompileFault::At { flaw, place })
 }
 
@@ -49,7 +49,7 @@ fn check_after_end(buffer: &mut Buffer, ended: bool)
     ensures { buffer.new ≡ after_end ended buffer.old }
 {
     if ended {
-        buffer.note(Flaw::NoEnd);
+        buffer.note(TextFlaw::NoEnd);
     }
 }
 

@@ -25,8 +25,8 @@ use Rattle.bb_lang.specs.Atom.TheVariants as atoms
 use Rattle.bb_lang.specs.Variable.{Variable}
 use Rattle.bb_compile_scope.specs.declared.fault.CompileFault.{CompileFault}
 use Rattle.bb_compile_scope.specs.declared.fault.CompileFault.TheVariants.{At}
-use Rattle.bb_compile_scope.specs.declared.fault.Flaw.{Flaw}
-use Rattle.bb_compile_scope.specs.declared.fault.Flaw.TheVariants.{Unknown, Limit}
+use Rattle.bb_compile_scope.specs.declared.fault.TextFlaw.{TextFlaw}
+use Rattle.bb_compile_scope.specs.declared.fault.TextFlaw.TheVariants.{Unknown, Limit}
 use Rattle.bb_compile_scope.specs.declared.scope.Scope.{Scope}
 use Rattle.bb_compile_scope.specs.LocalKinds.{is_free, kind_at}
 use Rattle.bb_compile_scope.specs.Scope.{name_of}
@@ -115,7 +115,7 @@ value_slot_ok s c name p h =
     let kind = by_kind one.0.0 one.0.1 one.2 in
     (slot_of_ok s c name one.0 one.1 ∙ ap (λ n. Some n) kind.0, kind.1)
   where
-    by_pair : (slot : ℕ) (k : Kind) → is_free k ≡ false → (let r : Result (ℕ × Kind) Flaw = Ok (slot, k) in r) ≡ Ok p → (slot ≡ p.0) × (is_free p.1 ≡ false)
+    by_pair : (slot : ℕ) (k : Kind) → is_free k ≡ false → (let r : Result (ℕ × Kind) TextFlaw = Ok (slot, k) in r) ≡ Ok p → (slot ≡ p.0) × (is_free p.1 ≡ false)
     by_pair slot k known h =
         let e = same_ok (slot, k) p h in
         (ap (λ (q : ℕ × Kind). q.0) e, subst (λ (q : ℕ × Kind). is_free q.1 ≡ false) e known)
@@ -302,7 +302,7 @@ module _ (schema : Schema) (sf : schemas.Fits schema) (code : Code) where
     slot_means v name room s t made h clean has =
         let one = bind_ok (unit_code v room s) (λ p. got_from schema name p.0 p.1) (made, t) h in by_class one.0.0 one.0.1 one.1 one.2
       where
-        by_slot : (class : Option ℕ) (c : ℕ) (u : Buffer) (r : Result (ℕ × Kind) Flaw) → unit_code v room s ≡ Ok (class, u) → value_slot schema c name ≡ r → gotten r u ≡ Ok (made, t) → Means code start s t made (λ b names. texts.value_in b names v name)
+        by_slot : (class : Option ℕ) (c : ℕ) (u : Buffer) (r : Result (ℕ × Kind) TextFlaw) → unit_code v room s ≡ Ok (class, u) → value_slot schema c name ≡ r → gotten r u ≡ Ok (made, t) → Means code start s t made (λ b names. texts.value_in b names v name)
         by_slot class c u (Err flaw) code_is is h = never_noted flaw u (ap (λ (x : Buffer). x.flaw) (pair_ok None made (noted flaw u) t h).1 ∙ clean)
         by_slot class c u (Ok p) code_is is h =
             let one = bind_ok (put (ops.Get p.0) u) (λ x. Ok (Some p.1, x)) (made, t) h in

@@ -14,7 +14,7 @@ use Rattle.bb_schema.specs.Schema.{Schema, class_named, descends}
 use Rattle.bb_schema.specs.Fits as schemas
 use Rattle.bb_lang.specs.Action.TheVariants as actions
 use Rattle.bb_lang.specs.Trees.{ExprTree}
-use Rattle.bb_compile_scope.specs.declared.fault.Flaw.TheVariants.{Unknown, Kind as WrongKind}
+use Rattle.bb_compile_scope.specs.declared.fault.TextFlaw.TheVariants.{Unknown, Kind as WrongKind}
 use Rattle.bb_compile_scope.specs.declared.scope.Scope.{Scope}
 use Rattle.bb_compile_scope.specs.declared.scope.NamedLocal.{NamedLocal}
 use Rattle.bb_compile_scope.specs.Kinds.{assigned, assigned_unit, class_of, is_live, unit_of}

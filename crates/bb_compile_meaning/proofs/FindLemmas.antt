@@ -25,7 +25,7 @@ use Rattle.bb_lang.specs.Relation.{Relation}
 use Rattle.bb_lang.specs.Relation.TheVariants as relations
 use Rattle.bb_compile_scope.specs.declared.fault.CompileFault.{CompileFault}
 use Rattle.bb_compile_scope.specs.declared.fault.CompileFault.TheVariants.{At}
-use Rattle.bb_compile_scope.specs.declared.fault.Flaw.TheVariants.{Unknown, Limit}
+use Rattle.bb_compile_scope.specs.declared.fault.TextFlaw.TheVariants.{Unknown, Limit}
 use Rattle.bb_compile_scope.specs.declared.scope.Scope.{Scope}
 use Rattle.bb_compile_scope.specs.Slots.{index_of, in_byte, operand_due, dimension_at, dimension}
 use Rattle.bb_compile_accepted.specs.Asked.{Asked}

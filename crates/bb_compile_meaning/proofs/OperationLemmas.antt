@@ -26,7 +26,7 @@ use Rattle.bb_lang.specs.Operator.TheVariants as operators
 use Rattle.bb_lang.specs.Division.{Division}
 use Rattle.bb_lang.specs.Division.TheVariants as divisions
 use Rattle.bb_compile_scope.specs.declared.fault.CompileFault.{CompileFault}
-use Rattle.bb_compile_scope.specs.declared.fault.Flaw.TheVariants.{Kind as WrongKind, Limit}
+use Rattle.bb_compile_scope.specs.declared.fault.TextFlaw.TheVariants.{Kind as WrongKind, Limit}
 use Rattle.bb_compile_scope.specs.Kinds.{class_of, plain_equality, equality}
 use Rattle.bb_compile_scope.specs.LocalKinds.{is_free}
 use Rattle.bb_compile_accepted.specs.Buffer.{Buffer}

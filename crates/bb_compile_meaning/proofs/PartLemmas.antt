@@ -15,7 +15,7 @@ use Rattle.bb_lang.specs.Blocks.{BlockTree, no_statement, before_others, action,
 use Rattle.bb_compile_scope.specs.Place.{Place}
 use Rattle.bb_compile_scope.specs.declared.fault.CompileFault.{CompileFault}
 use Rattle.bb_compile_scope.specs.declared.fault.CompileFault.TheVariants.{At}
-use Rattle.bb_compile_scope.specs.declared.fault.Flaw.TheVariants.{NoEnd, Limit}
+use Rattle.bb_compile_scope.specs.declared.fault.TextFlaw.TheVariants.{NoEnd, Limit}
 use Rattle.bb_compile_scope.specs.Ending.{ends}
 use Rattle.bb_compile_scope.specs.Scope.{begin_with, of_unit, of_event, mark_of}
 use Rattle.bb_compile_accepted.specs.Buffer.{Buffer}

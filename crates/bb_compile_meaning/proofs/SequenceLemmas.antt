@@ -12,7 +12,7 @@ use Rattle.bb_schema.specs.Schema.{Schema, slot_named}
 use Rattle.bb_schema.specs.Fits as schemas
 use Rattle.bb_links.specs.Links.{ends}
 use Rattle.bb_lang.specs.Variable.{Variable}
-use Rattle.bb_compile_scope.specs.declared.fault.Flaw.{Flaw}
+use Rattle.bb_compile_scope.specs.declared.fault.TextFlaw.{TextFlaw}
 use Rattle.bb_compile_scope.specs.Scope.{name_of}
 use Rattle.bb_compile_scope.specs.Slots.{link_slot}
 use Rattle.bb_compile_accepted.specs.Buffer.{Buffer}
@@ -108,7 +108,7 @@ module _ (schema : Schema) (sf : schemas.Fits schema) (code : Code) where
     links_mean v name room s t class h clean has =
         let one = bind_ok (unit_code v room s) (λ p. linked_from schema name p.0 p.1) (class, t) h in by_class one.0.0 one.0.1 one.1 one.2
       where
-        by_slot : (class' : Option ℕ) (c : ℕ) (u : Buffer) (r : Result (ℕ × Link) Flaw) → unit_code v room s ≡ Ok (class', u) → link_slot schema c name ≡ r → linked_by r u ≡ Ok (class, t) → MeansUnits s t (λ b names. texts.linked_units b names v name)
+        by_slot : (class' : Option ℕ) (c : ℕ) (u : Buffer) (r : Result (ℕ × Link) TextFlaw) → unit_code v room s ≡ Ok (class', u) → link_slot schema c name ≡ r → linked_by r u ≡ Ok (class, t) → MeansUnits s t (λ b names. texts.linked_units b names v name)
         by_slot class' c u (Err flaw) code_is is h = never_noted flaw u (ap (λ (x : Buffer). x.flaw) (pair_ok None class (noted flaw u) t h).1 ∙ clean)
         by_slot class' c u (Ok p) code_is is h =
             let one = bind_ok (put (ops.Links p.0) u) (λ x. Ok (Some p.1.to, x)) (class, t) h in

@@ -17,7 +17,7 @@ use Rattle.bb_compile_scope.specs.Ending.{block_ends}
 use Rattle.bb_compile_scope.specs.Place.{Place}
 use Rattle.bb_compile_scope.specs.declared.fault.CompileFault.{CompileFault}
 use Rattle.bb_compile_scope.specs.declared.fault.CompileFault.TheVariants.{At}
-use Rattle.bb_compile_scope.specs.declared.fault.Flaw.TheVariants.{Unknown, NoEnd}
+use Rattle.bb_compile_scope.specs.declared.fault.TextFlaw.TheVariants.{Unknown, NoEnd}
 use Rattle.bb_bundle.specs.declared.draft.ActDraft.{ActDraft}
 use Rattle.bb_bundle.specs.declared.draft.ActDraft.TheVariants as drafts
 use Rattle.bb_bundle.specs.declared.draft.Parts.{Parts}

@@ -16,8 +16,8 @@ use Rattle.bb_schema.specs.Fits as schemas
 use Rattle.bb_lang.specs.Variable.{Variable}
 use Rattle.bb_lang.specs.Action.TheVariants as actions
 use Rattle.bb_lang.specs.Trees.{ExprTree}
-use Rattle.bb_compile_scope.specs.declared.fault.Flaw.{Flaw}
-use Rattle.bb_compile_scope.specs.declared.fault.Flaw.TheVariants.{Unknown, LinkClass, Space}
+use Rattle.bb_compile_scope.specs.declared.fault.TextFlaw.{TextFlaw}
+use Rattle.bb_compile_scope.specs.declared.fault.TextFlaw.TheVariants.{Unknown, LinkClass, Space}
 use Rattle.bb_compile_scope.specs.declared.scope.Scope.{Scope}
 use Rattle.bb_compile_scope.specs.declared.scope.NamedLocal.{NamedLocal}
 use Rattle.bb_compile_scope.specs.Scope.{name_of}
@@ -133,7 +133,7 @@ module _ (schema : Schema) (sf : schemas.Fits schema) (code : Code) (start : Sta
       let two = bind_ok (expr_code schema (STACK_LIMIT - 1) e one.0.1) (λ q. set_in schema one.0.0 slot q.0 q.1) t one.2 in
       by_class one.0.0 one.0.1 two.0.0 two.0.1 one.1 two.1 two.2
     where
-      by_slot : (class : Option ℕ) (c : ℕ) (u : Buffer) (made : Made) (w : Buffer) (r : Result (ℕ × Kind) Flaw) → value_slot schema c slot ≡ r → unit_code v STACK_LIMIT s ≡ Ok (class, u) → expr_code schema (STACK_LIMIT - 1) e u ≡ Ok (made, w) → set_by r made w ≡ Ok t
+      by_slot : (class : Option ℕ) (c : ℕ) (u : Buffer) (made : Made) (w : Buffer) (r : Result (ℕ × Kind) TextFlaw) → value_slot schema c slot ≡ r → unit_code v STACK_LIMIT s ≡ Ok (class, u) → expr_code schema (STACK_LIMIT - 1) e u ≡ Ok (made, w) → set_by r made w ≡ Ok t
           → Does s t (acted (actions.Set v slot e))
       by_slot class c u made w (Err flaw) at is value h = never_noted flaw w (ap (λ (x : Buffer). x.flaw) (same_ok (noted flaw w) t h) ∙ clean)
       by_slot class c u made w (Ok p) at is value h =
@@ -166,7 +166,7 @@ module _ (schema : Schema) (sf : schemas.Fits schema) (code : Code) (start : Sta
       link_right to None w free = refl
       link_right to (Some c) w free = (passed (descends schema c to) LinkClass w free).1
 
-      by_slot : (class : Option ℕ) (c : ℕ) (u : Buffer) (of : Option ℕ) (w : Buffer) (r : Result (ℕ × Link) Flaw) → link_slot schema c slot ≡ r → unit_code v STACK_LIMIT s ≡ Ok (class, u) → unit_code other (STACK_LIMIT - 1) u ≡ Ok (of, w) → relinked_by schema change r of w ≡ Ok t
+      by_slot : (class : Option ℕ) (c : ℕ) (u : Buffer) (of : Option ℕ) (w : Buffer) (r : Result (ℕ × Link) TextFlaw) → link_slot schema c slot ≡ r → unit_code v STACK_LIMIT s ≡ Ok (class, u) → unit_code other (STACK_LIMIT - 1) u ≡ Ok (of, w) → relinked_by schema change r of w ≡ Ok t
           → Does s t (λ scene. named (name_of v) scene.names >>= λ x. named (name_of other) scene.names >>= λ y. relinked (after_change change scene.board.schema) slot x y scene)
       by_slot class c u of w (Err flaw) at is also h = never_noted flaw w (ap (λ (x : Buffer). x.flaw) (same_ok (noted flaw w) t h) ∙ clean)
       by_slot class c u of w (Ok p) at is also h =

@@ -1,12 +1,12 @@
 -- What is wrong with a source, by its number.
 use Rattle.std.specs.Prelude.{ℕ, nat_lt, Option, Some, None, if◌then◌else◌}
-use Rattle.bb_compile_scope.specs.declared.fault.Flaw.{Flaw}
-use Rattle.bb_compile_scope.specs.declared.fault.Flaw.TheVariants.{Unknown, Kind, DeadName, LinkClass, Space, Effect, NoEnd, Limit}
+use Rattle.bb_compile_scope.specs.declared.fault.TextFlaw.{TextFlaw}
+use Rattle.bb_compile_scope.specs.declared.fault.TextFlaw.TheVariants.{Unknown, Kind, DeadName, LinkClass, Space, Effect, NoEnd, Limit}
 use Rattle.bb_compile_scope.specs.declared.fault.CompileFault.{CompileFault}
 use Rattle.bb_compile_scope.specs.declared.fault.CompileFault.TheVariants.{At, Memory}
 
 -- the number of a flaw
-abbrev pub flaw_number : Flaw → ℕ
+abbrev pub flaw_number : TextFlaw → ℕ
 flaw_number Unknown = 1
 flaw_number Kind = 2
 flaw_number DeadName = 3
@@ -17,7 +17,7 @@ flaw_number NoEnd = 7
 flaw_number Limit = 8
 
 -- of the flaws that were seen and one more the one of the least number
-unfoldable pub lowest : Option Flaw → Flaw → Flaw
+unfoldable pub lowest : Option TextFlaw → TextFlaw → TextFlaw
 lowest None flaw = flaw
 lowest (Some first) flaw = if nat_lt (flaw_number first) (flaw_number flaw) then first else flaw
 

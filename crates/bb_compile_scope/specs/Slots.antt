@@ -11,19 +11,19 @@ use Rattle.bb_verify_frame.specs.Kind.{Kind}
 use Rattle.bb_verify_frame.specs.Kind.TheVariants as kinds
 use Rattle.bb_lang.specs.Relation.{Relation}
 use Rattle.bb_lang.specs.Relation.TheVariants.{Is}
-use Rattle.bb_compile_scope.specs.declared.fault.Flaw.{Flaw}
-use Rattle.bb_compile_scope.specs.declared.fault.Flaw.TheVariants.{Unknown, Kind as WrongKind}
+use Rattle.bb_compile_scope.specs.declared.fault.TextFlaw.{TextFlaw}
+use Rattle.bb_compile_scope.specs.declared.fault.TextFlaw.TheVariants.{Unknown, Kind as WrongKind}
 
 -- what the slot of a number can hold
 abbrev pub with_kind : Schema → ℕ → Option (ℕ × SlotKind)
 with_kind s slot = option_map (λ kind. (slot, kind)) (kind_of_slot s slot)
 
 -- the slot of a name in a class, with what it can hold
-unfoldable pub slot_of : Schema → (class : ℕ) → (name : List ℕ) → Result (ℕ × SlotKind) Flaw
+unfoldable pub slot_of : Schema → (class : ℕ) → (name : List ℕ) → Result (ℕ × SlotKind) TextFlaw
 slot_of s class name = ok_or (slot_named s class name) Unknown >>= λ slot. ok_or (with_kind s slot) Unknown
 
 -- an ordinary slot, with the kind of its values
-abbrev pub value_in : ℕ → SlotKind → Result (ℕ × Kind) Flaw
+abbrev pub value_in : ℕ → SlotKind → Result (ℕ × Kind) TextFlaw
 value_in slot held.Int = Ok (slot, kinds.Int)
 value_in slot held.Text = Ok (slot, kinds.Text)
 value_in slot held.Bool = Ok (slot, kinds.Bool)
@@ -32,24 +32,24 @@ value_in slot held.Interval = Ok (slot, kinds.Interval)
 value_in slot (held.Link link) = Err WrongKind
 
 -- a link slot, with its link
-abbrev pub link_in : ℕ → SlotKind → Result (ℕ × Link) Flaw
+abbrev pub link_in : ℕ → SlotKind → Result (ℕ × Link) TextFlaw
 link_in slot (held.Link link) = Ok (slot, link)
 link_in slot _ = Err WrongKind
 
 -- a link slot that holds one unit at most, with the unit's class
-abbrev pub partner_in : ℕ → Link → Result (ℕ × ℕ) Flaw
+abbrev pub partner_in : ℕ → Link → Result (ℕ × ℕ) TextFlaw
 partner_in slot link = if link.many then Err WrongKind else Ok (slot, link.to)
 
 -- the ordinary slot of a name
-unfoldable pub value_slot : Schema → (class : ℕ) → (name : List ℕ) → Result (ℕ × Kind) Flaw
+unfoldable pub value_slot : Schema → (class : ℕ) → (name : List ℕ) → Result (ℕ × Kind) TextFlaw
 value_slot s class name = slot_of s class name >>= λ p. value_in p.0 p.1
 
 -- the link slot of a name
-unfoldable pub link_slot : Schema → (class : ℕ) → (name : List ℕ) → Result (ℕ × Link) Flaw
+unfoldable pub link_slot : Schema → (class : ℕ) → (name : List ℕ) → Result (ℕ × Link) TextFlaw
 link_slot s class name = slot_of s class name >>= λ p. link_in p.0 p.1
 
 -- the singular link slot of a name
-unfoldable pub partner_slot : Schema → (class : ℕ) → (name : List ℕ) → Result (ℕ × ℕ) Flaw
+unfoldable pub partner_slot : Schema → (class : ℕ) → (name : List ℕ) → Result (ℕ × ℕ) TextFlaw
 partner_slot s class name = link_slot s class name >>= λ p. partner_in p.0 p.1
 
 -- ---- dimensions

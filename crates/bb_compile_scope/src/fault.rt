@@ -10,7 +10,7 @@ use thiserror::Error;
 
 /// What is wrong with a statement, a part or a clause.
 #[derive(Clone, Copy, Debug, PartialEq, Eq, Error)]
-pub enum Flaw {
+pub enum TextFlaw {
     /// A name, class, slot, space or label that is not there, or a dimension that is not there for the relation.
     #[error("a name that is not there")]
     Unknown,
@@ -37,27 +37,27 @@ pub enum Flaw {
     Limit,
 }
 
-impl Flaw {
+impl TextFlaw {
     /// The number of the flaw, from 1 to 8. Of several of one statement the least is answered.
     pub fn number(self) -> u8
         ensures { result ≡ flaw_number self }
     {
         match self {
-            Flaw::Unknown => 1,
-            Flaw::Kind => 2,
-            Flaw::DeadName => 3,
-            Flaw::LinkClass => 4,
-            Flaw::Space => 5,
-            Flaw::Effect => 6,
-            Flaw::NoEnd => 7,
-            Flaw::Limit => 8,
+            TextFlaw::Unknown => 1,
+            TextFlaw::Kind => 2,
+            TextFlaw::DeadName => 3,
+            TextFlaw::LinkClass => 4,
+            TextFlaw::Space => 5,
+            TextFlaw::Effect => 6,
+            TextFlaw::NoEnd => 7,
+            TextFlaw::Limit => 8,
         }
     }
 }
 
 /// Of the flaws of a statement that were seen so far and one more the one of the least number.
 #[tactic(auto, unfolding(crate::specs::Faults::lowest))]
-pub fn lowest(seen: Option<Flaw>, flaw: Flaw) -> Flaw
+pub fn lowest(seen: Option<TextFlaw>, flaw: TextFlaw) -> TextFlaw
     ensures { result ≡ lowest seen flaw }
 {
     match seen {
@@ -76,7 +76,7 @@ pub fn lowest(seen: Option<Flaw>, flaw: Flaw) -> Flaw
 pub enum CompileFault {
     /// The flaw of what begins at the place.
     #[error("line {line}, column {column}: {flaw}", line = .place.line, column = .place.column)]
-    At { flaw: Flaw, place: Place },
+    At { flaw: TextFlaw, place: Place },
     /// Memory ran out.
     #[error("out of memory")]
     Memory,

@@ -13,7 +13,7 @@ mod slots;
 pub use bb_lang::{Block, Place, Variable};
 pub use bb_verify_frame::{ClassId, Kind, LocalId, Op, Part, Schema, SlotId, SpaceId};
 pub use ending::{block_ends, ends};
-pub use fault::{CompileFault, Flaw, lowest};
+pub use fault::{CompileFault, TextFlaw, lowest};
 pub use killed::kill_under;
 pub use kinds::{assigned, class_of, equality, is_live};
 pub use local_kinds::LocalKinds;

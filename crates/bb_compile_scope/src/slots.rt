@@ -3,26 +3,26 @@
 ghost use Rattle.std.specs.Prelude.{◌≡◌, ◌<◌, IfSome, length, position};
 ghost use Rattle.bb_compile_scope.specs.Slots.{slot_of, value_slot, link_slot, partner_slot, index_of, operand_due, dimension};
 
-use crate::fault::Flaw;
+use crate::fault::TextFlaw;
 use bb_lang::Relation;
 use bb_schema::{Dim, Kind as SlotKind, LabelSetId, Link};
 use bb_verify_frame::{ClassId, Kind, Schema, SlotId, SpaceId};
 
 // The slot of a name in a class, with what it can hold.
 #[tactic(auto, unfolding(crate::specs::Slots::slot_of))]
-fn slot_of(schema: &Schema, class: ClassId, name: &str) -> Result<(SlotId, SlotKind), Flaw>
+fn slot_of(schema: &Schema, class: ClassId, name: &str) -> Result<(SlotId, SlotKind), TextFlaw>
     ensures { result ≡ slot_of schema.now class name.now }
 {
-    let slot = schema.slot(class, name).ok_or(Flaw::Unknown)?;
+    let slot = schema.slot(class, name).ok_or(TextFlaw::Unknown)?;
     if slot as usize >= schema.slot_count() {
-        return Err(Flaw::Unknown);
+        return Err(TextFlaw::Unknown);
     }
     Ok((slot, schema.kind(slot)))
 }
 
 /// The ordinary slot of a name in a class, with the kind of its values. `Unknown`: no such slot; `Kind`: a link slot.
 #[tactic(auto, unfolding(crate::specs::Slots::value_slot))]
-pub fn value_slot(schema: &Schema, class: ClassId, name: &str) -> Result<(SlotId, Kind), Flaw>
+pub fn value_slot(schema: &Schema, class: ClassId, name: &str) -> Result<(SlotId, Kind), TextFlaw>
     ensures { result ≡ value_slot schema.now class name.now }
 {
     let (slot, kind) = slot_of(schema, class, name)?;
@@ -32,30 +32,34 @@ pub fn value_slot(schema: &Schema, class: ClassId, name: &str) -> Result<(SlotId
         SlotKind::Bool => Ok((slot, Kind::Bool)),
         SlotKind::Label(set) => Ok((slot, Kind::Label(set))),
         SlotKind::Interval => Ok((slot, Kind::Interval)),
-        SlotKind::Link(_link) => Err(Flaw::Kind),
+        SlotKind::Link(_link) => Err(TextFlaw::Kind),
     }
 }
 
 /// The link slot of a name in a class, with its link. `Unknown`: no such slot; `Kind`: an ordinary slot.
 #[tactic(auto, unfolding(crate::specs::Slots::link_slot))]
-pub fn link_slot(schema: &Schema, class: ClassId, name: &str) -> Result<(SlotId, Link), Flaw>
+pub fn link_slot(schema: &Schema, class: ClassId, name: &str) -> Result<(SlotId, Link), TextFlaw>
     ensures { result ≡ link_slot schema.now class name.now }
 {
     let (slot, kind) = slot_of(schema, class, name)?;
     match kind {
         SlotKind::Link(link) => Ok((slot, link)),
-        _ => Err(Flaw::Kind),
+        _ => Err(TextFlaw::Kind),
     }
 }
 
 /// The singular link slot of a name in a class, with the partner's class. `Unknown`: no such slot; `Kind`: another.
 #[tactic(auto, unfolding(crate::specs::Slots::partner_slot))]
-pub fn partner_slot(schema: &Schema, class: ClassId, name: &str) -> Result<(SlotId, ClassId), Flaw>
+pub fn partner_slot(
+    schema: &Schema,
+    class: ClassId,
+    name: &str,
+) -> Result<(SlotId, ClassId), TextFlaw>
     ensures { result ≡ partner_slot schema.now class name.now }
 {
     let (slot, link) = link_slot(schema, class, name)?;
     if link.many {
-        return Err(Flaw::Kind);
+        return Err(TextFlaw::Kind);
     }
     Ok((slot, link.to))
 }

@@ -1,7 +1,7 @@
 //! Tests of the code of a part, with memory, and of the flaw of one that does not end.
 
 use bb_code::Calculation;
-use bb_compile_emit::{CompileFault, Flaw, Place, emit_part};
+use bb_compile_emit::{CompileFault, Place, TextFlaw, emit_part};
 use bb_compile_scope::{Op, Part};
 use bb_lang::{ActText, parse};
 use bb_schema::Schema;
@@ -39,7 +39,7 @@ fn a_part(rt: HostRuntime) -> Result<(), Fail> {
         let part = Part::Require { class: 1 };
         let fault = emit_part(rt.alloc(), &schema, part, text.place, &text.block).err();
         let place = Place { line: 4, column: 3 };
-        let flaw = Flaw::NoEnd;
+        let flaw = TextFlaw::NoEnd;
         assert_eq!(rt; fault, Some(CompileFault::At { flaw, place }));
     }
     Ok(())

@@ -5,7 +5,7 @@ use crate::input_fault::InputFault;
 use bb_board::{UnitsFault, UnitsFlaw};
 use bb_bundle::BundleFault;
 use bb_code::CodeFault;
-use bb_compile_scope::{CompileFault, Flaw as TextFlaw};
+use bb_compile_scope::{CompileFault, TextFlaw};
 use bb_lang_token::{LangFault, Place};
 use bb_rules::RuleFault;
 use bb_schema_classes::{DocumentPlace, SchemaFault, SchemaFlaw};

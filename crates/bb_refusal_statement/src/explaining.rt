@@ -5,7 +5,7 @@ use crate::others::{write_effect, write_end, write_limit};
 use crate::units::{write_gone, write_space, write_wrong_class};
 use crate::unknown::write_unknown;
 use bb_basis::Memory;
-use bb_compile_scope::{Flaw, Place, Schema};
+use bb_compile_scope::{Place, Schema, TextFlaw};
 use bb_refusal_grammar::source_tokens;
 use bb_refusal_scope::{Judge, Statement};
 use std::alloc::Global;
@@ -18,7 +18,7 @@ const LONGEST: usize = 8_192;
 pub struct Found<'a> {
     /// The name of the source.
     pub name: &'a str,
-    pub flaw: Flaw,
+    pub flaw: TextFlaw,
     pub place: Place,
 }
 
@@ -40,14 +40,14 @@ pub fn explain_statement(
     let judge = Judge::before(alloc, schema, statement)?;
     let mut text = String::new(alloc);
     match found.flaw {
-        Flaw::Unknown => write_unknown(&mut text, &judge, statement)?,
-        Flaw::Kind => write_mismatch(&mut text, &judge, statement)?,
-        Flaw::DeadName => write_gone(&mut text, &judge, statement)?,
-        Flaw::LinkClass => write_wrong_class(&mut text, &judge, statement)?,
-        Flaw::Space => write_space(&mut text, &judge, statement)?,
-        Flaw::Effect => write_effect(&mut text, &judge, statement)?,
-        Flaw::NoEnd => write_end(&mut text, &judge, statement)?,
-        Flaw::Limit => write_limit(&mut text, &judge, statement)?,
+        TextFlaw::Unknown => write_unknown(&mut text, &judge, statement)?,
+        TextFlaw::Kind => write_mismatch(&mut text, &judge, statement)?,
+        TextFlaw::DeadName => write_gone(&mut text, &judge, statement)?,
+        TextFlaw::LinkClass => write_wrong_class(&mut text, &judge, statement)?,
+        TextFlaw::Space => write_space(&mut text, &judge, statement)?,
+        TextFlaw::Effect => write_effect(&mut text, &judge, statement)?,
+        TextFlaw::NoEnd => write_end(&mut text, &judge, statement)?,
+        TextFlaw::Limit => write_limit(&mut text, &judge, statement)?,
     }
     if text.is_empty() {
         return Ok(None);

@@ -1,6 +1,6 @@
 //! Tests of the compiler: the bundle of a source, and the fault of another.
 
-use bb_compile::{CompileFault, Flaw, Place, SourceCode, bundle, compile, parse};
+use bb_compile::{CompileFault, Place, SourceCode, TextFlaw, bundle, compile, parse};
 use bb_schema::Schema;
 use std::alloc::Global;
 use std::test::Fail;
@@ -41,7 +41,7 @@ fn faulty_text(rt: HostRuntime) -> Result<(), Fail> {
             line: 1,
             column: 56,
         };
-        let flaw = Flaw::Unknown;
+        let flaw = TextFlaw::Unknown;
         match compile(rt.alloc(), &schema, &source) {
             Ok(_) => panic!(rt; "a name that is not in scope"),
             Err(fault) => assert_eq!(rt; fault, CompileFault::At { flaw, place }),

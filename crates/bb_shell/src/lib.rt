@@ -23,7 +23,7 @@ mod written;
 
 pub use bb_basis::{Items, Memory, Text};
 pub use bb_bundle::BundleFault;
-pub use bb_compile_scope::{CompileFault, Flaw as TextFlaw};
+pub use bb_compile_scope::{CompileFault, TextFlaw};
 pub use bb_lang::{LangFault, Place};
 pub use bb_refusal::InputFault;
 pub use bb_run::{
