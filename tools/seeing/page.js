@@ -1,7 +1,5 @@
 // What is shown, by the page's address: `#cycle-3`, `#act-5`, `#unit-7`, `#source-crop`, `#source-crop-do`, `#line-12`.
 
-const STUCK = ["", "Missing", "Kind", "Deleted", "LinkClass", "Outside", "Slot", "Turns"];
-
 const at = (selector) => document.querySelector(selector);
 const details = at(".details");
 const input = at("input");
@@ -9,14 +7,12 @@ const input = at("input");
 // ---- the head of the page
 
 function finishMeaning() {
-  const [word, reason] = run.finish.split(" ");
   return {
     "": "The trace is cut: it has no finish line.",
     quiescence: "Nothing could be chosen, and no answer to quiescence changed that.",
     limit: "It had made as many cycles as its limit, and could have made another.",
     full: "An activation would have been one too many, or a unit.",
-    stuck: `A code could not go on, for reason ${reason}${STUCK[reason] ? `, ${STUCK[reason]}` : ""}.`,
-  }[word];
+  }[run.finish];
 }
 
 function showTotals() {
@@ -27,7 +23,7 @@ function showTotals() {
   const state = at(".state");
   state.textContent = run.finish ? `finish ${run.finish}` : lines ? "cut" : "empty";
   state.title = finishMeaning();
-  state.classList.add(run.finish.split(" ")[0] || "cut");
+  state.classList.add(run.finish || "cut");
 }
 
 function showNotices() {

@@ -37,7 +37,7 @@ FORMS = {
     "refused": rf"refused ask {N} ([1-6])",
     "end": rf"end (?:steps {N} found {N} budget {N}|native {N})",
     "quiescence": r"quiescence",
-    "finish": rf"finish (?:(quiescence|limit|full)|stuck {N})",
+    "finish": r"finish (quiescence|limit|full)",
     "closed": rf"closed {NAME} {Z}",
 }
 FORMS = {word: re.compile(form) for word, form in FORMS.items()}
@@ -487,7 +487,7 @@ class Reader:
         self.events.append((line.number, 0))
 
     def take_finish(self, line: Line, match: re.Match) -> None:
-        self.run.finish = line.text.removeprefix("finish ")
+        self.run.finish = match[1]
         if match[1] in ("quiescence", "limit"):
             self.want(("first units", "reactions"), f"`finish {match[1]}` in a cycle that has no `end` yet")
         if match[1] == "quiescence" and not self.idle:

@@ -1,6 +1,6 @@
 //! The calls of the library.
 
-ghost use Rattle.std.specs.Prelude.{◌≡◌, ◌≢◌, ◌≤◌, [], map, min, length, take};
+ghost use Rattle.std.specs.Prelude.{◌≡◌, ◌≤◌, [], map, min, length, take};
 ghost use Rattle.bb_c.specs.Served.{IsLonger, IsServed, mode_of};
 ghost use Rattle.bb_c.specs.declared.serving.TheConstants.{ROOM};
 
@@ -49,8 +49,6 @@ pub extern "C" fn bb_serve(
     // The room is too small only for an answer that is longer, and then it is used up.
     ensures longer { result ≡ ROOM → IsLonger (mode_of mode) limit floor input.now (length output.new) }
     ensures filled { result ≡ ROOM → written.new ≡ length output.new }
-    // No input has the status of a run that is stuck.
-    ensures unstuck { result ≢ 7 }
 {
     *written = 0;
     let Some(mode) = mode_of(mode) else {

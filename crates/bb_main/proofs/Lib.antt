@@ -1,4 +1,3 @@
 pub mod ServeLemmas
-pub mod StatusLemmas
 pub mod Limits
 pub mod Laws

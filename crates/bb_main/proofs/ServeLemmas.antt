@@ -15,7 +15,7 @@ use Rattle.bb_shell.specs.Compile.{WritesBundle}
 use Rattle.bb_shell.specs.declared.written.Done.{Done}
 use Rattle.bb_shell.specs.declared.written.Done.TheVariants.{Written, Write}
 use Rattle.bb_shell.specs.End.{End}
-use Rattle.bb_shell.specs.End.TheVariants as ends
+use Rattle.bb_shell.specs.End as ends
 use Rattle.bb_shell.specs.Finishes.{Finish}
 use Rattle.bb_shell.specs.Finishes.TheVariants as finishes
 use Rattle.bb_shell.specs.InputFault.{InputFault}
@@ -73,7 +73,7 @@ run-not-refused None k is = let no : 0 ≡ 2 = is in omega (arith, no)
 run-not-refused (Some ends.Quiescence) k is = let no : 0 ≡ 2 = is in omega (arith, no)
 run-not-refused (Some ends.Limit) k is = let no : 3 ≡ 2 = is in omega (arith, no)
 run-not-refused (Some ends.Full) k is = let no : 4 ≡ 2 = is in omega (arith, no)
-run-not-refused (Some (ends.Stuck reason)) k is = let no : 7 ≡ 2 = is in omega (arith, no)
+run-not-refused (Some (ends.Stuck reason)) k is = let no : 0 ≡ 2 = is in omega (arith, no)
 
 -- a run's answer, by how the run came out
 pub served_run : (natives : List Native) (limit : ℕ) (m : Meaning) (f : Finish) (status : ℕ) (old new : Option (List ℕ)) → status ≡ status_of f
@@ -97,7 +97,6 @@ served_run natives limit m f status old new = by f
     by finishes.Quiescence is ends wrote front = inl (inl (rw ends is, all wrote))
     by finishes.Limit is ends wrote front = inl (inl (rw ends is, all wrote))
     by finishes.Full is ends wrote front = inl (inl (rw ends is, all wrote))
-    by (finishes.Stuck reason) is ends wrote front = inl (inl (rw ends is, all wrote))
     by finishes.Memory is ends wrote front =
         inr (is, (front.0, run-not-refused (run m.plan m.board natives limit).end front.0, subst (Appends old new) (sym (text_of-map (segment_text m.plan) (take front.0 (run m.plan m.board natives limit).told)) ∙ ap text_of (sym (take-map (segment_text m.plan) front.0 (run m.plan m.board natives limit).told))) front.1))
     by finishes.Write is ends wrote front = inl (inr (is, (front.0, subst (λ t. Appends old new (take front.0 t)) whole front.1)))

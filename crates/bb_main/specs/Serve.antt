@@ -14,7 +14,7 @@ use Rattle.bb_shell.specs.Compile.{bundle_in}
 use Rattle.bb_shell.specs.declared.written.Done.{Done}
 use Rattle.bb_shell.specs.declared.written.Done.TheVariants.{Written, Write}
 use Rattle.bb_shell.specs.End.{End}
-use Rattle.bb_shell.specs.End.TheVariants as ends
+use Rattle.bb_shell.specs.End as ends
 use Rattle.bb_shell.specs.Finishes.{Finish}
 use Rattle.bb_shell.specs.InputFault.{InputFault}
 use Rattle.bb_shell.specs.Finish.{end_of, is_write}
@@ -43,12 +43,12 @@ pub record Answer : Type 0 where
 abbrev pub text_of : List (List ℕ) → List ℕ
 text_of pieces = flat_map (λ piece. piece) pieces
 
--- the status of a run's end
+-- the status of a run's end; no run of an input is stuck
 abbrev pub end_status : End → ℕ
 end_status ends.Quiescence = 0
 end_status ends.Limit = 3
 end_status ends.Full = 4
-end_status (ends.Stuck reason) = 7
+end_status (ends.Stuck reason) = 0
 
 -- the status of a finish: that of its end, or, if it has none, that of memory or of writing
 abbrev pub status_of : Finish → ℕ

@@ -62,7 +62,6 @@ pub fn program<R: In, O: Out, E: Write>(
     ensures too_long { HasTaken (INPUT_LIMIT + 1) (R.remaining reader.old) (R.remaining reader.new)
         → Delivers limit_refusal (O.taken writer.old) (O.taken writer.new) result }
     ensures failed { O.has_failed writer.new ≡ (result == WRITE) }
-    ensures unstuck { result ≢ 7 }
     // Nothing is written to `errors` but on a refused input, and on one that is checked.
     ensures silent { result ≢ REFUSED → options.mode ≢ Mode.Check → errors.new ≡ errors.old }
 {
@@ -102,7 +101,7 @@ fn say_advice<E: Write>(advice: Option<String>, errors: &mut E)
 /// rated below `floor`, and writes its trace; `Check` verifies its sources and writes what their parts cost; `Compile`
 /// writes the bundle of its sources that are text. Or it writes the line by which the input is refused. Returns the
 /// status of the program: 0 quiescence, a check or a bundle written, 2 a refused input, 3 the limit, 4 full, 5 no
-/// memory, 6 the output failed, 7 stuck. Each native is closed once, in order, whatever the status.
+/// memory, 6 the output failed. Each native is closed once, in order, whatever the status.
 pub fn serve<N: NativeSource, R: In, O: Out>(
     alloc: Global,
     mode: Mode,
@@ -130,8 +129,6 @@ pub fn serve<N: NativeSource, R: In, O: Out>(
         → Delivers limit_refusal (O.taken writer.old) (O.taken writer.new) result }
 
     ensures failed { O.has_failed writer.new ≡ (result == WRITE) }
-    // No input has the status of a run that is stuck.
-    ensures unstuck { result ≢ 7 }
 {
     let options = Options { mode, limit, floor };
     serve_with(alloc, options, natives, reader, writer).status
@@ -157,7 +154,6 @@ pub fn serve_with<N: NativeSource, R: In, O: Out>(
     ensures too_long { HasTaken (INPUT_LIMIT + 1) (R.remaining reader.old) (R.remaining reader.new)
         → Delivers limit_refusal (O.taken writer.old) (O.taken writer.new) result.status }
     ensures failed { O.has_failed writer.new ≡ (result.status == WRITE) }
-    ensures unstuck { result.status ≢ 7 }
     ensures silent { result.status ≢ REFUSED → IsNone result.report }
     ensures unasked { options.mode ≢ Mode.Check → IsNone result.advice }
 {
@@ -199,7 +195,6 @@ fn serve_bytes<N: NativeSource, O: Out>(
     ensures refused { IfErr (input_of bytes.now)
         (λ fault. Delivers (refusal (section_line fault)) (O.taken writer.old) (O.taken writer.new) result.status) }
     ensures failed { O.has_failed writer.new ≡ (result.status == WRITE) }
-    ensures unstuck { result.status ≢ 7 }
     ensures silent { result.status ≢ REFUSED → IsNone result.report }
     ensures unasked { options.mode ≢ Mode.Check → IsNone result.advice }
 {
@@ -228,7 +223,6 @@ fn serve_sections<N: NativeSource, O: Out>(
         Delivers a (O.taken writer.old) (O.taken writer.new) result.status
         ⊎ CutShort a (O.taken writer.old) (O.taken writer.new) result.status }
     ensures failed { O.has_failed writer.new ≡ (result.status == WRITE) }
-    ensures unstuck { result.status ≢ 7 }
     ensures silent { result.status ≢ REFUSED → IsNone result.report }
     ensures unasked { options.mode ≢ Mode.Check → IsNone result.advice }
 {
@@ -256,7 +250,6 @@ fn run_sections<N: NativeSource, O: Out>(
         Delivers a (O.taken writer.old) (O.taken writer.new) result.status
         ⊎ CutShort a (O.taken writer.old) (O.taken writer.new) result.status }
     ensures failed { O.has_failed writer.new ≡ (result.status == WRITE) }
-    ensures unstuck { result.status ≢ 7 }
     ensures silent { result.status ≢ REFUSED → IsNone result.report }
     ensures unasked { IsNone result.advice }
 {
@@ -293,7 +286,6 @@ fn check_sections<N: NativeSource, O: Out>(
         Delivers a (O.taken writer.old) (O.taken writer.new) result.status
         ⊎ CutShort a (O.taken writer.old) (O.taken writer.new) result.status }
     ensures failed { O.has_failed writer.new ≡ (result.status == WRITE) }
-    ensures unstuck { result.status ≢ 7 }
     ensures silent { result.status ≢ REFUSED → IsNone result.report }
 {
     let Sections {
@@ -335,7 +327,6 @@ fn compile_sections<N: NativeSource, O: Out>(
         Delivers a (O.taken writer.old) (O.taken writer.new) result.status
         ⊎ CutShort a (O.taken writer.old) (O.taken writer.new) result.status }
     ensures failed { O.has_failed writer.new ≡ (result.status == WRITE) }
-    ensures unstuck { result.status ≢ 7 }
     ensures silent { result.status ≢ REFUSED → IsNone result.report }
     ensures unasked { IsNone result.advice }
 {
@@ -371,6 +362,5 @@ fn status(finish: Finish) -> u8
         Finish::Full => 4,
         Finish::Memory => MEMORY,
         Finish::Write => WRITE,
-        Finish::Stuck(_) => 7,
     }
 }

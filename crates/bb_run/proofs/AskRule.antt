@@ -8,7 +8,7 @@ use Rattle.bb_trace.specs.Board.{Board as Blackboard}
 use Rattle.bb_trace.specs.Denial.{Denial}
 use Rattle.bb_trace.specs.Denial.TheVariants as denials
 use Rattle.bb_trace.specs.Refusal.{Refusal}
-use Rattle.bb_trace.specs.declared.end.End.TheVariants as finishes
+use Rattle.bb_trace.specs.End as finishes
 use Rattle.bb_trace.specs.declared.note.Note.TheVariants.{Refused}
 use Rattle.bb_run.specs.State.{State, with_board}
 use Rattle.bb_run.specs.Told.{Response, telling, idle, over, and_then_unless}

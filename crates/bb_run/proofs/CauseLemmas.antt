@@ -23,8 +23,8 @@ use Rattle.bb_trace.specs.Sight.{Sight, sight_of}
 use Rattle.bb_trace.specs.declared.note.Note.TheVariants.{NativeEnded}
 use Rattle.bb_trace.proofs.Laws.{applied_full, applied_no_memory}
 use Rattle.bb_trace.specs.Source.{Source}
-use Rattle.bb_trace.specs.declared.end.End.{End}
-use Rattle.bb_trace.specs.declared.end.End.TheVariants as finishes
+use Rattle.bb_trace.specs.End.{End}
+use Rattle.bb_trace.specs.End as finishes
 use Rattle.bb_run_plan.specs.Plan.{Plan}
 use Rattle.bb_run.specs.declared.execution.Verdict.{Verdict}
 use Rattle.bb_run.specs.declared.execution.Verdict.TheVariants as verdicts

@@ -15,7 +15,7 @@ use Rattle.bb_trace.specs.Closing.{Closing}
 use Rattle.bb_trace.specs.Native.{Native, after_act}
 use Rattle.bb_trace.specs.Roster.{after_act_at, asks_at, closings_of, place_of}
 use Rattle.bb_trace.specs.Sight.{Sight, sight_of}
-use Rattle.bb_trace.specs.declared.end.End.{End}
+use Rattle.bb_trace.specs.End.{End}
 use Rattle.bb_trace.specs.declared.note.Note.{Note}
 use Rattle.bb_trace.specs.declared.note.Note.TheVariants.{Board, Triggered, Declined, Obviated, Retriggered, Chosen, Invalid, Ended, Refused, NativeEnded, Finished, Closed}
 use Rattle.bb_run_plan.specs.Plan.{Plan}

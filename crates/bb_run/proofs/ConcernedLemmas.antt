@@ -15,7 +15,7 @@ use Rattle.bb_trace.specs.Event.TheVariants as events
 use Rattle.bb_trace.specs.Match.{any_match, matches}
 use Rattle.bb_trace.specs.Reaction.{Reaction}
 use Rattle.bb_trace.specs.Source.{Source}
-use Rattle.bb_trace.specs.declared.end.End.{End}
+use Rattle.bb_trace.specs.End.{End}
 use Rattle.bb_run.specs.State.{State}
 use Rattle.bb_run.specs.Told.{Response, after_told, and_then, and_then_unless, idle}
 use Rattle.bb_run.specs.Processing.{if_triggered, obviated_by, reacting, reacting_to_each, rerated_by, response_by, source_response, triggering}

@@ -5,8 +5,8 @@ use Rattle.bb_basis.proofs.AppendLemmas.{there_is}
 use Rattle.bb_trace.specs.Board.{Board as Blackboard}
 use Rattle.bb_agenda.specs.Activation.{Activation}
 use Rattle.bb_trace.specs.Source.{Source}
-use Rattle.bb_trace.specs.declared.end.End.{End}
-use Rattle.bb_trace.specs.declared.end.End.TheVariants as finishes
+use Rattle.bb_trace.specs.End.{End}
+use Rattle.bb_trace.specs.End as finishes
 use Rattle.bb_trace.specs.declared.note.Note.{Note}
 use Rattle.bb_trace.specs.declared.note.Note.TheVariants.{Chosen}
 use Rattle.bb_trace.specs.Native.{Native}

@@ -8,7 +8,7 @@ use Rattle.bb_machine.specs.Entry.{Entry}
 use Rattle.bb_machine.specs.Outcome.{Outcome}
 use Rattle.bb_machine.specs.Stop.{Stop}
 use Rattle.bb_trace.specs.Board.{Board as Blackboard}
-use Rattle.bb_trace.specs.declared.end.End.{End}
+use Rattle.bb_trace.specs.End.{End}
 use Rattle.bb_trace.specs.declared.note.Note.{Note}
 use Rattle.bb_run.specs.declared.asking.Reply.{Reply}
 use Rattle.bb_run.specs.Asking.{asking, attempt, entry_of, reply_by, upon}

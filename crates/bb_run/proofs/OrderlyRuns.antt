@@ -7,8 +7,8 @@ use Rattle.bb_trace.specs.Board.{Board as Blackboard}
 use Rattle.bb_agenda.specs.Activation.{Activation}
 use Rattle.bb_agenda.specs.Agenda.{Agenda, next_number, pending_of}
 use Rattle.bb_agenda.proofs.Laws.{chosen_some}
-use Rattle.bb_trace.specs.declared.end.End.{End}
-use Rattle.bb_trace.specs.declared.end.End.TheVariants as finishes
+use Rattle.bb_trace.specs.End.{End}
+use Rattle.bb_trace.specs.End as finishes
 use Rattle.bb_trace.specs.declared.note.Note.{Note}
 use Rattle.bb_trace.specs.declared.note.Note.TheVariants.{Triggered, Chosen, Invalid, Ended, Refused, NativeEnded, Finished, Closed}
 use Rattle.bb_trace.specs.Closing.{Closing}

@@ -19,7 +19,7 @@ use Rattle.bb_trace.specs.Law.{HasSoundCodes}
 use Rattle.bb_trace.specs.Questions.{IsQuestion}
 use Rattle.bb_trace.specs.Reaction.{Reaction}
 use Rattle.bb_trace.specs.Source.{Source}
-use Rattle.bb_trace.specs.declared.end.End.{End}
+use Rattle.bb_trace.specs.End.{End}
 use Rattle.bb_run_plan.specs.Plan.{Plan}
 use Rattle.bb_run.specs.State.{State}
 use Rattle.bb_run.specs.Told.{Response, and_then_unless}

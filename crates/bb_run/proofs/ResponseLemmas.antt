@@ -11,7 +11,7 @@ use Rattle.bb_run_plan.specs.Concerned.{concerned}
 use Rattle.bb_run_plan.specs.Plan.{Plan}
 use Rattle.bb_trace.specs.Reaction.{Reaction}
 use Rattle.bb_trace.specs.Source.{Source}
-use Rattle.bb_trace.specs.declared.end.End.{End}
+use Rattle.bb_trace.specs.End.{End}
 use Rattle.bb_trace.specs.declared.note.Note.{Note}
 use Rattle.bb_run.specs.State.{State}
 use Rattle.bb_run.specs.Told.{Response, after_told, and_then, and_then_unless, idle}

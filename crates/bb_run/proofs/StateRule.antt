@@ -8,8 +8,8 @@ use Rattle.bb_trace.specs.Event.{Event}
 use Rattle.bb_trace.specs.Event.TheVariants.{Quiescence as quiescence}
 use Rattle.bb_trace.specs.Native.{Native}
 use Rattle.bb_trace.specs.Source.{Source}
-use Rattle.bb_trace.specs.declared.end.End.{End}
-use Rattle.bb_trace.specs.declared.end.End.TheVariants as finishes
+use Rattle.bb_trace.specs.End.{End}
+use Rattle.bb_trace.specs.End as finishes
 use Rattle.bb_trace.specs.declared.note.Note.{Note}
 use Rattle.bb_run_plan.specs.Plan.{Plan}
 use Rattle.bb_run.specs.declared.execution.Verdict.{Verdict}

@@ -7,8 +7,8 @@ use Rattle.bb_basis.proofs.IntoMapLemmas.{next_one}
 use Rattle.bb_trace.specs.Event.{Event}
 use Rattle.bb_agenda.specs.Activation.{Activation}
 use Rattle.bb_trace.specs.Source.{Source}
-use Rattle.bb_trace.specs.declared.end.End.{End}
-use Rattle.bb_trace.specs.declared.end.End.TheVariants.{Limit, Quiescence}
+use Rattle.bb_trace.specs.End.{End}
+use Rattle.bb_trace.specs.End.{Limit, Quiescence}
 use Rattle.bb_trace.specs.declared.halt.Halt.{Halt}
 use Rattle.bb_trace.specs.declared.note.Note.{Note}
 use Rattle.bb_run.specs.declared.cycles.Decision.{Decision}

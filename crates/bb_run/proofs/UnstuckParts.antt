@@ -31,8 +31,8 @@ use Rattle.bb_trace.specs.Match.{any_match}
 use Rattle.bb_trace.specs.Native.{Native}
 use Rattle.bb_trace.specs.Reaction.{Reaction}
 use Rattle.bb_trace.specs.Source.{Source}
-use Rattle.bb_trace.specs.declared.end.End.{End}
-use Rattle.bb_trace.specs.declared.end.End.TheVariants as finishes
+use Rattle.bb_trace.specs.End.{End}
+use Rattle.bb_trace.specs.End as finishes
 use Rattle.bb_trace.specs.declared.note.Note.TheVariants.{Triggered, Declined, Obviated, Retriggered}
 use Rattle.bb_run_plan.specs.Plan.{Plan}
 use Rattle.bb_run.specs.State.{State, with_board, with_agenda}

@@ -2,6 +2,7 @@
 use Rattle.std.proofs.Common.{◌≡◌, ◌≤◌, inl, inr, ℕ, zero, suc, ◌+◌, ◌-◌, ℤ, List, [], ◌∷◌, ◌++◌, length, Option, Some, None, Result, Ok, Err, refl, sym, subst, ◌∙◌, arith}
 use Rattle.std.specs.Prelude.{All, Contains, map, option_and_then, slice_get}
 use Rattle.std.proofs.lemmas.List.Elements.{All-append, All-cons, All-contains, All-filter, All-head, All-nil, All-tail, All-weaker}
+use Rattle.std.specs.Coded.{Unit-prop}
 use Rattle.bb_schema.specs.Schema.{Schema}
 use Rattle.bb_schema.specs.Fits as schemas
 use Rattle.bb_code.specs.Code.{IsCode}
@@ -33,8 +34,8 @@ use Rattle.bb_trace.specs.Roster.{after_act_at, asks_at, closings_of, place_of}
 use Rattle.bb_trace.specs.Sight.{sight_of}
 use Rattle.bb_trace.proofs.Laws.{acted_place}
 use Rattle.bb_trace.specs.Source.{Source}
-use Rattle.bb_trace.specs.declared.end.End.{End}
-use Rattle.bb_trace.specs.declared.end.End.TheVariants as finishes
+use Rattle.bb_trace.specs.End.{End}
+use Rattle.bb_trace.specs.End as finishes
 use Rattle.bb_trace.specs.declared.note.Note.{Note}
 use Rattle.bb_trace.specs.declared.note.Note.TheVariants.{Board, Chosen, Invalid, Ended, Finished, Closed}
 use Rattle.bb_run_plan.specs.Plan.{Plan}
@@ -332,8 +333,16 @@ module _ (plan : Plan) (sound : IsWellMade plan) (natives : List Native) where
 pub state_asks : (plan : Plan) (s : State) (event : Event) → IsWellMade plan → IsReady plan s → IsEventOf plan.schema s.board event → AsksFor plan s event
 state_asks plan s event made ready here = event_asks plan made s.natives s event (record { board = ready.board; waiting = ready.waiting; places = λ name. refl }) here
 
--- what a call that runs a blackboard of the plan's schema answers
-pub finish_not_stuck : (plan : Plan) (board : Blackboard) (natives : List Native) (limit : ℕ) (end : End) → IsWellMade plan → ¬ LacksNative plan natives → board.schema ≡ plan.schema → Fits board.schema board.world
-    → (run plan board natives limit).end ≡ Some end → NotStuck (Some end)
-finish_not_stuck plan board natives limit end made given same fits is =
-    subst NotStuck is (run_not_stuck plan made natives board limit (record { schema = same; world = subst (λ (x : Schema). Fits x board.world) same fits }) given)
+-- that it is not stuck has one proof at most
+pub not_stuck_prop : (end : Option End) → IsProp (NotStuck end)
+not_stuck_prop None = Unit-prop
+not_stuck_prop (Some finishes.Quiescence) = Unit-prop
+not_stuck_prop (Some finishes.Limit) = Unit-prop
+not_stuck_prop (Some finishes.Full) = Unit-prop
+not_stuck_prop (Some (finishes.Stuck reason)) = λ p q. absurd p
+
+-- no run of a blackboard of the plan's schema is
+pub none_stuck : (plan : Plan) (board : Blackboard) (natives : List Native) (limit : ℕ) → IsWellMade plan → ¬ LacksNative plan natives → board.schema ≡ plan.schema → Fits board.schema board.world
+    → NotStuck (run plan board natives limit).end
+none_stuck plan board natives limit made given same fits =
+    run_not_stuck plan made natives board limit (record { schema = same; world = subst (λ (x : Schema). Fits x board.world) same fits }) given

@@ -26,8 +26,8 @@ use Rattle.bb_trace.specs.Roster.{place_of}
 use Rattle.bb_trace.proofs.Laws.{applied_fits, applied_leads}
 use Rattle.bb_trace.specs.Source.{Source}
 use Rattle.bb_trace.specs.World.{after_take}
-use Rattle.bb_trace.specs.declared.end.End.{End}
-use Rattle.bb_trace.specs.declared.end.End.TheVariants as finishes
+use Rattle.bb_trace.specs.End.{End}
+use Rattle.bb_trace.specs.End as finishes
 use Rattle.bb_trace.specs.declared.note.Note.{Note}
 use Rattle.bb_trace.specs.declared.note.Note.TheVariants.{Board, Refused, NativeEnded}
 use Rattle.bb_run_plan.specs.Plan.{Plan}

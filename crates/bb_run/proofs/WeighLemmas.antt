@@ -35,7 +35,7 @@ use Rattle.bb_trace.specs.BoardNote.TheVariants.{Event as happened, Said as said
 use Rattle.bb_trace.specs.Act.{Act}
 use Rattle.bb_trace.specs.Act.TheVariants as acts
 use Rattle.bb_trace.specs.Source.{Source}
-use Rattle.bb_trace.specs.declared.end.End.{End}
+use Rattle.bb_trace.specs.End.{End}
 use Rattle.bb_trace.specs.Ask.{Ask}
 use Rattle.bb_trace.specs.Native.{Native}
 use Rattle.bb_trace.specs.Roster.{after_act_at, asks_at, place_of}

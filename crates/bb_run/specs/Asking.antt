@@ -10,8 +10,8 @@ use Rattle.bb_machine.specs.Entry.{Entry}
 use Rattle.bb_machine.specs.Outcome.{Outcome}
 use Rattle.bb_machine.specs.Stop.{Stop}
 use Rattle.bb_machine.specs.Stop.TheVariants as stops
-use Rattle.bb_trace.specs.declared.end.End.{End}
-use Rattle.bb_trace.specs.declared.end.End.TheVariants as ends
+use Rattle.bb_trace.specs.End.{End}
+use Rattle.bb_trace.specs.End as ends
 use Rattle.bb_run.specs.declared.asking.Reply.{Reply}
 use Rattle.bb_run.specs.declared.asking.Reply.TheVariants.{Answer, Over}
 use Rattle.bb_run.specs.State.{State, with_board}

@@ -3,7 +3,7 @@ use Rattle.std.specs.Prelude.{◌≡◌, List, [], ◌∷◌, ◌++◌, slice_ge
 use Rattle.bb_agenda.specs.Activation.{Activation}
 use Rattle.bb_agenda.specs.Changes.{with_executed}
 use Rattle.bb_trace.specs.Source.{Source}
-use Rattle.bb_trace.specs.declared.end.End.{End}
+use Rattle.bb_trace.specs.End.{End}
 use Rattle.bb_trace.specs.declared.note.Note.{Note}
 use Rattle.bb_trace.specs.declared.note.Note.TheVariants.{Invalid}
 use Rattle.bb_trace.specs.Native.{Native}

@@ -1,8 +1,8 @@
 -- The end of a run, by what `run` returns.
 use Rattle.std.specs.Prelude.{ℕ, Bool, true, false, List, take, Option, Some, None, ⊤}
 use Rattle.std.specs.Io.KnownBytes.{Appends}
-use Rattle.bb_trace.specs.declared.end.End.{End}
-use Rattle.bb_trace.specs.declared.end.End.TheVariants as ends
+use Rattle.bb_trace.specs.End.{End}
+use Rattle.bb_trace.specs.End as ends
 use Rattle.bb_run.specs.declared.finish.Finish.{Finish}
 use Rattle.bb_run.specs.declared.finish.Finish.TheVariants as finishes
 use Rattle.bb_run_plan.specs.Plan.{Plan}
@@ -14,7 +14,6 @@ abbrev pub end_of : Finish → Option End
 end_of finishes.Quiescence = Some ends.Quiescence
 end_of finishes.Limit = Some ends.Limit
 end_of finishes.Full = Some ends.Full
-end_of (finishes.Stuck reason) = Some (ends.Stuck reason)
 end_of finishes.Memory = None
 end_of finishes.Write = None
 
@@ -25,7 +24,6 @@ is_write finishes.Limit = false
 is_write finishes.Full = false
 is_write finishes.Memory = false
 is_write finishes.Write = true
-is_write (finishes.Stuck reason) = false
 
 -- what was written of a run that was cut short: the first segments, or, where the output failed, the front of the text
 abbrev pub WritesFront : Plan → Stretch → Finish → (old new : Option (List ℕ)) → Type 0
@@ -36,4 +34,3 @@ WritesFront plan run finishes.Memory old new =
     (count : ℕ) × Appends old new (trace_text plan (take count run.told))
 WritesFront plan run finishes.Write old new =
     (count : ℕ) × Appends old new (take count (trace_text plan run.told))
-WritesFront plan run (finishes.Stuck reason) old new = ⊤

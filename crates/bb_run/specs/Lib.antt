@@ -34,7 +34,7 @@ pub mod Finish
 pub mod proving
 -- of bb_trace: what a run goes by, what it tells, and the text of that
 pub use Rattle.bb_trace.specs.TraceText
-pub use Rattle.bb_trace.specs.declared.end.End
+pub use Rattle.bb_trace.specs.End
 pub use Rattle.bb_trace.specs.declared.note.Note
 pub use Rattle.bb_run_plan.specs.Plan
 pub use Rattle.bb_run_plan.specs.declared.plan.TheConstants as Limits

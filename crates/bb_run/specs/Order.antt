@@ -6,8 +6,8 @@ use Rattle.bb_agenda.specs.Activation.{Activation}
 use Rattle.bb_agenda.specs.Agenda.{pending_of}
 use Rattle.bb_agenda.specs.Changes.{other_than, rebased}
 use Rattle.bb_agenda.specs.Chosen.{IsChosen}
-use Rattle.bb_trace.specs.declared.end.End.{End}
-use Rattle.bb_trace.specs.declared.end.End.TheVariants as ends
+use Rattle.bb_trace.specs.End.{End}
+use Rattle.bb_trace.specs.End as ends
 use Rattle.bb_trace.specs.declared.note.Note.{Note}
 use Rattle.bb_trace.specs.declared.note.Note.TheVariants.{Triggered, Obviated, Retriggered, Chosen}
 use Rattle.bb_trace.specs.declared.note.Note.TheVariants.{Invalid, Ended, Refused, NativeEnded, Finished, Closed}

@@ -7,8 +7,8 @@ use Rattle.bb_trace.specs.Event.{Event}
 use Rattle.bb_trace.specs.Event.TheVariants.{Quiescence as quiescence}
 use Rattle.bb_trace.specs.Native.{Native}
 use Rattle.bb_trace.specs.Source.{Source}
-use Rattle.bb_trace.specs.declared.end.End.{End}
-use Rattle.bb_trace.specs.declared.end.End.TheVariants as ends
+use Rattle.bb_trace.specs.End.{End}
+use Rattle.bb_trace.specs.End as ends
 use Rattle.bb_run_plan.specs.Plan.{Plan}
 use Rattle.bb_run.specs.State.{State, with_board}
 use Rattle.bb_run.specs.Told.{Response, Stretch}

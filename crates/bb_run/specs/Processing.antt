@@ -15,7 +15,7 @@ use Rattle.bb_verify.specs.Accepted.{Checked}
 use Rattle.bb_trace.specs.Reaction.{Reaction}
 use Rattle.bb_trace.specs.Source.{Source}
 use Rattle.bb_trace.specs.Match.{any_match}
-use Rattle.bb_trace.specs.declared.end.End.TheVariants.{Full}
+use Rattle.bb_trace.specs.End.{Full}
 use Rattle.bb_trace.specs.declared.note.Note.{Note}
 use Rattle.bb_trace.specs.declared.note.Note.TheVariants as notes
 use Rattle.bb_run_plan.specs.Plan.{Plan}

@@ -16,8 +16,8 @@ use Rattle.bb_trace.specs.Law.{HasSoundCodes, IsMade}
 use Rattle.bb_trace.specs.Match.{any_match}
 use Rattle.bb_trace.specs.Reaction.{Reaction}
 use Rattle.bb_trace.specs.Source.{Source}
-use Rattle.bb_trace.specs.declared.end.End.{End}
-use Rattle.bb_trace.specs.declared.end.End.TheVariants as ends
+use Rattle.bb_trace.specs.End.{End}
+use Rattle.bb_trace.specs.End as ends
 use Rattle.bb_trace.specs.declared.note.Note.{Note}
 use Rattle.bb_trace.specs.declared.note.Note.TheVariants.{Ended}
 use Rattle.bb_run_plan.specs.Plan.{Plan}

@@ -6,9 +6,10 @@ ghost use Rattle.bb_verify.specs.declared.checked.TheConstants.{FOUND_LIMIT};
 ghost use Rattle.bb_run.specs.Asking.{attempt, entry_of, reply_by};
 ghost use Rattle.bb_run.specs.proving.Telling.{Attempts, Replies};
 
+use crate::ending::Ending;
 use bb_machine::{Answer, Entry, Outcome, Stop, trial};
 use bb_schema::UnitId;
-use bb_trace::{Board, End, Question};
+use bb_trace::{Board, Question};
 use bb_verify::{Checked, FOUND_LIMIT};
 use std::alloc::{AllocError, Global};
 
@@ -17,7 +18,7 @@ use std::alloc::{AllocError, Global};
 pub(crate) enum Reply {
     Answer(Answer),
     /// The code came to no answer, so the run is over.
-    Over(End),
+    Over(Ending),
 }
 
 /// What the code of a part begins with.
@@ -52,8 +53,8 @@ pub(crate) fn ask(
 {
     match attempt(alloc, code.checked(), entry, board) {
         Ok(outcome) => Ok(Reply::Answer(outcome.answer)),
-        Err(Stop::Full { .. }) => Ok(Reply::Over(End::Full)),
-        Err(Stop::Stuck { reason, .. }) => Ok(Reply::Over(End::Stuck(reason))),
+        Err(Stop::Full { .. }) => Ok(Reply::Over(Ending::FULL)),
+        Err(Stop::Stuck { reason, .. }) => Ok(Reply::Over(Ending::stuck(reason))),
         Err(Stop::Memory) => Err(AllocError),
     }
 }

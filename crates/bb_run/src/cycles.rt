@@ -15,6 +15,7 @@ ghost use Rattle.bb_run.specs.proving.Knowing.{Knows, MayKnow};
 ghost use Rattle.bb_run.specs.proving.Seen.{seen};
 ghost use Rattle.bb_run.specs.proving.Telling.{Concludes, CutsShort, Finishes, GivesUp, Makes, Same, Waits, Writes, at};
 
+use crate::ending::Ending;
 use crate::execution::{Verdict, execute, take_choice, validate};
 use crate::finish::Finish;
 use crate::foci::{rated_sources, tell_all};
@@ -31,7 +32,7 @@ use std::alloc::{AllocError, Global};
 #[derive(Clone, Copy, Debug)]
 pub(crate) enum Decision {
     Act(Activation),
-    Over(End),
+    Over(Ending),
 }
 
 // Chooses an activation, if one can be chosen. The agenda rates by the foci that it was told of: the blackboard's.
@@ -84,7 +85,7 @@ impl<O: Out> Runner<'_, O> {
         }
         match choose(plan, state) {
             Some(activation) => Ok(Decision::Act(activation)),
-            None => Ok(Decision::Over(End::Quiescence)),
+            None => Ok(Decision::Over(Ending::QUIESCENCE)),
         }
     }
 
@@ -95,7 +96,7 @@ impl<O: Out> Runner<'_, O> {
         source: &Source,
         activation: Activation,
         state: &mut State<N>,
-    ) -> Result<Option<End>, Halt>
+    ) -> Result<Option<Ending>, Halt>
         requires open { O.has_failed self.old.out.now ≡ false }
         ensures same { Same self.old self.new }
         ensures made { Makes plan.now (at O.taken self.old) (at O.taken self.new)
@@ -116,7 +117,7 @@ impl<O: Out> Runner<'_, O> {
         number: u64,
         activation: Activation,
         state: &mut State<N>,
-    ) -> Result<Option<End>, Halt>
+    ) -> Result<Option<Ending>, Halt>
         requires open { O.has_failed self.old.out.now ≡ false }
         requires knows { Knows plan.now (seen N.meaning state.old) }
         ensures same { Same self.old self.new }
@@ -132,7 +133,7 @@ impl<O: Out> Runner<'_, O> {
             &mut state.board,
         )?;
         let mut notes = Vec::new(self.alloc());
-        let end = take_choice(number, activation, verdict, state, &mut notes)?;
+        let end = take_choice(number, activation, &verdict, state, &mut notes)?;
         self.tell(plan, &notes)?;
         if let Some(end) = end {
             return Ok(Some(end));
@@ -149,7 +150,7 @@ impl<O: Out> Runner<'_, O> {
         plan: &Plan,
         limit: u64,
         state: &mut State<N>,
-    ) -> Result<End, Halt>
+    ) -> Result<Ending, Halt>
         requires open { O.has_failed self.old.out.now ≡ false }
         requires knows { Knows plan.now (seen N.meaning state.old) }
         ensures same { Same self.old self.new }
@@ -167,7 +168,7 @@ impl<O: Out> Runner<'_, O> {
             }
         }
         match self.decide(plan, state)? {
-            Decision::Act(_) => Ok(End::Limit),
+            Decision::Act(_) => Ok(Ending::LIMIT),
             Decision::Over(end) => Ok(end),
         }
     }
@@ -177,7 +178,7 @@ impl<O: Out> Runner<'_, O> {
         &mut self,
         plan: &Plan,
         state: &mut State<N>,
-    ) -> Result<Option<End>, Halt>
+    ) -> Result<Option<Ending>, Halt>
         requires open { O.has_failed self.old.out.now ≡ false }
         requires new { state.old.agenda ≡ first_agenda plan.now state.old.board }
         ensures same { Same self.old self.new }
@@ -197,7 +198,7 @@ impl<O: Out> Runner<'_, O> {
         plan: &Plan,
         limit: u64,
         state: &mut State<N>,
-    ) -> Result<End, Halt>
+    ) -> Result<Ending, Halt>
         requires open { O.has_failed self.old.out.now ≡ false }
         requires new { state.old.agenda ≡ first_agenda plan.now state.old.board }
         requires may { MayKnow plan.now state.old.board }
@@ -224,6 +225,7 @@ impl<O: Out> Runner<'_, O> {
         requires new { state.agenda ≡ first_agenda plan.now state.board }
         requires may { MayKnow plan.now state.board }
         requires empty { self.old.page.now ≡ [] }
+        requires unstuck { NotStuck (run plan.now state.board (map N.meaning state.roster.natives.items) limit).end }
         ensures same { Same self.old self.new }
         ensures end { IfOk result (λ end.
             (run plan.now state.board (map N.meaning state.roster.natives.items) limit).end ≡ Some end) }
@@ -235,7 +237,7 @@ impl<O: Out> Runner<'_, O> {
         let made = self.run_unfinished(plan, limit, &mut state);
         let closed = state.close();
         match made {
-            Ok(end) => self.conclude(plan, end, closed),
+            Ok(end) => self.conclude(plan, end.of_run(), closed),
             Err(halt) => Err(self.cut_short(halt)),
         }
     }
@@ -321,6 +323,7 @@ fn write_run<N: NativeSource, O: Out>(
     out: &mut O,
 ) -> Result<End, Halt>
     requires open { O.has_failed out.old ≡ false }
+    requires unstuck { NotStuck (run plan.now start.board (map N.meaning start.roster.natives.items) limit).end }
     ensures end { IfOk result (λ end.
         (run plan.now start.board (map N.meaning start.roster.natives.items) limit).end ≡ Some end) }
     ensures written { Writes plan.now (O.taken out.old) (O.taken out.new)
@@ -350,9 +353,9 @@ fn write_run<N: NativeSource, O: Out>(
 
 /// Runs a blackboard from its first state with the natives that were handed in, at most `limit` cycles, and writes the
 /// trace. At its end each native is closed once, in order, also if the run was cut short. `Memory`: memory ran out.
-/// `Write`: the output failed. A run is not stuck if its sources were made under the plan's schema, of codes that the
-/// verifier accepted under it, each has a code for its act or there is a native of its name, and the blackboard is one
-/// of that schema.
+/// `Write`: the output failed. The blackboard is one of the plan's schema, and the sources were made under it, of codes
+/// that the verifier accepted under it; each has a code for its act, or there is a native of its name. So no execution
+/// can get stuck.
 pub fn run<N: NativeSource, O: Out>(
     alloc: Global,
     plan: &Plan,
@@ -360,6 +363,9 @@ pub fn run<N: NativeSource, O: Out>(
     limit: u32,
     out: &mut O,
 ) -> Finish
+    requires made { ∥ All (IsMade plan.now.schema) plan.now.sources ∥₁ }
+    requires acts { ¬ LacksNative plan.now (map N.meaning start.roster.natives.items) }
+    requires of_schema { start.board.schema ≡ plan.now.schema }
     requires open { O.has_failed out.old ≡ false }
     ensures finish { IfSome (end_of result) (λ end.
         (run plan.now start.board (map N.meaning start.roster.natives.items) limit).end ≡ Some end) }
@@ -368,9 +374,6 @@ pub fn run<N: NativeSource, O: Out>(
     ensures front { WritesFront plan.now (run plan.now start.board (map N.meaning start.roster.natives.items) limit)
         result (O.taken out.old) (O.taken out.new) }
     ensures failed { O.has_failed out.new ≡ is_write result }
-    ensures unstuck { All (IsMade plan.now.schema) plan.now.sources →
-        ¬ LacksNative plan.now (map N.meaning start.roster.natives.items) →
-        start.board.schema ≡ plan.now.schema → NotStuck (end_of result) }
 {
     // For the proof: what holds of every schema, plan and blackboard.
     plan.schema().fits();
@@ -379,7 +382,9 @@ pub fn run<N: NativeSource, O: Out>(
     start.board.fits();
     match write_run(alloc, plan, start, u64::from(limit), out) {
         Ok(end) => Finish::from(end),
-        Err(Halt::Memory) => Finish::Memory,
-        Err(Halt::Write) => Finish::Write,
+        Err(halt) => match halt {
+            Halt::Memory => Finish::Memory,
+            Halt::Write => Finish::Write,
+        },
     }
 }

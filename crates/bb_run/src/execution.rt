@@ -10,11 +10,12 @@ ghost use Rattle.bb_run.specs.proving.Telling.{IsResponse, Validates};
 
 use crate::asking::{Reply, ask, attempt, entry_of};
 use crate::calling::call;
+use crate::ending::Ending;
 use crate::noting::take_noted;
 use crate::state::State;
 use bb_agenda::Activation;
 use bb_machine::{Answer, Stop, Stuck};
-use bb_trace::{Act, Board, End, NativeSource, Note, Question, Source};
+use bb_trace::{Act, Board, NativeSource, Note, Question, Source};
 use bb_verify::Checked;
 use std::alloc::{AllocError, Global};
 
@@ -26,17 +27,17 @@ pub(crate) enum Verdict {
     /// The activation is no longer of use.
     Invalid,
     /// The revalidation came to no answer, so the run is over.
-    Over(End),
+    Over(Ending),
 }
 
 // What a reply to the question of a revalidation says.
-fn verdict_by(reply: Reply) -> Verdict
-    ensures { result ≡ verdict_by reply }
+fn verdict_by(reply: &Reply) -> Verdict
+    ensures { result ≡ verdict_by reply.now }
 {
     match reply {
         Reply::Answer(Answer::No) => Verdict::Invalid,
         Reply::Answer(_) => Verdict::Valid,
-        Reply::Over(end) => Verdict::Over(end),
+        Reply::Over(end) => Verdict::Over(*end),
     }
 }
 
@@ -54,7 +55,7 @@ pub(crate) fn validate(
         None => Ok(Verdict::Valid),
         Some(code) => {
             let reply = ask(alloc, code, entry_of(activation.unit, None), board)?;
-            Ok(verdict_by(reply))
+            Ok(verdict_by(&reply))
         }
     }
 }
@@ -64,12 +65,12 @@ pub(crate) fn validate(
 pub(crate) fn take_choice<N: NativeSource>(
     cycle: u64,
     activation: Activation,
-    verdict: Verdict,
+    verdict: &Verdict,
     state: &mut State<N>,
     notes: &mut Vec<Note>,
-) -> Result<Option<End>, AllocError>
+) -> Result<Option<Ending>, AllocError>
     ensures { IfOk result (IsResponse
-        (chosen_with cycle activation (rating_in state.old.agenda activation) verdict (seen N.meaning state.old))
+        (chosen_with cycle activation (rating_in state.old.agenda activation) verdict.now (seen N.meaning state.old))
         notes.old.items notes.new.items (seen N.meaning state.new)) }
 {
     let number = activation.number;
@@ -89,7 +90,7 @@ pub(crate) fn take_choice<N: NativeSource>(
             notes.push(Note::Invalid { number })?;
             Ok(None)
         }
-        Verdict::Over(end) => Ok(Some(end)),
+        Verdict::Over(end) => Ok(Some(*end)),
     }
 }
 
@@ -100,7 +101,7 @@ pub(crate) fn execute<N: NativeSource>(
     activation: Activation,
     state: &mut State<N>,
     notes: &mut Vec<Note>,
-) -> Result<Option<End>, AllocError>
+) -> Result<Option<Ending>, AllocError>
     ensures { IfOk result (IsResponse
         (execution source.now.name source.now.act activation (seen N.meaning state.old))
         notes.old.items notes.new.items (seen N.meaning state.new)) }
@@ -118,13 +119,13 @@ fn execute_native<N: NativeSource>(
     activation: Activation,
     state: &mut State<N>,
     notes: &mut Vec<Note>,
-) -> Result<Option<End>, AllocError>
+) -> Result<Option<Ending>, AllocError>
     ensures { IfOk result (IsResponse (execution name.now Native activation (seen N.meaning state.old))
         notes.old.items notes.new.items (seen N.meaning state.new)) }
 {
     match state.roster.place(name) {
         Some(place) => call(place, activation, state, notes),
-        None => Ok(Some(End::Stuck(Stuck::Missing))),
+        None => Ok(Some(Ending::stuck(Stuck::Missing))),
     }
 }
 
@@ -133,7 +134,7 @@ fn execute_code<N: NativeSource>(
     activation: Activation,
     state: &mut State<N>,
     notes: &mut Vec<Note>,
-) -> Result<Option<End>, AllocError>
+) -> Result<Option<Ending>, AllocError>
     ensures { IfOk result (IsResponse (executing code.now.code activation (seen N.meaning state.old))
         notes.old.items notes.new.items (seen N.meaning state.new)) }
 {
@@ -150,11 +151,11 @@ fn execute_code<N: NativeSource>(
         }
         Err(Stop::Full { .. }) => {
             take_noted(state, None, notes)?;
-            Ok(Some(End::Full))
+            Ok(Some(Ending::FULL))
         }
         Err(Stop::Stuck { reason, .. }) => {
             take_noted(state, None, notes)?;
-            Ok(Some(End::Stuck(reason)))
+            Ok(Some(Ending::stuck(reason)))
         }
         Err(Stop::Memory) => Err(AllocError),
     }

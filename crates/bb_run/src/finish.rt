@@ -1,6 +1,6 @@
 //! How a run ends, also where it is cut short. `run` returns it.
 
-use bb_trace::{End, Stuck};
+use bb_trace::{End, EndKind};
 
 /// How a run ends.
 #[derive(Clone, Copy, Debug, PartialEq, Eq)]
@@ -15,8 +15,6 @@ pub enum Finish {
     Memory,
     /// The output took no more.
     Write,
-    /// An activation could not go on.
-    Stuck(Stuck),
 }
 
 impl From<End> for Finish {
@@ -26,11 +24,10 @@ impl From<End> for Finish {
     ghost from_gives = { λ end finish. end_of finish ≡ Some end };
 
     fn from(end: End) -> Finish {
-        match end {
-            End::Quiescence => Finish::Quiescence,
-            End::Limit => Finish::Limit,
-            End::Full => Finish::Full,
-            End::Stuck(reason) => Finish::Stuck(reason),
+        match end.kind {
+            EndKind::Quiescence => Finish::Quiescence,
+            EndKind::Limit => Finish::Limit,
+            EndKind::Full => Finish::Full,
         }
     }
 }

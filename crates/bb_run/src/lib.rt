@@ -10,6 +10,7 @@
 mod asking;
 mod calling;
 mod cycles;
+mod ending;
 mod execution;
 mod finish;
 mod foci;
@@ -25,8 +26,8 @@ pub use bb_run_plan::{Plan, SOURCE_LIMIT};
 pub use bb_trace::{
     Act, Ask, Board, ClassPlace, Classes, ClauseList, ClausePlace, Closed, Closing, Denial,
     DimValue, DocumentPlace, End, ListItem, ListKey, NativeSource, Node, OperandKind, Out, Pattern,
-    Pipe, Query, Refusal, Relation, Roster, RuleFault, SharedSchema, Source, Stuck, UnitsFault,
-    UnitsFlaw, View, close_each, put_all,
+    Pipe, Query, Refusal, Relation, Roster, RuleFault, SharedSchema, Source, UnitsFault, UnitsFlaw,
+    View, close_each, put_all,
 };
 pub use cycles::run;
 pub use finish::Finish;

@@ -2,7 +2,7 @@
 //! run (cycles.rt) begins with it.
 
 ghost use Rattle.std.specs.Prelude.{◌≡◌, ◌++◌, IfOk, Option, map};
-ghost use Rattle.bb_trace.specs.declared.end.End.{End};
+ghost use Rattle.bb_trace.specs.End.{End};
 ghost use Rattle.bb_trace.specs.declared.note.Note.TheVariants.{Board as BoardNote};
 ghost use Rattle.bb_run.specs.Run.{noted};
 ghost use Rattle.bb_run.specs.proving.Seen.{seen};

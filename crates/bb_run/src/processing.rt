@@ -6,12 +6,13 @@ ghost use Rattle.bb_run.specs.proving.Responding.{response_at};
 ghost use Rattle.bb_run.specs.proving.Seen.{seen};
 ghost use Rattle.bb_run.specs.proving.Telling.{IsResponse};
 
+use crate::ending::Ending;
 use crate::reacting::{obviate_all, retrigger_all};
 use crate::state::State;
 use crate::triggering::{activate, require};
 use bb_run_plan::Plan;
 use bb_schema::Schema;
-use bb_trace::{End, Event, NativeSource, Note, Source};
+use bb_trace::{Event, NativeSource, Note, Source};
 use std::alloc::AllocError;
 
 // A source and its place among the sources of a plan.
@@ -28,7 +29,7 @@ fn obviate<N: NativeSource>(
     event: Event,
     state: &mut State<N>,
     notes: &mut Vec<Note>,
-) -> Result<Option<End>, AllocError>
+) -> Result<Option<Ending>, AllocError>
     ensures { IfOk result (IsResponse
         (reacting schema.now event placed.entry.place obviated_by placed.entry.source.now.obviate
         (seen N.meaning state.old))
@@ -49,7 +50,7 @@ fn retrigger<N: NativeSource>(
     event: Event,
     state: &mut State<N>,
     notes: &mut Vec<Note>,
-) -> Result<Option<End>, AllocError>
+) -> Result<Option<Ending>, AllocError>
     ensures { IfOk result (IsResponse
         (reacting schema.now event placed.entry.place rerated_by placed.entry.source.now.retrigger
         (seen N.meaning state.old))
@@ -70,7 +71,7 @@ fn trigger<N: NativeSource>(
     event: Event,
     state: &mut State<N>,
     notes: &mut Vec<Note>,
-) -> Result<Option<End>, AllocError>
+) -> Result<Option<Ending>, AllocError>
     ensures { IfOk result (IsResponse
         (if_triggered schema.now event placed.entry.place placed.entry.source.now (seen N.meaning state.old))
         notes.old.items notes.new.items (seen N.meaning state.new)) }
@@ -92,7 +93,7 @@ fn source_responds<N: NativeSource>(
     event: Event,
     state: &mut State<N>,
     notes: &mut Vec<Note>,
-) -> Result<Option<End>, AllocError>
+) -> Result<Option<Ending>, AllocError>
     ensures { IfOk result (IsResponse
         (source_response schema.now event placed.entry.place placed.entry.source.now (seen N.meaning state.old))
         notes.old.items notes.new.items (seen N.meaning state.new)) }
@@ -120,7 +121,7 @@ fn place_responds<N: NativeSource>(
     event: Event,
     state: &mut State<N>,
     notes: &mut Vec<Note>,
-) -> Result<Option<End>, AllocError>
+) -> Result<Option<Ending>, AllocError>
     ensures { IfOk result (IsResponse
         (response_at plan.now.schema event plan.now.sources place (seen N.meaning state.old))
         notes.old.items notes.new.items (seen N.meaning state.new)) }
@@ -142,7 +143,7 @@ pub(crate) fn respond<N: NativeSource>(
     event: Event,
     state: &mut State<N>,
     notes: &mut Vec<Note>,
-) -> Result<Option<End>, AllocError>
+) -> Result<Option<Ending>, AllocError>
     ensures { IfOk result (IsResponse (response plan.now event (seen N.meaning state.old))
         notes.old.items notes.new.items (seen N.meaning state.new)) }
 {

@@ -2,18 +2,18 @@
 
 ghost use Rattle.std.specs.Prelude.{◌≡◌, IfOk, None, filter};
 ghost use Rattle.bb_agenda.specs.Agenda.{is_on, pending_for};
-ghost use Rattle.bb_machine.specs.Answer.TheVariants.{Rated};
 ghost use Rattle.bb_run.specs.Processing.{obviated_by, reacting_to, reacting_to_each, rerated_by};
 ghost use Rattle.bb_run.specs.proving.Own.{asked_about};
 ghost use Rattle.bb_run.specs.proving.Seen.{seen};
 ghost use Rattle.bb_run.specs.proving.Telling.{IsResponse};
 
 use crate::asking::{Reply, ask, entry_of};
+use crate::ending::Ending;
 use crate::state::State;
 use bb_agenda::{Activation, Agenda};
 use bb_machine::Answer;
 use bb_schema::UnitId;
-use bb_trace::{End, Event, NativeSource, Note, Reaction};
+use bb_trace::{Event, NativeSource, Note, Reaction};
 use std::alloc::{AllocError, Global};
 
 // What is pending of the source at a place, in order.
@@ -73,12 +73,12 @@ fn obviate_one<N: NativeSource>(
     activation: Activation,
     state: &mut State<N>,
     notes: &mut Vec<Note>,
-) -> Result<Option<End>, AllocError>
+) -> Result<Option<Ending>, AllocError>
     ensures { IfOk result (IsResponse (reacting_to event obviated_by reaction.now activation (seen N.meaning state.old))
         notes.old.items notes.new.items (seen N.meaning state.new)) }
 {
     let entry = entry_of(activation.unit, Some(event.unit()));
-    match ask(*notes.allocator(), &reaction.code, entry, &mut state.board)? {
+    match &ask(*notes.allocator(), &reaction.code, entry, &mut state.board)? {
         Reply::Answer(Answer::Yes) => {
             let number = activation.number;
             state.agenda.obviate(number)?;
@@ -86,20 +86,23 @@ fn obviate_one<N: NativeSource>(
             Ok(None)
         }
         Reply::Answer(_) => Ok(None),
-        Reply::Over(end) => Ok(Some(end)),
+        Reply::Over(end) => Ok(Some(*end)),
     }
 }
 
-// Gives a pending activation another base.
+// Gives a pending activation another base, if the answer is one.
 fn rerate<N: NativeSource>(
     activation: Activation,
-    base: i64,
+    answer: Answer,
     state: &mut State<N>,
     notes: &mut Vec<Note>,
 ) -> Result<(), AllocError>
-    ensures { IfOk result (λ _. IsResponse (rerated_by activation (Rated base) (seen N.meaning state.old))
+    ensures { IfOk result (λ _. IsResponse (rerated_by activation answer (seen N.meaning state.old))
         notes.old.items notes.new.items (seen N.meaning state.new) None) }
 {
+    let Answer::Rated(base) = answer else {
+        return Ok(());
+    };
     let number = activation.number;
     state.agenda.rerate(number, base)?;
     notes.push(Note::Retriggered { number, base })?;
@@ -113,17 +116,16 @@ fn retrigger_one<N: NativeSource>(
     activation: Activation,
     state: &mut State<N>,
     notes: &mut Vec<Note>,
-) -> Result<Option<End>, AllocError>
+) -> Result<Option<Ending>, AllocError>
     ensures { IfOk result (IsResponse (reacting_to event rerated_by reaction.now activation (seen N.meaning state.old))
         notes.old.items notes.new.items (seen N.meaning state.new)) }
 {
     let entry = entry_of(activation.unit, Some(event.unit()));
     match ask(*notes.allocator(), &reaction.code, entry, &mut state.board)? {
-        Reply::Answer(Answer::Rated(base)) => {
-            rerate(activation, base, state, notes)?;
+        Reply::Answer(answer) => {
+            rerate(activation, answer, state, notes)?;
             Ok(None)
         }
-        Reply::Answer(_) => Ok(None),
         Reply::Over(end) => Ok(Some(end)),
     }
 }
@@ -135,7 +137,7 @@ pub(crate) fn obviate_all<N: NativeSource>(
     place: u16,
     state: &mut State<N>,
     notes: &mut Vec<Note>,
-) -> Result<Option<End>, AllocError>
+) -> Result<Option<Ending>, AllocError>
     ensures { IfOk result (IsResponse
         (reacting_to_each event obviated_by reaction.now (pending_for state.old.agenda place)
         (seen N.meaning state.old))
@@ -157,7 +159,7 @@ pub(crate) fn retrigger_all<N: NativeSource>(
     place: u16,
     state: &mut State<N>,
     notes: &mut Vec<Note>,
-) -> Result<Option<End>, AllocError>
+) -> Result<Option<Ending>, AllocError>
     ensures { IfOk result (IsResponse
         (reacting_to_each event rerated_by reaction.now (pending_for state.old.agenda place)
         (seen N.meaning state.old))

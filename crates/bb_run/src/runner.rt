@@ -8,10 +8,11 @@ ghost use Rattle.bb_run.specs.Told.{telling};
 ghost use Rattle.bb_run.specs.proving.Seen.{seen};
 ghost use Rattle.bb_run.specs.proving.Telling.{Makes, Same, Tells, at, option_list};
 
+use crate::ending::Ending;
 use crate::processing::respond;
 use crate::state::State;
 use bb_run_plan::Plan;
-use bb_trace::{BoardNote as Noted, End, Event, Halt, NativeSource, Note, Out, Page};
+use bb_trace::{BoardNote as Noted, Event, Halt, NativeSource, Note, Out, Page};
 use std::alloc::Global;
 
 /// What makes a run and writes it: the page, and where that is written.
@@ -65,7 +66,7 @@ impl<O: Out> Runner<'_, O> {
         plan: &Plan,
         event: Event,
         state: &mut State<N>,
-    ) -> Result<Option<End>, Halt>
+    ) -> Result<Option<Ending>, Halt>
         requires open { O.has_failed self.old.out.now ≡ false }
         ensures same { Same self.old self.new }
         ensures made { Makes plan.now (at O.taken self.old) (at O.taken self.new)
@@ -84,7 +85,7 @@ impl<O: Out> Runner<'_, O> {
         plan: &Plan,
         notes: &[Note],
         state: &mut State<N>,
-    ) -> Result<Option<End>, Halt>
+    ) -> Result<Option<Ending>, Halt>
         requires open { O.has_failed self.old.out.now ≡ false }
         ensures same { Same self.old self.new }
         ensures made { Makes plan.now (at O.taken self.old) (at O.taken self.new)
@@ -108,7 +109,7 @@ impl<O: Out> Runner<'_, O> {
         &mut self,
         plan: &Plan,
         state: &mut State<N>,
-    ) -> Result<Option<End>, Halt>
+    ) -> Result<Option<Ending>, Halt>
         requires open { O.has_failed self.old.out.now ≡ false }
         ensures same { Same self.old self.new }
         ensures made { Makes plan.now (at O.taken self.old) (at O.taken self.new)
@@ -127,9 +128,9 @@ impl<O: Out> Runner<'_, O> {
         &mut self,
         plan: &Plan,
         notes: &[Note],
-        end: Option<End>,
+        end: Option<Ending>,
         state: &mut State<N>,
-    ) -> Result<Option<End>, Halt>
+    ) -> Result<Option<Ending>, Halt>
         requires open { O.has_failed self.old.out.now ≡ false }
         ensures same { Same self.old self.new }
         ensures made { Makes plan.now (at O.taken self.old) (at O.taken self.new)

@@ -8,10 +8,11 @@ ghost use Rattle.bb_run.specs.proving.Seen.{seen};
 ghost use Rattle.bb_run.specs.proving.Telling.{IsResponse};
 
 use crate::asking::{Reply, ask, entry_of};
+use crate::ending::Ending;
 use crate::state::State;
 use bb_agenda::{Activation, AddFault};
 use bb_machine::Answer;
-use bb_trace::{End, Event, NativeSource, Note, Question};
+use bb_trace::{Event, NativeSource, Note, Question};
 use std::alloc::AllocError;
 
 /// Gives the source at a place an activation for an event, with this base.
@@ -21,7 +22,7 @@ pub(crate) fn activate<N: NativeSource>(
     base: i64,
     state: &mut State<N>,
     notes: &mut Vec<Note>,
-) -> Result<Option<End>, AllocError>
+) -> Result<Option<Ending>, AllocError>
     ensures { IfOk result (IsResponse (activating event place base (seen N.meaning state.old))
         notes.old.items notes.new.items (seen N.meaning state.new)) }
 {
@@ -36,7 +37,7 @@ pub(crate) fn activate<N: NativeSource>(
             }))?;
             Ok(None)
         }
-        Err(AddFault::Full) => Ok(Some(End::Full)),
+        Err(AddFault::Full) => Ok(Some(Ending::FULL)),
         Err(AddFault::Memory) => Err(AllocError),
     }
 }
@@ -48,19 +49,19 @@ pub(crate) fn require<N: NativeSource>(
     place: u16,
     state: &mut State<N>,
     notes: &mut Vec<Note>,
-) -> Result<Option<End>, AllocError>
+) -> Result<Option<Ending>, AllocError>
     ensures { IfOk result (IsResponse
         (asking code.now.code (entry_of (unit_of event) None) (required_by event place) (seen N.meaning state.old))
         notes.old.items notes.new.items (seen N.meaning state.new)) }
 {
     let unit = event.unit();
-    match ask(
+    match &ask(
         *notes.allocator(),
         code,
         entry_of(unit, None),
         &mut state.board,
     )? {
-        Reply::Answer(Answer::Rated(base)) => activate(event, place, base, state, notes),
+        Reply::Answer(Answer::Rated(base)) => activate(event, place, *base, state, notes),
         Reply::Answer(_) => {
             notes.push(Note::Declined {
                 source: place,
@@ -68,6 +69,6 @@ pub(crate) fn require<N: NativeSource>(
             })?;
             Ok(None)
         }
-        Reply::Over(end) => Ok(Some(end)),
+        Reply::Over(end) => Ok(Some(*end)),
     }
 }

@@ -23,7 +23,6 @@ use Rattle.bb_run.specs.Load.{load, loaded}
 use Rattle.bb_run.specs.Plan.{Plan}
 use Rattle.bb_run.specs.RuleFault.TheVariants as rules
 use Rattle.bb_run.specs.Source.{Source}
-use Rattle.bb_run.specs.Act.TheVariants as acts
 use Rattle.bb_shell.specs.declared.fitting.Unfit.{Unfit}
 use Rattle.bb_shell.specs.declared.fitting.Unfit.TheVariants as unfits
 use Rattle.bb_refusal.specs.declared.input_fault.InputFault.TheVariants as inputs

@@ -29,7 +29,7 @@ pub use bb_refusal::InputFault;
 pub use bb_run::{
     Ask, Board, ClassPlace, ClauseList, ClausePlace, Closed, Closing, DimValue, DocumentPlace, End,
     Finish, ListItem, ListKey, NativeSource, Node, OperandKind, Out, Pattern, Pipe, Query,
-    Relation, Roster, RuleFault, Source, Stuck, UnitsFault, UnitsFlaw, View, close_each, put_all,
+    Relation, Roster, RuleFault, Source, UnitsFault, UnitsFlaw, View, close_each, put_all,
     runs_are_orderly,
 };
 pub use bb_schema::{SchemaFault, SchemaFlaw, UnitId, Value};

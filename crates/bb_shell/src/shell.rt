@@ -7,7 +7,6 @@ ghost use Rattle.bb_run.specs.Finish.{WritesFront, end_of, is_write};
 ghost use Rattle.bb_run.specs.Law.{IsMade};
 ghost use Rattle.bb_run.specs.Run.{run};
 ghost use Rattle.bb_run.specs.TraceText.{trace_text};
-ghost use Rattle.bb_run.specs.Unstuck.{NotStuck};
 ghost use Rattle.bb_shell.specs.Fitting.{HasAct, names_in, native_names};
 ghost use Rattle.bb_shell.specs.Shell.{shell_of};
 
@@ -25,13 +24,15 @@ pub struct Shell<N: NativeSource> {
     board: Board,
     roster: Roster<N>,
     ghost of_schema: { board.schema ≡ plan.schema },
+    ghost made: { ∥ All (IsMade plan.schema) plan.sources ∥₁ },
     ghost acted: { All (HasAct (native_names (map N.meaning roster.natives.items))) plan.sources },
 }
 
 impl<N: NativeSource> Shell<N> {
-    /// A shell of these sources in their order, which a host makes under the schema of the blackboard, with the natives
-    /// of a roster. The fault is the first, source by source: `Twice`, `Limit` past 256 sources, `Native` if no native
-    /// of its name was handed in. At a fault each native is closed, in order, and blackboard and sources are dropped.
+    /// A shell of these sources in their order, with the natives of a roster. The host has made the sources under the
+    /// schema of the blackboard, of codes that were verified under it. The fault is the first, source by source:
+    /// `Twice`, `Limit` past 256 sources, `Native` if no native of its name was handed in. At a fault each native is
+    /// closed, in order, and blackboard and sources are dropped.
     pub fn new(
         alloc: Global,
         board: Board,
@@ -39,6 +40,7 @@ impl<N: NativeSource> Shell<N> {
         roster: Roster<N>,
         floor: i64,
     ) -> Result<Shell<N>, RuleFault>
+        requires made { All (IsMade board.schema) sources.items }
         ensures shell { Gives RuleFault.Memory (λ s. record { plan = s.plan; board = s.board }) result
             (shell_of (native_names (map N.meaning roster.natives.items)) board sources.items floor) }
         ensures natives { IfOk result (λ s.
@@ -58,8 +60,7 @@ impl<N: NativeSource> Shell<N> {
     }
 
     /// Runs the shell, at most `limit` cycles, and writes the trace. Each native is closed once, in order, whatever
-    /// comes of the run. `Memory`: memory ran out. `Write`: the output failed. The run is not stuck if the sources were
-    /// made under the schema of the blackboard, of codes that were verified under it.
+    /// comes of the run. `Memory`: memory ran out. `Write`: the output failed.
     pub fn run<O: Out>(self, alloc: Global, limit: u32, out: &mut O) -> Finish
         requires open { O.has_failed out.old ≡ false }
         ensures finish { IfSome (end_of result) (λ end.
@@ -69,7 +70,6 @@ impl<N: NativeSource> Shell<N> {
         ensures front { WritesFront self.plan (run self.plan self.board (map N.meaning self.roster.natives.items) limit)
             result (O.taken out.old) (O.taken out.new) }
         ensures failed { O.has_failed out.new ≡ is_write result }
-        ensures unstuck { All (IsMade self.plan.schema) self.plan.sources → NotStuck (end_of result) }
     {
         let Shell {
             plan,
@@ -89,9 +89,11 @@ fn plan_for(
     sources: Vec<Source>,
     floor: i64,
 ) -> Result<Plan, RuleFault>
+    requires made { All (IsMade board.now.schema) sources.items }
     ensures shell { Gives RuleFault.Memory (λ p. record { plan = p; board = board.now }) result
         (shell_of (names_in natives.now) board.now sources.items floor) }
     ensures of_schema { IfOk result (λ p. board.now.schema ≡ p.schema) }
+    ensures made { IfOk result (λ p. All (IsMade p.schema) p.sources) }
     ensures acts { IfOk result (λ p. All (HasAct (names_in natives.now)) p.sources) }
 {
     let schema = board.shared_schema()?;

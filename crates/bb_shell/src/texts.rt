@@ -13,7 +13,6 @@ ghost use Rattle.bb_shell.specs.Fitting.{names_in, native_names};
 ghost use Rattle.bb_shell.specs.Meaning.{Meaning, meaning};
 ghost use Rattle.bb_run.specs.Run.{run};
 ghost use Rattle.bb_run.specs.TraceText.{trace_text};
-ghost use Rattle.bb_run.specs.Unstuck.{NotStuck};
 
 use crate::given::given;
 use bb_refusal::InputFault;
@@ -59,9 +58,6 @@ pub fn run_texts<N: NativeSource, O: Out>(
         ≡ Ok m)
         × WritesFront m.plan (run m.plan m.board (map N.meaning natives.items) limit) f
         (O.taken out.old) (O.taken out.new)) }
-
-    // No run of an input is stuck.
-    ensures unstuck { IfOk result (λ f. NotStuck (end_of f)) }
 
     // `Write` says that the output has failed, and no other finish does.
     ensures failed { IfOk result (λ f. O.has_failed out.new ≡ is_write f) }

@@ -1,5 +1,10 @@
 //! A shell that a host makes of a blackboard and sources, and runs.
 
+ghost use Rattle.std.specs.Prelude.{◌≡◌, All, IfOk};
+ghost use Rattle.bb_bundle.specs.declared.draft.ActDraft.TheVariants.{Do as Does};
+ghost use Rattle.bb_verify.specs.Accepted.{Checked as Accepted};
+ghost use Rattle.bb_shell.specs.Law.{IsAccepted, IsMade};
+
 use crate::input::{HAIL, NOTE_SCHEMA, ONE_NOTE};
 use crate::natives::{Teller, no_natives};
 use bb_bundle::{ActDraft, Parts, SourceCode, SourceDraft, unbundle};
@@ -13,11 +18,9 @@ use std::test::Fail;
 const PART: Part = Part::Do { class: 1 };
 
 // The verified act of a source on notes.
-fn verified(
-    alloc: Global,
-    schema: &Schema,
-    act: ActDraft<Code>,
-) -> Result<ActDraft<Checked>, Fail> {
+fn verified(alloc: Global, schema: &Schema, act: ActDraft<Code>) -> Result<ActDraft<Checked>, Fail>
+    ensures { IfOk result (λ act. (c : Accepted) → act ≡ Does c → IsAccepted schema.now c) }
+{
     match act {
         ActDraft::Do(code) => Ok(ActDraft::Do(verify(alloc, schema, PART, code)?)),
         ActDraft::Native => Ok(ActDraft::Native),
@@ -25,7 +28,9 @@ fn verified(
 }
 
 // A source on notes that has only an act, from its code.
-fn source_of(alloc: Global, schema: &Schema, code: SourceCode) -> Result<Source, Fail> {
+fn source_of(alloc: Global, schema: &Schema, code: SourceCode) -> Result<Source, Fail>
+    ensures { IfOk result (λ source. IsMade schema.now source) }
+{
     let SourceDraft {
         header,
         parts: _,
@@ -39,13 +44,23 @@ fn source_of(alloc: Global, schema: &Schema, code: SourceCode) -> Result<Source,
     Ok(Source::new(alloc, schema, draft)?)
 }
 
-// The sources of `count` copies of `HAIL`.
-fn hails(alloc: Global, schema: &Schema, count: u8) -> Result<Vec<Source>, Fail> {
+// The source of `HAIL`.
+fn hail(alloc: Global, schema: &Schema) -> Result<Source, Fail>
+    ensures { IfOk result (λ source. IsMade schema.now source) }
+{
+    match unbundle(alloc, HAIL)?.pop() {
+        Some(code) => source_of(alloc, schema, code),
+        None => Err(Fail::from("the bundle has a source")),
+    }
+}
+
+// The source of `HAIL`, `count` times.
+fn hails(alloc: Global, schema: &Schema, count: u8) -> Result<Vec<Source>, Fail>
+    ensures { IfOk result (λ sources. All (IsMade schema.now) sources.items) }
+{
     let mut sources = Vec::new(alloc);
-    for _ in 0..count {
-        for code in unbundle(alloc, HAIL)? {
-            sources.push(source_of(alloc, schema, code)?)?;
-        }
+    for _turn in 0..count {
+        sources.push(hail(alloc, schema)?)?;
     }
     Ok(sources)
 }

@@ -1,3 +1,5 @@
+-- how a run ends
+pub mod End
 -- the text of a trace
 pub mod TraceText
 -- what the writing of a page does

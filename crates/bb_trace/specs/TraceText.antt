@@ -20,8 +20,8 @@ use Rattle.bb_machine_state.specs.Reasons.{reason_number}
 use Rattle.bb_native.specs.declared.closing.Closing.{Closing}
 use Rattle.bb_native.specs.Refusals.{refusal_number}
 use Rattle.bb_rules.specs.Parts.{Source}
-use Rattle.bb_trace.specs.declared.end.End.{End}
-use Rattle.bb_trace.specs.declared.end.End.TheVariants as ends
+use Rattle.bb_trace.specs.End.{End}
+use Rattle.bb_trace.specs.End as ends
 use Rattle.bb_trace.specs.declared.note.Note.{Note}
 use Rattle.bb_trace.specs.declared.note.Note.TheVariants.{Board, Triggered, Declined, Obviated, Retriggered}
 use Rattle.bb_trace.specs.declared.note.Note.TheVariants.{Chosen, Invalid, Ended, Refused, NativeEnded, Finished, Closed}

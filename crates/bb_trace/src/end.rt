@@ -1,16 +1,55 @@
 //! How a run ends that is not cut short. The run notes it last, and line.rt makes a line of it.
 
-use bb_machine_state::Stuck;
+use std::marker::Model;
 
 /// How a run ends that is not cut short.
 #[derive(Clone, Copy, Debug, PartialEq, Eq)]
-pub enum End {
+pub enum EndKind {
     /// Nothing can be chosen, and quiescence changed nothing.
     Quiescence,
     /// The limit of cycles was reached, and something can still be chosen.
     Limit,
     /// The blackboard or the agenda is full.
     Full,
-    /// An activation could not go on.
-    Stuck(Stuck),
+}
+
+/// The end of a run that is not cut short. Contracts see it among the ends that the definitions know: they have one
+/// more, that an activation could not go on.
+#[derive(Clone, Copy, Debug, PartialEq, Eq)]
+pub struct End {
+    pub kind: EndKind,
+}
+
+impl Model for End {
+    ghost use Rattle.bb_trace.specs.End.{End as Ends};
+    ghost use Rattle.bb_trace.specs.proving.Ends.{end_code, end_of, kind_of};
+
+    ghost Value = { Ends };
+
+    ghost coded = { end_code };
+
+    ghost view = { λ e. end_of e.kind };
+
+    ghost inverse = { λ e. record { kind = kind_of e } };
+
+    ghost use Rattle.bb_trace.specs.proving.Kinds.{end_back};
+
+    ghost inverse_ok = { λ e _. end_back e };
+}
+
+impl End {
+    /// Nothing can be chosen.
+    pub const QUIESCENCE: End = End {
+        kind: EndKind::Quiescence,
+    };
+
+    /// The limit of cycles was reached.
+    pub const LIMIT: End = End {
+        kind: EndKind::Limit,
+    };
+
+    /// The blackboard or the agenda is full.
+    pub const FULL: End = End {
+        kind: EndKind::Full,
+    };
 }

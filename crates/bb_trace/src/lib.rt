@@ -17,7 +17,6 @@ pub use bb_board::{
     Board, DocumentPlace, Event, ListItem, ListKey, Note as BoardNote, SharedSchema, UnitsFault,
     UnitsFlaw,
 };
-pub use bb_machine_state::Stuck;
 pub use bb_native::{
     Ask, Closed, Closing, Denial, DimValue, NativeSource, Node, OperandKind, Pattern, Query,
     Refusal, Relation, Roster, View, apply, close_each,
@@ -26,7 +25,7 @@ pub use bb_rules::{
     Act, ClassPlace, Classes, ClauseList, ClausePlace, Clauses, Question, Reaction, RuleFault,
     Source,
 };
-pub use end::End;
+pub use end::{End, EndKind};
 pub use halt::Halt;
 pub use line::{add_board_note, add_value};
 pub use note::Note;

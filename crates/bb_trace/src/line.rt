@@ -2,17 +2,15 @@
 
 ghost use Rattle.std.specs.Prelude.{◌≡◌, ◌++◌, ◌∷◌, [], OnOk, string_bytes};
 ghost use Rattle.bb_board.specs.Note.TheVariants.{Said as says};
-ghost use Rattle.bb_trace.specs.declared.end.End.TheVariants as ends;
 ghost use Rattle.bb_native.specs.Refusals.{refusal_number};
 ghost use Rattle.bb_trace.specs.TraceText.{board_note_text, change_text, choice_text, closed_text, decline_text, end_text, ended_text};
 ghost use Rattle.bb_trace.specs.TraceText.{event_text, line, numbered_text, refused_text, said_text, slot_name, source_name, trigger_text};
 ghost use Rattle.bb_trace.specs.TraceText.{value_text};
 
-use crate::end::End;
+use crate::end::{End, EndKind};
 use crate::note::Note;
 use bb_agenda::Activation;
 use bb_board::{Change, Event, Said};
-use bb_machine_state::Stuck;
 use bb_native::{Closing, Refusal};
 use bb_rules::Source;
 use bb_run_plan::Plan;
@@ -261,20 +259,11 @@ fn add_end(text: &mut String, steps: u128, found: u32, budget: u128) -> Result<(
 fn add_finish(text: &mut String, end: End) -> Result<(), AllocError>
     ensures { OnOk result (string_bytes text.new ≡ string_bytes text.old ++ (end_text end ++ 10 ∷ [])) }
 {
-    match end {
-        End::Quiescence => writeln!(text, "finish quiescence"),
-        End::Limit => writeln!(text, "finish limit"),
-        End::Full => writeln!(text, "finish full"),
-        End::Stuck(reason) => add_stuck(text, reason),
+    match end.kind {
+        EndKind::Quiescence => writeln!(text, "finish quiescence"),
+        EndKind::Limit => writeln!(text, "finish limit"),
+        EndKind::Full => writeln!(text, "finish full"),
     }
-}
-
-fn add_stuck(text: &mut String, reason: Stuck) -> Result<(), AllocError>
-    ensures { OnOk result (string_bytes text.new
-        ≡ string_bytes text.old ++ (end_text (ends.Stuck reason) ++ 10 ∷ [])) }
-{
-    let number = reason.number();
-    writeln!(text, "finish stuck {number}")
 }
 
 fn add_refused(text: &mut String, ask: u64, refusal: Refusal) -> Result<(), AllocError>

@@ -2,8 +2,6 @@
 use Rattle.std.proofs.Common.{map}
 use Rattle.bb_shell.specs.Check.{sources_in}
 use Rattle.bb_shell.specs.Fitting.{native_names}
-use Rattle.bb_shell.specs.Refusals.{refusal_text}
-use Rattle.bb_main.proofs.StatusLemmas.{refusal_status, written_status}
 use Rattle.bb_main.proofs.ServeLemmas.{served_check}
 use Rattle.bb_main.proofs.serving.check_sections.Goals as goal
 
@@ -11,10 +9,3 @@ pub returns-in-Ok-clause-answer : goal.returns-in-Ok-clause-answer
 returns-in-Ok-clause-answer g c =
     (served_check (sources_in (native_names (map g.N.NativeSource.meaning c.args.natives.items)) c.args.sections.schema.now c.args.sections.sources.now c.args.sections.bundle.now) c.in-Ok.checked.done c.advise.result.status
     (g.O.Out.taken c.args.writer.now) (g.O.Out.taken c.check_sources.new.out) c.advise.ensures.status c.in-Ok.ensures.text)
-
-pub returns-in-Ok-clause-unstuck : goal.returns-in-Ok-clause-unstuck
-returns-in-Ok-clause-unstuck g c = (written_status c.in-Ok.checked.done c.advise.result.status c.advise.ensures.status)
-
-pub returns-in-Err-clause-unstuck : goal.returns-in-Err-clause-unstuck
-returns-in-Err-clause-unstuck g c =
-    refusal_status (refusal_text c.in-Err.fault) (g.O.Out.taken c.check_sources.new.out) (g.O.Out.taken c.refuse.new.writer) c.refuse.result.status c.refuse.ensures.answer

@@ -1,7 +1,5 @@
 -- The bundle is one piece of the answer.
 use Rattle.bb_shell.specs.Compile.{bundle_in}
-use Rattle.bb_shell.specs.Refusals.{refusal_text}
-use Rattle.bb_main.proofs.StatusLemmas.{refusal_status, written_status}
 use Rattle.bb_main.proofs.ServeLemmas.{served_compile}
 use Rattle.bb_main.proofs.serving.compile_sections.Goals as goal
 
@@ -9,10 +7,3 @@ pub returns-in-Ok-clause-answer : goal.returns-in-Ok-clause-answer
 returns-in-Ok-clause-answer g c =
     rw c.quiet.ensures.status (served_compile (bundle_in c.args.sections.schema.now c.args.sections.sources.now) c.in-Ok.done c.done_status.result
     (g.O.Out.taken c.args.writer.now) (g.O.Out.taken c.compile_texts.new.out) c.done_status.ensures c.in-Ok.ensures.text)
-
-pub returns-in-Ok-clause-unstuck : goal.returns-in-Ok-clause-unstuck
-returns-in-Ok-clause-unstuck g c = rw c.quiet.ensures.status (written_status c.in-Ok.done c.done_status.result c.done_status.ensures)
-
-pub returns-in-Err-clause-unstuck : goal.returns-in-Err-clause-unstuck
-returns-in-Err-clause-unstuck g c =
-    refusal_status (refusal_text c.in-Err.fault) (g.O.Out.taken c.compile_texts.new.out) (g.O.Out.taken c.refuse.new.writer) c.refuse.result.status c.refuse.ensures.answer

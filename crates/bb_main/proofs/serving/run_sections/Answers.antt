@@ -2,10 +2,8 @@ use Rattle.std.proofs.Common.{rules, ◌⊎◌, inr, refl, map, w64, ℤ, to_z, 
 use Rattle.std.proofs.lemmas.Int.{to_z-of_z}
 use Rattle.bb_shell.specs.Fitting.{native_names}
 use Rattle.bb_shell.specs.Meaning.{meaning}
-use Rattle.bb_shell.specs.Refusals.{refusal_text}
 use Rattle.bb_main.specs.Serve.{CutShort, Delivers, answer_to_meaning}
 use Rattle.bb_main.proofs.ServeLemmas.{cut-nothing, served_meaning}
-use Rattle.bb_main.proofs.StatusLemmas.{refusal_status, run_status}
 use Rattle.bb_main.specs.declared.serving.TheConstants.{MEMORY}
 use Rattle.bb_main.proofs.serving.run_sections.Goals as goal
 
@@ -18,13 +16,6 @@ returns-in-Ok-clause-answer g c =
     let same = to_z-of_z w64 c.args.options.floor (search rules) in
     rw c.quiet.ensures.status (subst (λ (z : ℤ). Delivers (answer_to_meaning natives c.args.options.limit (given z)) old new c.status.result ⊎ CutShort (answer_to_meaning natives c.args.options.limit (given z)) old new c.status.result) same
     (served_meaning natives c.args.options.limit (given (to_z w64 (of_z w64 c.args.options.floor))) c.in-Ok.finish c.status.result old new c.status.ensures c.in-Ok.ensures.finish c.in-Ok.ensures.text c.in-Ok.ensures.front))
-
-pub returns-in-Ok-clause-unstuck : goal.returns-in-Ok-clause-unstuck
-returns-in-Ok-clause-unstuck g c = rw c.quiet.ensures.status (run_status c.in-Ok.finish c.status.result c.status.ensures c.in-Ok.ensures.unstuck)
-
-pub returns-in-Err-clause-unstuck : goal.returns-in-Err-clause-unstuck
-returns-in-Err-clause-unstuck g c =
-    refusal_status (refusal_text c.in-Err.fault) (g.O.Out.taken c.run_texts.new.out) (g.O.Out.taken c.refuse.new.writer) c.refuse.result.status c.refuse.ensures.answer
 
 pub returns-in-Err-Memory-clause-answer : goal.returns-in-Err-Memory-clause-answer
 returns-in-Err-Memory-clause-answer g c =

@@ -1,8 +1,6 @@
-use Rattle.std.proofs.Common.{inl, map, refl}
-use Rattle.bb_main_input.specs.Refusals.{read_line}
+use Rattle.std.proofs.Common.{map, refl}
 use Rattle.bb_main.specs.declared.serving.TheConstants.{MEMORY}
 use Rattle.bb_main.proofs.ServeLemmas.{serves-long, serves-nothing}
-use Rattle.bb_main.proofs.StatusLemmas.{refusal_status}
 use Rattle.bb_main.proofs.serving.serve_with.Goals as goal
 
 pub returns-in-Err-Limit-clause-answer : goal.returns-in-Err-Limit-clause-answer
@@ -18,11 +16,3 @@ returns-in-Err-Limit-clause-too_long g c = λ _. rw c.line.ensures at c.refuse_i
 pub returns-in-Err-Memory-clause-answer : goal.returns-in-Err-Memory-clause-answer
 returns-in-Err-Memory-clause-answer g c =
     rw (c.read_input.ensures.failed, c.in-Err-Memory.is, c.in-Err-Memory.field-0-is, c.quiet.ensures.status) (serves-nothing (map g.N.NativeSource.meaning c.args.natives.items) c.args.options.mode c.args.options.limit c.args.options.floor (g.R.In.remaining c.args.reader.now) (g.O.Out.taken c.args.writer.now) MEMORY refl)
-
-pub returns-in-Err-Read-clause-unstuck : goal.returns-in-Err-Read-clause-unstuck
-returns-in-Err-Read-clause-unstuck g c =
-    refusal_status read_line (g.O.Out.taken c.args.writer.now) (g.O.Out.taken c.refuse_input.new.writer) c.refuse_input.result.status (inl c.refuse_input.ensures.answer)
-
-pub returns-in-Err-Limit-clause-unstuck : goal.returns-in-Err-Limit-clause-unstuck
-returns-in-Err-Limit-clause-unstuck g c =
-    refusal_status c.line.result.now (g.O.Out.taken c.args.writer.now) (g.O.Out.taken c.refuse_input-in-Err-Limit.new.writer) c.refuse_input-in-Err-Limit.result.status (inl c.refuse_input-in-Err-Limit.ensures.answer)

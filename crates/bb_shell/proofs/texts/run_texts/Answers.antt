@@ -17,6 +17,16 @@ use Rattle.bb_shell.proofs.texts.run_texts.Goals as goal
 means_with : (natives : List Native) (names : List (List ℕ)) (given : List (List ℕ) → Result Meaning InputFault) (r : Result Meaning InputFault) → names ≡ native_names natives → given names ≡ r → given (native_names natives) ≡ r
 means_with natives names given r same is = sym (ap given same) ∙ is
 
+pub run-requires : goal.run-requires
+run-requires g c =
+    let held = map g.N.NativeSource.meaning c.in_ok-roster.roster.natives.items in
+    let given = λ (names : List (List ℕ)). meaning names c.args.schema.now c.args.units.now c.args.sources.now c.args.bundle.now c.args.floor in
+    let m : Meaning = record { plan = c.in-Ok.plan; board = c.in-Ok.board } in
+    let floor = to_z-of_z w64 c.args.floor (search rules) in
+    let means = sym (ap (λ (z : ℤ). meaning (names_in c.handed_in.result.now) c.args.schema.now c.args.units.now c.args.sources.now c.args.bundle.now z) floor) ∙ c.in-Ok.ensures.means in
+    let whole = meaning_whole (native_names held) c.args.schema.now c.args.units.now c.args.sources.now c.args.bundle.now c.args.floor m (means_with held (names_in c.handed_in.result.now) given (Ok m) (names_told held c.handed_in.result.now c.handed_in.ensures) means) in
+    record { made = ∣ whole.made ∣₁; acts = no_native c.in-Ok.plan held whole.acts; of_schema = whole.schema; «open» = c.requires.open }
+
 pub returns-in-Ok-clause-finish : goal.returns-in-Ok-clause-finish
 returns-in-Ok-clause-finish g c =
     let held = map g.N.NativeSource.meaning c.in_ok-roster.roster.natives.items in
@@ -46,16 +56,6 @@ returns-in-Ok-clause-front g c =
     let means = sym (ap (λ (z : ℤ). meaning (names_in c.handed_in.result.now) c.args.schema.now c.args.units.now c.args.sources.now c.args.bundle.now z) floor) ∙ c.in-Ok.ensures.means in
     subst (λ (ns : List Native). (x : Meaning) × (given (native_names ns) ≡ Ok x) × WritesFront x.plan (run x.plan x.board ns c.args.limit) c.run.result (g.O.Out.taken c.args.out.now) (g.O.Out.taken c.run.new.out)) c.in_ok-roster.ensures
     (m, means_with held (names_in c.handed_in.result.now) given (Ok m) (names_told held c.handed_in.result.now c.handed_in.ensures) means, c.run.ensures.front)
-
-pub returns-in-Ok-clause-unstuck : goal.returns-in-Ok-clause-unstuck
-returns-in-Ok-clause-unstuck g c =
-    let held = map g.N.NativeSource.meaning c.in_ok-roster.roster.natives.items in
-    let given = λ (names : List (List ℕ)). meaning names c.args.schema.now c.args.units.now c.args.sources.now c.args.bundle.now c.args.floor in
-    let m : Meaning = record { plan = c.in-Ok.plan; board = c.in-Ok.board } in
-    let floor = to_z-of_z w64 c.args.floor (search rules) in
-    let means = sym (ap (λ (z : ℤ). meaning (names_in c.handed_in.result.now) c.args.schema.now c.args.units.now c.args.sources.now c.args.bundle.now z) floor) ∙ c.in-Ok.ensures.means in
-    let whole = meaning_whole (native_names held) c.args.schema.now c.args.units.now c.args.sources.now c.args.bundle.now c.args.floor m (means_with held (names_in c.handed_in.result.now) given (Ok m) (names_told held c.handed_in.result.now c.handed_in.ensures) means) in
-    c.run.ensures.unstuck whole.made (no_native c.in-Ok.plan held whole.acts) whole.schema
 
 pub returns-in-Err-clause-refused : goal.returns-in-Err-clause-refused
 returns-in-Err-clause-refused g c =

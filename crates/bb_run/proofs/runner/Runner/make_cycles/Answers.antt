@@ -1,6 +1,6 @@
 use Rattle.std.proofs.Common.{◌≡◌, ◌+◌, ◌-◌, arith, refl, subst, sym}
 use Rattle.std.proofs.lemmas.Result.{err_from_is_err_and}
-use Rattle.bb_trace.specs.declared.end.End.TheVariants.{Limit}
+use Rattle.bb_trace.specs.End.{Limit}
 use Rattle.bb_run.specs.Run.{cycle, cycles}
 use Rattle.bb_run.specs.Told.{over}
 use Rattle.bb_run.specs.proving.Seen.{seen}

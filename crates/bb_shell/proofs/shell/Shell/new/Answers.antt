@@ -12,6 +12,9 @@ use Rattle.bb_shell.proofs.shell.Shell.new.Goals as goal
 pub invariant_of-result-clause-of_schema : goal.invariant_of-result-clause-of_schema
 invariant_of-result-clause-of_schema g c = c.in-Ok.ensures.of_schema
 
+pub invariant_of-result-clause-made : goal.invariant_of-result-clause-made
+invariant_of-result-clause-made g c = ∣ c.in-Ok.ensures.made ∣₁
+
 pub invariant_of-result-clause-acted : goal.invariant_of-result-clause-acted
 invariant_of-result-clause-acted g c =
     let names = names_told (map g.N.NativeSource.meaning c.args.roster.natives.items) c.handed_in.result.now c.handed_in.ensures in
