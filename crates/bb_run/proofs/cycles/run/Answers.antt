@@ -12,7 +12,7 @@ write_run-requires-clause-unstuck g c =
     let sound : schemas.Fits c.args.plan.now.schema = subst schemas.Fits c.schema.ensures c.fits.ensures in
     let natives = map g.N.NativeSource.meaning c.args.start.roster.natives.items in
     ∥∥₁_elim c.requires.made (not_stuck_prop (run c.args.plan.now c.args.start.board natives c.from.result).end) (λ made.
-        none_stuck c.args.plan.now c.args.start.board natives c.from.result (record { schema = sound; made = made; codes = c.sources.ensures.sound }) c.requires.acts c.requires.of_schema c.fits-2.ensures)
+    none_stuck c.args.plan.now c.args.start.board natives c.from.result (record { schema = sound; made = made; codes = c.sources.ensures.sound }) c.requires.acts c.requires.of_schema c.fits-2.ensures)
 
 pub returns-in-Memory-clause-front : goal.returns-in-Memory-clause-front
 returns-in-Memory-clause-front g c =
