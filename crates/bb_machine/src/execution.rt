@@ -1,4 +1,5 @@
-//! The execution of a code. The run calls it for each activation that is chosen (bb_run).
+//! The execution of a code by the machine that tests each op: what acceptance promises of it. A run executes by bb_exec,
+//! which comes out as it does.
 
 ghost use Rattle.std.specs.Prelude.{◌≡◌, ◌≤◌, ◌⊎◌, ◌+◌, ℕ, true, List, Some, Err, IfOk};
 ghost use Rattle.bb_basis.specs.Results.{Gives};
