@@ -1,12 +1,17 @@
 -- What is told of a code that was executed, and of one that was asked, by how that came out.
-use Rattle.std.proofs.Common.{◌≡◌, List, Option, None, Result, sym, subst, ap, ◌∙◌}
+use Rattle.std.proofs.Common.{◌≡◌, ◌⊎◌, inl, inr, Ok, Err, List, Option, None, Result, sym, subst, ap, ◌∙◌}
 use Rattle.bb_agenda.specs.Activation.{Activation}
 use Rattle.bb_code.specs.Code.{Code}
 use Rattle.bb_verify.specs.Accepted.{Checked}
 use Rattle.bb_machine.specs.Answer.{Answer}
 use Rattle.bb_machine.specs.Entry.{Entry}
 use Rattle.bb_machine.specs.Outcome.{Outcome}
+use Rattle.bb_basis.specs.Results.{Gives}
+use Rattle.bb_exec.specs.Executed.{as_defensive}
+use Rattle.bb_exec.specs.declared.stop.Stop.{Stop as Stopped}
+use Rattle.bb_exec.specs.declared.stop.Stop.TheVariants as stopped
 use Rattle.bb_machine.specs.Stop.{Stop}
+use Rattle.bb_machine.specs.Stop.TheVariants as stops
 use Rattle.bb_trace.specs.Board.{Board as Blackboard}
 use Rattle.bb_trace.specs.End.{End}
 use Rattle.bb_trace.specs.declared.note.Note.{Note}
@@ -15,7 +20,16 @@ use Rattle.bb_run.specs.Asking.{asking, attempt, entry_of, reply_by, upon}
 use Rattle.bb_run.specs.State.{State, with_board}
 use Rattle.bb_run.specs.Told.{Response}
 use Rattle.bb_run.specs.Run.{answered, executing}
-use Rattle.bb_run.specs.proving.Telling.{IsResponse, Replies}
+use Rattle.bb_run.specs.proving.Telling.{Attempts, IsResponse, Replies}
+
+-- what an execution that came out so attempted
+pub attempted_by : (r : Result Outcome Stopped) (e : Result Outcome Stop × Blackboard) (board : Blackboard) → Gives stops.Memory (λ o. o) (as_defensive r) e.0 → (r ≡ Err stopped.Memory) ⊎ (board ≡ e.1) → Attempts e r board
+attempted_by (Ok o) e board gives (inl memory) = absurd cc
+attempted_by (Ok o) e board gives (inr left) = (gives, left)
+attempted_by (Err (stopped.Full steps found)) e board gives (inl memory) = absurd cc
+attempted_by (Err (stopped.Full steps found)) e board (inl memory) (inr left) = absurd cc
+attempted_by (Err (stopped.Full steps found)) e board (inr same) (inr left) = (same, left)
+attempted_by (Err stopped.Memory) e board gives left = tt
 
 module _ (old new : List Note) (s t : State) (end : Option End) (board : Blackboard) where
   -- an execution was noted

@@ -68,6 +68,10 @@ pub mod UnstuckParts
 pub mod UnstuckStates
 -- no run is stuck
 pub mod UnstuckRuns
+-- each code is executed for units that fit its part
+pub mod MadeLemmas
+pub mod ServeLemmas
+pub mod ServeCycles
 -- each event that is told is processed
 pub mod VisitLemmas
 -- each event is processed in a state that is ready

@@ -101,6 +101,10 @@ reads_by c (op ∷ ops) some is =
     let count : length c.code.ops ≡ length (op ∷ ops) = ap (λ l. length l) some in
     part_reads s c.part c.code c.frames is.reads (checked_facts s c.part c.code c is.sound.accepted (omega (arith, count)))
 
+-- what is asked leaves the blackboard
+pub asked_kept : (c : Checked) (entry : Entry) (b : Blackboard) → IsQuestion c → (attempt c.code entry b).1 ≡ b
+asked_kept c entry b is = activation_reads (budget c.code FOUND_LIMIT) c.code entry b (reads_by c c.code.ops refl is)
+
 reaction_reads : (reaction : Option Reaction) (code : Checked) → option_map code_of reaction ≡ Some code → ((r : Reaction) → reaction ≡ Some r → IsQuestion r.code) → has_no_writes code.code ≡ true
 reaction_reads None code is each = absurd cc
 reaction_reads (Some r) code is each = let same : r.code ≡ code = cc in subst (λ (c : Checked). has_no_writes c.code ≡ true) same (reads_by r.code r.code.code.ops refl (each r refl))

@@ -69,13 +69,12 @@ none_responds schema event sources read place s notes none are =
     let same = ap (λ o. option_map_or (λ source. source_response schema event place source s) o (idle s)) (none ∙ ap (λ xs. slice_get xs place) are) in
     subst (λ p. IsResponse p notes notes s None) same (nothing_told notes s)
 
--- a source that is there responds, asked under the schema as it was read
-pub one_responds : {E : Type 0} (r : Result (Option End) E) (old new : List Note) (t : State) (schema asked : Schema) (event : Event) (sources read : List Source) (place : ℕ) (source : Source) (s : State)
-    → Some source ≡ slice_get read place → read ≡ sources → asked ≡ schema → IfOk r (IsResponse (source_response asked event place source s) old new t) → IfOk r (IsResponse (response_at schema event sources place s) old new t)
-one_responds r old new t schema asked event sources read place source s found are same h =
-    let one = ap (λ x. source_response x event place source s) same in
+-- a source that is there responds
+pub one_responds : {E : Type 0} (r : Result (Option End) E) (old new : List Note) (t : State) (schema : Schema) (event : Event) (sources read : List Source) (place : ℕ) (source : Source) (s : State) → Some source ≡ slice_get read place → read ≡ sources
+    → IfOk r (IsResponse (source_response schema event place source s) old new t) → IfOk r (IsResponse (response_at schema event sources place s) old new t)
+one_responds r old new t schema event sources read place source s found are h =
     let here = ap (λ o. option_map_or (λ x. source_response schema event place x s) o (idle s)) (found ∙ ap (λ xs. slice_get xs place) are) in
-    subst (λ p. IfOk r (IsResponse p old new t)) (one ∙ here) h
+    subst (λ p. IfOk r (IsResponse p old new t)) here h
 
 -- ---- sources, one after another
 

@@ -115,13 +115,14 @@ module _ (plan : Plan) (a b : Place) (r : Response) (first old new told : List N
 
 -- ---- the events of notes, one after another
 
-module _ (plan : Plan) (a b c : Place) (whole : Stretch) (notes : List Note) (i : ℕ) (note : Note) where
-  next_note : i < length notes → note ≡ get_or notes i note → events_in (drop i notes) ≡ event_in note ++ events_in (drop (i + 1) notes)
-  next_note lt is = ap events_in (next_one notes i note lt is) ∙ flat_map-cons event_in note (drop (i + 1) notes)
+-- the events from a note on
+pub next_note : (notes : List Note) (i : ℕ) (note : Note) → i < length notes → note ≡ get_or notes i note → events_in (drop i notes) ≡ event_in note ++ events_in (drop (i + 1) notes)
+next_note notes i note lt is = ap events_in (next_one notes i note lt is) ∙ flat_map-cons event_in note (drop (i + 1) notes)
 
-  at_note : (found : Option Event) (s : State) → i < length notes → note ≡ get_or notes i note → option_list found ≡ event_in note → HasTold plan a b whole (processing_all plan (events_in (drop i notes)) s)
+module _ (plan : Plan) (a b c : Place) (whole : Stretch) (notes : List Note) (i : ℕ) (note : Note) where
+  pub at_note : (found : Option Event) (s : State) → i < length notes → note ≡ get_or notes i note → option_list found ≡ event_in note → HasTold plan a b whole (processing_all plan (events_in (drop i notes)) s)
       → HasTold plan a b whole (processing_all plan (option_list found ++ events_in (drop (i + 1) notes)) s)
-  at_note found s lt is found_is h = subst (λ es. HasTold plan a b whole (processing_all plan es s)) (next_note lt is ∙ ap (λ es. es ++ events_in (drop (i + 1) notes)) (sym found_is)) h
+  at_note found s lt is found_is h = subst (λ es. HasTold plan a b whole (processing_all plan es s)) (next_note notes i note lt is ∙ ap (λ es. es ++ events_in (drop (i + 1) notes)) (sym found_is)) h
 
   at_event : (event : Event) (s : State) → i < length notes → note ≡ get_or notes i note → option_list (Some event) ≡ event_in note → HasTold plan a b whole (processing_all plan (events_in (drop i notes)) s)
       → HasTold plan a b whole (and_then (processing plan event s) (processing_all plan (events_in (drop (i + 1) notes))))

@@ -93,7 +93,7 @@ module _ (plan : Plan) (sound : IsWellMade plan) (Given : Type 0) (b : Blackboar
   Answers = GoesWell Given KeepsBudget Waits
 
   -- the unit was of a class
-  abbrev Was : (class unit : ℕ) → Type 0
+  abbrev pub Was : (class unit : ℕ) → Type 0
   Was class unit = WasOf plan.schema b.world class unit
 
   made_of : (source : Source) → Contains plan.sources source → IsMade plan.schema source
@@ -132,7 +132,7 @@ module _ (plan : Plan) (sound : IsWellMade plan) (Given : Type 0) (b : Blackboar
   by_test true p q yes' no' = yes' refl
   by_test false p q yes' no' = no'
 
-  obviates : (a : Activation) (answer : Answer) (s : State) → Waits s → Answers (obviated_by a answer s)
+  pub obviates : (a : Activation) (answer : Answer) (s : State) → Waits s → Answers (obviated_by a answer s)
   obviates a answers.Yes s w =
       well_one Given KeepsBudget Waits (Obviated a.number) (with_agenda s (with_obviated s.agenda a.number)) tt
       (record { board = w.board; natives_are = w.natives_are; waiting = subst (All (SuitsSource plan b)) (sym (pending_obviated s.agenda a.number)) (All-filter (other_than a.number) (SuitsSource plan b) (pending_of s.agenda) w.waiting) })
@@ -141,7 +141,7 @@ module _ (plan : Plan) (sound : IsWellMade plan) (Given : Type 0) (b : Blackboar
   obviates a answers.Declined s w = well_idle Given KeepsBudget Waits s w
   obviates a (answers.Rated base) s w = well_idle Given KeepsBudget Waits s w
 
-  rerates : (a : Activation) (answer : Answer) (s : State) → Waits s → Answers (rerated_by a answer s)
+  pub rerates : (a : Activation) (answer : Answer) (s : State) → Waits s → Answers (rerated_by a answer s)
   rerates a (answers.Rated base) s w =
       well_one Given KeepsBudget Waits (Retriggered a.number base) (with_agenda s (with_base s.agenda a.number base)) tt
       (record { board = w.board; natives_are = w.natives_are; waiting = subst (All (SuitsSource plan b)) (sym (pending_rebased s.agenda a.number base)) (all_rebased (SuitsSource plan b) (λ x base' suits. suits) a.number base (pending_of s.agenda) w.waiting) })
@@ -156,7 +156,7 @@ module _ (plan : Plan) (sound : IsWellMade plan) (Given : Type 0) (b : Blackboar
   suits_if place class a rest true is here all = All-cons (λ (x : Activation). Was class x.unit) a rest (here is) all
   suits_if place class a rest false is here all = all
 
-  suit_place : (place : ℕ) (source : Source) (xs : List Activation) → slice_get plan.sources place ≡ Some source → All (SuitsSource plan b) xs → All (λ (x : Activation). Was source.class x.unit) (filter (is_of place) xs)
+  pub suit_place : (place : ℕ) (source : Source) (xs : List Activation) → slice_get plan.sources place ≡ Some source → All (SuitsSource plan b) xs → All (λ (x : Activation). Was source.class x.unit) (filter (is_of place) xs)
   suit_place place source [] is all = All-nil (λ (x : Activation). Was source.class x.unit)
   suit_place place source (a ∷ xs) is all =
       suits_if place source.class a (filter (is_of place) xs) (a.source == place) refl
@@ -176,7 +176,7 @@ module _ (plan : Plan) (sound : IsWellMade plan) (Given : Type 0) (b : Blackboar
           (asks source reaction.code (entry_of a.unit (Some (unit_of event))) (by a) s there asked (begins a (All-head (λ (x : Activation). Was source.class x.unit) a more all)) w (reacts a))
           (reacts_each reaction more r.state asked begins (All-tail (λ (x : Activation). Was source.class x.unit) a more all))
 
-      reacts_if : (place : ℕ) (reaction : Option Reaction) (s : State) → slice_get plan.sources place ≡ Some source → ((x : Reaction) → reaction ≡ Some x → IsAsked source x.code)
+      pub reacts_if : (place : ℕ) (reaction : Option Reaction) (s : State) → slice_get plan.sources place ≡ Some source → ((x : Reaction) → reaction ≡ Some x → IsAsked source x.code)
           → ((x : Reaction) → reaction ≡ Some x → any_match plan.schema x.clauses event ≡ true → (a : Activation) → Was source.class a.unit → Begins x.code.part x.code.frames x.code.code (entry_of a.unit (Some (unit_of event))) b)
           → Waits s → Answers (reacting plan.schema event place by reaction s)
       reacts_if place None s is asked begins w = well_idle Given KeepsBudget Waits s w
@@ -196,10 +196,10 @@ module _ (plan : Plan) (sound : IsWellMade plan) (Given : Type 0) (b : Blackboar
           begins_with plan.schema b c (entry_of (unit_of event) None) fits.schema (codes_of source there c (inr (inl same))) (made.require c same)
           (fits_require plan.schema b c.part source.class (unit_of event) (made.law.require c same) was)
 
-      obviate_asked : (x : Reaction) → source.obviate ≡ Some x → IsAsked source x.code
+      pub obviate_asked : (x : Reaction) → source.obviate ≡ Some x → IsAsked source x.code
       obviate_asked x same = inr (inr (inl (ap (option_map code_of) same)))
 
-      retrigger_asked : (x : Reaction) → source.retrigger ≡ Some x → IsAsked source x.code
+      pub retrigger_asked : (x : Reaction) → source.retrigger ≡ Some x → IsAsked source x.code
       retrigger_asked x same = inr (inr (inr (ap (option_map code_of) same)))
 
       pub obviate_begins : (x : Reaction) → source.obviate ≡ Some x → any_match plan.schema x.clauses event ≡ true → (a : Activation) → Was source.class a.unit → Begins x.code.part x.code.frames x.code.code (entry_of a.unit (Some (unit_of event))) b
@@ -260,7 +260,7 @@ module _ (plan : Plan) (sound : IsWellMade plan) (Given : Type 0) (b : Blackboar
           (λ matched. triggers source.require s refl matched w)
           (well_idle Given KeepsBudget Waits s w)
 
-      source_answers : (s : State) → Waits s → Answers (source_response plan.schema event place source s)
+      pub source_answers : (s : State) → Waits s → Answers (source_response plan.schema event place source s)
       source_answers s w =
           let first = reacting plan.schema event place obviated_by source.obviate s in
           well_then Given KeepsBudget Waits first (λ t. and_then (reacting plan.schema event place rerated_by source.retrigger t) (if_triggered plan.schema event place source)) first.end refl

@@ -2,7 +2,6 @@
 use Rattle.std.proofs.Common.{◌≡◌, ◌≤◌, inl, inr, ℕ, zero, suc, ◌+◌, ◌-◌, ℤ, List, [], ◌∷◌, ◌++◌, length, Option, Some, None, Result, Ok, Err, refl, sym, subst, ◌∙◌, arith}
 use Rattle.std.specs.Prelude.{All, Contains, map, option_and_then, slice_get}
 use Rattle.std.proofs.lemmas.List.Elements.{All-append, All-cons, All-contains, All-filter, All-head, All-nil, All-tail, All-weaker}
-use Rattle.std.specs.Coded.{Unit-prop}
 use Rattle.bb_schema.specs.Schema.{Schema}
 use Rattle.bb_schema.specs.Fits as schemas
 use Rattle.bb_code.specs.Code.{IsCode}
@@ -96,12 +95,12 @@ module _ (plan : Plan) (sound : IsWellMade plan) (natives : List Native) where
     codes : (c : Checked) → IsPart source c → IsCode c.code
     codes c part = code_within source c (All-contains HasSoundCodes plan.sources source sound.codes there) part
 
-    act_begins : (c : Checked) → source.act ≡ acts.Code c → Begins c.part c.frames c.code (entry_of a.unit None) s.board
+    pub act_begins : (c : Checked) → source.act ≡ acts.Code c → Begins c.part c.frames c.code (entry_of a.unit None) s.board
     act_begins c is =
         begins_with plan.schema s.board c (entry_of a.unit None) ready.board.schema (codes c (inl is)) (own_made.act c is)
         (fits_do plan.schema s.board c.part source.class a.unit (own_made.law.act c is) (suits source at))
 
-    revalidation_begins : (c : Checked) → source.revalidate ≡ Some c → Begins c.part c.frames c.code (entry_of a.unit None) s.board
+    pub revalidation_begins : (c : Checked) → source.revalidate ≡ Some c → Begins c.part c.frames c.code (entry_of a.unit None) s.board
     revalidation_begins c is =
         begins_with plan.schema s.board c (entry_of a.unit None) ready.board.schema (codes c (inr (inr (inl is)))) (own_made.revalidate c is)
         (fits_revalidate plan.schema s.board c.part source.class a.unit (own_made.law.revalidate c is) (suits source at))
@@ -332,17 +331,3 @@ module _ (plan : Plan) (sound : IsWellMade plan) (natives : List Native) where
 -- what sources ask about an event in a state that is ready
 pub state_asks : (plan : Plan) (s : State) (event : Event) → IsWellMade plan → IsReady plan s → IsEventOf plan.schema s.board event → AsksFor plan s event
 state_asks plan s event made ready here = event_asks plan made s.natives s event (record { board = ready.board; waiting = ready.waiting; places = λ name. refl }) here
-
--- that it is not stuck has one proof at most
-pub not_stuck_prop : (end : Option End) → IsProp (NotStuck end)
-not_stuck_prop None = Unit-prop
-not_stuck_prop (Some finishes.Quiescence) = Unit-prop
-not_stuck_prop (Some finishes.Limit) = Unit-prop
-not_stuck_prop (Some finishes.Full) = Unit-prop
-not_stuck_prop (Some (finishes.Stuck reason)) = λ p q. absurd p
-
--- no run of a blackboard of the plan's schema is
-pub none_stuck : (plan : Plan) (board : Blackboard) (natives : List Native) (limit : ℕ) → IsWellMade plan → ¬ LacksNative plan natives → board.schema ≡ plan.schema → Fits board.schema board.world
-    → NotStuck (run plan board natives limit).end
-none_stuck plan board natives limit made given same fits =
-    run_not_stuck plan made natives board limit (record { schema = same; world = subst (λ (x : Schema). Fits x board.world) same fits }) given

@@ -4,13 +4,13 @@
 ghost use Rattle.std.specs.Prelude.{◌≡◌, ◌≤◌, IfOk};
 ghost use Rattle.bb_verify.specs.declared.checked.TheConstants.{FOUND_LIMIT};
 ghost use Rattle.bb_run.specs.Asking.{attempt, entry_of, reply_by};
+ghost use Rattle.bb_run.specs.proving.Serving.{CanExecute};
 ghost use Rattle.bb_run.specs.proving.Telling.{Attempts, Replies};
 
-use crate::ending::Ending;
-use bb_machine::{Answer, Entry, Outcome, Stop, trial};
+use bb_exec::{Answer, Entry, Outcome, Stop, exec};
 use bb_schema::UnitId;
-use bb_trace::{Board, Question};
-use bb_verify::{Checked, FOUND_LIMIT};
+use bb_trace::{Board, End, Question};
+use bb_verify::Checked;
 use std::alloc::{AllocError, Global};
 
 /// How a code replies when it is asked.
@@ -18,7 +18,7 @@ use std::alloc::{AllocError, Global};
 pub(crate) enum Reply {
     Answer(Answer),
     /// The code came to no answer, so the run is over.
-    Over(Ending),
+    Over(End),
 }
 
 /// What the code of a part begins with.
@@ -28,33 +28,36 @@ pub(crate) fn entry_of(it: UnitId, ev: Option<UnitId>) -> Entry
     Entry { it, ev }
 }
 
-/// Executes a code for an entry, within the greatest budget that it may need.
+/// Executes a code for an entry.
 pub(crate) fn attempt(
     alloc: Global,
     code: &Checked,
     entry: Entry,
     board: &mut Board,
 ) -> Result<Outcome, Stop>
+    requires begins { CanExecute code.now entry board.old }
     ensures attempted { Attempts (attempt code.now.code entry board.old) result board.new }
     ensures few { IfOk result (λ o. o.found ≤ FOUND_LIMIT) }
 {
-    let limit = code.budget(FOUND_LIMIT);
-    trial(alloc, code.code(), board, entry, limit)
+    exec(alloc, code, board, entry)
 }
 
-/// Asks a question.
+/// Asks a question. The blackboard stays as it was.
 pub(crate) fn ask(
     alloc: Global,
     code: &Question,
     entry: Entry,
     board: &mut Board,
 ) -> Result<Reply, AllocError>
-    ensures { IfOk result (λ reply. Replies (attempt code.now.code entry board.old) reply board.new) }
+    requires begins { CanExecute code.now entry board.old }
+    ensures replied { IfOk result (λ reply. Replies (attempt code.now.code entry board.old) reply board.new) }
+    ensures kept { IfOk result (λ _. board.new ≡ board.old) }
 {
+    // For the proof: what is asked only reads.
+    code.fits();
     match attempt(alloc, code.checked(), entry, board) {
         Ok(outcome) => Ok(Reply::Answer(outcome.answer)),
-        Err(Stop::Full { .. }) => Ok(Reply::Over(Ending::FULL)),
-        Err(Stop::Stuck { reason, .. }) => Ok(Reply::Over(Ending::stuck(reason))),
+        Err(Stop::Full { .. }) => Ok(Reply::Over(End::FULL)),
         Err(Stop::Memory) => Err(AllocError),
     }
 }

@@ -7,11 +7,10 @@ ghost use Rattle.bb_run.specs.Run.{calling, each_applied, upon_ask};
 ghost use Rattle.bb_run.specs.proving.Seen.{seen};
 ghost use Rattle.bb_run.specs.proving.Telling.{IsResponse};
 
-use crate::ending::Ending;
 use crate::noting::take_noted;
 use crate::state::State;
 use bb_agenda::Activation;
-use bb_trace::{Ask, Denial, NativeSource, Note, View, apply};
+use bb_trace::{Ask, Denial, End, NativeSource, Note, View, apply};
 use std::alloc::AllocError;
 
 // Applies an ask of this number. A refused ask is noted; where no unit can be created the run is over.
@@ -20,7 +19,7 @@ fn apply_one<N: NativeSource>(
     ask: Ask,
     state: &mut State<N>,
     notes: &mut Vec<Note>,
-) -> Result<Option<Ending>, AllocError>
+) -> Result<Option<End>, AllocError>
     ensures { IfOk result (IsResponse (upon_ask number (applied ask state.old.board) (seen N.meaning state.old))
         notes.old.items notes.new.items (seen N.meaning state.new)) }
 {
@@ -36,7 +35,7 @@ fn apply_one<N: NativeSource>(
             })?;
             Ok(None)
         }
-        Err(Denial::Full) => Ok(Some(Ending::FULL)),
+        Err(Denial::Full) => Ok(Some(End::FULL)),
         Err(Denial::Memory) => Err(AllocError),
     }
 }
@@ -46,7 +45,7 @@ fn apply_each<N: NativeSource>(
     asks: Vec<Ask>,
     state: &mut State<N>,
     notes: &mut Vec<Note>,
-) -> Result<Option<Ending>, AllocError>
+) -> Result<Option<End>, AllocError>
     ensures { IfOk result (IsResponse (each_applied 1 asks.items (seen N.meaning state.old))
         notes.old.items notes.new.items (seen N.meaning state.new)) }
 {
@@ -67,7 +66,7 @@ pub(crate) fn call<N: NativeSource>(
     activation: Activation,
     state: &mut State<N>,
     notes: &mut Vec<Note>,
-) -> Result<Option<Ending>, AllocError>
+) -> Result<Option<End>, AllocError>
     requires { place < length (map N.meaning state.old.roster.natives.items) }
     ensures { IfOk result (IsResponse (calling (Some place) activation (seen N.meaning state.old))
         notes.old.items notes.new.items (seen N.meaning state.new)) }

@@ -1,6 +1,7 @@
 //! The run of the blackboard machine, in parts as its definition is. `run_texts` calls `run`.
 
 ghost use Rattle.std.specs.Prelude.{◌≡◌, [], ◌∷◌, All, Some, IfOk, IfSome, false, map, option_and_then, option_map};
+ghost use Rattle.std.specs.Prelude.{slice_get};
 ghost use Rattle.std.specs.Io.KnownBytes.{Appends};
 ghost use Rattle.bb_run.specs.Foci.{first_agenda};
 ghost use Rattle.bb_trace.specs.Law.{IsMade};
@@ -10,12 +11,12 @@ ghost use Rattle.bb_trace.specs.declared.note.Note.TheVariants.{Closed as Closed
 ghost use Rattle.bb_run.specs.Causes.{LacksNative};
 ghost use Rattle.bb_run.specs.Finish.{WritesFront, end_of, is_write};
 ghost use Rattle.bb_run.specs.Run.{acting, choice, cycle, cycles, if_valid, run, start, unfinished};
-ghost use Rattle.bb_run.specs.Unstuck.{NotStuck};
+ghost use Rattle.bb_run.specs.Unstuck.{SuitsSource};
 ghost use Rattle.bb_run.specs.proving.Knowing.{Knows, MayKnow};
 ghost use Rattle.bb_run.specs.proving.Seen.{seen};
+ghost use Rattle.bb_run.specs.proving.Serving.{MayServe, Serves};
 ghost use Rattle.bb_run.specs.proving.Telling.{Concludes, CutsShort, Finishes, GivesUp, Makes, Same, Waits, Writes, at};
 
-use crate::ending::Ending;
 use crate::execution::{Verdict, execute, take_choice, validate};
 use crate::finish::Finish;
 use crate::foci::{rated_sources, tell_all};
@@ -32,7 +33,7 @@ use std::alloc::{AllocError, Global};
 #[derive(Clone, Copy, Debug)]
 pub(crate) enum Decision {
     Act(Activation),
-    Over(Ending),
+    Over(End),
 }
 
 // Chooses an activation, if one can be chosen. The agenda rates by the foci that it was told of: the blackboard's.
@@ -72,6 +73,7 @@ impl<O: Out> Runner<'_, O> {
     ) -> Result<Decision, Halt>
         requires open { O.has_failed self.old.out.now ≡ false }
         requires knows { Knows plan.now (seen N.meaning state.old) }
+        requires serves { Serves plan.now (seen N.meaning state.old) }
         ensures same { Same self.old self.new }
         ensures waited { Waits plan.now (at O.taken self.old) (at O.taken self.new)
             (seen N.meaning state.old) (seen N.meaning state.new) result }
@@ -85,7 +87,7 @@ impl<O: Out> Runner<'_, O> {
         }
         match choose(plan, state) {
             Some(activation) => Ok(Decision::Act(activation)),
-            None => Ok(Decision::Over(Ending::QUIESCENCE)),
+            None => Ok(Decision::Over(End::QUIESCENCE)),
         }
     }
 
@@ -96,8 +98,11 @@ impl<O: Out> Runner<'_, O> {
         source: &Source,
         activation: Activation,
         state: &mut State<N>,
-    ) -> Result<Option<Ending>, Halt>
+    ) -> Result<Option<End>, Halt>
         requires open { O.has_failed self.old.out.now ≡ false }
+        requires serves { Serves plan.now (seen N.meaning state.old) }
+        requires there { slice_get plan.now.sources activation.source ≡ Some source.now }
+        requires suits { SuitsSource plan.now state.old.board activation }
         ensures same { Same self.old self.new }
         ensures made { Makes plan.now (at O.taken self.old) (at O.taken self.new)
             (acting plan.now (Some source.now) activation (seen N.meaning state.old))
@@ -117,9 +122,11 @@ impl<O: Out> Runner<'_, O> {
         number: u64,
         activation: Activation,
         state: &mut State<N>,
-    ) -> Result<Option<Ending>, Halt>
+    ) -> Result<Option<End>, Halt>
         requires open { O.has_failed self.old.out.now ≡ false }
         requires knows { Knows plan.now (seen N.meaning state.old) }
+        requires serves { Serves plan.now (seen N.meaning state.old) }
+        requires suits { SuitsSource plan.now state.old.board activation }
         ensures same { Same self.old self.new }
         ensures made { Makes plan.now (at O.taken self.old) (at O.taken self.new)
             (cycle plan.now number activation (seen N.meaning state.old)) (seen N.meaning state.new) result }
@@ -150,9 +157,10 @@ impl<O: Out> Runner<'_, O> {
         plan: &Plan,
         limit: u64,
         state: &mut State<N>,
-    ) -> Result<Ending, Halt>
+    ) -> Result<End, Halt>
         requires open { O.has_failed self.old.out.now ≡ false }
         requires knows { Knows plan.now (seen N.meaning state.old) }
+        requires serves { Serves plan.now (seen N.meaning state.old) }
         ensures same { Same self.old self.new }
         ensures made { Finishes plan.now (at O.taken self.old) (at O.taken self.new)
             (cycles plan.now 0 limit (seen N.meaning state.old)) (seen N.meaning state.new) result }
@@ -168,7 +176,7 @@ impl<O: Out> Runner<'_, O> {
             }
         }
         match self.decide(plan, state)? {
-            Decision::Act(_) => Ok(Ending::LIMIT),
+            Decision::Act(_) => Ok(End::LIMIT),
             Decision::Over(end) => Ok(end),
         }
     }
@@ -178,9 +186,11 @@ impl<O: Out> Runner<'_, O> {
         &mut self,
         plan: &Plan,
         state: &mut State<N>,
-    ) -> Result<Option<Ending>, Halt>
+    ) -> Result<Option<End>, Halt>
         requires open { O.has_failed self.old.out.now ≡ false }
         requires new { state.old.agenda ≡ first_agenda plan.now state.old.board }
+        requires serves { MayServe plan.now state.old.board
+            (map N.meaning state.old.roster.natives.items) }
         ensures same { Same self.old self.new }
         ensures made { Makes plan.now (at O.taken self.old) (at O.taken self.new)
             (start plan.now state.old.board (map N.meaning state.old.roster.natives.items))
@@ -198,10 +208,12 @@ impl<O: Out> Runner<'_, O> {
         plan: &Plan,
         limit: u64,
         state: &mut State<N>,
-    ) -> Result<Ending, Halt>
+    ) -> Result<End, Halt>
         requires open { O.has_failed self.old.out.now ≡ false }
         requires new { state.old.agenda ≡ first_agenda plan.now state.old.board }
         requires may { MayKnow plan.now state.old.board }
+        requires serves { MayServe plan.now state.old.board
+            (map N.meaning state.old.roster.natives.items) }
         ensures same { Same self.old self.new }
         ensures made { Finishes plan.now (at O.taken self.old) (at O.taken self.new)
             (unfinished plan.now state.old.board (map N.meaning state.old.roster.natives.items) limit)
@@ -224,8 +236,8 @@ impl<O: Out> Runner<'_, O> {
         requires open { O.has_failed self.old.out.now ≡ false }
         requires new { state.agenda ≡ first_agenda plan.now state.board }
         requires may { MayKnow plan.now state.board }
+        requires serves { MayServe plan.now state.board (map N.meaning state.roster.natives.items) }
         requires empty { self.old.page.now ≡ [] }
-        requires unstuck { NotStuck (run plan.now state.board (map N.meaning state.roster.natives.items) limit).end }
         ensures same { Same self.old self.new }
         ensures end { IfOk result (λ end.
             (run plan.now state.board (map N.meaning state.roster.natives.items) limit).end ≡ Some end) }
@@ -237,7 +249,7 @@ impl<O: Out> Runner<'_, O> {
         let made = self.run_unfinished(plan, limit, &mut state);
         let closed = state.close();
         match made {
-            Ok(end) => self.conclude(plan, end.of_run(), closed),
+            Ok(end) => self.conclude(plan, end, closed),
             Err(halt) => Err(self.cut_short(halt)),
         }
     }
@@ -323,7 +335,7 @@ fn write_run<N: NativeSource, O: Out>(
     out: &mut O,
 ) -> Result<End, Halt>
     requires open { O.has_failed out.old ≡ false }
-    requires unstuck { NotStuck (run plan.now start.board (map N.meaning start.roster.natives.items) limit).end }
+    requires serves { MayServe plan.now start.board (map N.meaning start.roster.natives.items) }
     ensures end { IfOk result (λ end.
         (run plan.now start.board (map N.meaning start.roster.natives.items) limit).end ≡ Some end) }
     ensures written { Writes plan.now (O.taken out.old) (O.taken out.new)

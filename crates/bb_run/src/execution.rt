@@ -1,21 +1,23 @@
 //! What a cycle does with its activation: it asks whether it is still of use, and executes its source's act. The cycle
 //! (cycles.rt) has the notes told.
 
-ghost use Rattle.std.specs.Prelude.{◌≡◌, IfOk, option_map};
+ghost use Rattle.std.specs.Prelude.{◌≡◌, IfOk, None, Some, map, option_map};
 ghost use Rattle.bb_agenda.specs.Rating.{rating_in};
-ghost use Rattle.bb_trace.specs.Act.TheVariants.{Native};
+ghost use Rattle.bb_trace.specs.Act.TheVariants.{Code as DoesCode, Native};
+ghost use Rattle.bb_verify.specs.Accepted.{Checked};
+ghost use Rattle.bb_run.specs.Asking.{entry_of};
 ghost use Rattle.bb_run.specs.Run.{chosen_with, executing, execution, validity, verdict_by};
 ghost use Rattle.bb_run.specs.proving.Seen.{seen};
+ghost use Rattle.bb_run.specs.proving.Serving.{CanExecute, HasNative};
 ghost use Rattle.bb_run.specs.proving.Telling.{IsResponse, Validates};
 
 use crate::asking::{Reply, ask, attempt, entry_of};
 use crate::calling::call;
-use crate::ending::Ending;
 use crate::noting::take_noted;
 use crate::state::State;
 use bb_agenda::Activation;
-use bb_machine::{Answer, Stop, Stuck};
-use bb_trace::{Act, Board, NativeSource, Note, Question, Source};
+use bb_exec::{Answer, Stop};
+use bb_trace::{Act, Board, End, NativeSource, Note, Question, Source};
 use bb_verify::Checked;
 use std::alloc::{AllocError, Global};
 
@@ -27,7 +29,7 @@ pub(crate) enum Verdict {
     /// The activation is no longer of use.
     Invalid,
     /// The revalidation came to no answer, so the run is over.
-    Over(Ending),
+    Over(End),
 }
 
 // What a reply to the question of a revalidation says.
@@ -48,6 +50,8 @@ pub(crate) fn validate(
     activation: Activation,
     board: &mut Board,
 ) -> Result<Verdict, AllocError>
+    requires begins { (asked : Checked) → option_map (λ c. c.now) code ≡ Some asked
+        → CanExecute asked (entry_of activation.unit None) board.old }
     ensures { IfOk result (λ v. Validates
         (validity (option_map (λ c. c.now) code.entry) activation board.old) v board.new) }
 {
@@ -68,7 +72,7 @@ pub(crate) fn take_choice<N: NativeSource>(
     verdict: &Verdict,
     state: &mut State<N>,
     notes: &mut Vec<Note>,
-) -> Result<Option<Ending>, AllocError>
+) -> Result<Option<End>, AllocError>
     ensures { IfOk result (IsResponse
         (chosen_with cycle activation (rating_in state.old.agenda activation) verdict.now (seen N.meaning state.old))
         notes.old.items notes.new.items (seen N.meaning state.new)) }
@@ -101,7 +105,11 @@ pub(crate) fn execute<N: NativeSource>(
     activation: Activation,
     state: &mut State<N>,
     notes: &mut Vec<Note>,
-) -> Result<Option<Ending>, AllocError>
+) -> Result<Option<End>, AllocError>
+    requires begins { (code : Checked) → source.now.act ≡ DoesCode code
+        → CanExecute code (entry_of activation.unit None) state.old.board }
+    requires native { source.now.act ≡ Native
+        → HasNative (map N.meaning state.old.roster.natives.items) source.now.name }
     ensures { IfOk result (IsResponse
         (execution source.now.name source.now.act activation (seen N.meaning state.old))
         notes.old.items notes.new.items (seen N.meaning state.new)) }
@@ -113,19 +121,20 @@ pub(crate) fn execute<N: NativeSource>(
     }
 }
 
-// Calls the native of a name. Where none of that name was handed in, the run is stuck.
+// Calls the native of a name, which was handed in.
 fn execute_native<N: NativeSource>(
     name: &str,
     activation: Activation,
     state: &mut State<N>,
     notes: &mut Vec<Note>,
-) -> Result<Option<Ending>, AllocError>
+) -> Result<Option<End>, AllocError>
+    requires there { HasNative (map N.meaning state.old.roster.natives.items) name.now }
     ensures { IfOk result (IsResponse (execution name.now Native activation (seen N.meaning state.old))
         notes.old.items notes.new.items (seen N.meaning state.new)) }
 {
     match state.roster.place(name) {
         Some(place) => call(place, activation, state, notes),
-        None => Ok(Some(Ending::stuck(Stuck::Missing))),
+        None => unreachable!(),
     }
 }
 
@@ -134,7 +143,8 @@ fn execute_code<N: NativeSource>(
     activation: Activation,
     state: &mut State<N>,
     notes: &mut Vec<Note>,
-) -> Result<Option<Ending>, AllocError>
+) -> Result<Option<End>, AllocError>
+    requires begins { CanExecute code.now (entry_of activation.unit None) state.old.board }
     ensures { IfOk result (IsResponse (executing code.now.code activation (seen N.meaning state.old))
         notes.old.items notes.new.items (seen N.meaning state.new)) }
 {
@@ -151,11 +161,7 @@ fn execute_code<N: NativeSource>(
         }
         Err(Stop::Full { .. }) => {
             take_noted(state, None, notes)?;
-            Ok(Some(Ending::FULL))
-        }
-        Err(Stop::Stuck { reason, .. }) => {
-            take_noted(state, None, notes)?;
-            Ok(Some(Ending::stuck(reason)))
+            Ok(Some(End::FULL))
         }
         Err(Stop::Memory) => Err(AllocError),
     }

@@ -10,7 +10,6 @@
 mod asking;
 mod calling;
 mod cycles;
-mod ending;
 mod execution;
 mod finish;
 mod foci;

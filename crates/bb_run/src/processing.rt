@@ -1,18 +1,24 @@
 //! The processing of an event. The runner (runner.rt) calls it for each event, and for quiescence.
 
-ghost use Rattle.std.specs.Prelude.{◌≡◌, IfOk, option_map, slice_get};
+ghost use Rattle.std.specs.Prelude.{◌≡◌, IfOk, None, Some, option_map, slice_get, true};
+ghost use Rattle.bb_agenda.specs.Agenda.{pending_for};
+ghost use Rattle.bb_trace.specs.Events.{unit_of};
+ghost use Rattle.bb_trace.specs.Match.{any_match};
+ghost use Rattle.bb_trace.specs.Reaction.{Reaction};
+ghost use Rattle.bb_verify.specs.Accepted.{Checked};
+ghost use Rattle.bb_run.specs.Asking.{entry_of};
 ghost use Rattle.bb_run.specs.Processing.{if_triggered, obviated_by, reacting, rerated_by, response, source_response};
 ghost use Rattle.bb_run.specs.proving.Responding.{response_at};
 ghost use Rattle.bb_run.specs.proving.Seen.{seen};
+ghost use Rattle.bb_run.specs.proving.Serving.{CanExecute, ReactsToAll, ServesAt};
 ghost use Rattle.bb_run.specs.proving.Telling.{IsResponse};
 
-use crate::ending::Ending;
 use crate::reacting::{obviate_all, retrigger_all};
 use crate::state::State;
 use crate::triggering::{activate, require};
 use bb_run_plan::Plan;
 use bb_schema::Schema;
-use bb_trace::{Event, NativeSource, Note, Source};
+use bb_trace::{End, Event, NativeSource, Note, Source};
 use std::alloc::AllocError;
 
 // A source and its place among the sources of a plan.
@@ -29,7 +35,10 @@ fn obviate<N: NativeSource>(
     event: Event,
     state: &mut State<N>,
     notes: &mut Vec<Note>,
-) -> Result<Option<Ending>, AllocError>
+) -> Result<Option<End>, AllocError>
+    requires begins { (reaction : Reaction) → placed.source.now.obviate ≡ Some reaction
+        → any_match schema.now reaction.clauses event ≡ true
+        → ReactsToAll reaction event state.old.board (pending_for state.old.agenda placed.place) }
     ensures { IfOk result (IsResponse
         (reacting schema.now event placed.entry.place obviated_by placed.entry.source.now.obviate
         (seen N.meaning state.old))
@@ -50,7 +59,10 @@ fn retrigger<N: NativeSource>(
     event: Event,
     state: &mut State<N>,
     notes: &mut Vec<Note>,
-) -> Result<Option<Ending>, AllocError>
+) -> Result<Option<End>, AllocError>
+    requires begins { (reaction : Reaction) → placed.source.now.retrigger ≡ Some reaction
+        → any_match schema.now reaction.clauses event ≡ true
+        → ReactsToAll reaction event state.old.board (pending_for state.old.agenda placed.place) }
     ensures { IfOk result (IsResponse
         (reacting schema.now event placed.entry.place rerated_by placed.entry.source.now.retrigger
         (seen N.meaning state.old))
@@ -71,7 +83,10 @@ fn trigger<N: NativeSource>(
     event: Event,
     state: &mut State<N>,
     notes: &mut Vec<Note>,
-) -> Result<Option<Ending>, AllocError>
+) -> Result<Option<End>, AllocError>
+    requires begins { (code : Checked) → placed.source.now.require ≡ Some code
+        → any_match schema.now placed.source.now.triggers event ≡ true
+        → CanExecute code (entry_of (unit_of event) None) state.old.board }
     ensures { IfOk result (IsResponse
         (if_triggered schema.now event placed.entry.place placed.entry.source.now (seen N.meaning state.old))
         notes.old.items notes.new.items (seen N.meaning state.new)) }
@@ -88,16 +103,20 @@ fn trigger<N: NativeSource>(
 
 // Has a source respond to an event.
 fn source_responds<N: NativeSource>(
-    schema: &Schema,
+    plan: &Plan,
     placed: Placed<'_>,
     event: Event,
     state: &mut State<N>,
     notes: &mut Vec<Note>,
-) -> Result<Option<Ending>, AllocError>
+) -> Result<Option<End>, AllocError>
+    requires serves { ServesAt plan.now event (seen N.meaning state.old) }
+    requires there { slice_get plan.now.sources placed.place ≡ Some placed.source.now }
     ensures { IfOk result (IsResponse
-        (source_response schema.now event placed.entry.place placed.entry.source.now (seen N.meaning state.old))
+        (source_response plan.now.schema event placed.entry.place placed.entry.source.now
+        (seen N.meaning state.old))
         notes.old.items notes.new.items (seen N.meaning state.new)) }
 {
+    let schema = plan.schema();
     if let Some(end) = obviate(schema, placed, event, state, notes)? {
         return Ok(Some(end));
     }
@@ -121,7 +140,8 @@ fn place_responds<N: NativeSource>(
     event: Event,
     state: &mut State<N>,
     notes: &mut Vec<Note>,
-) -> Result<Option<Ending>, AllocError>
+) -> Result<Option<End>, AllocError>
+    requires serves { ServesAt plan.now event (seen N.meaning state.old) }
     ensures { IfOk result (IsResponse
         (response_at plan.now.schema event plan.now.sources place (seen N.meaning state.old))
         notes.old.items notes.new.items (seen N.meaning state.new)) }
@@ -130,7 +150,7 @@ fn place_responds<N: NativeSource>(
         None => Ok(None),
         Some(source) => {
             let placed = Placed { source, place };
-            source_responds(plan.schema(), placed, event, state, notes)
+            source_responds(plan, placed, event, state, notes)
         }
     }
 }
@@ -143,7 +163,8 @@ pub(crate) fn respond<N: NativeSource>(
     event: Event,
     state: &mut State<N>,
     notes: &mut Vec<Note>,
-) -> Result<Option<Ending>, AllocError>
+) -> Result<Option<End>, AllocError>
+    requires serves { ServesAt plan.now event (seen N.meaning state.old) }
     ensures { IfOk result (IsResponse (response plan.now event (seen N.meaning state.old))
         notes.old.items notes.new.items (seen N.meaning state.new)) }
 {

@@ -5,15 +5,15 @@ ghost use Rattle.bb_agenda.specs.Agenda.{is_on, pending_for};
 ghost use Rattle.bb_run.specs.Processing.{obviated_by, reacting_to, reacting_to_each, rerated_by};
 ghost use Rattle.bb_run.specs.proving.Own.{asked_about};
 ghost use Rattle.bb_run.specs.proving.Seen.{seen};
+ghost use Rattle.bb_run.specs.proving.Serving.{ReactsTo, ReactsToAll};
 ghost use Rattle.bb_run.specs.proving.Telling.{IsResponse};
 
 use crate::asking::{Reply, ask, entry_of};
-use crate::ending::Ending;
 use crate::state::State;
 use bb_agenda::{Activation, Agenda};
-use bb_machine::Answer;
+use bb_exec::Answer;
 use bb_schema::UnitId;
-use bb_trace::{Event, NativeSource, Note, Reaction};
+use bb_trace::{End, Event, NativeSource, Note, Reaction};
 use std::alloc::{AllocError, Global};
 
 // What is pending of the source at a place, in order.
@@ -73,9 +73,12 @@ fn obviate_one<N: NativeSource>(
     activation: Activation,
     state: &mut State<N>,
     notes: &mut Vec<Note>,
-) -> Result<Option<Ending>, AllocError>
-    ensures { IfOk result (IsResponse (reacting_to event obviated_by reaction.now activation (seen N.meaning state.old))
+) -> Result<Option<End>, AllocError>
+    requires begins { ReactsTo reaction.now event state.old.board activation }
+    ensures noted { IfOk result (IsResponse
+        (reacting_to event obviated_by reaction.now activation (seen N.meaning state.old))
         notes.old.items notes.new.items (seen N.meaning state.new)) }
+    ensures kept { IfOk result (λ _. state.new.board ≡ state.old.board) }
 {
     let entry = entry_of(activation.unit, Some(event.unit()));
     match &ask(*notes.allocator(), &reaction.code, entry, &mut state.board)? {
@@ -97,8 +100,9 @@ fn rerate<N: NativeSource>(
     state: &mut State<N>,
     notes: &mut Vec<Note>,
 ) -> Result<(), AllocError>
-    ensures { IfOk result (λ _. IsResponse (rerated_by activation answer (seen N.meaning state.old))
+    ensures noted { IfOk result (λ _. IsResponse (rerated_by activation answer (seen N.meaning state.old))
         notes.old.items notes.new.items (seen N.meaning state.new) None) }
+    ensures kept { IfOk result (λ _. state.new.board ≡ state.old.board) }
 {
     let Answer::Rated(base) = answer else {
         return Ok(());
@@ -116,9 +120,12 @@ fn retrigger_one<N: NativeSource>(
     activation: Activation,
     state: &mut State<N>,
     notes: &mut Vec<Note>,
-) -> Result<Option<Ending>, AllocError>
-    ensures { IfOk result (IsResponse (reacting_to event rerated_by reaction.now activation (seen N.meaning state.old))
+) -> Result<Option<End>, AllocError>
+    requires begins { ReactsTo reaction.now event state.old.board activation }
+    ensures noted { IfOk result (IsResponse
+        (reacting_to event rerated_by reaction.now activation (seen N.meaning state.old))
         notes.old.items notes.new.items (seen N.meaning state.new)) }
+    ensures kept { IfOk result (λ _. state.new.board ≡ state.old.board) }
 {
     let entry = entry_of(activation.unit, Some(event.unit()));
     match ask(*notes.allocator(), &reaction.code, entry, &mut state.board)? {
@@ -137,7 +144,8 @@ pub(crate) fn obviate_all<N: NativeSource>(
     place: u16,
     state: &mut State<N>,
     notes: &mut Vec<Note>,
-) -> Result<Option<Ending>, AllocError>
+) -> Result<Option<End>, AllocError>
+    requires begins { ReactsToAll reaction.now event state.old.board (pending_for state.old.agenda place) }
     ensures { IfOk result (IsResponse
         (reacting_to_each event obviated_by reaction.now (pending_for state.old.agenda place)
         (seen N.meaning state.old))
@@ -159,7 +167,8 @@ pub(crate) fn retrigger_all<N: NativeSource>(
     place: u16,
     state: &mut State<N>,
     notes: &mut Vec<Note>,
-) -> Result<Option<Ending>, AllocError>
+) -> Result<Option<End>, AllocError>
+    requires begins { ReactsToAll reaction.now event state.old.board (pending_for state.old.agenda place) }
     ensures { IfOk result (IsResponse
         (reacting_to_each event rerated_by reaction.now (pending_for state.old.agenda place)
         (seen N.meaning state.old))

@@ -1,18 +1,19 @@
 //! What the run writes: segments, and the parts of the run that tell them. The cycles (cycles.rt) are made through it.
 
-ghost use Rattle.std.specs.Prelude.{◌≡◌, ◌≤◌, ◌∷◌, [], false, length};
+ghost use Rattle.std.specs.Prelude.{◌≡◌, ◌≤◌, ◌∷◌, [], All, false, length};
 ghost use Rattle.bb_trace.specs.Page.{stopped_by_write};
 ghost use Rattle.bb_run.specs.Processing.{event_in, events_in, processing, processing_all, reported};
 ghost use Rattle.bb_run.specs.Run.{quiet};
 ghost use Rattle.bb_run.specs.Told.{telling};
+ghost use Rattle.bb_run.specs.Unstuck.{IsEventOf};
 ghost use Rattle.bb_run.specs.proving.Seen.{seen};
+ghost use Rattle.bb_run.specs.proving.Serving.{Serves, ServesAt};
 ghost use Rattle.bb_run.specs.proving.Telling.{Makes, Same, Tells, at, option_list};
 
-use crate::ending::Ending;
 use crate::processing::respond;
 use crate::state::State;
 use bb_run_plan::Plan;
-use bb_trace::{BoardNote as Noted, Event, Halt, NativeSource, Note, Out, Page};
+use bb_trace::{BoardNote as Noted, End, Event, Halt, NativeSource, Note, Out, Page};
 use std::alloc::Global;
 
 /// What makes a run and writes it: the page, and where that is written.
@@ -66,8 +67,9 @@ impl<O: Out> Runner<'_, O> {
         plan: &Plan,
         event: Event,
         state: &mut State<N>,
-    ) -> Result<Option<Ending>, Halt>
+    ) -> Result<Option<End>, Halt>
         requires open { O.has_failed self.old.out.now ≡ false }
+        requires serves { ServesAt plan.now event (seen N.meaning state.old) }
         ensures same { Same self.old self.new }
         ensures made { Makes plan.now (at O.taken self.old) (at O.taken self.new)
             (processing plan.now event (seen N.meaning state.old)) (seen N.meaning state.new) result }
@@ -85,8 +87,10 @@ impl<O: Out> Runner<'_, O> {
         plan: &Plan,
         notes: &[Note],
         state: &mut State<N>,
-    ) -> Result<Option<Ending>, Halt>
+    ) -> Result<Option<End>, Halt>
         requires open { O.has_failed self.old.out.now ≡ false }
+        requires serves { Serves plan.now (seen N.meaning state.old) }
+        requires events { All (IsEventOf plan.now.schema state.old.board) (events_in notes.now) }
         ensures same { Same self.old self.new }
         ensures made { Makes plan.now (at O.taken self.old) (at O.taken self.new)
             (processing_all plan.now (events_in notes.now) (seen N.meaning state.old))
@@ -109,8 +113,9 @@ impl<O: Out> Runner<'_, O> {
         &mut self,
         plan: &Plan,
         state: &mut State<N>,
-    ) -> Result<Option<Ending>, Halt>
+    ) -> Result<Option<End>, Halt>
         requires open { O.has_failed self.old.out.now ≡ false }
+        requires serves { Serves plan.now (seen N.meaning state.old) }
         ensures same { Same self.old self.new }
         ensures made { Makes plan.now (at O.taken self.old) (at O.taken self.new)
             (quiet plan.now (seen N.meaning state.old)) (seen N.meaning state.new) result }
@@ -128,10 +133,12 @@ impl<O: Out> Runner<'_, O> {
         &mut self,
         plan: &Plan,
         notes: &[Note],
-        end: Option<Ending>,
+        end: Option<End>,
         state: &mut State<N>,
-    ) -> Result<Option<Ending>, Halt>
+    ) -> Result<Option<End>, Halt>
         requires open { O.has_failed self.old.out.now ≡ false }
+        requires serves { Serves plan.now (seen N.meaning state.old) }
+        requires events { All (IsEventOf plan.now.schema state.old.board) (events_in notes.now) }
         ensures same { Same self.old self.new }
         ensures made { Makes plan.now (at O.taken self.old) (at O.taken self.new)
             (reported plan.now (telling notes.now (seen N.meaning state.old) end)) (seen N.meaning state.new) result }

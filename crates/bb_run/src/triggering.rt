@@ -5,14 +5,14 @@ ghost use Rattle.bb_run.specs.Asking.{asking, entry_of};
 ghost use Rattle.bb_run.specs.Processing.{activating, required_by};
 ghost use Rattle.bb_trace.specs.Events.{unit_of};
 ghost use Rattle.bb_run.specs.proving.Seen.{seen};
+ghost use Rattle.bb_run.specs.proving.Serving.{CanExecute};
 ghost use Rattle.bb_run.specs.proving.Telling.{IsResponse};
 
 use crate::asking::{Reply, ask, entry_of};
-use crate::ending::Ending;
 use crate::state::State;
 use bb_agenda::{Activation, AddFault};
-use bb_machine::Answer;
-use bb_trace::{Event, NativeSource, Note, Question};
+use bb_exec::Answer;
+use bb_trace::{End, Event, NativeSource, Note, Question};
 use std::alloc::AllocError;
 
 /// Gives the source at a place an activation for an event, with this base.
@@ -22,7 +22,7 @@ pub(crate) fn activate<N: NativeSource>(
     base: i64,
     state: &mut State<N>,
     notes: &mut Vec<Note>,
-) -> Result<Option<Ending>, AllocError>
+) -> Result<Option<End>, AllocError>
     ensures { IfOk result (IsResponse (activating event place base (seen N.meaning state.old))
         notes.old.items notes.new.items (seen N.meaning state.new)) }
 {
@@ -37,7 +37,7 @@ pub(crate) fn activate<N: NativeSource>(
             }))?;
             Ok(None)
         }
-        Err(AddFault::Full) => Ok(Some(Ending::FULL)),
+        Err(AddFault::Full) => Ok(Some(End::FULL)),
         Err(AddFault::Memory) => Err(AllocError),
     }
 }
@@ -49,7 +49,8 @@ pub(crate) fn require<N: NativeSource>(
     place: u16,
     state: &mut State<N>,
     notes: &mut Vec<Note>,
-) -> Result<Option<Ending>, AllocError>
+) -> Result<Option<End>, AllocError>
+    requires begins { CanExecute code.now (entry_of (unit_of event) None) state.old.board }
     ensures { IfOk result (IsResponse
         (asking code.now.code (entry_of (unit_of event) None) (required_by event place) (seen N.meaning state.old))
         notes.old.items notes.new.items (seen N.meaning state.new)) }

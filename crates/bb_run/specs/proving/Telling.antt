@@ -5,6 +5,8 @@ use Rattle.bb_agenda.specs.Activation.{Activation}
 use Rattle.bb_machine.specs.Outcome.{Outcome}
 use Rattle.bb_machine.specs.Stop.{Stop}
 use Rattle.bb_machine.specs.Stop.TheVariants as stops
+use Rattle.bb_exec.specs.declared.stop.Stop.{Stop as Stopped}
+use Rattle.bb_exec.specs.declared.stop.Stop.TheVariants as stopped
 use Rattle.bb_trace.specs.Board.{Board as Blackboard}
 use Rattle.bb_trace.specs.End.{End}
 use Rattle.bb_trace.specs.End.{Quiescence}
@@ -37,11 +39,10 @@ pub record IsResponse (r : Response) (old new : List Note) (s : State) (e : Opti
   pub end : e ≡ r.end
 
 -- an execution came to this result, and left this blackboard, or memory ran out
-abbrev pub Attempts : Result Outcome Stop × Blackboard → Result Outcome Stop → Blackboard → Type 0
+abbrev pub Attempts : Result Outcome Stop × Blackboard → Result Outcome Stopped → Blackboard → Type 0
 Attempts e (Ok o) board = (e.0 ≡ Ok o) × (board ≡ e.1)
-Attempts e (Err (stops.Full steps found)) board = (e.0 ≡ Err (stops.Full steps found)) × (board ≡ e.1)
-Attempts e (Err (stops.Stuck reason steps found)) board = (e.0 ≡ Err (stops.Stuck reason steps found)) × (board ≡ e.1)
-Attempts e (Err stops.Memory) board = ⊤
+Attempts e (Err (stopped.Full steps found)) board = (e.0 ≡ Err (stops.Full steps found)) × (board ≡ e.1)
+Attempts e (Err stopped.Memory) board = ⊤
 
 -- a code that was asked replied this, and left this blackboard
 pub record Replies (e : Result Outcome Stop × Blackboard) (reply : Reply) (board : Blackboard) : Type 0 where

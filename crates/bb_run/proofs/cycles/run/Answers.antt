@@ -1,18 +1,22 @@
 use Rattle.std.proofs.Common.{map, subst}
-use Rattle.std.proofs.Math.Logic.{∥∥₁_elim}
 use Rattle.bb_schema.specs.Fits as schemas
+use Rattle.bb_schema.specs.Schema.{Schema}
+use Rattle.bb_machine.specs.Fits.{Fits}
 use Rattle.bb_run.specs.Run.{run}
 use Rattle.bb_run.specs.proving.Telling.{WroteFirst, WroteFront, WroteUntil}
+use Rattle.bb_run.proofs.MadeLemmas.{all_made}
 use Rattle.bb_run.proofs.WholeLemmas.{wrote_first, wrote_front}
-use Rattle.bb_run.proofs.UnstuckRuns.{none_stuck, not_stuck_prop}
 use Rattle.bb_run.proofs.cycles.run.Goals as goal
 
-pub write_run-requires-clause-unstuck : goal.write_run-requires-clause-unstuck
-write_run-requires-clause-unstuck g c =
-    let sound : schemas.Fits c.args.plan.now.schema = subst schemas.Fits c.schema.ensures c.fits.ensures in
-    let natives = map g.N.NativeSource.meaning c.args.start.roster.natives.items in
-    ∥∥₁_elim c.requires.made (not_stuck_prop (run c.args.plan.now c.args.start.board natives c.from.result).end) (λ made.
-    none_stuck c.args.plan.now c.args.start.board natives c.from.result (record { schema = sound; made = made; codes = c.sources.ensures.sound }) c.requires.acts c.requires.of_schema c.fits-2.ensures)
+pub write_run-requires-clause-serves : goal.write_run-requires-clause-serves
+write_run-requires-clause-serves g c =
+    let plan = c.args.plan.now in
+    let board = c.args.start.board in
+    record {
+      sound = record { schema = subst schemas.Fits c.schema.ensures c.fits.ensures; made = all_made plan.schema plan.sources c.requires.made; codes = c.sources.ensures.sound };
+      natives_are = c.requires.acts;
+      fits = record { schema = c.requires.of_schema; world = subst (λ (s : Schema). Fits s board.world) c.requires.of_schema c.fits-2.ensures };
+    }
 
 pub returns-in-Memory-clause-front : goal.returns-in-Memory-clause-front
 returns-in-Memory-clause-front g c =

@@ -1,5 +1,5 @@
 use Rattle.std.proofs.Common.{◌∷◌, [], None, Some, Ok, Err, subst}
-use Rattle.bb_machine.specs.Stop.{Stop}
+use Rattle.bb_exec.specs.declared.stop.Stop.{Stop}
 use Rattle.bb_machine.specs.Stop.TheVariants as stops
 use Rattle.bb_trace.specs.End as ends
 use Rattle.bb_trace.specs.declared.note.Note.TheVariants.{Ended}
@@ -26,10 +26,3 @@ returns-in_ok-take_noted-in-Err-Full g c =
     let came = subst (λ (r : Stop). Attempts (attempt c.args.code.now.code c.entry_of-entry.result c.args.state.now.board) (Err r) c.attempt.new.board) c.in-Err-Full.field-0-is c.in-Err-Full.ensures.attempted in
     execution_noted c.args.notes.now.items c.take_noted-in-Err-Full.new.notes.items (seen g.N.NativeSource.meaning c.args.state.now) (seen g.N.NativeSource.meaning c.take_noted-in-Err-Full.new.state) (Some ends.Full) c.attempt.new.board
     c.args.code.now c.args.activation c.entry_of-entry.result (Err (stops.Full c.in-Err-Full.field-0-0 c.in-Err-Full.field-0-1)) c.entry_of-entry.ensures came.0 came.1 (c.in_ok-take_noted-in-Err-Full.ensures (Some ends.Full))
-
-pub returns-in_ok-take_noted-in-Err-Stuck : goal.returns-in_ok-take_noted-in-Err-Stuck
-returns-in_ok-take_noted-in-Err-Stuck g c =
-    let came = subst (λ (r : Stop). Attempts (attempt c.args.code.now.code c.entry_of-entry.result c.args.state.now.board) (Err r) c.attempt.new.board) c.in-Err-Stuck.field-0-is c.in-Err-Stuck.ensures.attempted in
-    rw c.stuck.ensures (execution_noted c.args.notes.now.items c.take_noted-in-Err-Stuck.new.notes.items (seen g.N.NativeSource.meaning c.args.state.now) (seen g.N.NativeSource.meaning c.take_noted-in-Err-Stuck.new.state) (Some (ends.Stuck c.in-Err-Stuck.reason)) c.attempt.new.board
-    c.args.code.now c.args.activation c.entry_of-entry.result (Err (stops.Stuck c.in-Err-Stuck.reason c.in-Err-Stuck.field-0-1 c.in-Err-Stuck.field-0-2)) c.entry_of-entry.ensures came.0 came.1
-    (c.in_ok-take_noted-in-Err-Stuck.ensures (Some (ends.Stuck c.in-Err-Stuck.reason))))

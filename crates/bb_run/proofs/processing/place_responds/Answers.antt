@@ -9,5 +9,5 @@ returns-in-None g c =
 
 pub returns-in-Some : goal.returns-in-Some
 returns-in-Some g c =
-    one_responds c.source_responds.result c.args.notes.now.items c.source_responds.new.notes.items (seen g.N.NativeSource.meaning c.source_responds.new.state) c.args.plan.now.schema c.schema.result.now c.args.event
-    c.args.plan.now.sources c.sources.result.now c.args.place c.in-Some.source.now (seen g.N.NativeSource.meaning c.args.state.now) c.in-Some.ensures c.sources.ensures.sources c.schema.ensures c.source_responds.ensures
+    one_responds c.source_responds.result c.args.notes.now.items c.source_responds.new.notes.items (seen g.N.NativeSource.meaning c.source_responds.new.state) c.args.plan.now.schema c.args.event
+    c.args.plan.now.sources c.sources.result.now c.args.place c.in-Some.source.now (seen g.N.NativeSource.meaning c.args.state.now) c.in-Some.ensures c.sources.ensures.sources c.source_responds.ensures

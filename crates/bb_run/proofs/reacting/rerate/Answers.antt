@@ -9,8 +9,8 @@ use Rattle.bb_run.specs.proving.Seen.{seen}
 use Rattle.bb_run.specs.proving.Telling.{IsResponse}
 use Rattle.bb_run.proofs.reacting.rerate.Goals as goal
 
-pub returns : goal.returns
-returns g c =
+pub returns-clause-noted : goal.returns-clause-noted
+returns-clause-noted g c =
     let base = c.in-Rated.base in
     let s = seen g.N.NativeSource.meaning c.args.state.now in
     let t = with_agenda s c.rerate.new.self in

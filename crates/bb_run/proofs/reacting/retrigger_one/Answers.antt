@@ -1,14 +1,23 @@
-use Rattle.std.proofs.Common.{◌∙◌, ap, Some, None}
+use Rattle.std.proofs.Common.{◌∙◌, ap, append-nil, refl, sym, Some, None}
 use Rattle.bb_trace.specs.Events.{unit_of}
-use Rattle.bb_run.specs.declared.asking.Reply.TheVariants.{Answer}
+use Rattle.bb_run.specs.declared.asking.Reply.TheVariants.{Answer, Over}
 use Rattle.bb_run.specs.Asking.{entry_of}
 use Rattle.bb_run.specs.Processing.{rerated_by}
+use Rattle.bb_run.specs.State.{with_board}
 use Rattle.bb_run.specs.proving.Seen.{seen}
 use Rattle.bb_run.proofs.ExecutionLemmas.{reply_noted}
 use Rattle.bb_run.proofs.reacting.retrigger_one.Goals as goal
 
-pub returns-in_ok-rerate-in-Answer : goal.returns-in_ok-rerate-in-Answer
-returns-in_ok-rerate-in-Answer g c =
+pub returns-in_ok-rerate-in-Answer-clause-noted : goal.returns-in_ok-rerate-in-Answer-clause-noted
+returns-in_ok-rerate-in-Answer-clause-noted g c =
     let begun = c.entry_of-entry.ensures ∙ ap (λ u. entry_of c.args.activation.unit (Some u)) c.unit.ensures in
     reply_noted c.args.notes.now.items c.rerate.new.notes.items (seen g.N.NativeSource.meaning c.args.state.now) (seen g.N.NativeSource.meaning c.rerate.new.state) None c.ask.new.board c.args.reaction.now.code.code (entry_of c.args.activation.unit (Some (unit_of c.args.event)))
-    c.entry_of-entry.result c.in_ok-answer.field-0 (Answer c.in-Answer.answer) (rerated_by c.args.activation) begun c.in_ok-answer.ensures c.in-Answer.is c.in_ok-rerate-in-Answer.ensures
+    c.entry_of-entry.result c.in_ok-answer.field-0 (Answer c.in-Answer.answer) (rerated_by c.args.activation) begun c.in_ok-answer.ensures.replied c.in-Answer.is c.in_ok-rerate-in-Answer.ensures.noted
+
+pub returns-in-Over-clause-noted : goal.returns-in-Over-clause-noted
+returns-in-Over-clause-noted g c =
+    let begun = c.entry_of-entry.ensures ∙ ap (λ u. entry_of c.args.activation.unit (Some u)) c.unit.ensures in
+    let s = seen g.N.NativeSource.meaning c.args.state.now in
+    reply_noted c.args.notes.now.items c.args.notes.now.items s (with_board s c.ask.new.board) (Some c.in-Over.end) c.ask.new.board c.args.reaction.now.code.code (entry_of c.args.activation.unit (Some (unit_of c.args.event)))
+    c.entry_of-entry.result c.in_ok-answer.field-0 (Over c.in-Over.end) (rerated_by c.args.activation) begun c.in_ok-answer.ensures.replied c.in-Over.is
+    (record { notes = sym (append-nil c.args.notes.now.items); state = refl; end = refl })

@@ -4,6 +4,7 @@ use Rattle.bb_run.specs.Run.{acting, execution}
 use Rattle.bb_run.specs.proving.Seen.{seen}
 use Rattle.bb_run.specs.proving.Telling.{at}
 use Rattle.bb_run.proofs.SegmentLemmas.{cut_by_memory}
+use Rattle.bb_run.proofs.ServeCycles.{can_act, executed_serves, has_native}
 use Rattle.bb_run.proofs.TellLemmas.{reported_as}
 use Rattle.bb_run.proofs.runner.Runner.act.Goals as goal
 
@@ -16,3 +17,19 @@ pub returns-clause-made : goal.returns-clause-made
 returns-clause-made g c =
     reported_as c.args.plan.now (at g.O.Out.taken c.args.self.now) (at g.O.Out.taken c.report.new.self) (execution c.args.source.now.name c.args.source.now.act c.args.activation (seen g.N.NativeSource.meaning c.args.state.now)) c.new-notes.result.items c.execute.new.notes.items c.deref.result.now (seen g.N.NativeSource.meaning c.execute.new.state) (seen g.N.NativeSource.meaning c.report.new.state) c.in_ok-end.end c.report.result
     c.deref.ensures.value c.new-notes.ensures.items c.in_ok-end.ensures c.report.ensures.made
+
+pub execute-requires : goal.execute-requires
+execute-requires g c = record {
+  begins = λ code is. can_act c.args.plan.now (seen g.N.NativeSource.meaning c.args.state.now) c.requires.serves c.args.activation c.requires.suits c.args.source.now c.requires.there code is;
+  native = has_native c.args.plan.now (seen g.N.NativeSource.meaning c.args.state.now) c.requires.serves c.args.activation c.requires.suits c.args.source.now c.requires.there;
+}
+
+pub report-requires-clause-serves : goal.report-requires-clause-serves
+report-requires-clause-serves g c =
+    (executed_serves c.args.plan.now (seen g.N.NativeSource.meaning c.args.state.now) c.requires.serves c.args.activation c.requires.suits c.args.source.now c.requires.there c.new-notes.result.items c.execute.new.notes.items c.deref.result.now (seen g.N.NativeSource.meaning c.execute.new.state) c.in_ok-end.end
+    c.new-notes.ensures.items c.deref.ensures.value c.in_ok-end.ensures).0
+
+pub report-requires-clause-events : goal.report-requires-clause-events
+report-requires-clause-events g c =
+    (executed_serves c.args.plan.now (seen g.N.NativeSource.meaning c.args.state.now) c.requires.serves c.args.activation c.requires.suits c.args.source.now c.requires.there c.new-notes.result.items c.execute.new.notes.items c.deref.result.now (seen g.N.NativeSource.meaning c.execute.new.state) c.in_ok-end.end
+    c.new-notes.ensures.items c.deref.ensures.value c.in_ok-end.ensures).1

@@ -1,4 +1,4 @@
-use Rattle.std.proofs.Common.{[], None, map, subst}
+use Rattle.std.proofs.Common.{[], None, ap, map, subst}
 use Rattle.std.proofs.lemmas.Result.{err_from_is_err_and}
 use Rattle.bb_agenda.specs.Agenda.{Agenda}
 use Rattle.bb_run.specs.State.{with_agenda}
@@ -7,6 +7,7 @@ use Rattle.bb_run.specs.Run.{noted, start}
 use Rattle.bb_run.specs.proving.Seen.{seen}
 use Rattle.bb_run.specs.proving.Telling.{Makes, at}
 use Rattle.bb_run.proofs.SegmentLemmas.{cut_by_memory}
+use Rattle.bb_run.proofs.ServeCycles.{noted_serves}
 use Rattle.bb_run.proofs.TellLemmas.{reported_as}
 use Rattle.bb_run.proofs.runner.Runner.begin.Goals as goal
 
@@ -23,3 +24,15 @@ pub returns-in_err-take_noted-clause-made : goal.returns-in_err-take_noted-claus
 returns-in_err-take_noted-clause-made g c =
     let p = err_from_is_err_and c.from_residual.result c.from_residual.ensures.1 in
     rw (p.1, p.2) (cut_by_memory c.args.plan.now (at g.O.Out.taken c.args.self.now) (start c.args.plan.now c.args.state.now.board (map g.N.NativeSource.meaning c.args.state.now.roster.natives.items)).told)
+
+pub report-requires-clause-serves : goal.report-requires-clause-serves
+report-requires-clause-serves g c =
+    let s = seen g.N.NativeSource.meaning c.args.state.now in
+    (noted_serves c.args.plan.now c.args.state.now.board s.natives c.requires.serves s (seen g.N.NativeSource.meaning c.take_noted.new.state) c.new-notes.result.items c.take_noted.new.notes.items c.deref.result.now (ap (λ (agenda : Agenda). with_agenda s agenda) c.requires.new)
+    c.new-notes.ensures.items c.deref.ensures.value (c.in_ok-take_noted.ensures None)).0
+
+pub report-requires-clause-events : goal.report-requires-clause-events
+report-requires-clause-events g c =
+    let s = seen g.N.NativeSource.meaning c.args.state.now in
+    (noted_serves c.args.plan.now c.args.state.now.board s.natives c.requires.serves s (seen g.N.NativeSource.meaning c.take_noted.new.state) c.new-notes.result.items c.take_noted.new.notes.items c.deref.result.now (ap (λ (agenda : Agenda). with_agenda s agenda) c.requires.new)
+    c.new-notes.ensures.items c.deref.ensures.value (c.in_ok-take_noted.ensures None)).1

@@ -1,13 +1,17 @@
-use Rattle.std.proofs.Common.{◌≡◌, ◌∙◌, ℤ, ◌∷◌, [], List, None, Some, ap, option_map, subst, sym}
+use Rattle.std.proofs.Common.{◌≡◌, ◌∙◌, ℤ, ◌∷◌, [], List, None, Some, ap, option_map, Option, subst, sym}
 use Rattle.std.proofs.lemmas.Result.{err_from_is_err_and}
-use Rattle.std.specs.Prelude.{slice_get}
+use Rattle.std.specs.Prelude.{option_and_then, slice_get}
+use Rattle.bb_agenda.specs.Rating.{rating_in}
+use Rattle.bb_trace.specs.Board.{Board as Blackboard}
 use Rattle.bb_trace.specs.Source.{Source}
 use Rattle.bb_trace.specs.declared.note.Note.{Note}
 use Rattle.bb_run.specs.State.{with_board}
 use Rattle.bb_run.specs.Run.{acting, chosen_with, cycle, if_valid, rating, validity}
+use Rattle.bb_run.specs.Unstuck.{SuitsSource}
 use Rattle.bb_run.specs.proving.Seen.{seen}
 use Rattle.bb_run.specs.proving.Telling.{CutIn, IsResponse, IsTold, Makes, Validates, at}
 use Rattle.bb_run.proofs.SegmentLemmas.{cut_by_memory}
+use Rattle.bb_run.proofs.ServeCycles.{can_validate, chosen_serves}
 use Rattle.bb_run.proofs.TellLemmas.{HasTold, choice_cut, choice_over, choice_told, idle_told, makes_last}
 use Rattle.bb_run.proofs.WeighLemmas.{rating_known}
 use Rattle.bb_run.proofs.runner.Runner.make_cycle.Goals as goal
@@ -85,3 +89,30 @@ returns-clause-made g c =
     let none : None ≡ if_valid c.in_ok-verdict.verdict source = c.in-None.ensures in
     idle_told c.args.plan.now a b (cycle c.args.plan.now c.args.number c.args.activation (seen g.N.NativeSource.meaning c.args.state.now)) t
     (subst (λ o. HasTold c.args.plan.now a b (cycle c.args.plan.now c.args.number c.args.activation (seen g.N.NativeSource.meaning c.args.state.now)) (acting c.args.plan.now o c.args.activation t)) (sym none) told)
+
+pub validate-requires : goal.validate-requires
+validate-requires g c =
+    let there = sym (c.source_at-source.ensures ∙ ap (λ (ss : List Source). slice_get ss c.args.activation.source) c.sources.ensures.sources) in
+    record {
+      begins = λ asked is.
+          can_validate c.args.plan.now (seen g.N.NativeSource.meaning c.args.state.now) c.requires.serves c.args.activation c.requires.suits asked
+          (ap (option_and_then (λ (t : Source). t.revalidate)) there ∙ (sym c.revalidation.ensures ∙ is));
+    }
+
+pub act-requires-clause-serves : goal.act-requires-clause-serves
+act-requires-clause-serves g c =
+    let there = sym (c.source_at-source.ensures ∙ ap (λ (ss : List Source). slice_get ss c.args.activation.source) c.sources.ensures.sources) in
+    let valid = subst (λ o. Validates (validity o c.args.activation c.args.state.now.board) c.in_ok-verdict.verdict c.validate.new.board) c.revalidation.ensures c.in_ok-verdict.ensures in
+    let own = subst (λ (o : Option Source). Validates (validity (option_and_then (λ (t : Source). t.revalidate) o) c.args.activation c.args.state.now.board) c.in_ok-verdict.verdict c.validate.new.board) (sym there) valid in
+    (chosen_serves c.args.plan.now (seen g.N.NativeSource.meaning c.args.state.now) c.requires.serves c.args.activation c.requires.suits c.args.number (rating_in c.args.state.now.agenda c.args.activation) c.in_ok-verdict.verdict c.validate.new.board
+    c.new-notes.result.items c.take_choice.new.notes.items (seen g.N.NativeSource.meaning c.take_choice.new.state) c.in_ok-end.end own c.in_ok-end.ensures).0
+
+pub act-requires-clause-suits : goal.act-requires-clause-suits
+act-requires-clause-suits g c =
+    let there = sym (c.source_at-source.ensures ∙ ap (λ (ss : List Source). slice_get ss c.args.activation.source) c.sources.ensures.sources) in
+    let valid = subst (λ o. Validates (validity o c.args.activation c.args.state.now.board) c.in_ok-verdict.verdict c.validate.new.board) c.revalidation.ensures c.in_ok-verdict.ensures in
+    let own = subst (λ (o : Option Source). Validates (validity (option_and_then (λ (t : Source). t.revalidate) o) c.args.activation c.args.state.now.board) c.in_ok-verdict.verdict c.validate.new.board) (sym there) valid in
+    subst (λ (b : Blackboard). SuitsSource c.args.plan.now b c.args.activation)
+    (sym (chosen_serves c.args.plan.now (seen g.N.NativeSource.meaning c.args.state.now) c.requires.serves c.args.activation c.requires.suits c.args.number (rating_in c.args.state.now.agenda c.args.activation) c.in_ok-verdict.verdict c.validate.new.board
+    c.new-notes.result.items c.take_choice.new.notes.items (seen g.N.NativeSource.meaning c.take_choice.new.state) c.in_ok-end.end own c.in_ok-end.ensures).1)
+    c.requires.suits

@@ -7,6 +7,7 @@ use Rattle.bb_run.specs.proving.Seen.{seen}
 use Rattle.bb_run.specs.proving.Telling.{at}
 use Rattle.bb_run.proofs.KnowLemmas.{cycle_known, wait_known}
 use Rattle.bb_run.proofs.TellLemmas.{cycle_then, HasTold, at_cycle, at_limit, nothing_told, over_limit, part_cut, part_made, part_over, decision_acts, decision_cut, decision_over, same_then}
+use Rattle.bb_run.proofs.ServeCycles.{cycle_serves, wait_serves, wait_suits}
 use Rattle.bb_run.proofs.runner.Runner.make_cycles.Goals as goal
 
 pub loop-made-init : goal.loop-made-init
@@ -19,6 +20,7 @@ loop-made-init g c =
       still_open = c.requires.open;
       same = (refl, refl);
       knows = c.requires.knows;
+      serves = c.requires.serves;
     }
 
 pub returns-in_err-activation-clause-made : goal.returns-in_err-activation-clause-made
@@ -79,6 +81,10 @@ loop-made-preserved g c =
           cycle_known c.args.plan.now decided (at g.O.Out.taken c.make_cycle.new.self) (seen g.N.NativeSource.meaning c.decide.new.state) (seen g.N.NativeSource.meaning c.make_cycle.new.state) (c.loop-made.made + 1) c.in-Act.activation c.in_ok-end.field-0
           (wait_known c.args.plan.now now decided (seen g.N.NativeSource.meaning c.loop-made.state) (seen g.N.NativeSource.meaning c.decide.new.state) c.in_ok-activation.field-0 c.loop-made.invariant.knows c.in_ok-activation.ensures.waited)
           c.in_ok-end.ensures.made;
+      serves =
+          cycle_serves c.args.plan.now (seen g.N.NativeSource.meaning c.decide.new.state) (wait_serves c.args.plan.now (seen g.N.NativeSource.meaning c.loop-made.state) c.loop-made.invariant.serves now decided (seen g.N.NativeSource.meaning c.decide.new.state) c.in_ok-activation.field-0 c.in_ok-activation.ensures.waited)
+          decided (at g.O.Out.taken c.make_cycle.new.self) (seen g.N.NativeSource.meaning c.make_cycle.new.state) (c.loop-made.made + 1) c.in-Act.activation c.in_ok-end.field-0
+          (wait_suits c.args.plan.now (seen g.N.NativeSource.meaning c.loop-made.state) c.loop-made.invariant.serves now decided (seen g.N.NativeSource.meaning c.decide.new.state) c.in_ok-activation.field-0 c.in-Act.activation c.in_ok-activation.ensures.waited c.in-Act.is) c.in_ok-end.ensures.made;
     }
 
 pub returns-in_err-decide-clause-made : goal.returns-in_err-decide-clause-made
@@ -111,3 +117,18 @@ returns-in-Over-2-clause-made g c =
 pub make_cycle-requires-clause-knows : goal.make_cycle-requires-clause-knows
 make_cycle-requires-clause-knows g c =
     wait_known c.args.plan.now (at g.O.Out.taken c.loop-made.self) (at g.O.Out.taken c.decide.new.self) (seen g.N.NativeSource.meaning c.loop-made.state) (seen g.N.NativeSource.meaning c.decide.new.state) c.in_ok-activation.field-0 c.loop-made.invariant.knows c.in_ok-activation.ensures.waited
+
+pub decide-requires-clause-serves : goal.decide-requires-clause-serves
+decide-requires-clause-serves g c = c.loop-made.invariant.serves
+
+pub decide-requires-2-clause-serves : goal.decide-requires-2-clause-serves
+decide-requires-2-clause-serves g c = c.loop-made.invariant.serves
+
+pub make_cycle-requires-clause-serves : goal.make_cycle-requires-clause-serves
+make_cycle-requires-clause-serves g c =
+    wait_serves c.args.plan.now (seen g.N.NativeSource.meaning c.loop-made.state) c.loop-made.invariant.serves (at g.O.Out.taken c.loop-made.self) (at g.O.Out.taken c.decide.new.self) (seen g.N.NativeSource.meaning c.decide.new.state) c.in_ok-activation.field-0 c.in_ok-activation.ensures.waited
+
+pub make_cycle-requires-clause-suits : goal.make_cycle-requires-clause-suits
+make_cycle-requires-clause-suits g c =
+    wait_suits c.args.plan.now (seen g.N.NativeSource.meaning c.loop-made.state) c.loop-made.invariant.serves (at g.O.Out.taken c.loop-made.self) (at g.O.Out.taken c.decide.new.self) (seen g.N.NativeSource.meaning c.decide.new.state) c.in_ok-activation.field-0 c.in-Act.activation
+    c.in_ok-activation.ensures.waited c.in-Act.is

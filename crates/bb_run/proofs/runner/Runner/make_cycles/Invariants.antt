@@ -2,6 +2,7 @@ use Rattle.std.proofs.Common.{◌≡◌, ◌-◌, false}
 use Rattle.bb_run.specs.Run.{cycles}
 use Rattle.bb_run.specs.proving.Knowing.{Knows}
 use Rattle.bb_run.specs.proving.Seen.{seen}
+use Rattle.bb_run.specs.proving.Serving.{Serves}
 use Rattle.bb_run.specs.proving.Telling.{Same, at}
 use Rattle.bb_run.proofs.TellLemmas.{HasTold}
 use Rattle.bb_run.proofs.runner.Runner.make_cycles.Given as goal
@@ -12,4 +13,5 @@ invariant-loop-made g l = record {
   still_open : g.O.Out.has_failed l.self.out.now ≡ false;
   same : Same l.fn.self l.self;
   knows : Knows l.plan (seen g.N.NativeSource.meaning l.state);
+  serves : Serves l.plan (seen g.N.NativeSource.meaning l.state);
 }

@@ -1,16 +1,11 @@
 use Rattle.std.proofs.Common.{◌∷◌, [], List, map, refl, subst, sym}
 use Rattle.bb_trace.specs.declared.note.Note.{Note}
 use Rattle.bb_trace.specs.declared.note.Note.TheVariants.{Closed, Finished}
-use Rattle.bb_trace.specs.End.{End}
 use Rattle.bb_run.specs.Run.{unfinished}
-use Rattle.bb_run.specs.Unstuck.{NotStuck}
 use Rattle.bb_run.specs.proving.Seen.{seen}
 use Rattle.bb_run.specs.proving.Telling.{Concludes, at}
 use Rattle.bb_run.proofs.WholeLemmas.{last_is, run_cut, run_written}
 use Rattle.bb_run.proofs.runner.Runner.make_run.Goals as goal
-
-pub of_run-requires : goal.of_run-requires
-of_run-requires g c = subst NotStuck (sym c.in-Ok.ensures.made.1.end) c.requires.unstuck
 
 pub returns-in-Ok-clause-written : goal.returns-in-Ok-clause-written
 returns-in-Ok-clause-written g c =
@@ -19,9 +14,8 @@ returns-in-Ok-clause-written g c =
     let given = g.O.Out.taken c.conclude.new.self.out.now in
     let closings : List Note = map (λ x. Closed x) c.close-closed.result in
     let last : List Note = Finished c.in-Ok.end ∷ closings in
-    let concludes = subst (λ (e : End). Concludes c.args.plan.now here given ((Finished e ∷ closings) ∷ []) c.conclude.result) c.of_run.ensures c.conclude.ensures.concludes in
     run_written c.args.plan.now (g.O.Out.taken c.args.self.now.out.now) c.args.self.now.page.now here part given c.in-Ok.end c.conclude.result c.requires.empty (sym c.in-Ok.ensures.made.1.end) c.in-Ok.ensures.made.0
-    (subst (λ ns. Concludes c.args.plan.now here given (ns ∷ []) c.conclude.result) (last_is c.in-Ok.end (seen g.N.NativeSource.meaning c.run_unfinished-made.new.state) part.state c.close-closed.result last c.in-Ok.ensures.made.1.state c.close-closed.ensures refl) concludes)
+    (subst (λ ns. Concludes c.args.plan.now here given (ns ∷ []) c.conclude.result) (last_is c.in-Ok.end (seen g.N.NativeSource.meaning c.run_unfinished-made.new.state) part.state c.close-closed.result last c.in-Ok.ensures.made.1.state c.close-closed.ensures refl) c.conclude.ensures.concludes)
 
 pub returns-in-Err-clause-written : goal.returns-in-Err-clause-written
 returns-in-Err-clause-written g c =

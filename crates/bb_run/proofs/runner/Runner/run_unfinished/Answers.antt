@@ -4,6 +4,7 @@ use Rattle.bb_run.specs.Run.{cycles, start, unfinished}
 use Rattle.bb_run.specs.proving.Seen.{seen}
 use Rattle.bb_run.specs.proving.Telling.{at}
 use Rattle.bb_run.proofs.KnowLemmas.{start_known}
+use Rattle.bb_run.proofs.ServeCycles.{start_serves}
 use Rattle.bb_run.proofs.TellLemmas.{nothing_told, makes_last, part_cut, part_made, part_over}
 use Rattle.bb_run.proofs.runner.Runner.run_unfinished.Goals as goal
 
@@ -34,3 +35,7 @@ returns-clause-made g c =
 pub make_cycles-requires-clause-knows : goal.make_cycles-requires-clause-knows
 make_cycles-requires-clause-knows g c =
     start_known c.args.plan.now (at g.O.Out.taken c.args.self.now) (at g.O.Out.taken c.begin.new.self) c.args.state.now.board (map g.N.NativeSource.meaning c.args.state.now.roster.natives.items) (seen g.N.NativeSource.meaning c.begin.new.state) c.in_ok-end.field-0 c.requires.may c.in_ok-end.ensures.made
+
+pub make_cycles-requires-clause-serves : goal.make_cycles-requires-clause-serves
+make_cycles-requires-clause-serves g c =
+    start_serves c.args.plan.now c.args.state.now.board (map g.N.NativeSource.meaning c.args.state.now.roster.natives.items) c.requires.serves (at g.O.Out.taken c.args.self.now) (at g.O.Out.taken c.begin.new.self) (seen g.N.NativeSource.meaning c.begin.new.state) c.in_ok-end.field-0 c.in_ok-end.ensures.made

@@ -1,0 +1,158 @@
+-- The state goes on serving from cycle to cycle.
+use Rattle.std.proofs.Common.{◌≡◌, ◌<◌, ◌+◌, ℕ, ℤ, drop, get_or, length, List, [], ◌∷◌, ◌++◌, Option, Some, None, Ok, refl, sym, ap, subst, ◌∙◌}
+use Rattle.std.specs.Prelude.{All, option_and_then, slice_get}
+use Rattle.std.proofs.lemmas.List.Elements.{All-head, All-tail}
+use Rattle.bb_verify.specs.Accepted.{Checked}
+use Rattle.bb_agenda.specs.Activation.{Activation}
+use Rattle.bb_trace.specs.Act.TheVariants as acts
+use Rattle.bb_trace.specs.Board.{Board as Blackboard}
+use Rattle.bb_trace.specs.End.{End}
+use Rattle.bb_trace.specs.Event.{Event}
+use Rattle.bb_trace.specs.Native.{Native}
+use Rattle.bb_trace.specs.Source.{Source}
+use Rattle.bb_trace.specs.declared.note.Note.{Note}
+use Rattle.bb_run_plan.specs.Plan.{Plan}
+use Rattle.bb_run.specs.declared.cycles.Decision.{Decision}
+use Rattle.bb_run.specs.declared.cycles.Decision.TheVariants.{Act}
+use Rattle.bb_run.specs.declared.execution.Verdict.{Verdict}
+use Rattle.bb_run.specs.declared.execution.Verdict.TheVariants as verdicts
+use Rattle.bb_run.specs.Asking.{entry_of}
+use Rattle.bb_run.specs.Causes.{LacksNative}
+use Rattle.bb_run.specs.Processing.{event_in, events_in, processing}
+use Rattle.bb_run.specs.Run.{choice, chosen_with, cycle, execution, first_state, noted, start, validity, wait}
+use Rattle.bb_run.specs.State.{State, with_board}
+use Rattle.bb_run.specs.Told.{Response}
+use Rattle.bb_run.specs.Unstuck.{IsEventOf, IsWellMade, SuitsSource}
+use Rattle.bb_run.specs.proving.Serving.{CanExecute, HasNative, MayServe, Serves, ServesAt}
+use Rattle.bb_run.specs.proving.Telling.{IsResponse, Makes, Place, Validates, Waits, decision_by, option_list}
+use Rattle.bb_run.proofs.ReadLemmas.{same_natives}
+use Rattle.bb_run.proofs.ServeLemmas.{same_after, serves_after}
+use Rattle.bb_run.proofs.TellLemmas.{next_note}
+use Rattle.bb_run.proofs.UnstuckRuns.{Ready, act_begins, acts_by, chooses, cycle_goes, first_well, ready_on, revalidation_begins, same_board, suits_chosen, verdict_is_fine, waits_for}
+use Rattle.bb_run.proofs.UnstuckStates.{IsWell, there_at, is_ready, reports}
+
+-- a state that is ready, with the natives that were handed in, serves
+serves_by : (plan : Plan) (sound : IsWellMade plan) (natives : List Native) → ¬ LacksNative plan natives → (p t : State) → t ≡ p → Ready plan sound natives p → Serves plan t
+serves_by plan sound natives given p t same ready =
+    subst (Serves plan) (sym same)
+    (record { sound = sound; natives = λ lacks. given (lacks.0, lacks.1, lacks.2, sym (ready.places lacks.0.name) ∙ lacks.3); ready = is_ready plan sound natives p ready })
+
+-- what a response that goes well leaves, and tells
+told_serves : (plan : Plan) (sound : IsWellMade plan) (natives : List Native) (given : ¬ LacksNative plan natives) (p : Response) → IsWell plan sound natives p → (old new read : List Note) (t : State) (end : Option End) → old ≡ [] → read ≡ new → IsResponse p old new t end
+    → Serves plan t × All (IsEventOf plan.schema t.board) (events_in read)
+told_serves plan sound natives given p well old new read t end none same response =
+    let all : read ≡ p.told = same ∙ (response.notes ∙ ap (λ (l : List Note). l ++ p.told) none) in (
+      serves_by plan sound natives given p.state t response.state well.well.state,
+      subst (λ (l : List Note). All (IsEventOf plan.schema t.board) (events_in l)) (sym all) (subst (λ (y : State). All (IsEventOf plan.schema y.board) (events_in p.told)) (sym response.state) well.events),
+    )
+
+-- ---- events of notes, one after another
+
+module _ (P : Event → Type 0) (notes : List Note) (i : ℕ) (note : Note) where
+  split : (event : Event) → i < length notes → note ≡ get_or notes i note → option_list (Some event) ≡ event_in note → events_in (drop i notes) ≡ event ∷ events_in (drop (i + 1) notes)
+  split event lt is some = next_note notes i note lt is ∙ ap (λ (es : List Event). es ++ events_in (drop (i + 1) notes)) (sym some)
+
+  pub event_there : (event : Event) → i < length notes → note ≡ get_or notes i note → option_list (Some event) ≡ event_in note → All P (events_in (drop i notes)) → P event
+  event_there event lt is some all = All-head P event (events_in (drop (i + 1) notes)) (subst (All P) (split event lt is some) all)
+
+  pub events_left : (event : Event) → i < length notes → note ≡ get_or notes i note → option_list (Some event) ≡ event_in note → All P (events_in (drop i notes)) → All P (events_in (drop (i + 1) notes))
+  events_left event lt is some all = All-tail P event (events_in (drop (i + 1) notes)) (subst (All P) (split event lt is some) all)
+
+  pub events_passed : i < length notes → note ≡ get_or notes i note → (let none : Option Event = None in option_list none) ≡ event_in note → All P (events_in (drop i notes)) → All P (events_in (drop (i + 1) notes))
+  events_passed lt is none all = subst (All P) (next_note notes i note lt is ∙ ap (λ (es : List Event). es ++ events_in (drop (i + 1) notes)) (sym none)) all
+
+module _ (plan : Plan) (s : State) (serves : Serves plan s) where
+  ready : Ready plan serves.sound s.natives s
+  ready = record { board = serves.ready.board; waiting = serves.ready.waiting; places = λ name. refl }
+
+  serves_as : (p t : State) → t ≡ p → Ready plan serves.sound s.natives p → Serves plan t
+  serves_as p t same there = serves_by plan serves.sound s.natives serves.natives p t same there
+
+  -- ---- an event of the blackboard
+
+  pub serves_one : (event : Event) → IsEventOf plan.schema s.board event → ServesAt plan event s
+  serves_one event here = record { sound = serves.sound; ready = (serves.ready, here) }
+
+  -- after an event, on the same blackboard
+  pub serves_next : (a b : Place) (event : Event) (t : State) (end : Option End) → IsEventOf plan.schema s.board event → Makes plan a b (processing plan event s) t (Ok end) → Serves plan t × (t.board ≡ s.board)
+  serves_next a b event t end here made =
+      let at = serves_one event here in
+      let after = serves_after plan event s at in (
+        subst (Serves plan) (sym made.1.state)
+            (record { sound = serves.sound; natives = subst (λ (ns : List Native). ¬ LacksNative plan ns) (sym (same_natives plan event s)) serves.natives; ready = after.ready.0 }),
+        ap (λ (x : State). x.board) made.1.state ∙ same_after plan event s at,
+      )
+
+  -- ---- the wait before a cycle, and the cycle
+
+  act_chosen : (e : Option End) (c : Option Activation) (x : Activation) → decision_by e c ≡ Act x → c ≡ Some x
+  act_chosen (Some end) c x is = absurd cc
+  act_chosen None None x is = absurd cc
+  act_chosen None (Some y) x is = ap (λ z. Some z) (let same : y ≡ x = cc in same)
+
+  waited : Ready plan serves.sound s.natives (wait plan s).state
+  waited = (waits_for plan serves.sound s.natives s (choice plan s) ready).state
+
+  pub wait_serves : (a b : Place) (t : State) (decision : Decision) → Waits plan a b s t (Ok decision) → Serves plan t
+  wait_serves a b t decision told = serves_as (wait plan s).state t told.state waited
+
+  pub wait_suits : (a b : Place) (t : State) (decision : Decision) (x : Activation) → Waits plan a b s t (Ok decision) → decision ≡ Act x → SuitsSource plan t.board x
+  wait_suits a b t decision x told is =
+      let chosen = act_chosen (wait plan s).end (choice plan (wait plan s).state) x (sym told.decision_is ∙ is) in
+      subst (λ (y : State). SuitsSource plan y.board x) (sym told.state) (suits_chosen plan serves.sound s.natives (wait plan s).state x chosen waited)
+
+  pub cycle_serves : (a b : Place) (t : State) (number : ℕ) (x : Activation) (end : Option End) → SuitsSource plan s.board x → Makes plan a b (cycle plan number x s) t (Ok end) → Serves plan t
+  cycle_serves a b t number x end suits made = serves_as (cycle plan number x s).state t made.1.state (cycle_goes plan serves.sound s.natives number x s ready suits).state
+
+  -- ---- in a cycle
+
+  module _ (x : Activation) (suits : SuitsSource plan s.board x) where
+    pub can_act : (source : Source) → slice_get plan.sources x.source ≡ Some source → (code : Checked) → source.act ≡ acts.Code code → CanExecute code (entry_of x.unit None) s.board
+    can_act source there code is = act_begins plan serves.sound s.natives source x s there ready suits code is
+
+    pub has_native : (source : Source) → slice_get plan.sources x.source ≡ Some source → source.act ≡ acts.Native → HasNative s.natives source.name
+    has_native source there is none = serves.natives (source, there_at plan.sources x.source source there, is, none)
+
+    validates_by : (found : Option Source) → slice_get plan.sources x.source ≡ found → (code : Checked) → option_and_then (λ (t : Source). t.revalidate) found ≡ Some code → CanExecute code (entry_of x.unit None) s.board
+    validates_by None there code is = absurd cc
+    validates_by (Some source) there code is = revalidation_begins plan serves.sound s.natives source x s there ready suits code is
+
+    pub can_validate : (code : Checked) → option_and_then (λ (t : Source). t.revalidate) (slice_get plan.sources x.source) ≡ Some code → CanExecute code (entry_of x.unit None) s.board
+    can_validate code is = validates_by (slice_get plan.sources x.source) refl code is
+
+    board_kept : (number : ℕ) (r : ℤ) (v : Verdict) (t : State) → (chosen_with number x r v t).state.board ≡ t.board
+    board_kept number r verdicts.Valid t = refl
+    board_kept number r verdicts.Invalid t = refl
+    board_kept number r (verdicts.Over end) t = refl
+
+    -- once it was chosen
+    pub chosen_serves : (number : ℕ) (r : ℤ) (verdict : Verdict) (board : Blackboard) (old new : List Note) (t : State) (end : Option End)
+        → Validates (validity (option_and_then (λ (y : Source). y.revalidate) (slice_get plan.sources x.source)) x s.board) verdict board → IsResponse (chosen_with number x r verdict (with_board s board)) old new t end
+        → Serves plan t × (t.board ≡ s.board)
+    chosen_serves number r verdict board old new t end valid response =
+        let found = slice_get plan.sources x.source in
+        let same : board ≡ s.board = valid.board_is ∙ same_board plan serves.sound s.natives found x s.board refl in
+        let fine = λ (e : End) (over : verdict ≡ verdicts.Over e). verdict_is_fine plan serves.sound s.natives found x s refl ready suits e (sym valid.verdict_is ∙ over) in
+        let goes = chooses plan serves.sound s.natives number x r verdict (with_board s board) (ready_on plan serves.sound s.natives s board same ready) fine in (
+          serves_as (chosen_with number x r verdict (with_board s board)).state t response.state goes.state,
+          ap (λ (y : State). y.board) response.state ∙ (board_kept number r verdict (with_board s board) ∙ same),
+        )
+
+    -- once it was executed: the events that were told are of the blackboard then
+    pub executed_serves : (source : Source) → slice_get plan.sources x.source ≡ Some source → (old new read : List Note) (t : State) (end : Option End) → old ≡ [] → read ≡ new → IsResponse (execution source.name source.act x s) old new t end
+        → Serves plan t × All (IsEventOf plan.schema t.board) (events_in read)
+    executed_serves source there old new read t end none same response =
+        told_serves plan serves.sound s.natives serves.natives (execution source.name source.act x s) (acts_by plan serves.sound s.natives source x s there ready suits source.act refl) old new read t end none same response
+
+-- ---- the start
+
+module _ (plan : Plan) (board : Blackboard) (natives : List Native) (may : MayServe plan board natives) where
+  pub start_serves : (a b : Place) (t : State) (end : Option End) → Makes plan a b (start plan board natives) t (Ok end) → Serves plan t
+  start_serves a b t end made =
+      serves_by plan may.sound natives may.natives_are (start plan board natives).state t made.1.state
+      (reports plan may.sound natives (noted (first_state plan board natives) [] None) (first_well plan may.sound natives board 0 may.fits)).state
+
+  -- once the first notes were taken
+  pub noted_serves : (s t : State) (old new read : List Note) → s ≡ first_state plan board natives → old ≡ [] → read ≡ new → IsResponse (noted s [] None) old new t None → Serves plan t × All (IsEventOf plan.schema t.board) (events_in read)
+  noted_serves s t old new read is none same response =
+      told_serves plan may.sound natives may.natives_are (noted s [] None) (subst (λ (y : State). IsWell plan may.sound natives (noted y [] None)) (sym is) (first_well plan may.sound natives board 0 may.fits)) old new read t None none same response
