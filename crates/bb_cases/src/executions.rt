@@ -1,11 +1,9 @@
-//! The execution of a code on a blackboard, and the lines of what comes of it, for cases of codes and tables of runs.
+//! The execution of a code on the blackboard of a scene, for cases of codes and tables of runs.
 
-use bb_board::Board;
-use bb_cases_format::{Code, Fault, number};
-use bb_machine_step::{Answer, Entry, Outcome, Stop, execute};
-use bb_trace::add_board_note;
-use std::alloc::{AllocError, Global};
-use std::fmt::Write;
+use crate::board::board_of;
+use bb_cases_format::{Code, Fault, Scene, number};
+use bb_cases_machines::{Asked, Boards, Entry, add_execution};
+use std::alloc::Global;
 
 /// The units of an entry, `N` or `N:M`.
 pub(crate) fn entry_of(word: &str) -> Result<Entry, Fault> {
@@ -17,56 +15,17 @@ pub(crate) fn entry_of(word: &str) -> Result<Entry, Fault> {
     Ok(Entry { it, ev })
 }
 
-/// Executes a code, and appends how it ends and the lines of its notes.
-pub(crate) fn add_execution(
+/// Executes a code on a blackboard of a scene, and appends how it ends and the lines of its notes.
+pub(crate) fn add_on_scene(
     alloc: Global,
     text: &mut String,
+    scene: &Scene,
     code: &Code,
-    board: &mut Board,
-    entry: Entry,
-    limit: u64,
-) -> Result<(), AllocError> {
-    let ended = execute(alloc, code, board, entry, u128::from(limit));
-    add_end(text, ended)?;
-    let notes = board.take_notes();
-    for note in &notes {
-        add_board_note(alloc, text, board.schema(), note)?;
-    }
-    Ok(())
-}
-
-fn add_end(text: &mut String, ended: Result<Outcome, Stop>) -> Result<(), AllocError> {
-    let (steps, found) = match ended {
-        Ok(outcome) => {
-            add_answer(text, outcome.answer)?;
-            (outcome.steps, outcome.found)
-        }
-        Err(Stop::Full { steps, found }) => {
-            text.push_str("full")?;
-            (steps, found)
-        }
-        Err(
-            Stop::Stuck {
-                reason,
-                steps,
-                found,
-            },
-        ) => {
-            let number = reason.number();
-            write!(text, "stuck {number}")?;
-            (steps, found)
-        }
-        Err(Stop::Memory) => return Err(AllocError),
+    asked: Asked,
+) -> Result<(), Fault> {
+    let mut boards = Boards {
+        tested: board_of(alloc, scene)?,
+        verified: board_of(alloc, scene)?,
     };
-    writeln!(text, " steps {steps} found {found}")
-}
-
-fn add_answer(text: &mut String, answer: Answer) -> Result<(), AllocError> {
-    match answer {
-        Answer::Done => text.push_str("done"),
-        Answer::Rated(rating) => write!(text, "rated {rating}"),
-        Answer::Declined => text.push_str("declined"),
-        Answer::Yes => text.push_str("yes"),
-        Answer::No => text.push_str("no"),
-    }
+    Ok(add_execution(alloc, text, &mut boards, code, asked)?)
 }

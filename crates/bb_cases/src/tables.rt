@@ -1,13 +1,14 @@
 //! Tables: cases of one kind, one a row. The suite compares row by row.
 
-use crate::board::{board_of, schema_of};
-use crate::executions::{add_execution, entry_of};
+use crate::board::schema_of;
+use crate::executions::{add_on_scene, entry_of};
 use crate::inputs::Serving;
 use crate::verified::{add_verdict, part_of};
 use bb_cases_format::{
     AsmFault, Code, CodeFault, Difference, Entry, Fault, Names, Row, Scene, Scope, assemble,
     bytes_of, code_of, expanded, expanded_text, number, respelled,
 };
+use bb_cases_machines::Asked;
 use bb_schema::Schema;
 use bb_verify::{Part, verify};
 use std::alloc::Global;
@@ -135,11 +136,12 @@ impl<'a> Table<'a> {
         text: &str,
     ) -> Result<(), Fault> {
         let (units, limit) = front.split_once(' ').ok_or(Fault::Row)?;
-        let entry = entry_of(units)?;
-        let limit = number(limit)?;
-        let code = self.headed_code(text)?;
-        let mut board = board_of(self.alloc, scene)?;
-        Ok(add_execution(self.alloc, given, &code, &mut board, entry, limit)?)
+        let asked = Asked {
+            entry: entry_of(units)?,
+            limit: number(limit)?,
+            part: None,
+        };
+        add_on_scene(self.alloc, given, scene, &self.headed_code(text)?, asked)
     }
 }
 

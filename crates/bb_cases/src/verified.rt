@@ -1,11 +1,12 @@
 //! Codes are verified, and the verdict is written in lines; then they are executed, if a case asks for that.
 
-use crate::board::{board_of, schema_of};
-use crate::executions::{add_execution, entry_of};
+use crate::board::schema_of;
+use crate::executions::{add_on_scene, entry_of};
 use bb_cases_format::{
     Difference, Entry, Fault, Header, Kind, Names, Scene, Scope, code_of, expanded_text, number,
     write_kind,
 };
+use bb_cases_machines::Asked;
 use bb_verify::{Checked, FOUND_LIMIT, Flaw, Frame, Part, VerifyFault, verify};
 use std::alloc::{AllocError, Global};
 use std::fmt::Write;
@@ -115,10 +116,12 @@ fn given(
         add_facts(&mut lines, checked, wanted)?;
     }
     if let Some(word) = header.option("entry") {
-        let code = code_of(alloc, text)?;
-        let mut board = board_of(alloc, scene)?;
-        let limit = header.number("limit", 1_000)?;
-        add_execution(alloc, &mut lines, &code, &mut board, entry_of(word)?, limit)?;
+        let asked = Asked {
+            entry: entry_of(word)?,
+            limit: header.number("limit", 1_000)?,
+            part: Some(part),
+        };
+        add_on_scene(alloc, &mut lines, scene, &code_of(alloc, text)?, asked)?;
     }
     Ok(lines)
 }

@@ -1,0 +1,2 @@
+-- the test says that the units fit
+pub mod EntryLemmas

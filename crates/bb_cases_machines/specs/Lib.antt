@@ -1,0 +1,2 @@
+-- units that fit a part
+pub mod Entries
