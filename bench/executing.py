@@ -1,86 +1,287 @@
 #!/usr/bin/env python3
-"""Runs sources that verified code is compiled from, and prints what a step of them costs, as a table of
-docs/PERFORMANCE.md.
+"""Runs sources that verified code is compiled from, and prints what a step and a statement of them cost, as a table of
+docs/PERFORMANCE.md. Where Lua 5.4 and the interpreter of wabt are on the path, they do the same sums beside it.
 
-    bench/executing.py crates/bb/out/bb [--runs N]
+    bench/executing.py crates/bb/out/bb [--runs N] [--only WORD]
 
-One activation goes over 1,000 words for each of 1,000 words, and does a statement ten times in each of these million
-turns. Its time is that of the run less that of the same without the statement, as are its steps, which the trace tells;
-the fastest of the runs counts.
+Times are of the processor: that of a run less that of the same without what is measured, so none has the start of a
+program. So are the steps, which the trace tells. The fastest of the runs counts.
 """
 
 import argparse
 import json
 import re
+import resource
+import shutil
 import subprocess
-import time
+import tempfile
+from pathlib import Path
+from typing import NamedTuple
 
 WORDS = 1000
-TIMES = 10
+PAIRS = WORDS * WORDS
+ACTIVATIONS = 60_000
 
-# What is done, and the statement.
-STATEMENTS = {
-    "`x = x + 3`": "x = x + 3;",
-    "`x = (x + 3) % 7`": "x = (x + 3) % 7;",
-    "`x = x + b.at`, of a unit": "x = x + b.at;",
-    "`if x < 5 { x = x + 2; } else { x = x - 4; }`": "if x < 5 { x = x + 2; } else { x = x - 4; }",
+SCHEMA = {
+    "classes": [
+        {"name": "task"},
+        {"name": "idle"},
+        {"name": "word", "slots": [{"name": "at", "kind": "int"}, {"name": "span", "kind": "interval"}]},
+    ],
+    "spaces": [{"name": "board", "classes": ["word"], "dims": [{"name": "span", "kind": "ordered"}]}],
 }
 
 
-def an_input(statement):
-    schema = {
-        "classes": [{"name": "task"}, {"name": "word", "slots": [{"name": "at", "kind": "int"}]}],
-        "spaces": [{"name": "board", "classes": ["word"], "dims": []}],
-    }
-    words = [{"name": f"w{n}", "class": "word", "slots": {"at": n}} for n in range(WORDS)]
-    units = {
-        "units": [*words, {"name": "all", "class": "task"}],
-        "spaces": [[word["name"], "board"] for word in words],
-    }
-    source = f"""source work on task {{
-  when create task;
-  rate 1;
-  do {{
-    let x = 1;
-    for a in find word in board {{
-      for b in find word in board {{
-        {statement * TIMES}
-      }}
-    }}
-    say x;
-  }}
-}}
+class Sum(NamedTuple):
+    """A statement for each pair of words, so many times one after another: of a source, in Lua, and in WebAssembly."""
+
+    of: str
+    bb: str
+    lua: str
+    wat: str
+    times: int = 10
+
+
+SUMS = [
+    Sum("`x = x + 3`", "x = x + 3;", "x = x + 3", "(local.set $x (i64.add (local.get $x) (i64.const 3)))"),
+    Sum(
+        "`x = (x + 3) % 7`",
+        "x = (x + 3) % 7;",
+        "x = (x + 3) % 7",
+        "(local.set $x (i64.rem_s (i64.add (local.get $x) (i64.const 3)) (i64.const 7)))",
+    ),
+    Sum(
+        "`if x < 5 { x = x + 2; } else { x = x - 4; }`",
+        "if x < 5 { x = x + 2; } else { x = x - 4; }",
+        "if x < 5 then x = x + 2 else x = x - 4 end",
+        "(if (i64.lt_s (local.get $x) (i64.const 5)) (then (local.set $x (i64.add (local.get $x) (i64.const 2))))"
+        " (else (local.set $x (i64.sub (local.get $x) (i64.const 4)))))",
+    ),
+    Sum(
+        "`x = x + b.at`, a slot of a unit",
+        "x = x + b.at;",
+        "x = x + b.at",
+        "(local.set $x (i64.add (local.get $x) (i64.load (local.get $b))))",
+    ),
+    Sum(
+        "`set b.at = x`, noted and written",
+        "set b.at = x;",
+        "b.at = x",
+        "(i64.store (local.get $b) (local.get $x))",
+        times=1,
+    ),
+]
+
+
+class Search(NamedTuple):
+    """A statement for each word, so many times one after another."""
+
+    of: str
+    bb: str
+    times: int
+
+
+SEARCHES = [
+    Search("`say x`, noted and written", "say x;", 1000),
+    Search("`size(find ..)` of all 1,000 units of a space", "x = size(find word in board);", 3),
+    Search("`size(find ..)` of 11 of 1,000 units", "x = size(find word in board where span within [10, 20]);", 100),
+]
+
+
+class Row(NamedTuple):
+    """What is measured, so many times in a run: pairs of inputs, and of texts in other languages, with and without."""
+
+    of: str
+    number: int
+    bb: tuple[str, str]
+    lua: tuple[str, str] | None = None
+    wat: tuple[str, str] | None = None
+    # The steps of all in the first input beyond the second, if the trace does not tell them.
+    steps: int | None = None
+
+
+# ---- inputs of the program
+
+
+def an_input(units, sources):
+    return f"%schema\n{json.dumps(SCHEMA)}\n%units\n{json.dumps(units)}\n%sources\n{sources}"
+
+
+def on_words(sources, more_units=()):
+    """A run with words on the board, other units, and a task."""
+    words = [{"name": f"w{n}", "class": "word", "slots": {"at": n, "span": [n, n]}} for n in range(WORDS)]
+    spaces = [[word["name"], "board"] for word in words]
+    return an_input({"units": [*words, *more_units, {"name": "all", "class": "task"}], "spaces": spaces}, sources)
+
+
+def worker(body):
+    return f"source work on task {{ when create task; rate 1; do {{ let x = 1; {body} say x; }} }}\n"
+
+
+def over_words(name, body):
+    return f"for {name} in find word in board {{ {body} }}"
+
+
+def in_loop(statements):
+    return on_words(worker(over_words("a", statements)))
+
+
+def in_loops(statements):
+    return in_loop(over_words("b", statements))
+
+
+def asked(reaction):
+    """A run in which 1,000 activations wait below the floor while 10,000 slots are set."""
+    waiting = [{"name": f"i{n}", "class": "idle"} for n in range(WORDS)]
+    waits = f"source wait on idle {{ when create idle; rate -1; {reaction} do {{ }} }}\n"
+    return on_words(waits + worker(over_words("a", "set a.at = x; " * 10)), waiting)
+
+
+def activated(source):
+    """A run of units, each of which may be an activation of the source."""
+    return an_input({"units": [{"name": f"i{n}", "class": "idle"} for n in range(ACTIVATIONS)]}, source)
+
+
+# ---- the same sums elsewhere
+
+
+def in_lua(statements, has_turns=True):
+    inner = f"for j = 1, #words do local b = words[j] {statements} end" if has_turns else ""
+    return f"""
+local function nothing() end
+local words = {{}}
+for n = 1, {WORDS} do words[n] = {{at = n - 1}} end
+local x = 1
+for i = 1, #words do local a = words[i] {inner} end
+print(x)
 """
-    return f"%schema\n{json.dumps(schema)}\n%units\n{json.dumps(units)}\n%sources\n{source}"
 
 
-def run(program, runs, statement):
-    """The seconds of the fastest run, and the steps of its one activation."""
-    text = an_input(statement)
+def in_wat(statements, has_turns=True):
+    """Words are numbers of 8 bytes in memory; `$a` and `$b` are their places."""
+    inner = f"""(local.set $b (i32.const 0))
+      (loop $inner {statements}
+        (local.set $b (i32.add (local.get $b) (i32.const 8)))
+        (br_if $inner (i32.lt_u (local.get $b) (i32.const {8 * WORDS}))))"""
+    return f"""(module (memory 1)
+  (func $nothing)
+  (func (export "run") (result i64) (local $x i64) (local $a i32) (local $b i32)
+    (local.set $x (i64.const 1))
+    (loop $fill
+      (i64.store (local.get $a) (i64.extend_i32_u (i32.shr_u (local.get $a) (i32.const 3))))
+      (local.set $a (i32.add (local.get $a) (i32.const 8)))
+      (br_if $fill (i32.lt_u (local.get $a) (i32.const {8 * WORDS}))))
+    (local.set $a (i32.const 0))
+    (loop $outer
+      {inner if has_turns else ""}
+      (local.set $a (i32.add (local.get $a) (i32.const 8)))
+      (br_if $outer (i32.lt_u (local.get $a) (i32.const {8 * WORDS}))))
+    (local.get $x)))
+"""
+
+
+# ---- what is measured
+
+
+def sums():
+    for it in SUMS:
+        lua, wat = f"{it.lua} " * it.times, it.wat * it.times
+        bb = in_loops(it.bb * it.times), in_loops("")
+        yield Row(it.of, PAIRS * it.times, bb, (in_lua(lua), in_lua("")), (in_wat(wat), in_wat("")))
+
+
+def turns():
+    """The search for the words of an inner loop is in both."""
+    bb = in_loops(""), in_loop("let n = size(find word in board);")
+    lua, wat = (in_lua(""), in_lua("", has_turns=False)), (in_wat(""), in_wat("", has_turns=False))
+    yield Row("a turn of the inner loop", PAIRS, bb, lua, wat)
+
+
+def parts():
+    """Each slot that is set is an event, about which each activation that waits is asked."""
+    number = 10 * WORDS * WORDS
+    bb = asked("retrigger on word when update word.at; { decline; }"), asked("")
+    lua, wat = (in_lua("nothing() " * 10), in_lua("")), (in_wat("(call $nothing)" * 10), in_wat(""))
+    yield Row("an execution of a part of one op", number, bb, lua, wat, steps=number)
+    bb = activated("source rest on idle { when create idle; rate 1; do { } }"), activated("")
+    yield Row("an activation of `do { }`, with the lines of it", ACTIVATIONS, bb)
+
+
+def searches():
+    for it in SEARCHES:
+        yield Row(it.of, WORDS * it.times, (in_loop(it.bb * it.times), in_loop("")))
+
+
+# ---- measuring
+
+
+def seconds_of_children():
+    used = resource.getrusage(resource.RUSAGE_CHILDREN)
+    return used.ru_utime + used.ru_stime
+
+
+def fastest(words, runs, text=""):
+    """The processor seconds of the fastest run, and what it wrote."""
     best = None
     for _ in range(runs):
-        began = time.perf_counter()
-        ran = subprocess.run([program], input=text, capture_output=True, text=True)
-        took = time.perf_counter() - began
+        began = seconds_of_children()
+        ran = subprocess.run(words, input=text, capture_output=True, text=True)
+        took = seconds_of_children() - began
         if ran.returncode != 0:
-            raise SystemExit(f"the input does not run:\n{ran.stdout[-300:]}{ran.stderr}")
+            raise SystemExit(f"{words[0]} fails:\n{ran.stdout[-300:]}{ran.stderr}")
         best = took if best is None else min(best, took)
-    return best, int(re.search(r"^end steps (\d+)", ran.stdout, re.MULTILINE).group(1))
+    return best, ran.stdout
+
+
+class Programs:
+    """The program, and what is on the path of Lua and of the interpreter of wabt."""
+
+    def __init__(self, bb, folder, runs):
+        self.bb, self.folder, self.runs = bb, Path(folder), runs
+        self.lua = shutil.which("lua5.4")
+        self.wabt = shutil.which("wat2wasm") and shutil.which("wasm-interp")
+
+    def by_bb(self, text):
+        """The seconds of a run, and the steps of its activations."""
+        took, trace = fastest([self.bb], self.runs, text)
+        return took, sum(map(int, re.findall(r"^end steps (\d+)", trace, re.MULTILINE)))
+
+    def by_lua(self, text):
+        file = self.folder / "sum.lua"
+        file.write_text(text)
+        return fastest([self.lua, str(file)], self.runs)[0]
+
+    def by_wabt(self, text):
+        source, module = self.folder / "sum.wat", self.folder / "sum.wasm"
+        source.write_text(text)
+        subprocess.run(["wat2wasm", str(source), "-o", str(module)], check=True)
+        return fastest([self.wabt, str(module), "--run-all-exports"], self.runs)[0]
+
+    def cells(self, row):
+        """A row of the table: how often, steps of one, nanoseconds of a step and of one, and of one elsewhere."""
+        (took, steps), (bare, bare_steps) = map(self.by_bb, row.bb)
+        took, steps = took - bare, steps - bare_steps if row.steps is None else row.steps
+        yield f"{row.number:,}"
+        yield f"{steps / row.number:.3g}"
+        yield f"{took / steps * 1e9:.1f}"
+        yield f"{took / row.number * 1e9:.1f}"
+        for there, pair, by in [(self.lua, row.lua, self.by_lua), (self.wabt, row.wat, self.by_wabt)]:
+            yield f"{(by(pair[0]) - by(pair[1])) / row.number * 1e9:.1f}" if there and pair else ""
 
 
 def main():
     parser = argparse.ArgumentParser(description=__doc__, formatter_class=argparse.RawDescriptionHelpFormatter)
     parser.add_argument("program", help="the built program, crates/bb/out/bb")
-    parser.add_argument("--runs", type=int, default=3, help="runs of each input, of which the fastest counts")
-    asked = parser.parse_args()
-    bare, bare_steps = run(asked.program, asked.runs, "")
-    print("| Statement | Steps of it | Steps | Seconds | Nanoseconds a step |")
-    print("|---|---|---|---|---|")
-    for of, statement in STATEMENTS.items():
-        took, steps = run(asked.program, asked.runs, statement)
-        took, steps = took - bare, steps - bare_steps
-        each = steps / (WORDS * WORDS * TIMES)
-        print(f"| {of} | {each:g} | {steps:,} | {took:.2f} | {took / steps * 1e9:.1f} |", flush=True)
+    parser.add_argument("--runs", type=int, default=3, help="runs of each program, of which the fastest counts")
+    parser.add_argument("--only", default="", help="rows that have this word")
+    wanted = parser.parse_args()
+    print("| | Number | Steps | ns a step | ns | Lua 5.4, ns | `wasm-interp`, ns |")
+    print("|---|---|---|---|---|---|---|")
+    with tempfile.TemporaryDirectory() as folder:
+        programs = Programs(wanted.program, folder, wanted.runs)
+        for row in [*sums(), *turns(), *parts(), *searches()]:
+            if wanted.only in row.of:
+                print(f"| {' | '.join([row.of, *programs.cells(row)])} |", flush=True)
 
 
 if __name__ == "__main__":
