@@ -4,50 +4,13 @@ With the input of the run it knows more: what first units are called, and what f
 """
 
 import re
-from collections import deque
 from collections.abc import Iterable
-from dataclasses import dataclass, field
+from dataclasses import dataclass
 
 from foci import Foci, Held
+from forms import FORMS, told_refusal, told_unknown
 from given import First, Given
-
-N = r"(0|[1-9][0-9]{0,38})"
-Z = r"(0|-?[1-9][0-9]{0,38})"
-NAME = r"([a-z][a-z0-9_]{0,30})"
-PLAIN = r'[^"\\\x00-\x1f]*'
-TEXT = rf'"{PLAIN}(?:\\(?:["\\bfnrt]|u00(?:0[0-7bef]|1[0-9a-f])){PLAIN})*"'
-VALUE = rf"(?:{Z}|{NAME}|\[{Z},{Z}\]|\#{N}|{TEXT})"
-
-# The forms of lines, each under its first word. `refused`, `end native` and `closed` tell of natives of a host.
-FORMS = {
-    "create": rf"create {N} {NAME}",
-    "set": rf"set {N}\.{NAME}",
-    "link": rf"link {N}\.{NAME} {N}",
-    "unlink": rf"unlink {N}\.{NAME} {N}",
-    "enter": rf"enter {N} {NAME}",
-    "leave": rf"leave {N} {NAME}",
-    "delete": rf"delete {N}",
-    "trigger": rf"trigger {N} {NAME} unit {N} rating {Z}",
-    "decline": rf"decline {NAME} unit {N}",
-    "obviate": rf"obviate {N}",
-    "retrigger": rf"retrigger {N} {Z}",
-    "cycle": rf"cycle {N} act {N} {NAME} unit {N} rating {Z}",
-    "invalid": rf"invalid {N}",
-    "say": rf"say(?: {VALUE})*",
-    "refused": rf"refused ask {N} ([1-6])",
-    "end": rf"end (?:steps {N} found {N} budget {N}|native {N})",
-    "quiescence": r"quiescence",
-    "finish": r"finish (quiescence|limit|full)",
-    "closed": rf"closed {NAME} {Z}",
-}
-FORMS = {word: re.compile(form) for word, form in FORMS.items()}
-REFUSAL = re.compile(r"refused (?:input|schema|units|lang|compile|bundle|verify|rule)(?: .*)?")
-
-# What a page can bear: so many characters of the first steps, as many of the last ones, of one step, and of one line.
-LINE_COSTS = 40
-ENDS_LIMIT = 6_000_000
-STEP_LIMIT = 1_000_000
-LINE_LIMIT = 2_000
+from run import LINE_LIMIT, Activation, Line, Run, Source, Step, Unit
 
 ANOTHER = "so the input is not that of this trace"
 
@@ -61,106 +24,6 @@ class NoTrace(Exception):
 
 
 @dataclass(slots=True)
-class Source:
-    """A source, with how often each mark of it stands in the trace."""
-
-    name: str
-    index: int
-    counts: dict[str, int] = field(
-        default_factory=lambda: dict.fromkeys(["trigger", "cycle", "decline", "obviate", "retrigger", "invalid"], 0)
-    )
-
-
-@dataclass(slots=True)
-class Unit:
-    """A unit, with the lines in which it was created and deleted, 0 where it was not.
-
-    A first unit has its name, and a focus what it held, with the line from which on: both are of the input.
-    """
-
-    number: int
-    of: str
-    created: int
-    deleted: int = 0
-    name: str = ""
-    held: list[tuple[int, Held]] = field(default_factory=list)
-
-
-@dataclass(slots=True)
-class Activation:
-    """An activation: its bases with the lines that tell them, and the line that ended its waiting, 0 while it waits."""
-
-    number: int
-    source: Source
-    unit: int
-    bases: list[tuple[int, int]]
-    fate: str = "waits"
-    ended: int = 0
-
-
-@dataclass(slots=True)
-class Line:
-    """A line, and the unit or activation that it is about; of a reaction the first and last event it may answer."""
-
-    number: int
-    text: str
-    about: Unit | Activation | None = None
-    causes: tuple[int, int] | None = None
-
-
-@dataclass(slots=True)
-class Step:
-    """The start, a cycle, or a quiescence: its first lines, and how many more there were."""
-
-    kind: str
-    first: int
-    cycle: int = 0
-    chosen: Activation | None = None
-    rating: int = 0
-    waiting: int = 0
-    lines: list[Line] = field(default_factory=list)
-    missing: int = 0
-    costs: int = 0
-
-    def add(self, line: Line) -> None:
-        costs = len(line.text) + LINE_COSTS
-        if self.missing or self.costs + costs > STEP_LIMIT:
-            self.missing += 1
-            return
-        self.costs += costs
-        self.lines.append(line)
-
-
-@dataclass(slots=True)
-class Kept:
-    """The first steps of a run and its last ones: all of a run that is not too long for a page."""
-
-    first: list[Step] = field(default_factory=list)
-    last: deque[Step] = field(default_factory=deque)
-    first_costs: int = 0
-    last_costs: int = 0
-    dropped: list[Step] = field(default_factory=list)
-    dropped_cycles: int = 0
-
-    def add(self, step: Step) -> None:
-        if not self.last and self.first_costs + step.costs <= ENDS_LIMIT:
-            self.first.append(step)
-            self.first_costs += step.costs
-            return
-        self.last.append(step)
-        self.last_costs += step.costs
-        while self.last_costs > ENDS_LIMIT:
-            self.drop(self.last.popleft())
-
-    def drop(self, step: Step) -> None:
-        """Only the first step that is dropped is remembered, without its lines, and how many cycles there were."""
-        self.last_costs -= step.costs
-        self.dropped_cycles += step.kind == "cycle"
-        if not self.dropped:
-            self.dropped.append(Step("gap", step.first))
-
-
-@dataclass(slots=True)
 class Reaction:
     """A line by which a source answers to an event: its rank in that event, and the first event that it may answer."""
 
@@ -169,38 +32,6 @@ class Reaction:
     rank: tuple[int, int]
     unit: int | None
     event: int
-
-
-@dataclass(slots=True)
-class Run:
-    """What a trace says. `finish` is empty where the trace is cut, and `cut` is a last line that was not ended.
-
-    `given` is the input, where it is there; `floor` is None where the run had another one than the program's own.
-    """
-
-    kept: Kept = field(default_factory=Kept)
-    sources: dict[str, Source] = field(default_factory=dict)
-    live: dict[int, Unit] = field(default_factory=dict)
-    waiting: dict[int, Activation] = field(default_factory=dict)
-    lines: int = 0
-    cycles: int = 0
-    activations: int = 0
-    units: int = 0
-    longest: int = 0
-    finish: str = ""
-    cut: str = ""
-    given: Given | None = None
-    floor: int | None = 0
-
-    @property
-    def steps(self) -> list[Step]:
-        """The steps that are kept, in their order, with one of kind `gap` for those that are not."""
-        return [*self.kept.first, *self.kept.dropped, *self.kept.last]
-
-    @property
-    def gap(self) -> range:
-        """The lines of the steps that are not kept."""
-        return range(self.kept.dropped[0].first, self.kept.last[0].first) if self.kept.dropped else range(0)
 
 
 class Reader:
@@ -497,23 +328,6 @@ class Reader:
 
     def take_closed(self, line: Line, match: re.Match) -> None:
         self.want(("finished",), "`closed` comes after `finish`")
-
-
-def told_unknown(text: str) -> str:
-    """What is said of a line that is none, in one line of ASCII."""
-    return f"no line of a trace: {ascii(text[:60] + '…' * (len(text) > 60))}"
-
-
-def is_refusal(raw: bytes) -> bool:
-    """Whether a trace that begins with this line is that of a refused input."""
-    return REFUSAL.fullmatch(raw.decode(errors="replace").removesuffix("\n")) is not None
-
-
-def told_refusal(text: str) -> str:
-    """What is said of a first line that is none of a run's."""
-    return (
-        f"the input was refused, so there is no run to see: {text}" if REFUSAL.fullmatch(text) else told_unknown(text)
-    )
 
 
 def read(lines: Iterable[bytes], given: Given | None = None, floor: int | None = None) -> Run:
