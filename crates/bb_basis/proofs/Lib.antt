@@ -13,4 +13,5 @@ pub mod PlacedLemmas
 pub mod MapAtLemmas
 pub mod FoldAtLemmas
 pub mod EntryLemmas
+pub mod ClosureLemmas
 pub mod Limits
