@@ -17,6 +17,7 @@ pub use Rattle.bb_board_state.specs.Told
 pub use Rattle.bb_board_state.specs.Spaces
 -- what links change, and what a deleted unit takes along
 pub use Rattle.bb_board_state.specs.Links
+pub use Rattle.bb_board_state.specs.Deletion
 -- what a change may be made of
 pub use Rattle.bb_board_state.specs.May
 -- what holds of a blackboard at any time

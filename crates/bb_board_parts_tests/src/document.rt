@@ -14,7 +14,8 @@ const LABEL_SETS: &str = r#"[LabelSetEntry { name: "hue", values: ["red", "blue"
 
 const FIRST_CLASS: &str = "ClassEntry { name: \"thing\", parent: None, \
     slots: [SlotEntry { name: \"at\", default: Int(-1) }], \
-    links: [LinkEntry { name: \"parts\", to: \"thing\", many: true, inverse: \"whole\" }] }";
+    links: [LinkEntry { name: \"parts\", to: \"thing\", many: true, inverse: \"whole\", \
+    owns: false }] }";
 
 const SECOND_CLASS: &str =
     r#"ClassEntry { name: "box", parent: Some("thing"), slots: [], links: [] }"#;

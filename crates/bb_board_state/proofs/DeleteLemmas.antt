@@ -1,4 +1,4 @@
--- What holds of a blackboard holds after a delete.
+-- What holds of a blackboard holds after one unit was deleted.
 use Rattle.std.proofs.Common.{◌≡◌, ℕ, zero, suc, ◌+◌, ◌≤◌, Bool, true, false, cond, not, List, [], ◌∷◌, ◌++◌, map, filter, length, Option, Some, None, option_map, refl, sym, ap, ◌∙◌, arith}
 use Rattle.std.specs.Prelude.{◌==◌, ◌||◌, nat_lt, slice_get}
 use Rattle.std.specs.List.{list_all, flat_map, range_with_len}
@@ -18,18 +18,19 @@ use Rattle.bb_schema.specs.Couples.{couple_of}
 use Rattle.bb_schema.specs.Fits as schemas
 use Rattle.bb_units.specs.declared.unit.Unit.{Unit as OneUnit}
 use Rattle.bb_units.specs.Units.{Units, is_live, class_of, after_delete as without_unit}
-use Rattle.bb_units.specs.Fits as units
+use Rattle.bb_units.proofs.Laws.{deleted_fit}
 use Rattle.bb_links.specs.Pairs.{near}
 use Rattle.bb_links.specs.Links.{partners, ends}
-use Rattle.bb_links.specs.Couples.{Couple, forgotten, pairs_of, after_forget}
-use Rattle.bb_links.specs.Fits as links
+use Rattle.bb_links.specs.Couples.{Couple, forgotten, pairs_of}
+use Rattle.bb_links.proofs.Laws.{forget_fits}
 use Rattle.bb_board_state.specs.declared.event.Change.TheVariants.{Delete, Leave}
 use Rattle.bb_board_state.specs.State.{World}
 use Rattle.bb_board_state.specs.World.{event, class_at}
 use Rattle.bb_space.specs.Spaces.{is_member}
 use Rattle.bb_space.specs.Spaces.{spaces_of}
 use Rattle.bb_board_state.specs.Spaces.{leavings}
-use Rattle.bb_board_state.specs.Links.{parting, is_turn, slot_partings, after_delete}
+use Rattle.bb_board_state.specs.Links.{parting}
+use Rattle.bb_board_state.specs.proving.Deleted.{is_turn, slot_partings, deletion_notes, without_units}
 use Rattle.bb_board_state.specs.Fits.{is_noted, is_of_owner, Fits}
 use Rattle.bb_board_state.proofs.AllLemmas.{all_append, all_filter, all_flat_map}
 use Rattle.bb_board_state.proofs.OutliveLemmas.{deleted_outlives}
@@ -73,13 +74,13 @@ module _ (s : Schema) (w : World) (sf : schemas.Fits s) (fits : Fits s w) (n : �
   left = without_unit w.units n
 
   slot_noted : (slot : ℕ) (e : Option (ℕ × Side)) → couple_of s slot ≡ e
-      → list_all (is_noted s left) (option_map_or (λ f. flat_map (parting s w n slot) (filter (is_turn f.1 n) (ends w.links n slot))) e []) ≡ true
+      → list_all (is_noted s left) (option_map_or (λ f. flat_map (parting s w n slot) (filter (is_turn [] f.1 n) (ends w.links n slot))) e []) ≡ true
   slot_noted slot None is = refl
   slot_noted slot (Some e) is =
       let link = link_at s sf.coupled slot e is in
       let listed = ap (λ o. list_all (is_live w.units) (option_map_or (λ (f : ℕ × Side). partners f.1 n (pairs_of w.links f.0)) o [])) (fits.ends slot ∙ is) ∙ partners_live s w sf fits n slot e is in
       all_flat_map (is_live w.units) (is_noted s left) (parting s w n slot) (λ m partner. parting_noted s w sf fits left (deleted_outlives w.units n) slot link.0 link.1 n m live partner)
-      (filter (is_turn e.1 n) (ends w.links n slot)) (all_filter (is_live w.units) (is_live w.units) (is_turn e.1 n) (λ m kept is. is) (ends w.links n slot) listed)
+      (filter (is_turn [] e.1 n) (ends w.links n slot)) (all_filter (is_live w.units) (is_live w.units) (is_turn [] e.1 n) (λ m kept is. is) (ends w.links n slot) listed)
 
   leavings_noted : list_all (is_noted s left) (leavings w n) ≡ true
   leavings_noted =
@@ -88,11 +89,18 @@ module _ (s : Schema) (w : World) (sf : schemas.Fits s) (fits : Fits s w) (n : �
       (λ space kept there. event_of_live s w left n (Leave space) fits (deleted_outlives w.units n) live there)
       (range_with_len 0 (length w.spaces.spaces)) (range_below (length s.spaces) (length w.spaces.spaces) 0 (omega (arith, fits.spaces.spaces)))
 
-  pub delete_keeps : units.Fits left → links.Fits (after_forget w.links n) → Fits s (after_delete s w n)
-  delete_keeps u l = record {
-    units = u;
+  one_noted : list_all (is_noted s left) (deletion_notes s w [] n) ≡ true
+  one_noted =
+      all_append (is_noted s left) (flat_map (slot_partings s w [] n) (slots_of s (class_at w n)) ++ leavings w n) (event n (class_at w n) Delete ∷ [])
+      (all_append (is_noted s left) (flat_map (slot_partings s w [] n) (slots_of s (class_at w n))) (leavings w n)
+      (no_flat (is_noted s left) (slot_partings s w [] n) (λ slot. slot_noted slot (couple_of s slot) refl) (slots_of s (class_at w n))) leavings_noted)
+      (and_from (is_noted s left (event n (class_at w n) Delete)) true (event_of_live s w left n Delete fits (deleted_outlives w.units n) live refl) refl)
+
+  pub one_keeps : Fits s (without_units s w (n ∷ []))
+  one_keeps = record {
+    units = deleted_fit w.units fits.units n;
     layout = fits.layout;
-    links = l;
+    links = forget_fits w.links n fits.links;
     ends = fits.ends;
     singular = same_singular n w.links.couples ∙ fits.singular;
     pairs = λ slot e is.
@@ -100,10 +108,6 @@ module _ (s : Schema) (w : World) (sf : schemas.Fits s) (fits : Fits s w) (n : �
         ∙ forgotten_by (λ p. is_of_owner s w.units (near e.1 p) slot) (λ p. is_of_owner s left (near e.1 p) slot) n (slice_get w.links.couples e.0)
         (λ p kept owns. owner_kept s w.units left (near e.1 p) slot (λ c. others_stay w.units n (near e.1 p) c (is_apart e.1 n p kept)) owns) (fits.pairs slot e is);
     spaces = knows_deleted s w.units w.spaces fits.spaces n;
-    notes = all_append (is_noted s left) w.notes (flat_map (slot_partings s w n) (slots_of s (class_at w n)) ++ leavings w n ++ event n (class_at w n) Delete ∷ [])
-        (notes_kept s w.units left (deleted_outlives w.units n) w.notes fits.notes)
-        (all_append (is_noted s left) (flat_map (slot_partings s w n) (slots_of s (class_at w n)) ++ leavings w n) (event n (class_at w n) Delete ∷ [])
-        (all_append (is_noted s left) (flat_map (slot_partings s w n) (slots_of s (class_at w n))) (leavings w n)
-        (no_flat (is_noted s left) (slot_partings s w n) (λ slot. slot_noted slot (couple_of s slot) refl) (slots_of s (class_at w n))) leavings_noted)
-        (and_from (is_noted s left (event n (class_at w n) Delete)) true (event_of_live s w left n Delete fits (deleted_outlives w.units n) live refl) refl));
+    notes = all_append (is_noted s left) w.notes (deletion_notes s w [] n ++ []) (notes_kept s w.units left (deleted_outlives w.units n) w.notes fits.notes)
+        (all_append (is_noted s left) (deletion_notes s w [] n) [] one_noted refl);
   }

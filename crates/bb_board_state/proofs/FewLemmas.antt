@@ -40,7 +40,7 @@ few_pass u test fits = omega (arith, length-filter test (maps.keys u.units), cou
 
 -- the partners of a unit differ
 
-abbrev tied : ℕ → ℕ → Bool
+abbrev pub tied : ℕ → ℕ → Bool
 tied = eq_by_cmp nat_cmp
 
 abbrev IsOnce : List (ℕ × ℕ) → Type 0
@@ -84,7 +84,7 @@ module _ (side : Side) (n : ℕ) where
   distinct_by p qs false is none rest = rest
   distinct_by p qs true is none rest = (apart p qs (eqb-true (near side p) n is) none, rest)
 
-  distinct : (pairs : List (ℕ × ℕ)) → IsOnce pairs → IsDistinct tied (partners side n pairs)
+  pub distinct : (pairs : List (ℕ × ℕ)) → IsOnce pairs → IsDistinct tied (partners side n pairs)
   unfolding IsDistinct
   distinct [] once = tt
   distinct (p ∷ qs) once =
@@ -103,12 +103,12 @@ all_there test (x ∷ xs) q all any =
     let both = and_parts (test x) (list_all test xs) all in
     all_there_by test x q xs (tied q x) refl any both.0 (all_there test xs q both.1)
 
-few_live : (u : Units) (xs : List ℕ) → units.Fits u → IsDistinct tied xs → list_all (is_live u) xs ≡ true → length xs ≤ UNIT_LIMIT
+pub few_live : (u : Units) (xs : List ℕ) → units.Fits u → IsDistinct tied xs → list_all (is_live u) xs ≡ true → length xs ≤ UNIT_LIMIT
 few_live u xs fits differ live =
     let few = length-le_from_is_member (eq_by_cmp_equiv nat_cmp_total) xs (maps.keys u.units) differ (λ q there. sym (maps.contains_key-keys u.units q) ∙ all_there (is_live u) xs q live there) in
     omega (arith, few, len_keys u.units, fits.few)
 
-once_by : (couples : List Couple) (i : ℕ) (found : Option Couple) → slice_get couples i ≡ found → All links.FitsCouple couples → IsOnce (option_map_or (λ k. k.pairs) found [])
+pub once_by : (couples : List Couple) (i : ℕ) (found : Option Couple) → slice_get couples i ≡ found → All links.FitsCouple couples → IsOnce (option_map_or (λ k. k.pairs) found [])
 once_by couples i None is all p = omega arith
 once_by couples i (Some k) is all p = (All-at links.FitsCouple couples i k is all).once p
 

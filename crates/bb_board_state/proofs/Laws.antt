@@ -3,9 +3,11 @@ pub use Rattle.bb_board_state.proofs.ClassLemmas.{same_class_of}
 pub use Rattle.bb_board_state.proofs.KeepLemmas.{class_there, empty_fits, create_keeps, set_keeps}
 pub use Rattle.bb_board_state.proofs.LinkLemmas.{MayLink, may_link_facts, link_keeps, unlink_keeps}
 pub use Rattle.bb_board_state.proofs.SpaceLemmas.{MayEnter, may_enter_facts, enter_keeps, leave_keeps}
-pub use Rattle.bb_board_state.proofs.DeleteLemmas.{delete_keeps}
+pub use Rattle.bb_board_state.proofs.DeletionLemmas.{delete_keeps}
+pub use Rattle.bb_board_state.proofs.StepLemmas.{delete_outlives, delete_named, parts_gone, others_stay}
+pub use Rattle.bb_board_state.proofs.StruckLemmas.{part_is_struck}
 pub use Rattle.bb_board_state.proofs.FewLemmas.{few_ends, few_pass}
 pub use Rattle.bb_board_state.proofs.NoteLemmas.{noted_more}
 pub use Rattle.bb_board_state.proofs.SideLemmas.{inverse_end}
 pub use Rattle.bb_board_state.proofs.NamedLemmas.{same_named, then_named, create_named, set_named, link_named, unlink_named}
-pub use Rattle.bb_board_state.proofs.NamedLemmas.{enter_named, leave_named, delete_named, say_named}
+pub use Rattle.bb_board_state.proofs.NamedLemmas.{enter_named, leave_named, say_named}

@@ -5,7 +5,17 @@ pub mod KeepLemmas
 pub mod AllLemmas
 pub mod SideLemmas
 pub mod LinkLemmas
+pub mod alone
+pub mod ForgetLemmas
+pub mod FoundLemmas
+pub mod OwningLemmas
+pub mod PartLemmas
 pub mod DeleteLemmas
+pub mod FoldLemmas
+pub mod StruckLemmas
+pub mod StepLemmas
+pub mod DeletionLemmas
+pub mod DeletingLemmas
 pub mod FewLemmas
 pub mod ClassLemmas
 pub mod MemberLemmas
@@ -16,4 +26,5 @@ pub mod DimLemmas
 pub mod QuietLemmas
 pub mod ReadLemmas
 pub mod SpaceLemmas
+pub mod Rows
 pub mod Laws

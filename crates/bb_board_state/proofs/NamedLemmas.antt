@@ -1,7 +1,7 @@
 -- Each change of a blackboard names the unit that it changes in a note.
 use Rattle.std.proofs.Common.{◌≡◌, ℕ, Bool, true, false, cond, List, [], ◌∷◌, ◌++◌, Option, Some, None, refl, sym, ap, ◌∙◌, arith}
 use Rattle.std.specs.Prelude.{◌==◌, not}
-use Rattle.std.specs.List.{list_any, flat_map}
+use Rattle.std.specs.List.{list_any}
 use Rattle.std.specs.Option.{option_map_or}
 use Rattle.std.specs.Ordering.{nat_cmp, eq_by_cmp}
 use Rattle.std.specs.Cmp.{nat_cmp_total, Equal-is}
@@ -12,7 +12,7 @@ use Rattle.std.proofs.lemmas.List.{append-nil, append_assoc}
 use Rattle.std.proofs.lemmas.List.Folds.{list_any-append}
 use Rattle.bb_schema_classes.specs.declared.value.Value.{Value}
 use Rattle.bb_schema.specs.declared.couple.Side.{Side}
-use Rattle.bb_schema.specs.Schema.{Schema, slots_of}
+use Rattle.bb_schema.specs.Schema.{Schema}
 use Rattle.bb_schema.specs.Couples.{couple_of}
 use Rattle.bb_units.specs.declared.unit.Unit.{Unit}
 use Rattle.bb_units.specs.Units.{Units, new_unit, with_slot, after_create as with_new_unit, after_delete as without_unit}
@@ -23,8 +23,9 @@ use Rattle.bb_board_state.specs.declared.note.Note.TheVariants as noted
 use Rattle.bb_board_state.specs.declared.note.Said.{Said}
 use Rattle.bb_board_state.specs.State.{World}
 use Rattle.bb_board_state.specs.World.{event, class_at, after_create, after_set, after_say}
-use Rattle.bb_board_state.specs.Links.{slot_partings, linked_at, unlinked_at, after_link, after_unlink, after_delete}
-use Rattle.bb_board_state.specs.Spaces.{leavings, after_enter, after_leave}
+use Rattle.bb_board_state.specs.Deletion.{after_end}
+use Rattle.bb_board_state.specs.Links.{linked_at, unlinked_at, after_link, after_unlink}
+use Rattle.bb_board_state.specs.Spaces.{after_enter, after_leave}
 use Rattle.bb_board_state.specs.Named.{names, NotesChanges}
 
 -- ---- notes that name a unit nowhere
@@ -85,15 +86,13 @@ set_named s w k slot value = record {
   kept = λ n h. set_by w.units.units k slot n value (get w.units.units k) (or_parts (k == n) false h).0;
 }
 
-pub delete_named : (s : Schema) (w : World) (k : ℕ) → NotesChanges w (after_delete s w k)
-delete_named s w k =
-    let before = flat_map (slot_partings s w k) (slots_of s (class_at w k)) ++ leavings w k in
-    let last = event k (class_at w k) Delete ∷ [] in
-    record {
-      more = before ++ last;
-      notes = refl;
-      kept = λ n h. deleted_at w.units k n (or_parts (k == n) false (none_of (names n) before last h).1).0;
-    }
+-- a unit that is no longer there
+pub end_named : (w : World) (k : ℕ) → NotesChanges w (after_end k w)
+end_named w k = record {
+  more = event k (class_at w k) Delete ∷ [];
+  notes = refl;
+  kept = λ n h. deleted_at w.units k n (or_parts (k == n) false h).0;
+}
 
 pub say_named : (w : World) (values : List Said) → NotesChanges w (after_say w values)
 say_named w values = noted_alone w (after_say w values) (noted.Said values ∷ []) refl refl

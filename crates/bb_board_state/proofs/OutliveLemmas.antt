@@ -22,6 +22,13 @@ use Rattle.bb_board_state.proofs.ClassLemmas.{same_class_of}
 pub outlives_same : (u : Units) → Outlives u u
 outlives_same u = record { next = omega arith; classes = λ n class lt is. is }
 
+-- units after changes, and after more changes
+pub then_outlives : (a b c : Units) → Outlives a b → Outlives b c → Outlives a c
+then_outlives a b c first next = record {
+  next = omega (arith, first.next, next.next);
+  classes = λ n class lt is. first.classes n class lt (next.classes n class (omega (arith, lt, first.next)) is);
+}
+
 created_by : (n next c : ℕ) (x : Unit) (b : Bool) (old : Option Unit) → eq_by_cmp nat_cmp n next ≡ b → n < next → option_map (λ y. y.class) (cond b (Some x) old) ≡ Some c → option_map (λ y. y.class) old ≡ Some c
 created_by n next c x true old same lt is = absurd (let e = nat_cmp-IsAntisymmetric n next ((Equal-is (nat_cmp n next)).0 same) in omega (arith, e, lt))
 created_by n next c x false old other lt is = is

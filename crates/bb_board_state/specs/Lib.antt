@@ -11,8 +11,10 @@ pub mod Contents
 pub mod Told
 -- which spaces units enter and leave
 pub mod Spaces
--- what links change, and what a deleted unit takes along
+-- what links change
 pub mod Links
+-- what a deleted unit takes along
+pub mod Deletion
 -- what a change may be made of
 pub mod May
 -- what holds of a blackboard at any time

@@ -3,3 +3,7 @@
 pub mod Codes
 -- what spaces are told of a slot that is set
 pub mod Moves
+-- units that are deleted one after another, read off the state before
+pub mod Deleted
+-- units that are found one after another
+pub mod Found

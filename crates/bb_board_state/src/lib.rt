@@ -2,7 +2,9 @@
 //! that takes no change after memory was refused to one.
 #![tactic(auto)]
 
+mod deleting;
 mod event;
+mod found;
 mod links;
 mod may;
 mod members;

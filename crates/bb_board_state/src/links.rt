@@ -1,13 +1,11 @@
 //! The steps of a blackboard's state that change links, and what they note. A world takes them.
 
-ghost use Rattle.std.specs.Prelude.{◌≡◌, ◌<◌, ◌^◌, ◌++◌, length, filter, IfSome, IsSome, IsTrue, IfOk, OnOk, OnErr};
-ghost use Rattle.std.specs.List.{flat_map};
+ghost use Rattle.std.specs.Prelude.{◌≡◌, ◌<◌, ◌++◌, length, IfSome, IsSome, IfOk, OnOk, OnErr};
 ghost use Rattle.bb_schema.specs.Schema.{link_of};
 ghost use Rattle.bb_schema.specs.Couples.{couple_of};
-ghost use Rattle.bb_units.specs.Units.{is_live};
 ghost use Rattle.bb_board_state.specs.World.{class_at, event};
 ghost use Rattle.bb_board_state.specs.Links.{joining, parting, pair_parting, own_pair, partners_pair, link_notes};
-ghost use Rattle.bb_board_state.specs.Links.{is_turn, slot_partings, after_link, after_unlink, after_delete};
+ghost use Rattle.bb_board_state.specs.Links.{after_link, after_unlink};
 
 use crate::event::{Change, Event};
 use crate::note::Note;
@@ -34,16 +32,6 @@ fn partners_pair(side: Side, taken: Taken) -> Option<(UnitId, UnitId)>
     match side {
         Side::A => taken.second,
         Side::B => taken.first,
-    }
-}
-
-// Whether a deleted unit's link is noted at the turn of a slot at a side.
-fn is_turn(side: Side, unit: UnitId, partner: UnitId) -> bool
-    ensures { result ≡ is_turn side unit partner }
-{
-    match side {
-        Side::A => true,
-        Side::B => partner != unit,
     }
 }
 
@@ -98,8 +86,8 @@ impl State {
         Ok(())
     }
 
-    // Adds the notes that a unit is no longer linked.
-    fn add_parting(
+    /// Adds the notes that a unit is no longer linked.
+    pub(crate) fn add_parting(
         &self,
         notes: &mut Vec<Note>,
         schema: &Schema,
@@ -140,6 +128,7 @@ impl State {
             Side::B => self.add_parting(notes, schema, b, slot, a),
         }
     }
+
     // The notes of a link.
     fn link_notes(
         &self,
@@ -219,91 +208,6 @@ impl State {
         }
         self.notes.append(notes)?;
         self.links.unlink(couple, a, b);
-        Ok(())
-    }
-
-    // Adds the notes of the links that a deleted unit loses by a slot at a side, of which these are the partners.
-    fn add_partings(
-        &self,
-        notes: &mut Vec<Note>,
-        schema: &Schema,
-        end: (Side, SlotId),
-        unit: UnitId,
-        partners: &[UnitId],
-    ) -> Result<(), Memory>
-        ensures { OnOk result (notes.new.items ≡ notes.old.items ++
-            flat_map (parting schema.now self.now unit end.1) (filter (is_turn end.0 unit) partners.now)) }
-    {
-        for partner in partners {
-            if !is_turn(end.0, unit, *partner) {
-                continue;
-            }
-            self.add_parting(notes, schema, unit, end.1, *partner)?;
-        }
-        Ok(())
-    }
-
-    // Adds the notes of the links that a deleted unit loses by a slot.
-    fn add_slot_partings(
-        &self,
-        alloc: Global,
-        notes: &mut Vec<Note>,
-        schema: &Schema,
-        unit: UnitId,
-        slot: SlotId,
-    ) -> Result<(), Memory>
-        ensures { OnOk result (notes.new.items ≡ notes.old.items ++ slot_partings schema.now self.now unit slot) }
-    {
-        if !schema.is_link(slot) {
-            return Ok(());
-        }
-        let (_, side) = schema.couple(slot);
-        let partners = self.links.ends(alloc, unit, slot)?;
-        self.add_partings(notes, schema, (side, slot), unit, &partners)
-    }
-
-    // Adds the notes of the links that a deleted unit loses by some slots, slot by slot.
-    fn add_all_partings(
-        &self,
-        alloc: Global,
-        notes: &mut Vec<Note>,
-        schema: &Schema,
-        unit: UnitId,
-        slots: &[SlotId],
-    ) -> Result<(), Memory>
-        ensures { OnOk result (notes.new.items ≡ notes.old.items ++
-            flat_map (slot_partings schema.now self.now unit) slots.now) }
-    {
-        for slot in slots {
-            self.add_slot_partings(alloc, notes, schema, unit, *slot)?;
-        }
-        Ok(())
-    }
-
-    /// Deletes a live unit with all its links, takes it out of its spaces, and notes all that and its end. An error
-    /// changes nothing.
-    pub(crate) fn delete(
-        &mut self,
-        alloc: Global,
-        schema: &Schema,
-        unit: UnitId,
-    ) -> Result<(), Memory>
-        requires live { IsTrue (is_live self.old.units unit) }
-        requires class { class_at self.old unit < length schema.now.classes }
-        requires spaces { length self.old.spaces.spaces ≡ length schema.now.spaces }
-        requires few { length schema.now.spaces < 2 ^ 16 }
-        ensures ok { OnOk result (self.new ≡ after_delete schema.now self.old unit) }
-        ensures err { OnErr result (self.new ≡ self.old) }
-    {
-        let class = self.class_at(unit);
-        let mut notes = Vec::new(alloc);
-        self.add_all_partings(alloc, &mut notes, schema, unit, schema.slots(class))?;
-        self.add_notes_of_leaving(&mut notes, unit)?;
-        notes.push(self.event(unit, Change::Delete))?;
-        self.notes.append(notes)?;
-        self.links.forget(unit);
-        self.spaces.forget(unit);
-        self.units.delete(unit);
         Ok(())
     }
 }

@@ -47,6 +47,9 @@ pub(crate) fn answer_of<'a>(
         "allowed" => Answer::Truth(schema.allowed(number(first)?, number(second)?)),
         "is_ordinary" => Answer::Truth(schema.is_ordinary(number(words)?)),
         "is_link" => Answer::Truth(schema.is_link(number(words)?)),
+        "owns" => Answer::Truth(schema.owns(number(words)?)),
+        "owns_any" => Answer::Truth(schema.owns_any()),
+        "strikes" => Answer::Truth(schema.strikes(number(first)?, number(second)?)),
         _ => entry_answer(schema, call, number(words)?)?,
     })
 }
@@ -107,7 +110,14 @@ fn add_kind(text: &mut String, kind: Kind) -> Result<(), AllocError> {
         Kind::Bool => text.push_str(" Bool"),
         Kind::Label(set) => write!(text, " Label:{set}"),
         Kind::Interval => text.push_str(" Interval"),
-        Kind::Link(Link { to, many, inverse }) => {
+        Kind::Link(
+            Link {
+                to,
+                many,
+                inverse,
+                owns: _,
+            },
+        ) => {
             let sort = if many { "Many" } else { "One" };
             write!(text, " {sort}:{to} inverse {inverse}")
         }

@@ -171,20 +171,26 @@ bool_bytes b = bool_byte b ∷ []
 abbrev pub Always : {A : Type 0} → A → Type 0
 Always a = Unit {0}
 
+-- one of two values, each of which is a byte
+pub either_takes : (A : Type 0) (byte_of : A → ℕ) (first second : A) (fault : CodeFault) (bytes : List ℕ) (x : A × List ℕ) → IsBytes bytes
+    → (byte_at bytes >>= λ b. cond (eqb b.0 (byte_of first)) (Ok (first, b.1)) (cond (eqb b.0 (byte_of second)) (Ok (second, b.1)) (Err fault))) ≡ Ok x
+    → Takes bytes (byte_of x.0 ∷ []) x.1 × Always x.0
+either_takes A byte_of first second fault bytes x fits e =
+    let b = bind_ok (byte_at bytes) (λ b. cond (eqb b.0 (byte_of first)) (Ok (first, b.1)) (cond (eqb b.0 (byte_of second)) (Ok (second, b.1)) (Err fault))) x e in
+    let took = byte_takes bytes b.0 fits b.1 in
+    let is = λ (v : A) (same : b.0.0 ≡ byte_of v) (made : read (v, b.0.1) ≡ Ok x).
+    subst (λ (y : A × List ℕ). Takes bytes (byte_of y.0 ∷ []) y.1 × Always y.0) (same_ok (v, b.0.1) x made)
+    (subst (λ (k : ℕ). Takes bytes (single k) b.0.1) same took.0, tt) in
+    elim (chosen (eqb b.0.0 (byte_of first)) (Ok (first, b.0.1)) _ (Ok x) b.2) [
+      | inl c ↦ is first (eqb-true _ _ c.0) c.1
+      | inr c ↦
+          let other = met (eqb b.0.0 (byte_of second)) fault (Ok (second, b.0.1)) x c.1 in
+          is second (eqb-true _ _ other.0) other.1
+    ]
+
 bool_takes : (bytes : List ℕ) (x : Bool × List ℕ) → IsBytes bytes → bool_at bytes ≡ Ok x → Takes bytes (bool_bytes x.0) x.1 × Always x.0
 unfolding bool_at
-bool_takes bytes x fits e =
-    let b = bind_ok (byte_at bytes) (λ b. cond (eqb b.0 0) (Ok (false, b.1)) (cond (eqb b.0 1) (Ok (true, b.1)) (Err Operand))) x e in
-    let took = byte_takes bytes b.0 fits b.1 in
-    let is = λ (n : ℕ) (v : Bool) (same : b.0.0 ≡ n) (byte : n ≡ bool_byte v) (made : read (v, b.0.1) ≡ Ok x).
-    subst (λ (y : Bool × List ℕ). Takes bytes (bool_bytes y.0) y.1 × Always y.0) (same_ok (v, b.0.1) x made)
-    (subst (λ (k : ℕ). Takes bytes (single k) b.0.1) (same ∙ byte) took.0, tt) in
-    elim (chosen (eqb b.0.0 0) (Ok (false, b.0.1)) _ (Ok x) b.2) [
-      | inl c ↦ is 0 false (eqb-true _ _ c.0) refl c.1
-      | inr c ↦
-          let one = met (eqb b.0.0 1) Operand (Ok (true, b.0.1)) x c.1 in
-          is 1 true (eqb-true _ _ one.0) refl one.1
-    ]
+bool_takes bytes x fits e = either_takes Bool bool_byte false true Operand bytes x fits e
 
 bool_again : (b : Bool) (rest : List ℕ) → Always b → bool_at (bool_bytes b ++ rest) ≡ Ok (b, rest)
 unfolding bool_at

@@ -27,6 +27,7 @@ pub use Rattle.bb_code_ops.specs.declared.frame.Kind
 pub use Rattle.bb_code_ops.specs.declared.frame.Frame as DeclaredFrame
 pub use Rattle.bb_code_ops.specs.declared.frame.FrameEntry
 pub use Rattle.bb_code_ops.specs.declared.frame.Loop
+pub use Rattle.bb_code_ops.specs.declared.version.Version
 pub use Rattle.bb_code_ops.specs.declared.parts.CodeParts
 pub use Rattle.bb_code_ops.specs.declared.parts.TheConstants as Limits
 pub use Rattle.bb_code_ops.specs.declared.flaw.Flaw

@@ -25,6 +25,8 @@ use Rattle.bb_code_ops.specs.Query.{Query}
 use Rattle.bb_code_ops.specs.OperandKind.{OperandKind}
 use Rattle.bb_code_ops.specs.OperandKind.TheVariants as operand_kinds
 use Rattle.bb_code_ops.specs.Trees.{Tree, Trees, all, and_of, or_of, not_of, ordered, is_label, no_more, more}
+use Rattle.bb_code_ops.specs.declared.version.Version.{Version}
+use Rattle.bb_code_ops.specs.declared.version.Version.TheVariants as versions
 use Rattle.bb_code_ops.specs.Code.{Code}
 
 -- ---- numbers and lists
@@ -205,12 +207,17 @@ op_bytes op = opcode op ∷ operand_bytes op
 
 -- ---- the whole
 
--- what every code begins with: the letters BBC, and version 1
-abbrev pub head : List ℕ
-head = 66 ∷ 66 ∷ 67 ∷ 1 ∷ []
+-- the number of a version
+abbrev pub version_byte : Version → ℕ
+version_byte versions.One = 1
+version_byte versions.Two = 2
 
--- the bytes of a code: locals, texts, queries, frames, loops, ops
+-- what every code begins with: the letters BBC, and its version
+abbrev pub head : Version → List ℕ
+head version = 66 ∷ 66 ∷ 67 ∷ version_byte version ∷ []
+
+-- the bytes of a code: version, locals, texts, queries, frames, loops, ops
 abbrev pub spelling : Code → List ℕ
 spelling c =
-    head ++ (c.locals ∷ []) ++ listed text_bytes c.texts ++ listed query_bytes c.queries
+    head c.version ++ (c.locals ∷ []) ++ listed text_bytes c.texts ++ listed query_bytes c.queries
     ++ listed frame_bytes c.frames ++ listed loop_bytes c.loops ++ listed op_bytes c.ops

@@ -4,7 +4,7 @@ ghost use Rattle.std.specs.Prelude.{◌≡◌, ◌↔◌, IsSome, IfSome, slice_
 ghost use Rattle.bb_code_ops.specs.Code.{IsCode};
 
 use bb_basis::Text;
-use bb_code_ops::{CodeParts, FrameEntry, Loop, Op, Query, are_parts};
+use bb_code_ops::{CodeParts, FrameEntry, Loop, Op, Query, Version, are_parts};
 use std::marker::Model;
 
 /// A code that bytes can spell. Contracts see its parts.
@@ -47,6 +47,14 @@ impl Code {
         ensures { result ≡ parts }
     {
         Code { parts }
+    }
+
+    /// The version.
+    pub fn version(&self) -> Version
+        ensures value { result ≡ self.now.version }
+        ensures fits { IsCode self.now }
+    {
+        self.parts.version
     }
 
     /// The number of locals, from 1 to `LOCAL_LIMIT`.

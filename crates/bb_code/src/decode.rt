@@ -7,7 +7,7 @@ ghost use Rattle.bb_basis.specs.Results.{Gives};
 ghost use Rattle.bb_code_ops.specs.Code as code;
 ghost use Rattle.bb_code_ops.specs.Answers.{map_ok};
 ghost use Rattle.bb_code.specs.Spelling.{spelling};
-ghost use Rattle.bb_code.specs.Reading.{expected_at, head_at, code_of};
+ghost use Rattle.bb_code.specs.Reading.{expected_at, version_at, head_at, code_of};
 
 mod fields;
 mod frames;
@@ -16,8 +16,10 @@ mod patterns;
 
 use crate::code::Code;
 use crate::fault::CodeFault;
-use bb_code_ops::{CodeParts, LOCAL_LIMIT, LOOP_LIMIT, OP_LIMIT, QUERY_LIMIT, TEXT_COUNT_LIMIT};
-use fields::{read_list, read_short_count};
+use bb_code_ops::{
+    CodeParts, LOCAL_LIMIT, LOOP_LIMIT, OP_LIMIT, QUERY_LIMIT, TEXT_COUNT_LIMIT, Version,
+};
+use fields::{read_byte, read_list, read_short_count};
 use frames::read_frames;
 use std::alloc::Global;
 
@@ -31,21 +33,33 @@ fn expect_byte(bytes: &[u8], wanted: u8, fault: CodeFault) -> Result<&[u8], Code
     }
 }
 
+#[tactic(auto, unfolding(crate::specs::Reading::version_at))]
+fn read_version(bytes: &[u8]) -> Result<(Version, &[u8]), CodeFault>
+    ensures { map_ok (λ x. (x.0, x.1.now)) result ≡ version_at bytes.now }
+{
+    let (byte, rest) = read_byte(bytes)?;
+    match byte {
+        1 => Ok((Version::One, rest)),
+        2 => Ok((Version::Two, rest)),
+        _ => Err(CodeFault::Version),
+    }
+}
+
 #[tactic(auto, unfolding(crate::specs::Reading::head_at))]
-fn read_head(bytes: &[u8]) -> Result<&[u8], CodeFault>
-    ensures { map_ok (λ x. x.now) result ≡ head_at bytes.now }
+fn read_head(bytes: &[u8]) -> Result<(Version, &[u8]), CodeFault>
+    ensures { map_ok (λ x. (x.0, x.1.now)) result ≡ head_at bytes.now }
 {
     let rest = expect_byte(bytes, b'B', CodeFault::Magic)?;
     let rest = expect_byte(rest, b'B', CodeFault::Magic)?;
     let rest = expect_byte(rest, b'C', CodeFault::Magic)?;
-    expect_byte(rest, 1, CodeFault::Version)
+    read_version(rest)
 }
 
 #[tactic(auto, unfolding(crate::specs::Reading::code_at, crate::specs::Reading::code_of))]
 fn read_parts(alloc: Global, bytes: &[u8]) -> Result<CodeParts, CodeFault>
     ensures { Gives CodeFault.Memory (λ parts. parts) result (code_of bytes.now) }
 {
-    let rest = read_head(bytes)?;
+    let (version, rest) = read_head(bytes)?;
     let (locals, rest) = read_short_count(rest, 1, LOCAL_LIMIT as usize)?;
     let (texts, rest) = read_list(alloc, rest, 0, TEXT_COUNT_LIMIT)?;
     let (queries, rest) = read_list(alloc, rest, 0, QUERY_LIMIT)?;
@@ -56,6 +70,7 @@ fn read_parts(alloc: Global, bytes: &[u8]) -> Result<CodeParts, CodeFault>
         return Err(CodeFault::Trailing);
     }
     Ok(CodeParts {
+        version,
         locals,
         texts,
         queries,

@@ -5,12 +5,14 @@ ghost use Rattle.std.specs.List.{flat_map};
 ghost use Rattle.bb_code_ops.specs.Trees.{node_count, nodes_count};
 ghost use Rattle.bb_code_ops.specs.View.{trees_of};
 ghost use Rattle.bb_code.specs.Spelling.{two_bytes, eight_bytes, listed, short_listed, part_count, tree_bytes};
-ghost use Rattle.bb_code.specs.Spelling.{trees_bytes, relation_byte, operand_bytes, spelling};
+ghost use Rattle.bb_code.specs.Spelling.{trees_bytes, relation_byte, operand_bytes, version_byte, spelling};
 
 use crate::code::Code;
 use crate::table::opcode;
 use bb_basis::Text;
-use bb_code_ops::{FrameEntry, Kind, Loop, Node, Op, OperandKind, Pattern, Query, Relation};
+use bb_code_ops::{
+    FrameEntry, Kind, Loop, Node, Op, OperandKind, Pattern, Query, Relation, Version,
+};
 use std::alloc::{AllocError, Global};
 
 // A value that can stand in a list.
@@ -269,13 +271,23 @@ impl Spelled for Op {
     }
 }
 
+fn version_byte(version: Version) -> u8
+    ensures { result ≡ version_byte version }
+{
+    match version {
+        Version::One => 1,
+        Version::Two => 2,
+    }
+}
+
 impl Code {
     /// The bytes that spell the code. `Code::decode` reads them again.
     pub fn encode(&self, alloc: Global) -> Result<Vec<u8>, AllocError>
         ensures { IfOk result (λ bytes. bytes.items ≡ spelling self.now) }
     {
         let mut out = Vec::new(alloc);
-        out.extend_from_slice(b"BBC\x01")?;
+        out.extend_from_slice(b"BBC")?;
+        out.push(version_byte(self.version()))?;
         out.push(self.locals())?;
         put_list(&mut out, self.texts())?;
         put_list(&mut out, self.queries())?;

@@ -13,7 +13,7 @@ pub enum CodeFault {
     /// One of the first three bytes is not that of every code.
     #[error("this is no code")]
     Magic,
-    /// The version is not 1.
+    /// The version is neither 1 nor 2.
     #[error("the code has another version")]
     Version,
     /// The bytes end where more are needed.

@@ -11,7 +11,7 @@ use bb_basis::{Items, Text};
 use bb_code::{
     Code, CodeParts, FRAME_LIMIT, Frame, FrameEntry, Kind, LOCAL_LIMIT, LOOP_LIMIT, Loop,
     NODE_LIMIT, OP_LIMIT, OPERAND_LIMIT, QUERY_LIMIT, Query, STACK_LIMIT, TEXT_BYTES_LIMIT,
-    TEXT_COUNT_LIMIT,
+    TEXT_COUNT_LIMIT, Version,
 };
 use serde_json::Value;
 use std::alloc::Global;
@@ -54,6 +54,7 @@ impl Draft {
         Draft {
             alloc,
             parts: CodeParts {
+                version: Version::One,
                 locals: 1,
                 texts: Items::new(alloc),
                 queries: Items::new(alloc),
@@ -72,6 +73,7 @@ impl Draft {
     ) -> Result<(), StatementFault> {
         match statement.name {
             "" => Ok(()),
+            "version" => self.set_version(operands),
             "locals" => self.set_locals(operands),
             "text" => self.add_text(operands),
             "query" => self.add_query(operands),
@@ -79,6 +81,13 @@ impl Draft {
             "loop" => self.add_loop(operands),
             name => self.add_op(name, operands),
         }
+    }
+
+    // `version NUMBER`
+    fn set_version(&mut self, operands: &mut Operands<'_>) -> Result<(), StatementFault> {
+        self.parts.version = operands.version()?;
+        operands.end()?;
+        Ok(())
     }
 
     // `locals COUNT`

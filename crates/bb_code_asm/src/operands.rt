@@ -2,7 +2,7 @@
 
 use crate::fault::Slip;
 use crate::labels::Labels;
-use bb_code::Place;
+use bb_code::{Place, Version};
 use std::str::FromStr;
 
 /// The operands of a statement, of which the first `taken` were taken.
@@ -62,6 +62,15 @@ impl<'a> Operands<'a> {
             return Err(Slip::Number);
         }
         Ok(number)
+    }
+
+    /// The version of a code, 1 or 2.
+    pub fn version(&mut self) -> Result<Version, Slip> {
+        match self.number::<u8>()? {
+            1 => Ok(Version::One),
+            2 => Ok(Version::Two),
+            _ => Err(Slip::Number),
+        }
     }
 
     /// A truth value.

@@ -18,7 +18,7 @@ pub(crate) struct Statement<'a> {
 }
 
 // The names of statements that are tables and not ops.
-const TABLES: [&str; 5] = ["locals", "text", "query", "frame", "loop"];
+const TABLES: [&str; 6] = ["version", "locals", "text", "query", "frame", "loop"];
 
 // The label that a word is, where it ends with `:`.
 fn label_of<'a>(words: &[&'a str]) -> Option<&'a str> {

@@ -1,13 +1,13 @@
 //! From a code to its text.
 
-use bb_code::{Code, FrameEntry, Kind, Node, Op, OperandKind, Pattern, Query};
+use bb_code::{Code, FrameEntry, Kind, Node, Op, OperandKind, Pattern, Query, Version};
 use bb_code_text::{relation_name, write_kind, write_op};
 use serde_json::Value;
 use std::alloc::{AllocError, Global};
 use std::fmt::Write;
 
-/// The text of a code, a line for each statement: the number of locals, the texts, the queries, the frames, the loops
-/// and the ops. `assemble` makes the same code of it.
+/// The text of a code, a line for each statement: the version where it is 2, the number of locals, the texts, the
+/// queries, the frames, the loops and the ops. `assemble` makes the same code of it.
 pub fn disassemble(alloc: Global, code: &Code) -> Result<String, AllocError> {
     let mut text = String::new(alloc);
     write_tables(alloc, &mut text, code)?;
@@ -21,6 +21,9 @@ pub(crate) fn write_tables(
     text: &mut String,
     code: &Code,
 ) -> Result<(), AllocError> {
+    if code.version() == Version::Two {
+        text.push_str("version 2\n")?;
+    }
     writeln!(text, "locals {}", code.locals())?;
     for said in code.texts() {
         writeln!(text, "text {}", json_of(alloc, said.as_str())?.as_str())?;

@@ -6,6 +6,7 @@ mod flaw;
 mod frame;
 mod op;
 mod parts;
+mod version;
 mod within;
 
 pub use bb_pattern::{
@@ -20,4 +21,5 @@ pub use parts::{
     CodeParts, FRAME_LIMIT, LOCAL_LIMIT, LOOP_LIMIT, OP_LIMIT, QUERY_LIMIT, SAID_LIMIT,
     STACK_LIMIT, TEXT_BYTES_LIMIT, TEXT_COUNT_LIMIT,
 };
+pub use version::Version;
 pub use within::are_parts;

@@ -2,6 +2,7 @@
 
 use crate::frame::{FrameEntry, Loop};
 use crate::op::Op;
+use crate::version::Version;
 use bb_basis::{Items, Text};
 use bb_pattern::Query;
 
@@ -35,6 +36,8 @@ pub const STACK_LIMIT: usize = 64;
 /// The parts of a code.
 #[derive(Debug, Drop)]
 pub struct CodeParts {
+    /// The second where the schema has slots that own; elsewhere either.
+    pub version: Version,
     /// The number of locals, from 1 to `LOCAL_LIMIT`.
     pub locals: u8,
     /// At most `TEXT_COUNT_LIMIT` of at most `TEXT_BYTES_LIMIT` bytes each.

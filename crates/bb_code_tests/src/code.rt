@@ -3,7 +3,7 @@
 use bb_basis::{Items, Text};
 use bb_code::{
     Code, CodeFault, CodeParts, Division, Frame, FrameEntry, Kind, Node, Op, OperandKind, Pattern,
-    Query, one_spelling,
+    Query, Version, one_spelling,
 };
 use std::alloc::Global;
 use std::test::Fail;
@@ -78,6 +78,7 @@ fn full(alloc: Global) -> Result<Vec<u8>, Fail> {
 #[test]
 fn first_code(rt: HostRuntime) -> Result<(), Fail> {
     let code = Code::decode(rt.alloc(), &FIRST)?;
+    assert_eq!(rt; code.version(), Version::One);
     assert_eq!(rt; code.locals(), 1);
     assert_eq!(rt; code.texts().len(), 1);
     for text in code.texts() {
@@ -130,6 +131,7 @@ fn each_byte_of_the_full_code(rt: HostRuntime) -> Result<(), Fail> {
 // Parts of a code with `locals` locals, and these ops.
 fn parts(alloc: Global, locals: u8, ops: Vec<Op>) -> CodeParts {
     CodeParts {
+        version: Version::One,
         locals,
         texts: Items::new(alloc),
         queries: Items::new(alloc),

@@ -2,7 +2,7 @@
 //! compared with it.
 
 use bb_basis::{Items, Text};
-use bb_code::{Code, CodeParts, FrameEntry, LocalId, Loop, Op, Place, Query};
+use bb_code::{Code, CodeParts, FrameEntry, LocalId, Loop, Op, Place, Query, Version};
 use bb_schema::Schema;
 use bb_verify::{Flaw, NESTING_LIMIT, Part, VerifyFault, verify};
 use std::alloc::Global;
@@ -127,6 +127,7 @@ fn made(alloc: Global, ops: &[Op], loops: &[Loop]) -> Result<Code, Fail> {
     let queries: Vec<Query> = Vec::new(alloc);
     let frames: Vec<FrameEntry> = Vec::new(alloc);
     let code = Code::new(CodeParts {
+        version: Version::One,
         locals: 4,
         texts: Items::from(texts),
         queries: Items::from(queries),

@@ -18,6 +18,8 @@ use Rattle.bb_verify_frame.specs.Op.TheVariants as ops
 use Rattle.bb_verify_frame.specs.Query.{Query}
 use Rattle.bb_lang.specs.Action.{Action}
 use Rattle.bb_lang.specs.Blocks.{BlockTree, no_statement, before_others, action, if_of, with_of, for_of}
+use Rattle.bb_schema.specs.Ownership.{owns_any}
+use Rattle.bb_code.specs.Version.TheVariants.{One, Two}
 use Rattle.bb_compile_scope.specs.Place.{Place}
 use Rattle.bb_compile_scope.specs.declared.fault.CompileFault.{CompileFault}
 use Rattle.bb_compile_scope.specs.declared.fault.CompileFault.TheVariants.{At}
@@ -32,7 +34,7 @@ use Rattle.bb_code.specs.Limits.{LOCAL_LIMIT, TEXT_COUNT_LIMIT, QUERY_LIMIT, FRA
 use Rattle.bb_compile_buffer.specs.Within.{text_within, query_within, frame_within, loop_within, op_within, list_within, is_within}
 use Rattle.bb_compile_emit.specs.Actions.{action_code}
 use Rattle.bb_compile_emit.specs.Statements.{left, after_end, action_of, statement_code, statements_code, block_code}
-use Rattle.bb_compile_emit.specs.Parts.{has_no_end, done, part_code}
+use Rattle.bb_compile_emit.specs.Parts.{has_no_end, done, version_for, part_code}
 use Rattle.bb_compile_emit.specs.declared.part.TheConstants.{LOOP_NESTING}
 use Rattle.bb_verify.specs.Part.{units_of, ends_done}
 use Rattle.bb_verify.specs.PartType.{Part}
@@ -40,7 +42,7 @@ use Rattle.bb_verify.specs.PartType.TheVariants.{Require, Obviate, Retrigger, Re
 use Rattle.bb_verify.specs.FrameType.{Frame}
 use Rattle.bb_verify.specs.Effect as effects
 use Rattle.bb_verify.specs.Effect.{effect}
-use Rattle.bb_verify.specs.Tables.{in_tables}
+use Rattle.bb_verify.specs.Tables.{in_tables, fit_version}
 use Rattle.bb_verify.specs.Places.{entry_frame}
 use Rattle.bb_verify.specs.Accepted.{accepted, checked}
 use Rattle.bb_compile_accepted.specs.Plain.{is_plain}
@@ -223,35 +225,44 @@ queries_within code h =
 
 -- ---- the whole
 
+-- the schema takes the version that is compiled for it
+version_by : (s : Schema) (b : Bool) → owns_any s ≡ b → fit_version s (cond b Two One) ≡ Ok tt
+unfolding fit_version
+version_by s true is = refl
+version_by s false is = rw is refl
+
+version_fits : (s : Schema) → fit_version s (version_for s) ≡ Ok tt
+version_fits s = version_by s (owns_any s) refl
+
 module _ (schema : Schema) (sf : schemas.Fits schema) (part : Part) where
   -- a code without frames and loops that runs is accepted
   abbrev IsAccepted : Code → Type 0
   IsAccepted code = (frames : List Frame) × (checked schema part code ≡ Ok (record { code = code; part = part; frames = frames }))
 
-  straight_accepted : (u : Buffer) → Runs schema part (straight_code u.locals u.texts u.queries u.ops) u.ops (entry_frame part u.locals) → length (units_of part) ≤ u.locals → IsAccepted (straight_code u.locals u.texts u.queries u.ops)
+  straight_accepted : (u : Buffer) → Runs schema part (straight_code (version_for schema) u.locals u.texts u.queries u.ops) u.ops (entry_frame part u.locals) → length (units_of part) ≤ u.locals → IsAccepted (straight_code (version_for schema) u.locals u.texts u.queries u.ops)
   unfolding checked accepted
   straight_accepted u runs enough =
-      let found = frames_found schema part u.locals u.texts u.queries u.ops runs enough in
-      (found.0, rw (tables_pass schema part u.locals u.texts u.queries u.ops runs enough, jumps_pass schema part u.locals u.texts u.queries u.ops runs enough, loops_pass schema part u.locals u.texts u.queries u.ops runs enough, found.1) refl)
+      let found = frames_found schema part (version_for schema) u.locals u.texts u.queries u.ops runs enough (version_fits schema) in
+      (found.0, rw (tables_pass schema part (version_for schema) u.locals u.texts u.queries u.ops runs enough (version_fits schema), jumps_pass schema part (version_for schema) u.locals u.texts u.queries u.ops runs enough (version_fits schema), loops_pass schema part (version_for schema) u.locals u.texts u.queries u.ops runs enough (version_fits schema), found.1) refl)
 
   module _ (place : Place) (block : BlockTree) (plain : is_plain block ≡ true) where
     abbrev first : Buffer
     first = empty_buffer part place
 
     -- nothing but ops, texts and queries is laid out
-    straight : (u : Buffer) → marks u ≡ marks first → code_of u ≡ straight_code u.locals u.texts u.queries u.ops
+    straight : (u : Buffer) → marks u ≡ marks first → code_of (version_for schema) u ≡ straight_code (version_for schema) u.locals u.texts u.queries u.ops
     straight u same =
         let labels : u.labels ≡ [] = ap (λ (x : Buffer). x.labels) same in
         let last : u.last ≡ None = ap (λ (x : Buffer). x.last) same in
         let loops : u.loops ≡ [] = ap (λ (x : Buffer). x.loops) same in
         rw (labels, last, loops) refl
 
-    module _ (u : Buffer) (within : is_within (code_of u) ≡ true) where
+    module _ (u : Buffer) (within : is_within (code_of (version_for schema) u) ≡ true) where
       abbrev code : Code
-      code = straight_code u.locals u.texts u.queries u.ops
+      code = straight_code (version_for schema) u.locals u.texts u.queries u.ops
 
       small : AreSmall schema sf part code
-      small i q at = query_limits q (all_at query_within u.queries i q (queries_within (code_of u) within) at)
+      small i q at = query_limits q (all_at query_within u.queries i q (queries_within (code_of (version_for schema) u) within) at)
 
       has : Has code u
       has = record {
@@ -296,7 +307,7 @@ module _ (schema : Schema) (sf : schemas.Fits schema) (part : Part) where
           block_does schema part sf code small block LOOP_NESTING false now first t plain h (block_clean schema part block LOOP_NESTING false now first t plain refl h) (has_before code t u more has)
 
       -- what is accepted is the code
-      whole : marks u ≡ marks first → IsAccepted code → IsAccepted (code_of u)
+      whole : marks u ≡ marks first → IsAccepted code → IsAccepted (code_of (version_for schema) u)
       whole same it = subst IsAccepted (sym (straight u same)) it
 
       may_end : (p : Part) → is_ok (ends_done p) ≡ true → ends_done p ≡ Ok tt
@@ -306,7 +317,7 @@ module _ (schema : Schema) (sf : schemas.Fits schema) (part : Part) where
       may_end (Retrigger c of) h = absurd cc
       may_end (Revalidate c) h = absurd cc
 
-      do_whole : (now : Bool) (t : Buffer) → is_ok (ends_done part) ≡ true → statements_code schema part LOOP_NESTING false block first ≡ Ok (now, t) → put ops.Done (leave (mark_of first.scope) t) ≡ Ok u → IsAccepted (code_of u)
+      do_whole : (now : Bool) (t : Buffer) → is_ok (ends_done part) ≡ true → statements_code schema part LOOP_NESTING false block first ≡ Ok (now, t) → put ops.Done (leave (mark_of first.scope) t) ≡ Ok u → IsAccepted (code_of (version_for schema) u)
       unfolding grown_op
       do_whole now t ends_so h last = by_now now d
         where
@@ -329,11 +340,11 @@ module _ (schema : Schema) (sf : schemas.Fits schema) (part : Part) where
           d : Does schema sf part code small now first t
           d = does_block now t h more
 
-          by_now : (n : Bool) → Does schema sf part code small n first t → IsAccepted (code_of u)
+          by_now : (n : Bool) → Does schema sf part code small n first t → IsAccepted (code_of (version_for schema) u)
           by_now true e = absurd (let no : true ≡ false = sym ends_so ∙ e.right refl in cc)
           by_now false e = whole (ap marks put_is ∙ e.same) (do_accepted t (may_end part ends_so) e (ap (λ (x : Buffer). x.ops) put_is) (ap (λ (x : Buffer). x.locals) (sym put_is)))
 
-      ends_whole : (now : Bool) (t : Buffer) → now ≡ true → statements_code schema part LOOP_NESTING false block first ≡ Ok (now, t) → leave (mark_of first.scope) t ≡ u → IsAccepted (code_of u)
+      ends_whole : (now : Bool) (t : Buffer) → now ≡ true → statements_code schema part LOOP_NESTING false block first ≡ Ok (now, t) → leave (mark_of first.scope) t ≡ u → IsAccepted (code_of (version_for schema) u)
       ends_whole now t ends_so h last =
           let more : Grown t u = record {
             ops = [];
@@ -347,12 +358,12 @@ module _ (schema : Schema) (sf : schemas.Fits schema) (part : Part) where
           whole (ap marks (sym last) ∙ d.same)
           (ends_accepted t (subst (λ n. Does schema sf part code small n first t) ends_so d) (ap (λ (x : Buffer). x.ops) (sym last)) (ap (λ (x : Buffer). x.locals) last))
 
-    within_same : (u : Buffer) (b : Bool) (code : Code) → is_within (code_of u) ≡ b → (let r : Result Code CompileFault = cond b (Ok (code_of u)) (Err (At Limit u.start)) in r) ≡ Ok code → (is_within (code_of u) ≡ true) × (code_of u ≡ code)
-    within_same u true code is h = (is, same_ok (code_of u) code h)
+    within_same : (u : Buffer) (b : Bool) (code : Code) → is_within (code_of (version_for schema) u) ≡ b → (let r : Result Code CompileFault = cond b (Ok (code_of (version_for schema) u)) (Err (At Limit u.start)) in r) ≡ Ok code → (is_within (code_of (version_for schema) u) ≡ true) × (code_of (version_for schema) u ≡ code)
+    within_same u true code is h = (is, same_ok (code_of (version_for schema) u) code h)
     within_same u false code is h = absurd cc
 
     by_end : (b : Bool) (now : Bool) (t u : Buffer) → is_ok (ends_done part) ≡ b → (not b && not (block_ends block)) ≡ false → statements_code schema part LOOP_NESTING false block first ≡ Ok (now, t)
-        → (let r : Result Buffer CompileFault = cond b (put ops.Done (leave (mark_of first.scope) t)) (Ok (leave (mark_of first.scope) t)) in r) ≡ Ok u → is_within (code_of u) ≡ true → IsAccepted (code_of u)
+        → (let r : Result Buffer CompileFault = cond b (put ops.Done (leave (mark_of first.scope) t)) (Ok (leave (mark_of first.scope) t)) in r) ≡ Ok u → is_within (code_of (version_for schema) u) ≡ true → IsAccepted (code_of (version_for schema) u)
     by_end true now t u ends_so no_end h last within = do_whole u within now t ends_so h last
     by_end false now t u other no_end h last within =
         ends_whole u within now t (block_now schema part block LOOP_NESTING false now first t plain h ∙ ended (block_ends block) no_end) h (same_ok (leave (mark_of first.scope) t) u last)
@@ -365,10 +376,10 @@ module _ (schema : Schema) (sf : schemas.Fits schema) (part : Part) where
     pub part_accepted : (code : Code) → part_code schema part place block ≡ Ok code → IsAccepted code
     unfolding part_code if_within
     part_accepted code h =
-        let body = guard_ok (has_no_end part block) (At NoEnd place) (block_code schema part LOOP_NESTING block first >>= λ p. done part p.1 >>= λ u. if_within u.start (code_of u)) code h in
-        let one = bind_ok (block_code schema part LOOP_NESTING block first) (λ p. done part p.1 >>= λ u. if_within u.start (code_of u)) code body.1 in
+        let body = guard_ok (has_no_end part block) (At NoEnd place) (block_code schema part LOOP_NESTING block first >>= λ p. done part p.1 >>= λ u. if_within u.start (code_of (version_for schema) u)) code h in
+        let one = bind_ok (block_code schema part LOOP_NESTING block first) (λ p. done part p.1 >>= λ u. if_within u.start (code_of (version_for schema) u)) code body.1 in
         let two = bind_ok (statements_code schema part LOOP_NESTING false block first) (left (mark_of first.scope)) one.0 one.1 in
-        let three = bind_ok (done part one.0.1) (λ u. if_within u.start (code_of u)) code one.2 in
+        let three = bind_ok (done part one.0.1) (λ u. if_within u.start (code_of (version_for schema) u)) code one.2 in
         let same = pair_ok two.0.0 one.0.0 (leave (mark_of first.scope) two.0.1) one.0.1 two.2 in
-        let is = within_same three.0 (is_within (code_of three.0)) code refl three.2 in
+        let is = within_same three.0 (is_within (code_of (version_for schema) three.0)) code refl three.2 in
         subst IsAccepted is.1 (by_end (is_ok (ends_done part)) two.0.0 two.0.1 three.0 refl body.0 two.1 (ap (done part) same.1 ∙ three.1) is.0)

@@ -18,14 +18,14 @@ use Rattle.bb_compile_buffer.specs.Within.{is_within}
 use Rattle.bb_compile_emit.specs.Expressions.{expr_code, steps_code}
 use Rattle.bb_compile_emit.specs.Actions.{end_code, action_code}
 use Rattle.bb_compile_emit.specs.Statements.{statement_code, statements_code}
-use Rattle.bb_compile_emit.specs.Parts.{part_code}
+use Rattle.bb_compile_emit.specs.Parts.{version_for, part_code}
 use Rattle.bb_compile_scope.specs.Ending.{block_ends, always_ends}
 use Rattle.bb_verify.specs.PartType.TheVariants.{Require, Do}
 use Rattle.bb_compile_accepted.proofs.StraightLemmas.{straight_code}
 
 module _ (schema : Schema) (place : Place) where
   -- nothing to do
-  nothing : part_code schema (Do 0) place no_statement ≡ Ok (straight_code 1 [] [] (ops.Done ∷ []))
+  nothing : part_code schema (Do 0) place no_statement ≡ Ok (straight_code (version_for schema) 1 [] [] (ops.Done ∷ []))
   unfolding part_code block_ends statements_code put if_within is_within
   nothing = refl
 
@@ -33,6 +33,6 @@ module _ (schema : Schema) (place : Place) where
   sum : ExprTree
   sum = chain (atom (atoms.Int (pos 1))) (apply Plus (atom (atoms.Int (pos 2))) no_step)
 
-  rated : part_code schema (Require 0) place (before_others place (action (Rate sum)) no_statement) ≡ Ok (straight_code 1 [] [] (ops.PushInt (pos 1) ∷ ops.PushInt (pos 2) ∷ ops.Calculate Add ∷ ops.Rate ∷ []))
+  rated : part_code schema (Require 0) place (before_others place (action (Rate sum)) no_statement) ≡ Ok (straight_code (version_for schema) 1 [] [] (ops.PushInt (pos 1) ∷ ops.PushInt (pos 2) ∷ ops.Calculate Add ∷ ops.Rate ∷ []))
   unfolding part_code block_ends always_ends statements_code statement_code action_code end_code expr_code steps_code atom_code pushed put_value put two_due due if_within is_within sum
   rated = refl

@@ -14,8 +14,9 @@ use Rattle.bb_verify.specs.Edges.{Edges}
 use Rattle.bb_verify.specs.Effect.{effect}
 use Rattle.bb_verify.specs.Jumps.{target_of, check_target, jump_at, jumps}
 use Rattle.bb_verify.specs.Loops.{place_due, loop_at, op_due, rising, lowest_outside, loops}
-use Rattle.bb_verify.specs.Tables.{in_tables, table_at, places_rise, enough_locals, frames_in_order, tables}
+use Rattle.bb_verify.specs.Tables.{in_tables, table_at, places_rise, enough_locals, frames_in_order, fit_version, tables}
 use Rattle.bb_verify.specs.Places.{declared_at, declared_frames, with_frames, entry_frame, visit_op, visit, frames_of}
+use Rattle.bb_code.specs.Version.{Version}
 use Rattle.bb_verify_frame.specs.Code.{Code}
 use Rattle.bb_verify_frame.specs.Op.{Op}
 use Rattle.bb_verify_frame.specs.Op.TheVariants as ops
@@ -92,12 +93,12 @@ module _ (s : Schema) (part : Part) (code : Code) where
 
 -- ---- a code without declared frames and loops
 
-abbrev pub straight_code : (locals : ℕ) → (texts : List (List ℕ)) → List Query → List Op → Code
-straight_code locals texts queries all = record { locals = locals; texts = texts; queries = queries; frames = []; loops = []; ops = all }
+abbrev pub straight_code : (version : Version) (locals : ℕ) → (texts : List (List ℕ)) → List Query → List Op → Code
+straight_code version locals texts queries all = record { version = version; locals = locals; texts = texts; queries = queries; frames = []; loops = []; ops = all }
 
-module _ (s : Schema) (part : Part) (locals : ℕ) (texts : List (List ℕ)) (queries : List Query) (all : List Op) where
+module _ (s : Schema) (part : Part) (version : Version) (locals : ℕ) (texts : List (List ℕ)) (queries : List Query) (all : List Op) where
   abbrev code : Code
-  code = straight_code locals texts queries all
+  code = straight_code version locals texts queries all
 
   -- ---- tables, jumps and loops
 
@@ -196,10 +197,10 @@ module _ (s : Schema) (part : Part) (locals : ℕ) (texts : List (List ℕ)) (qu
   abbrev entry : Frame
   entry = entry_frame part locals
 
-  module _ (runs : Runs s part code all entry) (enough : length (units_of part) ≤ locals) where
+  module _ (runs : Runs s part code all entry) (enough : length (units_of part) ≤ locals) (fit : fit_version s version ≡ Ok tt) where
     pub tables_pass : tables s part code ≡ Ok tt
     unfolding tables frames_in_order places_rise each enough_locals
-    tables_pass = rw (le-ltb locals (length (units_of part)) enough) (each_range (table_at s code) 0 (length all) (λ i lt. table_fits entry runs i))
+    tables_pass = rw (fit, le-ltb locals (length (units_of part)) enough) (each_range (table_at s code) 0 (length all) (λ i lt. table_fits entry runs i))
 
     pub jumps_pass : jumps code ≡ Ok tt
     unfolding jumps

@@ -1,19 +1,20 @@
 -- What the verifier knows of a value, where the compiler takes it for a value of a kind: a unit may be of a class below.
 use Rattle.std.proofs.Common.{◌≡◌, ◌≢◌, ◌⊎◌, inl, inr, ℕ, zero, suc, ◌<◌, Bool, true, false, cond, List, [], ◌∷◌, ◌++◌, length, map, Option, Some, None, Ok, refl, subst, sym, ap, ◌∙◌, arith}
-use Rattle.std.specs.Prelude.{◌==◌, ◌||◌, option_and_then, option_map, set, find, get_or}
+use Rattle.std.specs.Prelude.{◌==◌, option_and_then, option_map, set, find, get_or}
 use Rattle.std.specs.Str.{bytes_eq}
-use Rattle.std.proofs.lemmas.Bool.{eqb-true, eq-eqb, or_left, or_right}
+use Rattle.std.proofs.lemmas.Bool.{eqb-true, eq-eqb}
 use Rattle.std.proofs.lemmas.List.{get_or-set_same, get_or-set_other, length-set, length-map}
 use Rattle.std.proofs.Math.ListN.{get_or-map}
 use Rattle.std.proofs.lemmas.Option.{unwrap_or-slice_get}
-use Rattle.bb_schema_classes.specs.declared.class.Class.{Class}
-use Rattle.bb_schema_classes.specs.Inheritance.{Descends, itself, through_parent}
+use Rattle.bb_schema_classes.specs.Inheritance.{itself}
 use Rattle.bb_schema_classes.proofs.Laws.{climbs_sound, descends_complete}
 use Rattle.bb_schema.specs.Schema.{Schema, descends}
+use Rattle.bb_schema.specs.Ownership.{strikes}
 use Rattle.bb_schema.specs.Fits as schemas
+use Rattle.bb_schema.proofs.Laws.{goes_up, strikes_up}
 use Rattle.bb_verify_frame.specs.Kind.{Kind}
 use Rattle.bb_verify_frame.specs.Kind.TheVariants.{Any, Int, Text, Bool as Truth, Label, Interval, Ref, Old, Seq}
-use Rattle.bb_verify_frame.specs.Kinds.{is_same_plain, struck, related}
+use Rattle.bb_verify_frame.specs.Kinds.{is_same_plain, struck}
 use Rattle.bb_verify.specs.Due as due
 use Rattle.bb_compile_scope.specs.Kinds.{class_of, is_live, unit_of, assigned_unit, assigned}
 use Rattle.bb_compile_scope.specs.LocalKinds.{is_free, kind_at}
@@ -45,17 +46,6 @@ same_self k l h = by_kind l (same_plain k l h)
 
 -- ---- classes
 
-goes_up : {classes : List Class} {a b c : ℕ} → Descends classes a b → Descends classes b c → Descends classes a c
-goes_up (itself a) d = d
-goes_up (through_parent a p b is up) d = through_parent a p _ is (goes_up up d)
-
--- of two classes from which a third descends, one descends from the other
-one_line : {classes : List Class} {a c d : ℕ} → Descends classes a c → Descends classes a d → Descends classes c d ⊎ Descends classes d c
-one_line (itself a) other = inl other
-one_line (through_parent a p c is up) (itself b) = inr (through_parent a p c is up)
-one_line {classes} {a} {c} {d} (through_parent x p y is up) (through_parent z q w is_q up_q) =
-    one_line up (subst (λ (k : ℕ). Descends classes k d) (let e : Some q ≡ Some p = sym is_q ∙ is in let same : q ≡ p = cc in same) up_q)
-
 module _ (s : Schema) (sf : schemas.Fits s) where
   pub descends_on : (a b c : ℕ) → descends s a b ≡ true → descends s b c ≡ true → descends s a c ≡ true
   descends_on a b c ab bc =
@@ -63,13 +53,6 @@ module _ (s : Schema) (sf : schemas.Fits s) where
 
   pub descends_same : (a : ℕ) → descends s a a ≡ true
   descends_same a = descends_complete s.classes sf.parents a a (itself a)
-
-  both_related : (own class other : ℕ) → descends s own class ≡ true → descends s own other ≡ true → related s class other ≡ true
-  both_related own class other up up_other = by_line (one_line (climbs_sound s.classes class own own up) (climbs_sound s.classes other own own up_other))
-    where
-      by_line : Descends s.classes class other ⊎ Descends s.classes other class → related s class other ≡ true
-      by_line (inl up) = or_left (descends s class other) (descends s other class) (descends_complete s.classes sf.parents class other up)
-      by_line (inr up) = or_right (descends s class other) (descends s other class) (descends_complete s.classes sf.parents other class up)
 
   -- ---- one value
 
@@ -140,18 +123,11 @@ module _ (s : Schema) (sf : schemas.Fits s) where
   -- ---- a unit was deleted
 
   module _ (b c : ℕ) (below : descends s b c ≡ true) where
-    struck_ref : (e d : ℕ) (own thought : Bool) → related s e b ≡ own → related s d c ≡ thought → descends s e d ≡ true → IsUnder (cond own (Old e) (Ref e)) (cond thought (Old d) (Ref d))
+    struck_ref : (e d : ℕ) (own thought : Bool) → strikes s b e ≡ own → strikes s c d ≡ thought → descends s e d ≡ true → IsUnder (cond own (Old e) (Ref e)) (cond thought (Old d) (Ref d))
     struck_ref e d true true r t up = (e, inr refl, up)
     struck_ref e d false true r t up = (e, inl refl, up)
     struck_ref e d false false r t up = (e, refl, up)
-    struck_ref e d true false r t up = absurd (by_side (descends s e b) refl r)
-      where
-        no : related s d c ≡ true → ⊥
-        no h = let e : true ≡ false = sym h ∙ t in absurd cc
-
-        by_side : (x : Bool) → descends s e b ≡ x → (x || descends s b e) ≡ true → ⊥
-        by_side true h r = no (both_related e d c up (descends_on e b c h below))
-        by_side false h r = no (both_related b d c (descends_on b e d r up) below)
+    struck_ref e d true false r t up = absurd (let both : true ≡ false = sym (strikes_up s sf b c d e below up r) ∙ t in cc)
 
     struck_old : (e d : ℕ) (own : Bool) → descends s e d ≡ true → IsUnder (cond own (Old e) (Ref e)) (Old d)
     struck_old e d true up = (e, inr refl, up)
@@ -159,8 +135,8 @@ module _ (s : Schema) (sf : schemas.Fits s) where
 
     pub under_struck : (k t : Kind) → IsUnder k t → IsUnder (struck s b k) (struck s c t)
     unfolding struck
-    under_struck k (Ref d) u = rw u.1 (struck_ref u.0 d (related s u.0 b) (related s d c) refl refl u.2)
-    under_struck k (Old d) (e, inl is_e, up) = rw is_e (struck_old e d (related s e b) up)
+    under_struck k (Ref d) u = rw u.1 (struck_ref u.0 d (strikes s b u.0) (strikes s c d) refl refl u.2)
+    under_struck k (Old d) (e, inl is_e, up) = rw is_e (struck_old e d (strikes s b e) up)
     under_struck k (Old d) (e, inr is_e, up) = rw is_e (e, inr refl, up)
     under_struck k Int u = rw u refl
     under_struck k Text u = rw u refl

@@ -3,6 +3,7 @@ use Rattle.std.specs.Prelude.{ℕ, map, List, [], ◌∷◌, ◌++◌, length, O
 use Rattle.std.specs.List.{range_with_len}
 use Rattle.bb_code_ops.specs.Code.{Code}
 use Rattle.bb_code.specs.FrameEntry.{FrameEntry}
+use Rattle.bb_code.specs.Version.{Version}
 use Rattle.bb_verify_frame.specs.declared.part.Part.{Part}
 use Rattle.bb_verify_frame.specs.Part.{units_of}
 use Rattle.bb_compile_scope.specs.Place.{Place}
@@ -46,8 +47,10 @@ last_frame locals (Some label) = frame_of locals label ∷ []
 abbrev pub frames_of : (locals : ℕ) → List Label → Option Label → List FrameEntry
 frames_of locals labels last = map (frame_of locals) labels ++ last_frame locals last
 
-abbrev pub code_of : Buffer → Code
-code_of s = record {
+-- the code of a buffer, of a version
+abbrev pub code_of : Version → Buffer → Code
+code_of version s = record {
+  version = version;
   locals = s.locals;
   texts = s.texts;
   queries = s.queries;

@@ -10,7 +10,7 @@ ghost use Rattle.bb_compile_buffer.specs.Finish.{frame_of, last_frame, frames_of
 use crate::buffer::Buffer;
 use crate::label::Label;
 use bb_basis::Items;
-use bb_code::{Code, CodeParts, Frame, FrameEntry};
+use bb_code::{Code, CodeParts, Frame, FrameEntry, Version};
 use bb_compile_scope::{CompileFault, Kind, LocalKinds, Place, TextFlaw};
 use std::alloc::{AllocError, Global};
 
@@ -76,14 +76,15 @@ fn checked(parts: CodeParts, place: Place) -> Result<Code, CompileFault>
     Code::new(parts).ok_or(CompileFault::At { flaw, place })
 }
 
-/// The code that a buffer has.
-pub fn finish(buffer: Buffer) -> Result<Code, CompileFault>
-    ensures { Gives OutOfMemory (λ code. code) result (if_within buffer.start (code_of buffer)) }
+/// The code that a buffer has, of a version.
+pub fn finish(buffer: Buffer, version: Version) -> Result<Code, CompileFault>
+    ensures { Gives OutOfMemory (λ code. code) result (if_within buffer.start (code_of version buffer)) }
 {
     let alloc = buffer.alloc();
     let frames = frames_of(alloc, buffer.labels.as_slice(), &buffer.last, buffer.locals)?;
     let place = buffer.start;
     let parts = CodeParts {
+        version,
         locals: buffer.locals,
         texts: buffer.texts.into_items(),
         queries: buffer.queries,

@@ -2,6 +2,9 @@
 use Rattle.std.specs.Prelude.{Bool, ◌&&◌, not, is_ok, Result, Ok, Err, if◌then◌else◌}
 use Rattle.bb_basis.specs.Results.{◌>>=◌}
 use Rattle.bb_code_ops.specs.Code.{Code}
+use Rattle.bb_schema.specs.Ownership.{owns_any}
+use Rattle.bb_code.specs.Version.{Version}
+use Rattle.bb_code.specs.Version.TheVariants.{One, Two}
 use Rattle.bb_verify_frame.specs.declared.part.Part.{Part}
 use Rattle.bb_verify_frame.specs.Part.{ends_done}
 use Rattle.bb_verify_frame.specs.Op.TheVariants.{Done}
@@ -25,10 +28,15 @@ has_no_end part b = not (is_ok (ends_done part)) && not (block_ends b)
 abbrev pub done : Part → Change
 done part s = if is_ok (ends_done part) then put Done s else Ok s
 
+-- the version of codes for a schema: 2 where a slot owns
+abbrev pub version_for : Schema → Version
+version_for schema = if owns_any schema then Two else One
+
+-- the code of a part that begins at a place
 unfoldable pub part_code : Schema → Part → Place → BlockTree → Result Code CompileFault
 part_code schema part start b =
     if has_no_end part b then Err (At NoEnd start)
     else (do
       (ended, t) ← block_code schema part LOOP_NESTING b (empty_buffer part start)
       u ← done part t
-      if_within u.start (code_of u))
+      if_within u.start (code_of (version_for schema) u))

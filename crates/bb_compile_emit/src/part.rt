@@ -3,11 +3,11 @@
 ghost use Rattle.std.specs.Prelude.{◌≡◌};
 ghost use Rattle.bb_basis.specs.Results.{Gives};
 ghost use Rattle.bb_compile_scope.specs.declared.fault.CompileFault.TheVariants.{Memory as OutOfMemory};
-ghost use Rattle.bb_compile_emit.specs.Parts.{has_no_end, done, part_code};
+ghost use Rattle.bb_compile_emit.specs.Parts.{has_no_end, done, version_for, part_code};
 
 use crate::emitter::Emitter;
 use crate::statements::emit_block;
-use bb_code::Code;
+use bb_code::{Code, Version};
 use bb_compile_buffer::{Buffer, finish};
 use bb_compile_scope::{Block, CompileFault, Op, Part, Place, Schema, TextFlaw, block_ends};
 use std::alloc::Global;
@@ -30,6 +30,16 @@ fn put_done(part: Part, buffer: &mut Buffer) -> Result<(), CompileFault>
         return buffer.put(Op::Done);
     }
     Ok(())
+}
+
+// The version of codes for a schema: 2 where a slot owns.
+fn version_for(schema: &Schema) -> Version
+    ensures { result ≡ version_for schema.now }
+{
+    if schema.owns_any() {
+        return Version::Two;
+    }
+    Version::One
 }
 
 /// The code of a part that begins at a place, or its first flaw: at that place if a part other than `do` can run past
@@ -56,5 +66,5 @@ pub fn emit_part(
     };
     let _ended = emit_block(&mut emitter, block, LOOP_NESTING)?;
     put_done(part, &mut emitter.buffer)?;
-    finish(emitter.buffer)
+    finish(emitter.buffer, version_for(schema))
 }

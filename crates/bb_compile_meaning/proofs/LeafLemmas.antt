@@ -14,7 +14,7 @@ use Rattle.bb_compile_scope.specs.declared.scope.NamedLocal.{NamedLocal}
 use Rattle.bb_machine_state.specs.Board.{Board, with_world}
 use Rattle.bb_machine_state.specs.Units as units
 use Rattle.bb_machine_state.specs.World.{class_at, after_set}
-use Rattle.bb_machine_state.specs.Links.{after_delete}
+use Rattle.bb_machine_state.specs.Deletion.{after_delete}
 use Rattle.bb_machine_state.specs.Spaces.{may_enter, after_enter, after_leave}
 use Rattle.bb_machine_state.specs.May.{may_link, has_link, leads_to}
 use Rattle.bb_machine_state.specs.Fits.{is_said_of}

@@ -24,7 +24,7 @@ use Rattle.bb_compile_accepted.specs.Finish.{empty_buffer, code_of, if_within}
 use Rattle.bb_compile_accepted.specs.Within.{is_within}
 use Rattle.bb_compile_accepted.specs.Actions.{action_code}
 use Rattle.bb_compile_accepted.specs.Statements.{left, after_end, action_of, statement_code, statements_code, block_code}
-use Rattle.bb_compile_accepted.specs.Parts.{has_no_end, done, part_code}
+use Rattle.bb_compile_accepted.specs.Parts.{has_no_end, done, version_for, part_code}
 use Rattle.bb_compile_accepted.specs.PartLimits.{LOOP_NESTING}
 use Rattle.bb_machine_state.specs.Board.{Board}
 use Rattle.bb_machine_state.specs.Fits.{Fits}
@@ -226,7 +226,7 @@ module _ (part : Part) (frames : List Frame) (code : Code) (entry : Entry) (b : 
         (record { place = refl; held = begin_held b.schema b.world part code entry begins.units; stack = refl; board = refl })
 
     -- the code is that of a buffer
-    buffer_has : (u : Buffer) → code_of u ≡ code → Has code u
+    buffer_has : (u : Buffer) → code_of (version_for b.schema) u ≡ code → Has code u
     buffer_has u same = record {
       ops = [];
       ops_are = ap (λ (c : Code). c.ops) (sym same) ∙ sym (append-nil u.ops);
@@ -249,7 +249,7 @@ module _ (part : Part) (frames : List Frame) (code : Code) (entry : Entry) (b : 
     by_end t count (Ok st) c l = told_else (length t.ops) st (omega (arith, count)) c
     by_end t count (Err (halt, left)) c l = told (statements block (first_scene entry b)) (IsScene (length t.ops) t.scope.names) (length t.ops) limit halt left (omega (arith, count, enough_steps)) c l
 
-    do_told : (now : Bool) (t u : Buffer) (class : ℕ) → part ≡ Do class → statements_code b.schema part LOOP_NESTING false block first ≡ Ok (now, t) → put ops.Done (leave (mark_of first.scope) t) ≡ Ok u → code_of u ≡ code
+    do_told : (now : Bool) (t u : Buffer) (class : ℕ) → part ≡ Do class → statements_code b.schema part LOOP_NESTING false block first ≡ Ok (now, t) → put ops.Done (leave (mark_of first.scope) t) ≡ Ok u → code_of (version_for b.schema) u ≡ code
         → IsTold (ended part (statements block (first_scene entry b))) (activation limit code entry b)
     do_told now t u class part_is h last same =
         let was = leave (mark_of first.scope) t in
@@ -261,7 +261,7 @@ module _ (part : Part) (frames : List Frame) (code : Code) (entry : Entry) (b : 
         let g = block_gets now t h own in
         by_came t class part_is at (omega (arith, e)) g.0 g.1 g.2
 
-    else_told : (now : Bool) (t u : Buffer) → statements_code b.schema part LOOP_NESTING false block first ≡ Ok (now, t) → leave (mark_of first.scope) t ≡ u → code_of u ≡ code
+    else_told : (now : Bool) (t u : Buffer) → statements_code b.schema part LOOP_NESTING false block first ≡ Ok (now, t) → leave (mark_of first.scope) t ≡ u → code_of (version_for b.schema) u ≡ code
         → IsTold (ended part (statements block (first_scene entry b))) (activation limit code entry b)
     else_told now t u h last same =
         let has = buffer_has u same in
@@ -270,7 +270,7 @@ module _ (part : Part) (frames : List Frame) (code : Code) (entry : Entry) (b : 
         let g = block_gets now t h own in
         by_end t e g.0 g.1 g.2
 
-    by_part : (p : Part) → part ≡ p → (now : Bool) (t u : Buffer) → statements_code b.schema part LOOP_NESTING false block first ≡ Ok (now, t) → done p (leave (mark_of first.scope) t) ≡ Ok u → code_of u ≡ code
+    by_part : (p : Part) → part ≡ p → (now : Bool) (t u : Buffer) → statements_code b.schema part LOOP_NESTING false block first ≡ Ok (now, t) → done p (leave (mark_of first.scope) t) ≡ Ok u → code_of (version_for b.schema) u ≡ code
         → IsTold (ended part (statements block (first_scene entry b))) (activation limit code entry b)
     by_part (Do class) part_is now t u h last same = do_told now t u class part_is h last same
     by_part (Require c) part_is now t u h last same = else_told now t u h (same_ok (leave (mark_of first.scope) t) u last) same
@@ -278,19 +278,19 @@ module _ (part : Part) (frames : List Frame) (code : Code) (entry : Entry) (b : 
     by_part (Retrigger c of) part_is now t u h last same = else_told now t u h (same_ok (leave (mark_of first.scope) t) u last) same
     by_part (Revalidate c) part_is now t u h last same = else_told now t u h (same_ok (leave (mark_of first.scope) t) u last) same
 
-    within_same : (u : Buffer) (c : Bool) → (let r : Result Code CompileFault = cond c (Ok (code_of u)) (Err (At Limit u.start)) in r) ≡ Ok code → code_of u ≡ code
-    within_same u true h = same_ok (code_of u) code h
+    within_same : (u : Buffer) (c : Bool) → (let r : Result Code CompileFault = cond c (Ok (code_of (version_for b.schema) u)) (Err (At Limit u.start)) in r) ≡ Ok code → code_of (version_for b.schema) u ≡ code
+    within_same u true h = same_ok (code_of (version_for b.schema) u) code h
     within_same u false h = absurd cc
 
     pub part_told : part_code b.schema part place block ≡ Ok code → IsTold (meaning part block entry b) (activation limit code entry b)
     unfolding part_code if_within
     part_told h =
-        let body = guard_ok (has_no_end part block) (At NoEnd place) (block_code b.schema part LOOP_NESTING block first >>= λ p. done part p.1 >>= λ u. if_within u.start (code_of u)) code h in
-        let one = bind_ok (block_code b.schema part LOOP_NESTING block first) (λ p. done part p.1 >>= λ u. if_within u.start (code_of u)) code body.1 in
+        let body = guard_ok (has_no_end part block) (At NoEnd place) (block_code b.schema part LOOP_NESTING block first >>= λ p. done part p.1 >>= λ u. if_within u.start (code_of (version_for b.schema) u)) code h in
+        let one = bind_ok (block_code b.schema part LOOP_NESTING block first) (λ p. done part p.1 >>= λ u. if_within u.start (code_of (version_for b.schema) u)) code body.1 in
         let two = bind_ok (statements_code b.schema part LOOP_NESTING false block first) (left (mark_of first.scope)) one.0 one.1 in
-        let three = bind_ok (done part one.0.1) (λ u. if_within u.start (code_of u)) code one.2 in
+        let three = bind_ok (done part one.0.1) (λ u. if_within u.start (code_of (version_for b.schema) u)) code one.2 in
         let same = pair_ok two.0.0 one.0.0 (leave (mark_of first.scope) two.0.1) one.0.1 two.2 in
-        by_part part refl two.0.0 two.0.1 three.0 two.1 (ap (done part) same.1 ∙ three.1) (within_same three.0 (is_within (code_of three.0)) three.2)
+        by_part part refl two.0.0 two.0.1 three.0 two.1 (ap (done part) same.1 ∙ three.1) (within_same three.0 (is_within (code_of (version_for b.schema) three.0)) three.2)
 
 -- ---- the code of a part is accepted, so it does what its text means
 

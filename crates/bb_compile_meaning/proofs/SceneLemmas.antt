@@ -7,7 +7,8 @@ use Rattle.std.proofs.lemmas.Option.{unwrap_or-slice_get}
 use Rattle.bb_basis.proofs.ListLemmas.{slice_get-set}
 use Rattle.bb_verify_frame.specs.Kind.{Kind}
 use Rattle.bb_verify_frame.specs.Kind.TheVariants as kinds
-use Rattle.bb_verify_frame.specs.Kinds.{struck, related}
+use Rattle.bb_schema.specs.Ownership.{strikes}
+use Rattle.bb_verify_frame.specs.Kinds.{struck}
 use Rattle.bb_schema.specs.Schema.{Schema}
 use Rattle.bb_compile_scope.specs.LocalKinds.{is_free, kind_at}
 use Rattle.bb_compile_scope.specs.declared.scope.NamedLocal.{NamedLocal}
@@ -74,11 +75,11 @@ first_free ks i h = ap is_free (unwrap_or-slice_get ks i kinds.Any) ∙ (positio
 -- once units may be deleted
 struck_known : (s : Schema) (class : ℕ) (k : Kind) → is_free k ≡ false → is_free (struck s class k) ≡ false
 unfolding struck
-struck_known s class (kinds.Ref c) known = by_related (related s c class)
+struck_known s class (kinds.Ref c) known = by_strike (strikes s class c)
   where
-    by_related : (b : Bool) → is_free (cond b (kinds.Old c) (kinds.Ref c)) ≡ false
-    by_related true = refl
-    by_related false = refl
+    by_strike : (b : Bool) → is_free (cond b (kinds.Old c) (kinds.Ref c)) ≡ false
+    by_strike true = refl
+    by_strike false = refl
 struck_known s class kinds.Any known = known
 struck_known s class kinds.Int known = known
 struck_known s class kinds.Text known = known

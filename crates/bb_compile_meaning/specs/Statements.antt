@@ -15,7 +15,8 @@ use Rattle.bb_compile_scope.specs.Scope.{name_of}
 use Rattle.bb_machine_state.specs.Board.{Board, with_world}
 use Rattle.bb_machine_state.specs.Units.{is_live, is_full}
 use Rattle.bb_machine_state.specs.World.{class_at, after_create, after_set, after_say}
-use Rattle.bb_machine_state.specs.Links.{after_link, after_unlink, after_delete}
+use Rattle.bb_machine_state.specs.Links.{after_link, after_unlink}
+use Rattle.bb_machine_state.specs.Deletion.{after_delete}
 use Rattle.bb_machine_state.specs.Spaces.{after_enter, after_leave}
 use Rattle.bb_machine_state.specs.State.{World}
 use Rattle.bb_machine_step.specs.Answer.TheVariants.{Rated, Declined, Yes, No}

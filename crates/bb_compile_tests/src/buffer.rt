@@ -3,6 +3,7 @@
 use bb_basis::{Items, Text};
 use bb_code::{
     Calculation, Code, Comparison, Division as OpDivision, Loop, Node, OperandKind, Pattern, Query,
+    Version,
 };
 use bb_compile_buffer::{
     Buffer, Loops, Ops, Texts, emit_atom, emit_binary, emit_division, emit_operator, emit_unary,
@@ -123,7 +124,7 @@ fn laid_out(alloc: Global) -> Result<Code, Fail> {
     buffer.put_value(Op::PushBool(true), ROOM)?;
     buffer.label()?;
     buffer.put(Op::Done)?;
-    Ok(finish(buffer)?)
+    Ok(finish(buffer, Version::One)?)
 }
 
 fn has_its_tables(code: &Code) -> bool {

@@ -78,15 +78,16 @@ impl Possible {
         }
     }
 
-    // Whether units of a class, or below it, are among those that ops may change so.
+    // Whether units of a class, or below it, are among those that ops may change so. What is deleted takes its parts
+    // along.
     fn is_below(&self, schema: &Schema, kind: ChangeKind, class: ClassId) -> bool {
-        match self.below.at(kind) {
-            None => false,
-            Some(classes) => classes
-                .as_slice()
-                .iter()
-                .any(|one| schema.related(*one, class)),
-        }
+        let Some(classes) = self.below.at(kind) else {
+            return false;
+        };
+        classes.as_slice().iter().any(|one| match kind {
+            ChangeKind::Delete => schema.strikes(*one, class),
+            _ => schema.related(*one, class),
+        })
     }
 
     // Whether any unit changes so.

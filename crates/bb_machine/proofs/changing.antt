@@ -1,6 +1,5 @@
 -- Ops that change the blackboard, and what is known of values after them.
 pub mod OutliveLemmas
-pub mod RelatedLemmas
 pub mod StruckLemmas
 pub mod CreatedLemmas
 pub mod SetLemmas

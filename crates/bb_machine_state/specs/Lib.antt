@@ -12,6 +12,7 @@ pub mod Machine
 pub use Rattle.bb_board.specs.Board
 pub use Rattle.bb_board.specs.World
 pub use Rattle.bb_board.specs.Links
+pub use Rattle.bb_board.specs.Deletion
 pub use Rattle.bb_board.specs.Spaces
 pub use Rattle.bb_board.specs.May
 pub use Rattle.bb_board.specs.Fits

@@ -5,7 +5,7 @@ use Rattle.std.specs.Prelude.{nat_le, is_some, slice_get, if◌then◌else◌}
 use Rattle.std.specs.Option.{option_map_or}
 use Rattle.std.specs.Ordering.{nat_cmp, eq_by_cmp}
 use Rattle.std.specs.Cmp.{nat_cmp_total, Equal-is}
-use Rattle.std.specs.FinMap.{get, len, get-insert, get-remove, nat_cmp-IsAntisymmetric}
+use Rattle.std.specs.FinMap.{get, len, get-insert, nat_cmp-IsAntisymmetric}
 use Rattle.std.proofs.lemmas.Bool.{or_parts, leb-false}
 use Rattle.std.proofs.lemmas.List.{length-map}
 use Rattle.bb_basis.proofs.BoolLemmas.{and_second}
@@ -21,11 +21,11 @@ use Rattle.bb_units.specs.declared.unit.Unit.{Unit as OneUnit}
 use Rattle.bb_units.specs.declared.units.TheConstants.{UNIT_LIMIT}
 use Rattle.bb_units.specs.Layout.{Layout}
 use Rattle.bb_units.specs.Units.{Units, is_live, is_full, has_slot, value_of, takes, new_unit}
-use Rattle.bb_units.specs.Units.{after_create as with_new_unit, after_set as with_value, after_delete as without_unit}
-use Rattle.bb_units.proofs.Laws.{created_fit, deleted_fit, updated_fit}
+use Rattle.bb_units.specs.Units.{after_create as with_new_unit, after_set as with_value}
+use Rattle.bb_units.proofs.Laws.{created_fit, updated_fit}
 use Rattle.bb_links.specs.Couples.{Couple, Couples, with_couple, linked, unlinked}
 use Rattle.bb_links.specs.Fits as links
-use Rattle.bb_links.proofs.Laws.{set_fits, linked_fits, unlinked_fits, forget_fits}
+use Rattle.bb_links.proofs.Laws.{set_fits, linked_fits, unlinked_fits}
 use Rattle.bb_board.specs.Reason.{Reason}
 use Rattle.bb_board.specs.Reason.TheVariants as reasons
 use Rattle.bb_board.specs.Said.{Said}
@@ -34,14 +34,15 @@ use Rattle.bb_board.specs.Note.TheVariants as notes
 use Rattle.bb_board.specs.State.{World}
 use Rattle.bb_board.specs.Board.{Board, with_world}
 use Rattle.bb_board.specs.World.{after_create, after_set, after_say}
-use Rattle.bb_board.specs.Links.{linked_at, unlinked_at, after_link, after_unlink, after_delete}
+use Rattle.bb_board.specs.Links.{linked_at, unlinked_at, after_link, after_unlink}
+use Rattle.bb_board.specs.Deletion.{after_delete}
 use Rattle.bb_board.specs.May.{may_set}
 use Rattle.bb_board.specs.Spaces.{after_enter, after_leave}
 use Rattle.bb_board.specs.Fits.{Fits}
 use Rattle.bb_board.specs.Outlives.{Outlives}
 use Rattle.bb_board.specs.Named.{NotesChanges}
 use Rattle.bb_board.proofs.Laws.{same_class_of, create_keeps, set_keeps, may_link_facts, link_keeps, unlink_keeps}
-use Rattle.bb_board.proofs.Laws.{may_enter_facts, enter_keeps, leave_keeps, delete_keeps, noted_more}
+use Rattle.bb_board.proofs.Laws.{may_enter_facts, enter_keeps, leave_keeps, delete_keeps, delete_outlives, noted_more}
 use Rattle.bb_board.proofs.Laws.{create_named, set_named, link_named, unlink_named, enter_named, leave_named, delete_named, say_named}
 use Rattle.bb_native.specs.declared.ask.Ask.{Ask}
 use Rattle.bb_native.specs.Applied.{applied}
@@ -66,16 +67,6 @@ created_outlives u class = record {
 
 set_outlives : (u : Units) (n slot : ℕ) (value : Value) → Outlives u (with_value u n slot value)
 set_outlives u n slot value = record { next = omega arith; classes = λ k c lt is. sym (same_class_of u n slot k value) ∙ is }
-
-left_by : (c : ℕ) (b : Bool) (old : Option OneUnit) → option_map (λ x. x.class) (cond b None old) ≡ Some c → option_map (λ x. x.class) old ≡ Some c
-left_by c true old is = absurd (let no : (let none : Option ℕ = None in none) ≡ Some c = is in cc)
-left_by c false old is = is
-
-deleted_outlives : (u : Units) (n : ℕ) → Outlives u (without_unit u n)
-deleted_outlives u n = record {
-  next = omega arith;
-  classes = λ k c lt is. left_by c (eq_by_cmp nat_cmp k n) (get u.units k) (sym (ap (option_map (λ x. x.class)) (get-remove nat_cmp_total u.units n k)) ∙ is);
-}
 
 module _ (s : Schema) (w : World) (n slot m : ℕ) where
   linked_units : (o : Option (ℕ × Side)) → (option_map_or (linked_at s w n slot m) o w).units ≡ w.units
@@ -113,7 +104,7 @@ led b = let s = b.schema in let w = b.world in record {
   leaves = λ n space alive there.
       leads b (after_leave w n space) (same_outlives w.units (after_leave w n space).units (either_units _ w _ refl)) (leave_named w n space);
   creates = λ class there free. leads b (after_create w class) (created_outlives w.units class) (create_named w class);
-  deletes = λ n alive. leads b (after_delete s w n) (deleted_outlives w.units n) (delete_named s w n);
+  deletes = λ n alive. leads b (after_delete s w n) (delete_outlives s w n) (delete_named s w n);
   says = λ text.
       let said : List Said = saids.Value (values.Text text) ∷ [] in leads b (after_say w said) (same_outlives w.units (after_say w said).units refl) (say_named w said);
 }
@@ -183,7 +174,7 @@ fitted b sf fits = let s = b.schema in let w = b.world in record {
   enters = λ n space may. enter_keeps s w fits n space (may_enter_facts s w n space may);
   leaves = λ n space alive there. leave_keeps s w fits n space alive there;
   creates = λ class there free. create_fit s w sf fits class there free;
-  deletes = λ n alive. delete_keeps s w sf fits n alive (deleted_fit w.units fits.units n) (forget_fits w.links n fits.links);
+  deletes = λ n alive. delete_keeps s w sf fits n;
   says = λ text. say_fit s w sf fits text;
 }
 

@@ -8,7 +8,8 @@ use Rattle.bb_schema.specs.Schema.{class_named, slot_named, space_named}
 use Rattle.bb_units.specs.Units.{is_live, next_number}
 use Rattle.bb_board.specs.Said.TheVariants as saids
 use Rattle.bb_board.specs.World.{class_at, after_create, after_set, after_say}
-use Rattle.bb_board.specs.Links.{after_link, after_unlink, after_delete}
+use Rattle.bb_board.specs.Links.{after_link, after_unlink}
+use Rattle.bb_board.specs.Deletion.{after_delete}
 use Rattle.bb_board.specs.Spaces.{may_enter, after_enter, after_leave}
 use Rattle.bb_board.specs.May.{may_set, may_link}
 use Rattle.bb_board.specs.Board.{Board, with_world, when_refused}

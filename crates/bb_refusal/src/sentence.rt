@@ -175,7 +175,7 @@ fn text_reason(flaw: TextFlaw) -> &'static str {
 fn code_reason(fault: CodeFault) -> &'static str {
     match fault {
         CodeFault::Magic => "they do not begin with the letters BBC",
-        CodeFault::Version => "their version is not 1",
+        CodeFault::Version => "their version is neither 1 nor 2",
         CodeFault::Short => "they end too early",
         CodeFault::Opcode => "a byte names no op",
         CodeFault::Operand => "a text is not UTF-8, or an operand is none that may stand there",

@@ -171,5 +171,17 @@ fn write_inverse(text: &mut String, entry: &Value) -> Result<(), Memory> {
     };
     write_phrase(text, "class", to)?;
     write_phrase(text, " has no link", inverse)?;
-    text.push_str(" that leads back by this one")
+    text.push_str(" that leads back by this one")?;
+    if owns(entry) {
+        text.push_str(", is singular and does not own, as this one owns")?;
+    }
+    Ok(())
+}
+
+// Whether an entry of a link says that it owns.
+fn owns(entry: &Value) -> bool {
+    entry
+        .get("owns")
+        .and_then(|it| it.as_bool())
+        .unwrap_or(false)
 }

@@ -62,11 +62,12 @@ const SLOT: [Key; 4] = [
     ("default", false, Form::Any),
 ];
 
-const LINK: [Key; 4] = [
+const LINK: [Key; 5] = [
     ("name", true, Form::Text),
     ("to", true, Form::Text),
     ("many", true, Form::Truth),
     ("inverse", true, Form::Text),
+    ("owns", false, Form::Truth),
 ];
 
 const SPACE: [Key; 3] = [

@@ -8,13 +8,20 @@ use bb_compile_scope::{ClassId, Kind, Schema, class_of, link_slot};
 use bb_refusal_grammar::Token;
 use std::alloc::Global;
 
-/// A name in scope: what it holds, in how many braces it is known, and the line that may have deleted its unit.
+/// A deletion that may have deleted the unit of a name: its line, and the class of the unit that it deletes.
+#[derive(Clone, Copy)]
+pub struct Deletion {
+    pub line: u64,
+    pub class: ClassId,
+}
+
+/// A name in scope: what it holds, in how many braces it is known, and what may have deleted its unit.
 #[derive(Clone, Copy)]
 pub struct Known<'a> {
     pub name: &'a str,
     pub kind: Kind,
     depth: usize,
-    pub gone: Option<u64>,
+    pub gone: Option<Deletion>,
 }
 
 /// What is known at a place of a source.
@@ -147,18 +154,21 @@ impl<'a, 's> Judge<'a, 's> {
         Ok(())
     }
 
-    // Notes that a deletion may have deleted the units of all names of a related class.
+    // Notes that a deletion may have deleted the units of all names of a class that it strikes.
     fn strike(&mut self, tokens: &[Token<'a>]) {
         let Some(class) = class_of(self.kind_named(word_at(tokens, 1))) else {
             return;
         };
-        let line = tokens.first().map(|it| it.line);
+        let gone = tokens.first().map(|it| Deletion {
+            line: it.line,
+            class,
+        });
         let schema = self.schema;
         for known in &mut self.known {
             if let Kind::Ref(own) = known.kind {
-                if schema.related(own, class) {
+                if schema.strikes(class, own) {
                     known.kind = Kind::Old(own);
-                    known.gone = line;
+                    known.gone = gone;
                 }
             }
         }

@@ -12,11 +12,13 @@
 mod judge;
 mod kinds;
 mod names;
+mod owning;
 mod statement;
 
-pub use judge::{Judge, Known};
+pub use judge::{Deletion, Judge, Known};
 pub use kinds::{COMPARISONS, LOGIC, SUMS, kind_of, position_of, write_kind, write_value};
 pub use names::{
     admitted_names, class_names, dim_names, label_names, slot_names, space_names, write_names,
 };
+pub use owning::owning_path;
 pub use statement::{Statement, until_end, word_at};

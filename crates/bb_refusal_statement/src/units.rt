@@ -1,9 +1,9 @@
 //! The sentences on units: one that may be gone, and one of a class that a link slot or a space does not take.
 
 use bb_basis::Memory;
-use bb_compile_scope::{Kind, link_slot};
+use bb_compile_scope::{ClassId, Kind, link_slot};
 use bb_refusal_grammar::Token;
-use bb_refusal_scope::{Judge, Statement, admitted_names, word_at, write_names};
+use bb_refusal_scope::{Judge, Statement, admitted_names, owning_path, word_at, write_names};
 use std::fmt::Write;
 
 // Whether the word at an index is a unit that has to be live.
@@ -47,16 +47,40 @@ fn write_old(text: &mut String, judge: &Judge<'_, '_>, name: &str) -> Result<boo
     let Kind::Old(class) = known.kind else {
         return Ok(false);
     };
-    let class = judge.class_name(class);
     write!(text, "{name} may be gone: ")?;
-    if let Some(line) = known.gone {
-        write!(
-            text,
-            "the \"delete\" in line {line} may have deleted it, and "
-        )?;
+    if let Some(gone) = known.gone {
+        let line = gone.line;
+        write!(text, "the \"delete\" in line {line} may have deleted it")?;
+        write_owning(text, judge, gone.class, class)?;
+        text.push_str(", and ")?;
     }
+    let class = judge.class_name(class);
     write!(text, "with n = {name} as {class} {{ .. }} tests it")?;
     Ok(true)
+}
+
+// Appends by which slots that own a deletion reaches units of a class, if it takes such slots.
+fn write_owning(
+    text: &mut String,
+    judge: &Judge<'_, '_>,
+    deleted: ClassId,
+    class: ClassId,
+) -> Result<(), Memory> {
+    let path = owning_path(judge.alloc, judge.schema, deleted, class)?;
+    for (index, slot) in path.iter().enumerate() {
+        if *slot as usize >= judge.schema.slot_count() {
+            break;
+        }
+        let owner = judge.class_name(judge.schema.owner(*slot));
+        let name = judge.schema.slot_name(*slot).unwrap_or("");
+        let before = if index == 0 { ", as" } else { " and" };
+        write!(text, "{before} {owner}.{name}")?;
+    }
+    match path.len() {
+        0 => Ok(()),
+        1 => write!(text, " owns what it holds"),
+        _ => write!(text, " own what they hold"),
+    }
 }
 
 // Appends that the loop around a statement may have deleted a name's unit, if a `delete` stands behind the statement.

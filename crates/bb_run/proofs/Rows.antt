@@ -23,6 +23,7 @@ use Rattle.bb_machine.specs.Jumping.{answer, rate}
 use Rattle.bb_machine.specs.Step.{step}
 use Rattle.bb_machine.specs.Activation.{steps_from}
 use Rattle.bb_code.specs.CodeParts.{CodeParts}
+use Rattle.bb_code.specs.Version.TheVariants.{One}
 use Rattle.bb_verify.specs.PartType.{Part}
 use Rattle.bb_verify.specs.PartType.TheVariants.{Do, Require, Obviate, Retrigger, Revalidate}
 use Rattle.bb_verify.specs.Accepted.{Checked}
@@ -45,7 +46,7 @@ note_schema = record {
 }
 
 hello : CodeParts
-hello = record { locals = 1; texts = codes "hello" ∷ []; queries = []; frames = []; loops = []; ops = PushText 0 ∷ Say 1 ∷ Done ∷ [] }
+hello = record { version = One; locals = 1; texts = codes "hello" ∷ []; queries = []; frames = []; loops = []; ops = PushText 0 ∷ Say 1 ∷ Done ∷ [] }
 
 hail : Source
 hail = record {
@@ -84,7 +85,7 @@ first_cycle = refl
 
 -- a source that declines whatever triggers it
 decline : CodeParts
-decline = record { locals = 1; texts = []; queries = []; frames = []; loops = []; ops = Decline ∷ [] }
+decline = record { version = One; locals = 1; texts = []; queries = []; frames = []; loops = []; ops = Decline ∷ [] }
 
 shy : Source
 shy = record {
@@ -114,7 +115,7 @@ declined_first = refl
 -- a code with `locals` locals and without tables, accepted for a part
 asked : ℕ → List Op → Part → Checked
 asked locals ops part = record {
-  code = record { locals = locals; texts = []; queries = []; frames = []; loops = []; ops = ops };
+  code = record { version = One; locals = locals; texts = []; queries = []; frames = []; loops = []; ops = ops };
   part = part;
   frames = [];
 }

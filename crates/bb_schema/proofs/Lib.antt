@@ -5,5 +5,10 @@ pub mod SameLemmas
 pub mod SlotLemmas
 pub mod LinkLemmas
 pub mod SchemaFitLemmas
+pub mod LineageLemmas
+pub mod HeirLemmas
+pub mod StrikeLemmas
+pub mod RelationLemmas
+pub mod StruckLemmas
 pub mod Laws
 pub mod Limits

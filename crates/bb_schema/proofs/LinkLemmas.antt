@@ -1,5 +1,5 @@
 -- The inverse of each link leads back, as the walk asked of it, so linking refuses nothing.
-use Rattle.std.proofs.Common.{◌≡◌, ℕ, List, Option, Some, None, Ok, Bool, refl, ap, sym, subst, ◌∙◌}
+use Rattle.std.proofs.Common.{◌≡◌, ℕ, List, Option, Some, None, Ok, refl, ap, sym, subst, ◌∙◌}
 use Rattle.std.specs.Prelude.{slice_get, option_map, option_and_then}
 use Rattle.bb_basis.specs.Results.{try_map}
 use Rattle.bb_basis.proofs.ResultLemmas.{same_ok}
@@ -10,6 +10,7 @@ use Rattle.bb_schema_classes.specs.declared.kind.Link.{Link}
 use Rattle.bb_schema_classes.specs.declared.draft.Draft.{Draft}
 use Rattle.bb_schema_classes.specs.declared.draft.DraftContent.{DraftContent}
 use Rattle.bb_schema_classes.specs.declared.draft.DraftContent.TheVariants as drafts
+use Rattle.bb_schema_classes.specs.declared.draft.LinkDraft.{LinkDraft}
 use Rattle.bb_schema_classes.specs.declared.draft.SchemaDraft.{SchemaDraft}
 use Rattle.bb_schema_classes.specs.Resolution.{resolved_link}
 use Rattle.bb_schema_classes.specs.Fits.{LeadsBy, ArePaired}
@@ -24,15 +25,15 @@ abbrev linked : Draft → Link → Slot
 linked d l = record { name = d.name; owner = d.owner; content = contents.Link l }
 
 -- what linking makes of a draft
-draft_gives : (classes : List Class) (slots : List Draft) (d : Draft) (to : List ℕ) (many : Bool) (inverse : List ℕ)
-    (l : Link) → d.content ≡ drafts.Link to many inverse → resolved_link classes slots to many inverse ≡ Ok l
+draft_gives : (classes : List Class) (slots : List Draft) (d : Draft) (named : LinkDraft) (l : Link)
+    → d.content ≡ drafts.Link named → resolved_link classes slots named ≡ Ok l
     → resolved_slot classes slots d ≡ Ok (linked d l)
 unfolding resolved_slot
-draft_gives classes slots d to many inverse l is made = rw (is, made) refl
+draft_gives classes slots d named l is made = rw (is, made) refl
 
 link_gives : (s : SchemaDraft) (d : Draft) (l : Link) → LeadsBy s d.content l
     → resolved_slot s.classes s.slots d ≡ Ok (linked d l)
-link_gives s d l leads = draft_gives s.classes s.slots d leads.to leads.many leads.inverse l leads.is leads.gives
+link_gives s d l leads = draft_gives s.classes s.slots d leads.named l leads.is leads.gives
 
 default_gives : (classes : List Class) (slots : List Draft) (d : Draft) (v : Value) → d.content ≡ drafts.Default v
     → resolved_slot classes slots d ≡ Ok (record { name = d.name; owner = d.owner; content = contents.Default v })
@@ -64,8 +65,8 @@ slot_coupled : (s : SchemaDraft) (made : List Slot) (n : ℕ) (t : Draft) (x : S
 slot_coupled s made n t x (drafts.Default v) l paired h at gives is_link is =
     let same = same_ok (record { name = t.name; owner = t.owner; content = contents.Default v }) x (sym (default_gives s.classes s.slots t v is) ∙ gives) in
     absurd (let e : None ≡ Some l = ap (λ (y : Slot). link_in y.content) same ∙ is_link in cc)
-slot_coupled s made n t x (drafts.Link to many inverse) l paired h at gives is_link is =
-    let pair = paired n t to many inverse at is in
+slot_coupled s made n t x (drafts.Link named) l paired h at gives is_link is =
+    let pair = paired n t named at is in
     let there = try_map-at (resolved_slot s.classes s.slots) s.slots made pair.link.inverse pair.other (linked pair.other pair.back) h pair.there (link_gives s pair.other pair.back pair.returns) in
     let same = same_ok (linked t pair.link) x (sym (link_gives s t pair.link pair.leads) ∙ gives) in
     let link_is : pair.link ≡ l = some_same pair.link l (ap (λ (y : Slot). link_in y.content) same ∙ is_link) in
@@ -84,7 +85,7 @@ links_couple s made paired h n l is_link =
 linked_ok : (s : SchemaDraft) (n : ℕ) (t : Draft) (content : DraftContent) → ArePaired s
     → slice_get s.slots n ≡ Some t → t.content ≡ content → (x : Slot) × (resolved_slot s.classes s.slots t ≡ Ok x)
 linked_ok s n t (drafts.Default v) paired at is = (record { name = t.name; owner = t.owner; content = contents.Default v }, default_gives s.classes s.slots t v is)
-linked_ok s n t (drafts.Link to many inverse) paired at is = let pair = paired n t to many inverse at is in (linked t pair.link, link_gives s t pair.link pair.leads)
+linked_ok s n t (drafts.Link named) paired at is = let pair = paired n t named at is in (linked t pair.link, link_gives s t pair.link pair.leads)
 
 pub links_are_there : (s : SchemaDraft) → ArePaired s
     → (made : List Slot) × (try_map (resolved_slot s.classes s.slots) s.slots ≡ Ok made)

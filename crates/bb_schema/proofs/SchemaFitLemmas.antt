@@ -50,8 +50,8 @@ use Rattle.bb_basis.proofs.PositionLemmas.{position_within}
 content_kept : (P : Value → Type 0) (classes : List Class) (slots : List Draft) (d : DraftContent) (content : Content)
     → IfSome (draft_default d) P → resolved_content classes slots d ≡ Ok content → IfSome (default_in content) P
 content_kept P classes slots (drafts.Default v) content p h = subst (λ (c : Content). IfSome (default_in c) P) (same_ok (contents.Default v) content h) p
-content_kept P classes slots (drafts.Link to many inverse) content p h =
-    let link = bind_ok (resolved_link classes slots to many inverse) (λ l. Ok (contents.Link l)) content h in
+content_kept P classes slots (drafts.Link named) content p h =
+    let link = bind_ok (resolved_link classes slots named) (λ l. Ok (contents.Link l)) content h in
     subst (λ (c : Content). IfSome (default_in c) P) (same_ok (contents.Link link.0) content link.2) tt
 
 slot_kept : (sets : List LabelSet) (count : ℕ) (classes : List Class) (slots : List Draft) (d : Draft) (t : Slot)

@@ -4,6 +4,8 @@ pub mod Kinds
 pub mod Schema
 -- couples of link slots
 pub mod Couples
+-- which slots own, and what a delete strikes
+pub mod Ownership
 -- which units a space admits
 pub mod Spaces
 -- the slots of the built-in class

@@ -15,8 +15,7 @@ use Rattle.bb_schema.specs.declared.slot.Content.TheVariants as contents
 -- what a slot holds, with numbers
 abbrev pub resolved_content : List Class → List Draft → DraftContent → Result Content SchemaFault
 resolved_content classes slots (drafts.Default value) = Ok (contents.Default value)
-resolved_content classes slots (drafts.Link to many inverse) =
-    resolved_link classes slots to many inverse >>= λ l. Ok (contents.Link l)
+resolved_content classes slots (drafts.Link link) = resolved_link classes slots link >>= λ l. Ok (contents.Link l)
 
 -- a slot, with numbers
 unfoldable pub resolved_slot : List Class → List Draft → Draft → Result Slot SchemaFault

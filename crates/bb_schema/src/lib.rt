@@ -9,11 +9,15 @@
 #![tactic(auto)]
 
 mod couple;
+mod lineage;
+mod ownership;
 mod read;
+mod relation;
 mod schema;
 mod shared_schema;
 mod slot;
 mod space;
+mod struck;
 mod unit;
 
 pub use bb_schema_classes::{

@@ -13,7 +13,9 @@ mod resolve;
 mod spaces;
 
 use crate::couple::count_couples;
+use crate::lineage::Lineage;
 use crate::schema::Schema;
+use crate::struck::struck_table;
 use bb_basis::Table;
 use bb_schema_classes::{SchemaFault, SchemaFlaw, Walked, spans_of};
 use bb_schema_form::{Document, DocumentFault, SpaceEntry};
@@ -48,6 +50,11 @@ fn bare_schema(alloc: Global, walked: Walked) -> Result<Schema, SchemaFault>
     let slots = resolve_slots(alloc, &draft.classes, draft.slots.as_slice())?;
     let (couples_before, couple_count) = count_couples(alloc, &slots)?;
     let spans = spans_of(alloc, draft.classes.as_slice())?;
+    let struck = struck_table(
+        alloc,
+        &Lineage::new(draft.classes.as_slice(), spans.as_slice()),
+        &slots,
+    )?;
     Ok(Schema {
         label_sets,
         classes: draft.classes,
@@ -56,6 +63,7 @@ fn bare_schema(alloc: Global, walked: Walked) -> Result<Schema, SchemaFault>
         couples_before,
         couple_count,
         spans,
+        struck,
     })
 }
 

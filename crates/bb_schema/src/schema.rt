@@ -14,11 +14,12 @@ ghost use Rattle.bb_schema.specs.declared.read.spaces.TheConstants.{SPACE_LIMIT}
 ghost use Rattle.bb_schema.specs.Spaces.{allowed, IsAllowed};
 
 use crate::couple::{CoupleId, Side, couple_end};
+use crate::lineage::Lineage;
 use crate::slot::{Content, Slot, find_slot, link_at};
 use crate::space::{Dim, Space, SpaceId};
-use bb_basis::Table;
+use bb_basis::{Items, Table};
 use bb_schema_classes::{
-    Class, ClassId, Kind, LabelId, LabelSet, LabelSetId, Link, SlotId, Span, Value, parent, span_at,
+    Class, ClassId, Kind, LabelId, LabelSet, LabelSetId, Link, SlotId, Span, Value, parent,
 };
 use std::marker::Model;
 
@@ -34,6 +35,8 @@ pub struct Schema {
     pub(crate) couple_count: usize,
     /// For each class, its span, by which it is known what descends from the class.
     pub(crate) spans: Vec<Span>,
+    /// For each class a row of the classes that a delete of its units strikes. `None` where no slot owns.
+    pub(crate) struck: Option<Items<Items<bool>>>,
 }
 
 impl Model for Schema {
@@ -55,7 +58,7 @@ impl Model for Schema {
       classes = s.classes;
       slots = s.slots.items;
       spaces = s.spaces;
-    }) s.couples_before.items s.couple_count s.spans.items };
+    }) s.couples_before.items s.couple_count s.spans.items s.struck };
 }
 
 // By hand, so that a proof meets one call where a schema is dropped, and not all its parts.
@@ -69,6 +72,7 @@ impl Drop for Schema {
             couples_before: _,
             couple_count: _,
             spans: _,
+            struck: _,
         } = self;
     }
 }
@@ -195,19 +199,20 @@ impl Schema {
         parent(self.classes.as_slice(), class)
     }
 
+    /// The classes, as they descend from each other.
+    pub(crate) fn lineage(&self) -> Lineage<'_>
+        ensures { result ≡ self.now.classes }
+    {
+        Lineage::new(self.classes.as_slice(), self.spans.as_slice())
+    }
+
     /// Whether a class descends from another: it is that class, or its parent descends from it. A number without a
     /// class descends from itself alone.
     pub fn descends(&self, class: ClassId, ancestor: ClassId) -> bool
         ensures computed { result ≡ descends self.now class ancestor }
         ensures least { IsTrue result ↔ Descends self.now.classes class ancestor }
     {
-        let Some(own) = span_at(&self.spans, class) else {
-            return class == ancestor;
-        };
-        match span_at(&self.spans, ancestor) {
-            None => false,
-            Some(above) => above.holds(own),
-        }
+        self.lineage().descends(class, ancestor)
     }
 
     /// Whether a class descends from one of some others: two comparisons for each of these, however deep the class is.

@@ -18,11 +18,12 @@ use Rattle.bb_schema_classes.specs.declared.label_set.LabelSet.{LabelSet}
 use Rattle.bb_schema_classes.specs.declared.class.Class.{Class}
 use Rattle.bb_schema_classes.specs.declared.draft.Draft.{Draft}
 use Rattle.bb_schema_classes.specs.declared.draft.DraftContent.TheVariants as drafts
+use Rattle.bb_schema_classes.specs.declared.draft.LinkDraft.{LinkDraft}
 use Rattle.bb_basis.specs.Names.{is_name}
 use Rattle.bb_schema_classes.specs.Inheritance.{slots_in}
 use Rattle.bb_schema_classes.specs.Drafts.{ClassDraft, SchemaDraft, draft_has_name}
 use Rattle.bb_schema_classes.specs.SlotReading.{slot_after}
-use Rattle.bb_schema_classes.specs.LinkReading.{first_named, link_entry, leads_to, is_back, link_after}
+use Rattle.bb_schema_classes.specs.LinkReading.{first_named, link_entry, leads_to, may_own, is_back, drafted_link, link_after}
 use Rattle.bb_schema_classes.specs.ClassReading.{parent_number, inherited_slots, class_after}
 use Rattle.bb_schema_classes.specs.Resolution.{resolved_link}
 use Rattle.bb_schema_classes.specs.Fits.{IsPaired, ArePaired}
@@ -33,7 +34,7 @@ use Rattle.bb_basis.proofs.SearchLemmas.{find_same}
 use Rattle.bb_basis.proofs.MadeLemmas.{Marked, try_fold_marks}
 use Rattle.bb_basis.proofs.ListLemmas.{map-last}
 use Rattle.std.proofs.lemmas.List.{length-map}
-use Rattle.bb_schema_classes.proofs.HeldLemmas.{itself, Held, LeadsBackIn, Grows, HeldIn, slot_step, link_step, link_mark, link_stable}
+use Rattle.bb_schema_classes.proofs.HeldLemmas.{itself, Held, declared, LeadsBackIn, Grows, HeldIn, slot_step, link_step, link_mark, link_stable}
 
 same_text : (a b : List ℕ) → bytes_eq a b ≡ true → a ≡ b
 same_text a b h = (bytes_decides a b).0 h
@@ -225,12 +226,12 @@ walk_leaves sets all t made =
 
 -- ---- linking
 
-link_gives : (classes : List Class) (slots : List Draft) (to : List ℕ) (many : Bool) (inverse : List ℕ) (c : ℕ)
-    (k : Class) (m : ℕ) → position (bytes_eq to) (map (λ (j : Class). j.name) classes) ≡ Some c
-    → slice_get classes c ≡ Some k → find (draft_has_name slots inverse) k.slots ≡ Some m
-    → resolved_link classes slots to many inverse ≡ Ok (record { to = c; many = many; inverse = m })
+link_gives : (classes : List Class) (slots : List Draft) (l : LinkDraft) (c : ℕ) (k : Class) (m : ℕ)
+    → position (bytes_eq l.to) (map (λ (j : Class). j.name) classes) ≡ Some c → slice_get classes c ≡ Some k
+    → find (draft_has_name slots l.inverse) k.slots ≡ Some m
+    → resolved_link classes slots l ≡ Ok (record { to = c; many = l.many; inverse = m; owns = l.owns })
 unfolding resolved_link
-link_gives classes slots to many inverse c k m number at found =
+link_gives classes slots l c k m number at found =
     let class_slots : slots_in classes c ≡ k.slots = ap (λ (o : Option Class). option_map_or (λ j. j.slots) o []) at in
     rw (number, class_slots, found) refl
 
@@ -238,10 +239,10 @@ all_units : {X : Type 0} (xs : List X) → AllByRecursion (λ (x : X). Unit {0})
 all_units [] = tt
 all_units (x ∷ xs) = (tt, all_units xs)
 
-back_entry : (o : Option LinkDeclaration) (class name : List ℕ) → is_back o class name ≡ true
-    → (back : LinkDeclaration) × (o ≡ Some back) × (leads_to back class name ≡ true)
-back_entry None class name h = absurd cc
-back_entry (Some back) class name h = (back, refl, h)
+back_entry : (o : Option LinkDeclaration) (class : List ℕ) (l : LinkDeclaration) → is_back o class l ≡ true
+    → (back : LinkDeclaration) × (o ≡ Some back) × (leads_to back class l.name ≡ true)
+back_entry None class l h = absurd cc
+back_entry (Some back) class l h = (back, refl, (and_parts (leads_to back class l.name) (may_own l back) h).0)
 
 some_same : {X : Type 0} (x y : X) → (let o : Option X = Some x in o) ≡ Some y → x ≡ y
 some_same x y h = cc
@@ -250,54 +251,50 @@ some_same x y h = cc
 itself_refused : (b c : Bool) → b ≡ true → c ≡ true → not (b && c) ≡ true → ⊥
 itself_refused b c first second refused = let e : false ≡ true = sym (ap not (let h : (b && c) ≡ true = rw (first, second) refl in h)) ∙ refused in absurd cc
 
-pair_of : (all : List ClassDeclaration) (s : SchemaDraft) (n : ℕ) (t : Draft) (to : List ℕ) (many : Bool)
-    (inverse : List ℕ) → Marked (Walks all) Declares s all → slice_get s.slots n ≡ Some t
-    → t.content ≡ drafts.Link to many inverse → IsPaired s n t
-pair_of all s n t to many inverse left at is =
+pair_of : (all : List ClassDeclaration) (s : SchemaDraft) (n : ℕ) (t : Draft) (link : LinkDraft)
+    → Marked (Walks all) Declares s all → slice_get s.slots n ≡ Some t → t.content ≡ drafts.Link link → IsPaired s n t
+pair_of all s n t link left at is =
+    let entry = declared t.name link in
     let names = map (λ (j : Class). j.name) s.classes in
     let mine = left.kept.resolves n t at in
     let found = subst (LeadsBackIn all mine.class.name t.name) is mine.back in
-    let target = first_in (Declares s) (λ (c : ClassDeclaration). c.name) to all found.0 found.1 left.all in
+    let target = first_in (Declares s) (λ (c : ClassDeclaration). c.name) link.to all found.0 found.1 left.all in
     let theirs = target.0 in
-    let to_is : to ≡ theirs.class.name = same_text to found.0.name target.1 ∙ sym theirs.name in
-    let number : position (bytes_eq to) names ≡ Some theirs.number = ap (λ x. position (bytes_eq x) names) to_is ∙ (position_spot (bytes_eq theirs.class.name) names ∙ left.kept.named theirs.number theirs.class theirs.at) in
-    let parts = and_parts (not (leads_to (record { name = t.name; to = to; many = many; inverse = inverse }) mine.class.name t.name)) (is_back (link_entry found.0 inverse) mine.class.name t.name) found.2 in
-    let back = back_entry (link_entry found.0 inverse) mine.class.name t.name parts.1 in
+    let to_is : link.to ≡ theirs.class.name = same_text link.to found.0.name target.1 ∙ sym theirs.name in
+    let number : position (bytes_eq link.to) names ≡ Some theirs.number = ap (λ x. position (bytes_eq x) names) to_is ∙ (position_spot (bytes_eq theirs.class.name) names ∙ left.kept.named theirs.number theirs.class theirs.at) in
+    let parts = and_parts (not (leads_to entry mine.class.name t.name)) (is_back (link_entry found.0 link.inverse) mine.class.name entry) found.2 in
+    let back = back_entry (link_entry found.0 link.inverse) mine.class.name entry parts.1 in
     let ways = and_parts (bytes_eq back.0.to mine.class.name) (bytes_eq back.0.inverse t.name) back.2 in
-    let name_is : inverse ≡ back.0.name = same_text inverse back.0.name (first_in (λ (l : LinkDeclaration). Unit {0}) (λ (l : LinkDeclaration). l.name) inverse found.0.links back.0 (link_first found.0 inverse back.0 back.1) (all_units found.0.links)).1 in
+    let name_is : link.inverse ≡ back.0.name = same_text link.inverse back.0.name (first_in (λ (l : LinkDeclaration). Unit {0}) (λ (l : LinkDeclaration). l.name) link.inverse found.0.links back.0 (link_first found.0 link.inverse back.0 back.1) (all_units found.0.links)).1 in
     let held = theirs.links back.0 (ap (link_entry found.0) (sym name_is) ∙ back.1) in
-    let other : Draft = record { name = back.0.name; owner = theirs.number; content = drafts.Link back.0.to back.0.many back.0.inverse } in
+    let other : Draft = record { name = back.0.name; owner = theirs.number; content = drafts.Link (drafted_link back.0) } in
     let my_number : position (bytes_eq back.0.to) names ≡ Some t.owner = ap (λ x. position (bytes_eq x) names) (same_text back.0.to mine.class.name ways.0) ∙ (position_spot (bytes_eq mine.class.name) names ∙ left.kept.named t.owner mine.class mine.at) in
     record {
-      link = record { to = theirs.number; many = many; inverse = held.number };
+      link = record { to = theirs.number; many = link.many; inverse = held.number; owns = link.owns };
       leads = record {
-        to = to;
-        many = many;
-        inverse = inverse;
+        named = link;
         is = is;
-        gives = link_gives s.classes s.slots to many inverse theirs.number theirs.class held.number number theirs.at (ap (λ x. find (draft_has_name s.slots x) theirs.class.slots) name_is ∙ held.found);
+        gives = link_gives s.classes s.slots link theirs.number theirs.class held.number number theirs.at (ap (λ x. find (draft_has_name s.slots x) theirs.class.slots) name_is ∙ held.found);
       };
       other = other;
       there = held.is;
       owned = refl;
-      back = record { to = t.owner; many = back.0.many; inverse = n };
+      back = record { to = t.owner; many = back.0.many; inverse = n; owns = back.0.owns };
       returns = record {
-        to = back.0.to;
-        many = back.0.many;
-        inverse = back.0.inverse;
+        named = drafted_link back.0;
         is = refl;
-        gives = link_gives s.classes s.slots back.0.to back.0.many back.0.inverse t.owner mine.class n my_number mine.at (ap (λ x. find (draft_has_name s.slots x) mine.class.slots) (same_text back.0.inverse t.name ways.1) ∙ mine.found);
+        gives = link_gives s.classes s.slots (drafted_link back.0) t.owner mine.class n my_number mine.at (ap (λ x. find (draft_has_name s.slots x) mine.class.slots) (same_text back.0.inverse t.name ways.1) ∙ mine.found);
       };
       is = refl;
       apart = λ same.
           let two : t ≡ other = some_same t other (sym at ∙ (ap (slice_get s.slots) (sym same) ∙ held.is)) in
           let class : mine.class ≡ theirs.class = some_same mine.class theirs.class (sym mine.at ∙ (ap (λ (d : Draft). slice_get s.classes d.owner) two ∙ theirs.at)) in
-          let to_mine : bytes_eq to mine.class.name ≡ true = subst (λ x. bytes_eq to x ≡ true) (to_is ∙ ap (λ (k : Class). k.name) (sym class)) (itself to) in
-          let back_mine : bytes_eq inverse t.name ≡ true = subst (λ x. bytes_eq inverse x ≡ true) (name_is ∙ ap (λ (d : Draft). d.name) (sym two)) (itself inverse) in
-          itself_refused (bytes_eq to mine.class.name) (bytes_eq inverse t.name) to_mine back_mine parts.0;
+          let to_mine : bytes_eq link.to mine.class.name ≡ true = subst (λ x. bytes_eq link.to x ≡ true) (to_is ∙ ap (λ (k : Class). k.name) (sym class)) (itself link.to) in
+          let back_mine : bytes_eq link.inverse t.name ≡ true = subst (λ x. bytes_eq link.inverse x ≡ true) (name_is ∙ ap (λ (d : Draft). d.name) (sym two)) (itself link.inverse) in
+          itself_refused (bytes_eq link.to mine.class.name) (bytes_eq link.inverse t.name) to_mine back_mine parts.0;
     }
 
 -- the inverse of each link that the walk has let through leads back
 pub walk_pairs : (sets : List LabelSet) (all : List ClassDeclaration) (s : SchemaDraft)
     → try_fold (class_after sets all) (record { classes = []; slots = [] }) all ≡ Ok s → ArePaired s
-walk_pairs sets all s made n d to many inverse at is = pair_of all s n d to many inverse (walk_leaves sets all s made) at is
+walk_pairs sets all s made n d link at is = pair_of all s n d link (walk_leaves sets all s made) at is

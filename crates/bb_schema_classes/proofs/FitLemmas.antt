@@ -30,7 +30,7 @@ use Rattle.bb_schema_classes.specs.Inheritance.{slots_in}
 use Rattle.bb_schema_classes.specs.Inheritance.{parent_of}
 use Rattle.bb_schema_classes.specs.Drafts.{ClassDraft, SchemaDraft, has_slot_named, is_full, with_slot}
 use Rattle.bb_schema_classes.specs.SlotReading.{chosen_label, label_set_number, label_value, default_value, is_long, slot_after}
-use Rattle.bb_schema_classes.specs.LinkReading.{first_named, leads_back, link_after}
+use Rattle.bb_schema_classes.specs.LinkReading.{first_named, leads_back, drafted_link, link_after}
 use Rattle.bb_schema_classes.specs.ClassReading.{focus, parent_number, inherited_slots, class_after}
 use Rattle.bb_schema_classes.specs.Fits.{IsHeld, IsClass, IsDraft, StartsWith}
 use Rattle.bb_schema_classes.specs.Values.{label_counts, is_label, value_fits}
@@ -153,7 +153,7 @@ link_keeps : (sets : List LabelSet) (all : List ClassDeclaration) (class : List 
     → GrowsWell sets owner old base h
 unfolding link_after
 link_keeps sets all class owner old base g h e well made =
-    let draft : Draft = record { name = e.name; owner = owner; content = contents.Link e.to e.many e.inverse } in
+    let draft : Draft = record { name = e.name; owner = owner; content = contents.Link (drafted_link e) } in
     let named = guard_ok (not (is_name e.name)) (here flaws.Name) _ h made in
     let fresh = guard_ok (has_slot_named g e.name) (here flaws.Twice) _ h named.1 in
     let target = bind_ok (ok_or (first_named (λ c. c.name) e.to all) (here flaws.Unknown)) (λ target. if not (leads_back target class e) then Err (here flaws.Inverse) else if is_full g then Err (here flaws.Limit) else Ok (with_slot g draft)) h fresh.1 in

@@ -18,7 +18,7 @@ use Rattle.bb_schema_classes.specs.declared.draft.Draft.{Draft}
 use Rattle.bb_schema_classes.specs.declared.draft.DraftContent.TheVariants as contents
 use Rattle.bb_schema_classes.specs.Drafts.{ClassDraft, SchemaDraft, has_slot_named, draft_has_name, is_full, with_slot}
 use Rattle.bb_schema_classes.specs.SlotReading.{default_value, slot_after}
-use Rattle.bb_schema_classes.specs.LinkReading.{first_named, leads_back, link_after}
+use Rattle.bb_schema_classes.specs.LinkReading.{first_named, leads_back, drafted_link, link_after}
 use Rattle.bb_schema_classes.specs.ClassReading.{focus, parent_number, inherited_slots, class_after}
 use Rattle.bb_schema_classes.specs.Focus.{focus_class, focus_drafts}
 use Rattle.bb_schema_classes.specs.Fits.{StartsWith}
@@ -40,7 +40,7 @@ link_front : (all : List ClassDeclaration) (class : List ℕ) (owner : ℕ) (g h
     → StartsWith g.slots focus_drafts → link_after all class owner g e ≡ Ok h → StartsWith h.slots focus_drafts
 unfolding link_after
 link_front all class owner g h e starts made =
-    let draft : Draft = record { name = e.name; owner = owner; content = contents.Link e.to e.many e.inverse } in
+    let draft : Draft = record { name = e.name; owner = owner; content = contents.Link (drafted_link e) } in
     let named = guard_ok (not (is_name e.name)) (here flaws.Name) _ h made in
     let fresh = guard_ok (has_slot_named g e.name) (here flaws.Twice) _ h named.1 in
     let target = bind_ok (ok_or (first_named (λ c. c.name) e.to all) (here flaws.Unknown)) (λ target. if not (leads_back target class e) then Err (here flaws.Inverse) else if is_full g then Err (here flaws.Limit) else Ok (with_slot g draft)) h fresh.1 in

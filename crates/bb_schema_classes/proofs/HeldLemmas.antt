@@ -13,11 +13,12 @@ use Rattle.bb_schema_classes.specs.Faults.{here}
 use Rattle.bb_schema_classes.specs.declared.label_set.LabelSet.{LabelSet}
 use Rattle.bb_schema_classes.specs.declared.draft.Draft.{Draft}
 use Rattle.bb_schema_classes.specs.declared.draft.DraftContent.{DraftContent}
+use Rattle.bb_schema_classes.specs.declared.draft.LinkDraft.{LinkDraft}
 use Rattle.bb_schema_classes.specs.declared.draft.DraftContent.TheVariants as drafts
 use Rattle.bb_basis.specs.Names.{is_name}
 use Rattle.bb_schema_classes.specs.Drafts.{ClassDraft, draft_has_name, has_slot_named, is_full, with_slot}
 use Rattle.bb_schema_classes.specs.SlotReading.{default_value, is_long, slot_after}
-use Rattle.bb_schema_classes.specs.LinkReading.{first_named, leads_back, link_after}
+use Rattle.bb_schema_classes.specs.LinkReading.{first_named, leads_back, drafted_link, link_after}
 use Rattle.bb_basis.proofs.ResultLemmas.{bind_ok, guard_ok, ok_or_ok, same_ok}
 use Rattle.bb_basis.proofs.AppendLemmas.{some_within, snoc_old, snoc_new, snoc_cases}
 use Rattle.bb_basis.proofs.SearchLemmas.{find_front, find_after, find_same, any_same}
@@ -60,12 +61,16 @@ new_found slots d class_slots all fresh =
 pub record Held (slots : List Draft) (owner : ℕ) (class_slots : List ℕ) (l : LinkDeclaration) : Type 0 where
   pub number : ℕ
   pub found : find (draft_has_name slots l.name) class_slots ≡ Some number
-  pub is : slice_get slots number ≡ Some (record { name = l.name; owner = owner; content = drafts.Link l.to l.many l.inverse })
+  pub is : slice_get slots number ≡ Some (record { name = l.name; owner = owner; content = drafts.Link (drafted_link l) })
+
+-- the entry of a link slot
+abbrev pub declared : List ℕ → LinkDraft → LinkDeclaration
+declared name l = record { name = name; to = l.to; many = l.many; inverse = l.inverse; owns = l.owns }
 
 -- the link of a slot of the class of the name leads back
 abbrev pub LeadsBackIn : List ClassDeclaration → List ℕ → List ℕ → DraftContent → Type 0
 LeadsBackIn all class name (drafts.Default v) = Unit {0}
-LeadsBackIn all class name (drafts.Link to many inverse) = (target : ClassDeclaration) × (first_named (λ c. c.name) to all ≡ Some target) × (leads_back target class (record { name = name; to = to; many = many; inverse = inverse }) ≡ true)
+LeadsBackIn all class name (drafts.Link l) = (target : ClassDeclaration) × (first_named (λ c. c.name) l.to all ≡ Some target) × (leads_back target class (declared name l) ≡ true)
 
 -- a slot of the class that is read, from the number old on
 pub record Own (all : List ClassDeclaration) (class : List ℕ) (owner : ℕ) (g : ClassDraft) (n : ℕ) (t : Draft) : Type 0 where
@@ -123,13 +128,13 @@ record LinkTaken (all : List ClassDeclaration) (class : List ℕ) (owner : ℕ) 
   pub target : ClassDeclaration
   pub there : first_named (λ c. c.name) e.to all ≡ Some target
   pub back : leads_back target class e ≡ true
-  pub is : with_slot g (record { name = e.name; owner = owner; content = drafts.Link e.to e.many e.inverse }) ≡ h
+  pub is : with_slot g (record { name = e.name; owner = owner; content = drafts.Link (drafted_link e) }) ≡ h
 
 link_taken : (all : List ClassDeclaration) (class : List ℕ) (owner : ℕ) (g h : ClassDraft) (e : LinkDeclaration)
     → link_after all class owner g e ≡ Ok h → LinkTaken all class owner g h e
 unfolding link_after
 link_taken all class owner g h e made =
-    let draft : Draft = record { name = e.name; owner = owner; content = drafts.Link e.to e.many e.inverse } in
+    let draft : Draft = record { name = e.name; owner = owner; content = drafts.Link (drafted_link e) } in
     let named = guard_ok (not (is_name e.name)) (here flaws.Name) _ h made in
     let fresh = guard_ok (has_slot_named g e.name) (here flaws.Twice) _ h named.1 in
     let target = bind_ok (ok_or (first_named (λ c. c.name) e.to all) (here flaws.Unknown)) (λ target. if not (leads_back target class e) then Err (here flaws.Inverse) else if is_full g then Err (here flaws.Limit) else Ok (with_slot g draft)) h fresh.1 in
@@ -142,7 +147,7 @@ pub link_step : (all : List ClassDeclaration) (class : List ℕ) (owner : ℕ) (
     → Grows all class owner before h
 link_step all class owner before g h e well made =
     let taken = link_taken all class owner g h e made in
-    subst (Grows all class owner before) taken.is (grow all class owner before g (record { name = e.name; owner = owner; content = drafts.Link e.to e.many e.inverse }) well taken.fresh refl (taken.target, taken.there, taken.back))
+    subst (Grows all class owner before) taken.is (grow all class owner before g (record { name = e.name; owner = owner; content = drafts.Link (drafted_link e) }) well taken.fresh refl (taken.target, taken.there, taken.back))
 
 abbrev pub HeldIn : ℕ → ClassDraft → LinkDeclaration → Type 0
 HeldIn owner g l = Held g.slots owner g.class_slots l
@@ -151,7 +156,7 @@ pub link_mark : (all : List ClassDeclaration) (class : List ℕ) (owner : ℕ) (
     (e : LinkDeclaration) → Grows all class owner before g → link_after all class owner g e ≡ Ok h → HeldIn owner h e
 link_mark all class owner before g h e well made =
     let taken = link_taken all class owner g h e made in
-    let draft : Draft = record { name = e.name; owner = owner; content = drafts.Link e.to e.many e.inverse } in
+    let draft : Draft = record { name = e.name; owner = owner; content = drafts.Link (drafted_link e) } in
     subst (λ (i : ClassDraft). HeldIn owner i e) taken.is (record { number = length g.slots; found = new_found g.slots draft g.class_slots well.class_slots taken.fresh; is = snoc_new g.slots draft })
 
 pub link_stable : (all : List ClassDeclaration) (class : List ℕ) (owner : ℕ) (before : List Draft) (g h : ClassDraft)
@@ -159,4 +164,4 @@ pub link_stable : (all : List ClassDeclaration) (class : List ℕ) (owner : ℕ)
     → HeldIn owner g l → HeldIn owner h l
 link_stable all class owner before g h l e well made held =
     let taken = link_taken all class owner g h e made in
-    subst (λ (i : ClassDraft). HeldIn owner i l) taken.is (held_on g (record { name = e.name; owner = owner; content = drafts.Link e.to e.many e.inverse }) owner l well.class_slots held)
+    subst (λ (i : ClassDraft). HeldIn owner i l) taken.is (held_on g (record { name = e.name; owner = owner; content = drafts.Link (drafted_link e) }) owner l well.class_slots held)

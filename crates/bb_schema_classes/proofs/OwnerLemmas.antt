@@ -25,7 +25,7 @@ use Rattle.bb_schema_classes.specs.declared.draft.Draft.{Draft}
 use Rattle.bb_schema_classes.specs.declared.draft.DraftContent.TheVariants as contents
 use Rattle.bb_schema_classes.specs.Drafts.{ClassDraft, SchemaDraft, has_slot_named, is_full, with_slot}
 use Rattle.bb_schema_classes.specs.SlotReading.{default_value, slot_after}
-use Rattle.bb_schema_classes.specs.LinkReading.{first_named, leads_back, link_after}
+use Rattle.bb_schema_classes.specs.LinkReading.{first_named, leads_back, drafted_link, link_after}
 use Rattle.bb_schema_classes.specs.ClassReading.{parent_number, inherited_slots, class_after}
 use Rattle.bb_schema_classes.specs.Inheritance.{ParentsAreEarlier, parent_of, climbs, descends_in}
 use Rattle.bb_schema_classes.specs.Inheritance.{slots_in}
@@ -145,7 +145,7 @@ link_owns : (all : List ClassDeclaration) (class : List ℕ) (s : SchemaDraft) (
     (e : LinkDeclaration) → OwnsNew s base g → link_after all class (length s.classes) g e ≡ Ok h → OwnsNew s base h
 unfolding link_after
 link_owns all class s base g h e owns made =
-    let draft : Draft = record { name = e.name; owner = length s.classes; content = contents.Link e.to e.many e.inverse } in
+    let draft : Draft = record { name = e.name; owner = length s.classes; content = contents.Link (drafted_link e) } in
     let named = guard_ok (not (is_name e.name)) (here flaws.Name) _ h made in
     let fresh = guard_ok (has_slot_named g e.name) (here flaws.Twice) _ h named.1 in
     let target = bind_ok (ok_or (first_named (λ c. c.name) e.to all) (here flaws.Unknown)) (λ target. if not (leads_back target class e) then Err (here flaws.Inverse) else if is_full g then Err (here flaws.Limit) else Ok (with_slot g draft)) h fresh.1 in

@@ -42,9 +42,11 @@ class_decides a b =
 
 pub link_decides : (a b : Link) → Decides (link_eq.eq-value.it a b) (a ≡ b)
 link_decides a b =
-    Decides-like (link_eq.eq-value.it a b) (λ (h : (a.to ≡ b.to) × (let p : Type 0 = (a.many ≡ b.many) × (a.inverse ≡ b.inverse) in p)) i. record { to = h.0 i; many = h.1.0 i; inverse = h.1.1 i }) (λ h. (ap (λ k. k.to) h, (ap (λ k. k.many) h, ap (λ k. k.inverse) h)))
-    (Decides-and (nat_eq a.to b.to) (beq a.many b.many && nat_eq a.inverse b.inverse) (Decides-eqb a.to b.to)
-    (Decides-and (beq a.many b.many) (nat_eq a.inverse b.inverse) (booleans_Decides a.many b.many) (Decides-eqb a.inverse b.inverse)))
+    Decides-like (link_eq.eq-value.it a b) (λ (h : (a.to ≡ b.to) × (let p : Type 0 = (a.many ≡ b.many) × (let q : Type 0 = (a.inverse ≡ b.inverse) × (a.owns ≡ b.owns) in q) in p)) i. record { to = h.0 i; many = h.1.0 i; inverse = h.1.1.0 i; owns = h.1.1.1 i })
+    (λ h. (ap (λ k. k.to) h, (ap (λ k. k.many) h, (ap (λ k. k.inverse) h, ap (λ k. k.owns) h))))
+    (Decides-and (nat_eq a.to b.to) (beq a.many b.many && (nat_eq a.inverse b.inverse && beq a.owns b.owns)) (Decides-eqb a.to b.to)
+    (Decides-and (beq a.many b.many) (nat_eq a.inverse b.inverse && beq a.owns b.owns) (booleans_Decides a.many b.many)
+    (Decides-and (nat_eq a.inverse b.inverse) (beq a.owns b.owns) (Decides-eqb a.inverse b.inverse) (booleans_Decides a.owns b.owns))))
 
 pub value_decides : (a b : Value) → Decides (value_eq.eq-value.it a b) (a ≡ b)
 value_decides (values.Int x) (values.Int y) = Decides-like (int_eq x y) (λ h. ap values.Int h) (λ h. cc) (Decides-int_eq x y)

@@ -21,7 +21,7 @@ use Rattle.bb_schema_classes.specs.declared.draft.Draft.{Draft}
 use Rattle.bb_schema_classes.specs.declared.draft.DraftContent.TheVariants as contents
 use Rattle.bb_schema_classes.specs.Drafts.{ClassDraft, SchemaDraft, draft_has_name, has_slot_named, is_full, with_slot}
 use Rattle.bb_schema_classes.specs.SlotReading.{default_value, slot_after}
-use Rattle.bb_schema_classes.specs.LinkReading.{first_named, leads_back, link_after}
+use Rattle.bb_schema_classes.specs.LinkReading.{first_named, leads_back, drafted_link, link_after}
 use Rattle.bb_schema_classes.specs.ClassReading.{parent_number, inherited_slots, class_after}
 use Rattle.bb_schema_classes.specs.Inheritance.{slots_in}
 use Rattle.bb_schema_classes.specs.Inheritance.{is_among}
@@ -111,7 +111,7 @@ link_apart : (s : SchemaDraft) (all : List ClassDeclaration) (class : List ℕ) 
     (e : LinkDeclaration) → AreNew s g → link_after all class owner g e ≡ Ok h → AreNew s h
 unfolding link_after
 link_apart s all class owner g h e are made =
-    let draft : Draft = record { name = e.name; owner = owner; content = contents.Link e.to e.many e.inverse } in
+    let draft : Draft = record { name = e.name; owner = owner; content = contents.Link (drafted_link e) } in
     let named = guard_ok (not (is_name e.name)) (here flaws.Name) _ h made in
     let fresh = guard_ok (has_slot_named g e.name) (here flaws.Twice) _ h named.1 in
     let target = bind_ok (ok_or (first_named (λ c. c.name) e.to all) (here flaws.Unknown)) (λ target. if not (leads_back target class e) then Err (here flaws.Inverse) else if is_full g then Err (here flaws.Limit) else Ok (with_slot g draft)) h fresh.1 in

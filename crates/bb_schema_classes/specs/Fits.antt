@@ -1,5 +1,5 @@
 -- What holds of what a walk leaves.
-use Rattle.std.specs.Prelude.{◌≡◌, ◌≢◌, ◌<◌, ◌≤◌, ◌++◌, [], ◌∷◌, ℕ, Bool, true, List, map, length, slice_get, Option, Some, None, Ok, All, IfSome, IsTrue, nat_eq}
+use Rattle.std.specs.Prelude.{◌≡◌, ◌≢◌, ◌<◌, ◌≤◌, ◌++◌, [], ◌∷◌, ℕ, true, List, map, length, slice_get, Option, Some, None, Ok, All, IfSome, IsTrue, nat_eq}
 use Rattle.std.specs.List.{IsDistinct}
 use Rattle.std.specs.List.Sorted.{IsStrictlySortedBy}
 use Rattle.std.specs.Ordering.{nat_cmp}
@@ -15,6 +15,7 @@ use Rattle.bb_schema_classes.specs.declared.kind.Link.{Link as NumberedLink}
 use Rattle.bb_schema_classes.specs.declared.draft.Draft.{Draft}
 use Rattle.bb_schema_classes.specs.declared.draft.DraftContent.{DraftContent}
 use Rattle.bb_schema_classes.specs.declared.draft.DraftContent.TheVariants.{Default, Link}
+use Rattle.bb_schema_classes.specs.declared.draft.LinkDraft.{LinkDraft}
 use Rattle.bb_schema_classes.specs.Naming.{AreNames}
 use Rattle.bb_schema_classes.specs.Values.{label_counts, value_fits}
 use Rattle.bb_schema_classes.specs.Kinds.{kind_of_value}
@@ -48,7 +49,7 @@ StartsWith {X} xs front = (rest : List X) × (xs ≡ front ++ rest)
 -- the default of an ordinary slot
 abbrev pub draft_default : DraftContent → Option Value
 draft_default (Default v) = Some v
-draft_default (Link to many inverse) = None
+draft_default (Link link) = None
 
 -- a slot has a name, is of one of class_count classes, and can hold its default
 pub record IsDraft (sets : List LabelSet) (class_count : ℕ) (d : Draft) : Type 0 where
@@ -73,11 +74,9 @@ AreNamedApart classes slots = (c : ℕ) → c < length classes → AreApart slot
 
 -- what a slot holds is a link by names, which is this one in numbers
 pub record LeadsBy (s : SchemaDraft) (content : DraftContent) (link : NumberedLink) : Type 0 where
-  pub to : List ℕ
-  pub many : Bool
-  pub inverse : List ℕ
-  pub is : content ≡ Link to many inverse
-  pub gives : resolved_link s.classes s.slots to many inverse ≡ Ok link
+  pub named : LinkDraft
+  pub is : content ≡ Link named
+  pub gives : resolved_link s.classes s.slots named ≡ Ok link
 
 -- the link of slot n is there in numbers; its inverse is another slot, of the class it leads to, and leads back
 pub record IsPaired (s : SchemaDraft) (n : ℕ) (d : Draft) : Type 0 where
@@ -93,8 +92,8 @@ pub record IsPaired (s : SchemaDraft) (n : ℕ) (d : Draft) : Type 0 where
 
 -- each link is paired
 abbrev pub ArePaired : SchemaDraft → Type 0
-ArePaired s = (n : ℕ) (d : Draft) (to : List ℕ) (many : Bool) (inverse : List ℕ)
-    → slice_get s.slots n ≡ Some d → d.content ≡ Link to many inverse → IsPaired s n d
+ArePaired s = (n : ℕ) (d : Draft) (link : LinkDraft) → slice_get s.slots n ≡ Some d → d.content ≡ Link link
+    → IsPaired s n d
 
 -- what each walk without a fault leaves
 pub record IsWalked (w : Walked) : Type 0 where

@@ -1,5 +1,5 @@
 -- The links of slots, with numbers in place of names.
-use Rattle.std.specs.Prelude.{ℕ, Bool, List, map, find, position, Result, Ok}
+use Rattle.std.specs.Prelude.{List, map, find, position, Result, Ok}
 use Rattle.std.specs.Str.{bytes_eq}
 use Rattle.bb_basis.specs.Results.{◌>>=◌, ok_or}
 use Rattle.bb_schema_classes.specs.declared.fault.SchemaFault.{SchemaFault}
@@ -8,12 +8,13 @@ use Rattle.bb_schema_classes.specs.declared.fault.SchemaFlaw.TheVariants.{Unknow
 use Rattle.bb_schema_classes.specs.declared.class.Class.{Class}
 use Rattle.bb_schema_classes.specs.declared.kind.Link.{Link}
 use Rattle.bb_schema_classes.specs.declared.draft.Draft.{Draft}
+use Rattle.bb_schema_classes.specs.declared.draft.LinkDraft.{LinkDraft}
 use Rattle.bb_schema_classes.specs.Inheritance.{slots_in}
 use Rattle.bb_schema_classes.specs.Drafts.{draft_has_name}
 
 -- a link by the numbers of its class and of its inverse, which is a slot of that class
-unfoldable pub resolved_link : List Class → List Draft → List ℕ → Bool → List ℕ → Result Link SchemaFault
-resolved_link classes slots to many inverse = do
-  c ← ok_or (position (bytes_eq to) (map (λ k. k.name) classes)) (here Unknown)
-  n ← ok_or (find (draft_has_name slots inverse) (slots_in classes c)) (here Inverse)
-  Ok (record { to = c; many = many; inverse = n })
+unfoldable pub resolved_link : List Class → List Draft → LinkDraft → Result Link SchemaFault
+resolved_link classes slots link = do
+  c ← ok_or (position (bytes_eq link.to) (map (λ k. k.name) classes)) (here Unknown)
+  n ← ok_or (find (draft_has_name slots link.inverse) (slots_in classes c)) (here Inverse)
+  Ok (record { to = c; many = link.many; inverse = n; owns = link.owns })

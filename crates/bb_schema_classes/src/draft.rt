@@ -30,7 +30,16 @@ pub struct Draft {
 #[derive(Drop)]
 pub enum DraftContent {
     Default(Value),
-    Link { to: Text, many: bool, inverse: Text },
+    Link(LinkDraft),
+}
+
+/// A link by names: of the class that it leads to, and of the slot that leads back.
+#[derive(Drop)]
+pub struct LinkDraft {
+    pub to: Text,
+    pub many: bool,
+    pub inverse: Text,
+    pub owns: bool,
 }
 
 /// The classes that were read so far, and all their slots.

@@ -28,7 +28,7 @@ pub enum SchemaFlaw {
     /// An entry refers to something that is not declared.
     #[error("a reference to what is not declared")]
     Unknown,
-    /// The inverse of a link slot does not point back to it.
+    /// The inverse of a link slot does not point back to it, or the slot owns and its inverse is plural or owns too.
     #[error("the inverse of a link slot does not point back")]
     Inverse,
     /// A class of a space lacks a slot for a dimension.

@@ -26,4 +26,6 @@ pub struct Link {
     /// Whether it may hold more than one unit.
     pub many: bool,
     pub inverse: SlotId,
+    /// Whether a unit owns those that it holds, so that they are deleted with the unit.
+    pub owns: bool,
 }

@@ -13,7 +13,7 @@ mod value;
 
 pub use bb_schema_form::{DocumentPlace, ListItem, ListKey};
 pub use class::{Class, ClassId, parent};
-pub use draft::{Draft, DraftContent, SLOT_LIMIT, SchemaDraft};
+pub use draft::{Draft, DraftContent, LinkDraft, SLOT_LIMIT, SchemaDraft};
 pub use fault::{SchemaFault, SchemaFlaw, placed};
 pub use kind::{Kind, Link, SlotId};
 pub use label_set::{LabelId, LabelSet, LabelSetId, Labels};

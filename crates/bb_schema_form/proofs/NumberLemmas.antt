@@ -1,5 +1,5 @@
 -- A number fits 64 bits exactly where the test says so.
-use Rattle.std.proofs.Common.{◌≡◌, ℕ, ℤ, pos, negsuc, ◌<◌, ◌^◌, true, FitsSigned}
+use Rattle.std.proofs.Common.{◌≡◌, ℤ, pos, negsuc, ◌^◌, true, FitsSigned}
 use Rattle.std.specs.Int.{w64}
 use Rattle.std.proofs.lemmas.Bool.{lt-ltb, ltb-true}
 use Rattle.bb_schema_form.specs.Numbers.{is_i64}

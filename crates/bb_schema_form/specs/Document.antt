@@ -28,12 +28,14 @@ pub record SlotDeclaration : Type 0 where
   pub name : List ℕ
   pub default : DefaultDeclaration
 
--- a link slot: the class it leads to, whether it holds many, and the slot that leads back
+-- a link slot: the class it leads to, whether it holds many, the slot that leads back, and whether a unit owns those
+-- that the slot holds
 pub record LinkDeclaration : Type 0 where
   pub name : List ℕ
   pub to : List ℕ
   pub many : Bool
   pub inverse : List ℕ
+  pub owns : Bool
 
 -- a class, with the slots that it adds
 pub record ClassDeclaration : Type 0 where
@@ -79,6 +81,7 @@ link_declaration e = record {
   to = string_bytes e.to;
   many = e.many;
   inverse = string_bytes e.inverse;
+  owns = e.owns;
 }
 
 abbrev pub class_declaration : ClassEntry → ClassDeclaration

@@ -12,7 +12,7 @@ use Rattle.bb_schema_form.specs.Faults.{misshapen, inside}
 use Rattle.bb_schema_form.specs.declared.place.ListKey.TheVariants as lists
 use Rattle.bb_basis.specs.Results.{◌>>=◌, ok_or, try_map_at}
 use Rattle.bb_schema_form.specs.Shapes.{is_object_with, as_whole, as_list, text_at, bool_at, required_list_at, list_at}
-use Rattle.bb_schema_form.specs.Shapes.{optional_text_at}
+use Rattle.bb_schema_form.specs.Shapes.{optional_text_at, optional_bool_at}
 use Rattle.bb_schema_form.specs.Document.{Declarations, LabelSetDeclaration, ClassDeclaration, SlotDeclaration}
 use Rattle.bb_schema_form.specs.Document.{DefaultDeclaration, int_default, text_default, bool_default, label_default}
 use Rattle.bb_schema_form.specs.Document.{interval_default, LinkDeclaration, SpaceDeclaration, DimDeclaration}
@@ -79,14 +79,19 @@ slot_of d = if is_object_with (codes "name" ∷ codes "kind" ∷ codes "of" ∷ 
   default ← default_of kind set (get (codes "default") d)
   Ok (record { name = name; default = default })) else Err misshapen
 
+-- the keys of a link slot
+abbrev pub link_keys : List (List ℕ)
+link_keys = codes "name" ∷ codes "to" ∷ codes "many" ∷ codes "inverse" ∷ codes "owns" ∷ []
+
 -- a link slot
 unfoldable pub link_of : Data → Result LinkDeclaration DocumentFault
-link_of d = if is_object_with (codes "name" ∷ codes "to" ∷ codes "many" ∷ codes "inverse" ∷ []) d then (do
+link_of d = if is_object_with link_keys d then (do
   name ← ok_or (text_at (codes "name") d) misshapen
   to ← ok_or (text_at (codes "to") d) misshapen
   many ← ok_or (bool_at (codes "many") d) misshapen
   inverse ← ok_or (text_at (codes "inverse") d) misshapen
-  Ok (record { name = name; to = to; many = many; inverse = inverse })) else Err misshapen
+  owns ← ok_or (optional_bool_at (codes "owns") d) misshapen
+  Ok (record { name = name; to = to; many = many; inverse = inverse; owns = owns })) else Err misshapen
 
 -- a class
 unfoldable pub class_of : Data → Result ClassDeclaration DocumentFault

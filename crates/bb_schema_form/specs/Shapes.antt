@@ -37,6 +37,10 @@ text_at key d = option_and_then as_str (get key d)
 abbrev pub bool_at : List ℕ → Data → Option Bool
 bool_at key d = option_and_then as_bool (get key d)
 
+-- the truth value under a key; an absent one is false
+abbrev pub optional_bool_at : List ℕ → Data → Option Bool
+optional_bool_at key d = option_map_or as_bool (get key d) (Some false)
+
 -- the list under a key
 abbrev pub required_list_at : List ℕ → Data → Option (List Data)
 required_list_at key d = option_and_then as_list (get key d)

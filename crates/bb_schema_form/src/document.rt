@@ -46,13 +46,16 @@ pub enum DefaultEntry {
     Interval(i64, i64),
 }
 
-/// A link slot of a class: the class that it leads to, whether it holds many units, and the slot that leads back.
+/// A link slot of a class: the class that it leads to, whether it holds many units, the slot that leads back, and
+/// whether a unit owns those that the slot holds, so that they are deleted with it.
 #[derive(Debug, Drop)]
 pub struct LinkEntry {
     pub name: String,
     pub to: String,
     pub many: bool,
     pub inverse: String,
+    /// `false` where the document doesn't say it.
+    pub owns: bool,
 }
 
 /// A space, with the classes that it admits.

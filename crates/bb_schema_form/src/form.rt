@@ -21,7 +21,8 @@ use crate::fault::DocumentFault;
 use crate::parsed::json;
 use crate::place::ListKey;
 use crate::shape::{
-    as_list, bool_at, is_object_with, list_at, optional_text_at, required_list_at, text_at,
+    as_list, bool_at, is_object_with, list_at, optional_bool_at, optional_text_at,
+    required_list_at, text_at,
 };
 use serde_json::Value;
 use std::alloc::{AllocError, Global};
@@ -168,18 +169,20 @@ impl Entry for LinkEntry {
 
     #[tactic(auto, unfolding(crate::specs::Form::link_of))]
     fn of(alloc: Global, value: &Value) -> Result<LinkEntry, DocumentFault> {
-        if !is_object_with(value, &["name", "to", "many", "inverse"]) {
+        if !is_object_with(value, &["name", "to", "many", "inverse", "owns"]) {
             return Err(DocumentFault::misshapen());
         }
         let name = string_at(alloc, value, "name")?;
         let to = string_at(alloc, value, "to")?;
         let many = bool_at(value, "many").ok_or(DocumentFault::misshapen())?;
         let inverse = string_at(alloc, value, "inverse")?;
+        let owns = optional_bool_at(value, "owns").ok_or(DocumentFault::misshapen())?;
         Ok(LinkEntry {
             name,
             to,
             many,
             inverse,
+            owns,
         })
     }
 }

@@ -7,7 +7,7 @@ ghost use Rattle.std.specs.BTreeMap.{keys as map_keys};
 ghost use Rattle.std.specs.Str.{bytes_eq};
 ghost use Rattle.serde_json.specs.View.{view};
 ghost use Rattle.bb_schema_form.specs.Shapes.{is_object_with, as_list, text_at, bool_at, required_list_at, list_at};
-ghost use Rattle.bb_schema_form.specs.Shapes.{optional_text_at};
+ghost use Rattle.bb_schema_form.specs.Shapes.{optional_text_at, optional_bool_at};
 
 use serde_json::{Map, Value};
 
@@ -52,6 +52,17 @@ pub(crate) fn bool_at(value: &Value, key: &str) -> Option<bool>
     ensures { result ≡ bool_at key.now (view value.now) }
 {
     value.get(key)?.as_bool()
+}
+
+/// The truth value under a key of an object, `false` where the key is absent. A value that is no truth value gives
+/// `None`.
+pub(crate) fn optional_bool_at(value: &Value, key: &str) -> Option<bool>
+    ensures { result ≡ optional_bool_at key.now (view value.now) }
+{
+    match value.get(key) {
+        None => Some(false),
+        Some(found) => found.as_bool(),
+    }
 }
 
 /// The list under a key of an object, if there is one.

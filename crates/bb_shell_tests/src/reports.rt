@@ -11,7 +11,7 @@ use std::test::Fail;
 const NO_HEX: &str = "source hail note 1\nwhen create note\ndo 4\n";
 
 // A bundle whose third line has bytes that are no code.
-const NO_CODE: &str = "source hail note 1\nwhen create note\ndo 42424302\n";
+const NO_CODE: &str = "source hail note 1\nwhen create note\ndo 42424303\n";
 
 // The report on sources that are text.
 fn said_of(alloc: Global, sources: &str) -> Result<String, Fail> {
@@ -61,7 +61,7 @@ fn sentences(rt: HostRuntime) -> Result<(), Fail> {
             NOTE_SCHEMA,
             ONE_NOTE,
             NO_CODE,
-            "bundle, line 3: the bytes are no code: their version is not 1
+            "bundle, line 3: the bytes are no code: their version is neither 1 nor 2
   | byte 3 of the code, which has 4",
         ),
         (

@@ -10,13 +10,14 @@ use Rattle.bb_verify_effect.specs.Code.{Code}
 use Rattle.bb_verify_effect.specs.FrameEntry.{FrameEntry}
 use Rattle.bb_verify_effect.specs.Kind.{Kind}
 use Rattle.bb_verify_effect.specs.Kind.TheVariants.{Any, Ref, Old}
+use Rattle.bb_schema.specs.Ownership.{strikes}
 use Rattle.bb_verify_effect.specs.FrameType.{Frame}
 use Rattle.bb_verify_effect.specs.PartType.{Part}
 use Rattle.bb_verify_effect.specs.Each.{each}
 use Rattle.bb_verify.specs.Tables.{known_kind, known_entry, known_frame, tables}
 use Rattle.bb_verify_effect.specs.Effect.{after_delete}
 use Rattle.bb_verify_effect.specs.Frame.{frame_of}
-use Rattle.bb_verify_effect.specs.Kinds.{struck, related}
+use Rattle.bb_verify_effect.specs.Kinds.{struck}
 use Rattle.bb_verify.specs.Places.{with_frames, declared_frames, declared_at, entry_frame, frame_at}
 use Rattle.bb_verify_effect.proofs.Laws.{each_all}
 use Rattle.bb_verify.proofs.TableLemmas.{tables_ok}
@@ -39,7 +40,7 @@ either_known false c = refl
 
 struck_known : (s : Schema) (deleted : ℕ) (k : Kind) → IsKnown k → IsKnown (struck s deleted k)
 unfolding struck
-struck_known s deleted (Ref c) is = either_known (related s c deleted) c
+struck_known s deleted (Ref c) is = either_known (strikes s deleted c) c
 struck_known s deleted _ is = is
 
 known_kept : IsKept AreKnown

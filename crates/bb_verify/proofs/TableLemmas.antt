@@ -16,7 +16,7 @@ use Rattle.bb_verify_effect.specs.PartType.{Part}
 use Rattle.bb_verify_effect.specs.Each.{each}
 use Rattle.bb_verify_effect.specs.Flaws.{fault_at}
 use Rattle.bb_verify_effect.specs.Part.{units_of}
-use Rattle.bb_verify.specs.Tables.{places_rise, known_frame, enough_locals, frames_in_order, table_at, tables}
+use Rattle.bb_verify.specs.Tables.{places_rise, known_frame, enough_locals, frames_in_order, fit_version, table_at, tables}
 use Rattle.bb_verify_effect.specs.Frame.{frame_of}
 use Rattle.bb_verify.specs.Places.{with_frames}
 use Rattle.bb_verify_effect.proofs.Laws.{no_fault}
@@ -74,7 +74,8 @@ units_fit part code h = let g = guard_ok (nat_lt code.locals (length (units_of p
 pub tables_ok : (s : Schema) (part : Part) (code : Code) → tables s part code ≡ Ok tt → InOrder s part code
 unfolding tables frames_in_order
 tables_ok s part code h =
-    let all = bind_ok (map_err (fault_at 0) (frames_in_order s part code)) _ tt h in
+    let version = bind_ok (map_err (fault_at 0) (fit_version s code.version)) _ tt h in
+    let all = bind_ok (map_err (fault_at 0) (frames_in_order s part code)) _ tt version.2 in
     let rise = bind_ok (places_rise 0 (length code.ops) code.frames) _ tt (no_fault (fault_at 0) (frames_in_order s part code) tt all.1) in
     let frames = bind_ok (each (known_frame s) code.frames) _ tt rise.2 in
     record { frames = frames.1; units = units_fit part code frames.2; ops = all.2 }

@@ -2,6 +2,9 @@
 use Rattle.std.specs.Prelude.{ℕ, ◌+◌, nat_le, nat_lt, ◌||◌, List, [], ◌∷◌, length, slice_get, Some, None, Result}
 use Rattle.std.specs.Prelude.{Ok, Err, if◌then◌else◌}
 use Rattle.bb_basis.specs.Results.{◌>>=◌, map_err}
+use Rattle.bb_schema.specs.Ownership.{owns_any}
+use Rattle.bb_code.specs.Version.{Version}
+use Rattle.bb_code.specs.Version.TheVariants.{One, Two}
 use Rattle.bb_verify_effect.specs.Schema.{Schema, name_of_label}
 use Rattle.bb_verify_effect.specs.Code.{Code, places}
 use Rattle.bb_verify_effect.specs.FrameEntry.{FrameEntry}
@@ -78,8 +81,14 @@ unfoldable pub table_at : Schema → Code → ℕ → Result (Unit {0}) VerifyFa
 table_at s code place =
     elim (slice_get code.ops place) [ None ↦ Ok tt | Some op ↦ map_err (fault_at place) (in_tables s code op) ]
 
--- the tables of a code, and then the operands of all its ops
+-- a schema with slots that own takes codes of version 2 alone
+unfoldable pub fit_version : Schema → Version → Result (Unit {0}) Flaw
+fit_version s One = if owns_any s then Err Table else Ok tt
+fit_version s Two = Ok tt
+
+-- the version and the tables of a code, and then the operands of all its ops
 unfoldable pub tables : Schema → Part → Code → Result (Unit {0}) VerifyFault
 tables s part code = do
+  _ ← map_err (fault_at 0) (fit_version s code.version)
   _ ← map_err (fault_at 0) (frames_in_order s part code)
   each (table_at s code) (places code)

@@ -2,9 +2,11 @@
 
 ghost use Rattle.std.specs.Prelude.{◌≡◌};
 ghost use Rattle.bb_verify_effect.specs.Each.{each};
-ghost use Rattle.bb_verify.specs.Tables.{entry, known_kind, known_entry, known_frame, places_rise, enough_locals, frames_in_order, known_label, in_tables, table_at, tables};
+ghost use Rattle.bb_verify.specs.Tables.{entry, known_kind, known_entry, known_frame, places_rise, enough_locals};
+ghost use Rattle.bb_verify.specs.Tables.{frames_in_order, fit_version, known_label, in_tables, table_at, tables};
 ghost use Rattle.bb_verify_effect.specs.Code.{places};
 
+use bb_code::Version;
 use bb_verify_effect::{
     Code, Flaw, FrameEntry, Kind, LabelId, LabelSetId, Op, Part, Place, Schema, VerifyFault,
 };
@@ -166,11 +168,24 @@ fn all_in_tables(schema: &Schema, code: &Code) -> Result<(), VerifyFault>
     Ok(())
 }
 
-/// The tables of a code, and then the operands of all its ops.
+// A schema with slots that own takes codes of version 2 alone: those of version 1 were made for deletions that take no
+// other unit along.
+#[tactic(auto, unfolding(crate::specs::Tables::fit_version))]
+fn fit_version(schema: &Schema, version: Version) -> Result<(), Flaw>
+    ensures { result ≡ fit_version schema.now version }
+{
+    match version {
+        Version::One if schema.owns_any() => Err(Flaw::Table),
+        _ => Ok(()),
+    }
+}
+
+/// The version and the tables of a code, and then the operands of all its ops.
 #[tactic(auto, unfolding(crate::specs::Tables::tables))]
 pub(crate) fn check_tables(schema: &Schema, part: Part, code: &Code) -> Result<(), VerifyFault>
     ensures { result ≡ tables schema.now part code.now }
 {
+    fit_version(schema, code.version()).map_err(|flaw| VerifyFault { place: 0, flaw })?;
     frames_in_order(schema, part, code).map_err(|flaw| VerifyFault { place: 0, flaw })?;
     all_in_tables(schema, code)
 }

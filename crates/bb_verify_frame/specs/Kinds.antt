@@ -1,6 +1,7 @@
 -- Which kinds and frames may stand where others are declared, and what a deletion leaves of a kind (of this project).
-use Rattle.std.specs.Prelude.{ℕ, Bool, true, false, ◌==◌, ◌&&◌, ◌||◌, if◌then◌else◌}
+use Rattle.std.specs.Prelude.{ℕ, Bool, true, false, ◌==◌, ◌&&◌, if◌then◌else◌}
 use Rattle.std.specs.Cmp.Lexicographic.{pointwise}
+use Rattle.bb_schema.specs.Ownership.{strikes}
 use Rattle.bb_code.specs.Schema.{Schema, descends}
 use Rattle.bb_code.specs.Kind.{Kind}
 use Rattle.bb_code.specs.Kind.TheVariants.{Any, Int, Text, Bool as Truth, Label, Interval, Ref, Old, Seq}
@@ -35,11 +36,7 @@ frame_weakens s f declared =
 
 -- ---- what is left of a kind once a unit was deleted
 
--- one of the two classes descends from the other
-abbrev pub related : Schema → (class other : ℕ) → Bool
-related s class other = descends s class other || descends s other class
-
 -- what is still known of a local or an entry of the stack once a unit of a class was deleted
 unfoldable pub struck : Schema → ℕ → Kind → Kind
-struck s deleted (Ref class) = if related s class deleted then Old class else Ref class
+struck s deleted (Ref class) = if strikes s deleted class then Old class else Ref class
 struck s deleted k = k

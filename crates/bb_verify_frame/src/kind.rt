@@ -96,10 +96,7 @@ fn struck(schema: &Schema, deleted: ClassId, kind: Kind) -> Kind
 {
     match kind {
         Kind::Ref(class) => {
-            if schema.descends(class, deleted) {
-                return Kind::Old(class);
-            }
-            if schema.descends(deleted, class) {
+            if schema.strikes(deleted, class) {
                 return Kind::Old(class);
             }
             kind

@@ -8,7 +8,8 @@ ghost use Rattle.bb_basis.specs.Results.{Gives};
 ghost use Rattle.bb_units.specs.Units.{is_live, next_number};
 ghost use Rattle.bb_board_state.specs.Contents.{with_state};
 ghost use Rattle.bb_board_state.specs.Fits.{is_said_of};
-ghost use Rattle.bb_board_state.specs.Links.{after_link, after_unlink, after_delete};
+ghost use Rattle.bb_board_state.specs.Links.{after_link, after_unlink};
+ghost use Rattle.bb_board_state.specs.Deletion.{after_delete};
 ghost use Rattle.bb_board_state.specs.Outlives.{Outlives};
 ghost use Rattle.bb_board_state.specs.Named.{NotesChanges};
 ghost use Rattle.bb_board_state.specs.May.{may_set, may_link};
@@ -87,7 +88,8 @@ impl World {
         Ok(())
     }
 
-    /// Deletes a live unit with all its links, and takes it out of all spaces. Its number is never used again.
+    /// Deletes a live unit with its parts, which are the units that owning slots lead to, their parts, and so on: each with
+    /// all its links, and out of all spaces. Their numbers are never used again.
     pub fn delete(&mut self, unit: UnitId) -> Result<(), Memory>
         requires { IsTrue (is_live self.old.world.units unit) }
         ensures ok { OnOk result (self.new ≡ with_state self.old (after_delete self.old.schema self.old.world unit)) }
@@ -97,8 +99,6 @@ impl World {
     {
         let schema = self.schema.get();
         self.state.delete(self.alloc, schema, unit)?;
-        // For the proof: what holds of the state.
-        self.state.fits();
         Ok(())
     }
 

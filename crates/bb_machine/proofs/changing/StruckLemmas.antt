@@ -1,66 +1,49 @@
--- What is known of values after a delete: live units that may be the one that was deleted are old.
-use Rattle.std.proofs.Common.{◌≡◌, ◌⊎◌, inl, inr, ℕ, Bool, true, false, cond, List, [], ◌∷◌, map, Option, Some, None, option_map, refl, sym, ap, subst, ◌∙◌, arith}
-use Rattle.std.specs.Prelude.{if◌then◌else◌}
-use Rattle.std.specs.List.{AllZip}
-use Rattle.std.specs.Ordering.{nat_cmp, eq_by_cmp}
-use Rattle.std.specs.Cmp.{nat_cmp_total, Equal-is}
-use Rattle.std.specs.FinMap.{get, get-remove, nat_cmp-IsAntisymmetric}
+-- What is known of values after a delete: live units that may have been deleted with the one that was are old.
+use Rattle.std.proofs.Common.{◌≡◌, ℕ, Bool, true, false, List, [], ◌∷◌, map, Option, Some, None, refl, sym, ap, ◌∙◌}
+use Rattle.std.specs.Prelude.{◌==◌, if◌then◌else◌}
+use Rattle.std.specs.List.{AllZip, list_any}
 use Rattle.std.proofs.lemmas.List.Elements.{All-weaker}
-use Rattle.bb_schema.specs.Schema.{Schema, descends}
+use Rattle.bb_schema.specs.Schema.{Schema}
+use Rattle.bb_schema.specs.Ownership.{strikes}
 use Rattle.bb_schema.specs.Fits as schemas
-use Rattle.bb_units.specs.declared.unit.Unit.{Unit as OneUnit}
-use Rattle.bb_units.specs.Units.{Units, class_of, after_delete as without_unit}
-use Rattle.bb_units.specs.Fits as units
-use Rattle.bb_board.specs.Links.{after_delete}
+use Rattle.bb_board.specs.Deletion.{with_parts, after_delete}
+use Rattle.bb_board.specs.Fits.{Fits}
 use Rattle.bb_board.specs.State.{World}
-use Rattle.bb_board.specs.Outlives.{Outlives}
+use Rattle.bb_board.proofs.Laws.{delete_outlives, others_stay, part_is_struck}
 use Rattle.bb_code.specs.Kind.{Kind}
 use Rattle.bb_code.specs.Kind.TheVariants.{Any, Int, Text, Bool as Truth, Label, Interval, Ref, Old, Seq}
 use Rattle.bb_verify.specs.FrameType.{Frame}
-use Rattle.bb_verify.specs.Kinds.{related, struck}
+use Rattle.bb_verify.specs.Kinds.{struck}
 use Rattle.bb_verify.specs.Effect as effects
 use Rattle.bb_machine_step.specs.Values.{Value}
 use Rattle.bb_machine_step.specs.Machine.{Machine}
 use Rattle.bb_machine.specs.Kinds.{IsOf, WasOf, HasKind, LocalHas, Suits}
 use Rattle.bb_machine.proofs.LiveLemmas.{was_of}
 use Rattle.bb_machine.proofs.changing.OutliveLemmas.{was_outlives}
-use Rattle.bb_machine.proofs.changing.RelatedLemmas.{both_related}
 
-left_by : (n k c : ℕ) (b : Bool) (old : Option OneUnit) → option_map (λ x. x.class) (cond b None old) ≡ Some c → option_map (λ x. x.class) old ≡ Some c
-left_by n k c true old is = absurd (let no : (let none : Option ℕ = None in none) ≡ Some c = is in cc)
-left_by n k c false old is = is
-
-pub deleted_outlives : (u : Units) (n : ℕ) → Outlives u (without_unit u n)
-deleted_outlives u n = record {
-  next = omega arith;
-  classes = λ k c lt is. left_by n k c (eq_by_cmp nat_cmp k n) (get u.units k) (sym (ap (option_map (λ x. x.class)) (get-remove nat_cmp_total u.units n k)) ∙ is);
-}
-
-other_by : (n k c : ℕ) (b : Bool) (old : Option OneUnit) → eq_by_cmp nat_cmp k n ≡ b → option_map (λ x. x.class) old ≡ Some c → (k ≡ n) ⊎ (option_map (λ x. x.class) (cond b None old) ≡ Some c)
-other_by n k c true old same is = inl (nat_cmp-IsAntisymmetric k n ((Equal-is (nat_cmp k n)).0 same))
-other_by n k c false old same is = inr is
-
-same_or_left : (u : Units) (n k c : ℕ) (o : (k ≡ n) ⊎ (option_map (λ x. x.class) (cond (eq_by_cmp nat_cmp k n) None (get u.units k)) ≡ Some c)) → (k ≡ n) ⊎ (class_of (without_unit u n) k ≡ Some c)
-same_or_left u n k c (inl same) = inl same
-same_or_left u n k c (inr left) = inr (ap (option_map (λ x. x.class)) (get-remove nat_cmp_total u.units n k) ∙ left)
-
-module _ (s : Schema) (w : World) (sf : schemas.Fits s) (uf : units.Fits w.units) (n class : ℕ) (gone : IsOf s w class n) where
+module _ (s : Schema) (w : World) (sf : schemas.Fits s) (fits : Fits s w) (n class : ℕ) (gone : IsOf s w class n) where
   abbrev after : World
   after = after_delete s w n
 
-  -- a live unit of a class that is not related is another one
-  stays_by : (c k : ℕ) (h : IsOf s w c k) → related s c class ≡ false → (k ≡ n) ⊎ (class_of (without_unit w.units n) k ≡ Some (h.own)) → IsOf s after c k
-  stays_by c k h apart (inl same) =
-      absurd (let own : Some (gone.own) ≡ Some (h.own) = sym gone.is ∙ (ap (class_of w.units) (sym same) ∙ h.is) in
-      let one : gone.own ≡ h.own = cc in
-      let yes_it_is = both_related s h.own c class sf h.under (subst (λ (o : ℕ). descends s o class ≡ true) one gone.under) in
-      let e : true ≡ false = sym yes_it_is ∙ apart in cc)
-  stays_by c k h apart (inr left) = record { own = h.own; is = left; under = h.under }
+  -- what was once given out is so after it, and what was live is no other unit
+  lasts : (c k : ℕ) → WasOf s w c k → WasOf s after c k
+  lasts c k was = was_outlives s w after c k (delete_outlives s w n) was
 
-  struck_by : (c : ℕ) (x : Value) (rel : Bool) → related s c class ≡ rel → HasKind s w (Ref c) x → HasKind s after (if rel then Old c else Ref c) x
-  struck_by c x true is has = (has.0, has.1, was_outlives s w after c has.0 (deleted_outlives w.units n) (was_of s w uf c has.0 has.2))
-  struck_by c x false is has =
-      (has.0, has.1, stays_by c has.0 has.2 is (same_or_left w.units n has.0 has.2.own (other_by n has.0 has.2.own (eq_by_cmp nat_cmp has.0 n) (get w.units.units has.0) refl has.2.is)))
+  -- a live unit of a class that is not struck is no part of the unit
+  no_part : (c k : ℕ) (h : IsOf s w c k) (b : Bool) → strikes s class c ≡ false → list_any (λ x. x == k) (with_parts s w n) ≡ b → b ≡ false
+  no_part c k h true apart part = absurd (let e : true ≡ false = sym (part_is_struck s w sf fits class n gone.own gone.is gone.under k h.own c part h.is h.under) ∙ apart in cc)
+  no_part c k h false apart part = refl
+
+  stays : (c k : ℕ) (h : IsOf s w c k) → strikes s class c ≡ false → IsOf s after c k
+  stays c k h apart = record {
+    own = h.own;
+    is = others_stay s w n k (no_part c k h (list_any (λ x. x == k) (with_parts s w n)) apart refl) ∙ h.is;
+    under = h.under;
+  }
+
+  struck_by : (c : ℕ) (x : Value) (strikes_it : Bool) → strikes s class c ≡ strikes_it → HasKind s w (Ref c) x → HasKind s after (if strikes_it then Old c else Ref c) x
+  struck_by c x true is has = (has.0, has.1, lasts c has.0 (was_of s w fits.units c has.0 has.2))
+  struck_by c x false is has = (has.0, has.1, stays c has.0 has.2 is)
 
   pub has_struck : (k : Kind) (x : Value) → HasKind s w k x → HasKind s after (struck s class k) x
   unfolding struck
@@ -70,9 +53,9 @@ module _ (s : Schema) (w : World) (sf : schemas.Fits s) (uf : units.Fits w.units
   has_struck Truth x has = has
   has_struck (Label set) x has = has
   has_struck Interval x has = has
-  has_struck (Ref c) x has = struck_by c x (related s c class) refl has
-  has_struck (Old c) x has = (has.0, has.1, was_outlives s w after c has.0 (deleted_outlives w.units n) has.2)
-  has_struck (Seq c) x has = (has.0, has.1, All-weaker (WasOf s w c) (WasOf s after c) (λ k. was_outlives s w after c k (deleted_outlives w.units n)) has.0.rest has.2, has.3)
+  has_struck (Ref c) x has = struck_by c x (strikes s class c) refl has
+  has_struck (Old c) x has = (has.0, has.1, lasts c has.0 has.2)
+  has_struck (Seq c) x has = (has.0, has.1, All-weaker (WasOf s w c) (WasOf s after c) (lasts c) has.0.rest has.2, has.3)
 
   local_struck : (k : Kind) (o : Option Value) → LocalHas s w k o → LocalHas s after (struck s class k) o
   unfolding struck

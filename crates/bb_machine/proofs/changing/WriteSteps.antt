@@ -6,13 +6,11 @@ use Rattle.bb_schema_classes.specs.declared.value.Value.{Value as SlotValue}
 use Rattle.bb_schema.specs.Fits as schemas
 use Rattle.bb_units.specs.Layout.{layout_of, can_hold}
 use Rattle.bb_units.specs.Units.{is_live, is_full, has_slot}
-use Rattle.bb_units.proofs.Laws.{deleted_fit}
-use Rattle.bb_links.proofs.Laws.{forget_fits}
 use Rattle.bb_board.specs.Board.{Board, with_world}
 use Rattle.bb_board.specs.Fits.{Fits}
 use Rattle.bb_board.specs.May.{may_link}
 use Rattle.bb_board.specs.World.{after_create, after_set, after_say}
-use Rattle.bb_board.specs.Links.{after_delete}
+use Rattle.bb_board.specs.Deletion.{after_delete}
 use Rattle.bb_board.specs.State.{World}
 use Rattle.bb_board.proofs.Laws.{delete_keeps}
 use Rattle.bb_code.specs.Code.{Code}
@@ -102,9 +100,9 @@ module _ (part : Part) (code : Code) (b : Board) (sf : schemas.Fits b.schema) (f
       let p = pops_live b.schema b.world m f it.class it.rest it.stack suits in
       let alive = is_live_of b.schema b.world fits.units it.class p.n p.of in
       suits_on ops.Delete out.0 (with_stack p.rest m) (after_delete b.schema b.world p.n) (delete b m) out.2 refl (delete_on b m p.n p.rest p.stack alive)
-      (delete_keeps b.schema b.world sf fits p.n alive (deleted_fit b.world.units fits.units p.n) (forget_fits b.world.links p.n fits.links))
+      (delete_keeps b.schema b.world sf fits p.n)
       (subst (Suits b.schema (after_delete b.schema b.world p.n) (with_stack p.rest m)) it.left
-      (suits_struck b.schema b.world sf fits.units p.n it.class p.of (with_stack p.rest m) (frames.with_stack it.rest f) p.suits))
+      (suits_struck b.schema b.world sf fits p.n it.class p.of (with_stack p.rest m) (frames.with_stack it.rest f) p.suits))
 
   new_by : (class : ℕ) (entry : Class) (g : Frame) (full : Bool) → slice_get b.schema.classes class ≡ Some entry → nat_le STACK_LIMIT (length m.stack) ≡ false → Pushed (kinds.Ref class) f g → (Some g, None) ≡ e
       → is_full b.world.units ≡ full → IsSafe b.schema m.place (ops.New class) e (new_unit b class m)

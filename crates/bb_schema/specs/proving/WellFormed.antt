@@ -1,15 +1,24 @@
 -- What holds of the parts of every schema.
-use Rattle.std.specs.Prelude.{◌≡◌, ℕ, List, length}
+use Rattle.std.specs.Prelude.{◌≡◌, ℕ, Bool, List, Option, length, is_some, unwrap_or}
 use Rattle.bb_schema_classes.specs.declared.span.Span.{Span}
 use Rattle.bb_schema_classes.specs.Spans.{AreSpans}
 use Rattle.bb_schema.specs.Schema.{Schema}
 use Rattle.bb_schema.specs.Fits.{Fits}
 use Rattle.bb_schema.specs.Couples.{couples, counts}
+use Rattle.bb_schema.specs.Ownership.{owns_any, related_in, strikes}
+use Rattle.bb_schema.specs.proving.Struck.{struck_at}
 
-pub record IsWellFormed (s : Schema) (couples_before : List ℕ) (couple_count : ℕ) (spans : List Span) : Type 0 where
+-- what is kept of what a delete strikes: nothing where no slot owns, and where nothing is kept of two classes, one
+-- strikes the other if they are related
+pub record IsStruck (s : Schema) (struck : Option (List (List Bool))) : Type 0 where
+  pub owning : is_some struck ≡ owns_any s
+  pub tell : (d c : ℕ) → strikes s d c ≡ unwrap_or (struck_at struck d c) (related_in s.classes d c)
+
+pub record IsWellFormed (s : Schema) (couples_before : List ℕ) (couple_count : ℕ) (spans : List Span) (table : Option (List (List Bool))) : Type 0 where
   pub fits : Fits s
   -- for each slot, the number of couples before it
   pub counted : couples_before ≡ counts 0 0 s.slots
   pub all : couple_count ≡ length (couples s)
   -- the spans are those of the classes
   pub told : AreSpans s.classes spans
+  pub struck : IsStruck s table

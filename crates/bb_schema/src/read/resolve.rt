@@ -18,10 +18,7 @@ fn resolve_content(
 {
     match content {
         DraftContent::Default(value) => Ok(Content::Default(value.clone()?)),
-        DraftContent::Link { to, many, inverse } => {
-            let link = resolve_link(classes, slots, to.as_str(), *many, inverse.as_str())?;
-            Ok(Content::Link(link))
-        }
+        DraftContent::Link(link) => Ok(Content::Link(resolve_link(classes, slots, link)?)),
     }
 }
 

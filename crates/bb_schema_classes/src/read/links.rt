@@ -1,15 +1,14 @@
 //! The link slots of a class, read one entry after another.
 
-ghost use Rattle.std.specs.Prelude.{◌≡◌, IfOk, map, string_bytes};
+ghost use Rattle.std.specs.Prelude.{◌≡◌, IfOk, map};
 ghost use Rattle.bb_basis.specs.Results.{Gives, try_fold_at};
 ghost use Rattle.bb_schema_form.specs.Document.{link_declaration};
 ghost use Rattle.bb_schema_classes.specs.declared.fault.SchemaFault.TheVariants.{Memory as OutOfMemory};
-ghost use Rattle.bb_schema_classes.specs.declared.draft.DraftContent.TheVariants.{Link as LinkByName};
 ghost use Rattle.bb_schema_form.specs.declared.place.ListKey.TheVariants as lists;
 ghost use Rattle.bb_schema_classes.specs.Faults.{inside};
-ghost use Rattle.bb_schema_classes.specs.LinkReading.{leads_to, leads_back, link_after};
+ghost use Rattle.bb_schema_classes.specs.LinkReading.{leads_to, may_own, leads_back, drafted_link, link_after};
 
-use crate::draft::{ClassDraft, Draft, DraftContent, Owner};
+use crate::draft::{ClassDraft, Draft, DraftContent, LinkDraft, Owner};
 use crate::fault::{SchemaFault, SchemaFlaw, placed};
 use crate::read::entries::{ClassIndex, Entries};
 use bb_basis::{Text, is_name};
@@ -22,7 +21,16 @@ fn leads_to(link: &LinkEntry, class: &str, inverse: &str) -> bool
     link.to.as_str() == class && link.inverse.as_str() == inverse
 }
 
-// Whether the class that a link leads to declares its inverse, another slot, which leads back.
+// Whether a link owns nothing, or its inverse is singular and owns nothing. So a unit has one owner at most by a slot,
+// and is no owner of its owner by the same couple.
+fn may_own(link: &LinkEntry, back: &LinkEntry) -> bool
+    ensures { result ≡ may_own (link_declaration link.now) (link_declaration back.now) }
+{
+    !link.owns || (!back.many && !back.owns)
+}
+
+// Whether the class that a link leads to declares its inverse, another slot, which leads back and lets the link own
+// what it holds, if it does.
 fn leads_back(target: &ClassIndex, class: &str, link: &LinkEntry) -> bool
     ensures { result ≡ leads_back target.now class.now (link_declaration link.now) }
 {
@@ -32,18 +40,18 @@ fn leads_back(target: &ClassIndex, class: &str, link: &LinkEntry) -> bool
     }
     match target.link(link.inverse.as_str()) {
         None => false,
-        Some(back) => leads_to(back, class, name),
+        Some(back) => leads_to(back, class, name) && may_own(link, back),
     }
 }
 
-fn link_content(alloc: Global, entry: &LinkEntry) -> Result<DraftContent, AllocError>
-    ensures { IfOk result (λ content. content ≡
-        LinkByName (string_bytes entry.now.to) entry.now.many (string_bytes entry.now.inverse)) }
+fn drafted_link(alloc: Global, entry: &LinkEntry) -> Result<LinkDraft, AllocError>
+    ensures { IfOk result (λ link. link ≡ drafted_link (link_declaration entry.now)) }
 {
-    Ok(DraftContent::Link {
+    Ok(LinkDraft {
         to: Text::from_str(alloc, entry.to.as_str())?,
         many: entry.many,
         inverse: Text::from_str(alloc, entry.inverse.as_str())?,
+        owns: entry.owns,
     })
 }
 
@@ -76,11 +84,11 @@ fn add_link(
         return Err(SchemaFault::here(SchemaFlaw::Limit));
     }
     let name = Text::from_str(alloc, name)?;
-    let content = link_content(alloc, entry)?;
+    let link = drafted_link(alloc, entry)?;
     draft.push(Draft {
         name,
         owner: owner.number,
-        content,
+        content: DraftContent::Link(link),
     })?;
     Ok(())
 }

@@ -6,7 +6,7 @@ ghost use Rattle.bb_schema_classes.specs.Drafts.{draft_has_name};
 ghost use Rattle.bb_schema_classes.specs.Resolution.{resolved_link};
 
 use crate::class::{Class, ClassId};
-use crate::draft::{Draft, draft_has_name};
+use crate::draft::{Draft, LinkDraft, draft_has_name};
 use crate::fault::{SchemaFault, SchemaFlaw};
 use crate::kind::{Link, SlotId};
 use bb_basis::Table;
@@ -28,23 +28,26 @@ fn slot_named(classes: &Table<Class>, slots: &[Draft], class: ClassId, name: &st
     find_draft(slots, found.slots.as_slice(), name)
 }
 
-/// The link to the class of a name, by the inverse of a name in that class, or `Unknown` or `Inverse` where one of
-/// them is not there. It allocates nothing.
+/// A link with the numbers of its class and of its inverse, a slot of that class, or `Unknown` or `Inverse` where one
+/// of them is not there. It allocates nothing.
 #[tactic(auto, unfolding(crate::specs::Resolution::resolved_link))]
 pub fn resolve_link(
     classes: &Table<Class>,
     slots: &[Draft],
-    to: &str,
-    many: bool,
-    inverse: &str,
+    link: &LinkDraft,
 ) -> Result<Link, SchemaFault>
-    ensures { result ≡ resolved_link classes.now slots.now to.now many inverse.now }
+    ensures { result ≡ resolved_link classes.now slots.now link.now }
 {
     let to = classes
-        .index_of(to)
+        .index_of(link.to.as_str())
         .ok_or(SchemaFault::here(SchemaFlaw::Unknown))?;
-    let inverse = slot_named(classes, slots, to, inverse).ok_or(SchemaFault::here(
+    let inverse = slot_named(classes, slots, to, link.inverse.as_str()).ok_or(SchemaFault::here(
         SchemaFlaw::Inverse,
     ))?;
-    Ok(Link { to, many, inverse })
+    Ok(Link {
+        to,
+        many: link.many,
+        inverse,
+        owns: link.owns,
+    })
 }

@@ -6,6 +6,9 @@ use Rattle.bb_schema_classes.specs.declared.read.classes.TheConstants.{CLASS_LIM
 use Rattle.bb_schema_classes.specs.Inheritance.{ParentsAreEarlier}
 use Rattle.bb_schema.specs.declared.slot.Slot.{Slot}
 use Rattle.bb_schema.specs.Couples.{firsts, counts}
+use Rattle.bb_schema.specs.proving.Struck.{struck_table}
+use Rattle.bb_schema.specs.proving.WellFormed.{IsStruck}
+use Rattle.bb_schema.proofs.StruckLemmas.{table_struck}
 use Rattle.bb_schema.proofs.LinkLemmas.{links_are_there}
 use Rattle.bb_schema.proofs.SchemaFitLemmas.{bare_fits, few_resolved}
 use Rattle.bb_schema.proofs.read.bare_schema.Goals as goal
@@ -15,11 +18,14 @@ count_couples-requires c = rw c.deref.ensures.value (few_resolved c.args.walked.
 
 pub invariant_of-result : goal.invariant_of-result
 invariant_of-result c =
-    rw c.new.ensures (record {
-      fits = bare_fits c.args.walked c.in_ok-slots.slots.items c.requires (rw c.as_slice.ensures at c.in_ok-slots.ensures);
+    let fits = bare_fits c.args.walked c.in_ok-slots.slots.items c.requires (rw c.as_slice.ensures at c.in_ok-slots.ensures) in
+    let made = c.in_ok-struck.ensures ∙ (ap (λ (ks : List Class). struck_table ks c.deref-2.result.now) (c.new.ensures ∙ c.as_slice-3.ensures) ∙ ap (λ (ts : List Slot). struck_table c.args.walked.draft.classes ts) c.deref-2.ensures.value) in
+    rw c.new-2.ensures (record {
+      fits = fits;
       counted = c.in_ok-couples_before.ensures.before ∙ ap (counts 0 0) c.deref.ensures.value;
       all = c.in_ok-couples_before.ensures.all ∙ ap (λ (ts : List Slot). length (firsts 0 ts)) c.deref.ensures.value;
       told = rw c.as_slice-2.ensures at c.in_ok-spans.ensures;
+      struck = subst (IsStruck _) (sym made) (table_struck _ fits);
     })
 
 pub spans_of-requires : goal.spans_of-requires

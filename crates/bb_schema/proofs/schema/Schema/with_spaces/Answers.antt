@@ -7,4 +7,4 @@ use Rattle.bb_schema.proofs.schema.Schema.with_spaces.Goals as goal
 pub invariant_of-schema : goal.invariant_of-schema
 invariant_of-schema c =
     let before : Schema = record { label_sets = c.schema.inside.label_sets; classes = c.schema.inside.classes; slots = c.schema.inside.slots.items; spaces = c.schema.inside.spaces } in
-    record { fits = spaced_fits before c.args.spaces c.schema.invariant.fits (subst (λ (s : Schema). AreSpaces s c.args.spaces) (sym c.schema.view_is) c.requires); counted = c.schema.invariant.counted; all = c.schema.invariant.all; told = c.schema.invariant.told }
+    record { fits = spaced_fits before c.args.spaces c.schema.invariant.fits (subst (λ (s : Schema). AreSpaces s c.args.spaces) (sym c.schema.view_is) c.requires); counted = c.schema.invariant.counted; all = c.schema.invariant.all; told = c.schema.invariant.told; struck = record { owning = c.schema.invariant.struck.owning; tell = c.schema.invariant.struck.tell } }
