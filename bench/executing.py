@@ -145,8 +145,8 @@ def activated(source):
 # ---- the same sums elsewhere
 
 
-def in_lua(statements, has_turns=True):
-    inner = f"for j = 1, #words do local b = words[j] {statements} end" if has_turns else ""
+def in_lua(statements, loops=1):
+    inner = f"for j = 1, #words do local b = words[j] {statements} end " * loops
     return f"""
 local function nothing() end
 local words = {{}}
@@ -157,7 +157,7 @@ print(x)
 """
 
 
-def in_wat(statements, has_turns=True):
+def in_wat(statements, loops=1):
     """Words are numbers of 8 bytes in memory; `$a` and `$b` are their places."""
     inner = f"""(local.set $b (i32.const 0))
       (loop $inner {statements}
@@ -173,7 +173,7 @@ def in_wat(statements, has_turns=True):
       (br_if $fill (i32.lt_u (local.get $a) (i32.const {8 * WORDS}))))
     (local.set $a (i32.const 0))
     (loop $outer
-      {inner if has_turns else ""}
+      {inner * loops}
       (local.set $a (i32.add (local.get $a) (i32.const 8)))
       (br_if $outer (i32.lt_u (local.get $a) (i32.const {8 * WORDS}))))
     (local.get $x)))
@@ -191,10 +191,12 @@ def sums():
 
 
 def turns():
-    """The search for the words of an inner loop is in both."""
-    bb = in_loops(""), in_loop("let n = size(find word in board);")
-    lua, wat = (in_lua(""), in_lua("", has_turns=False)), (in_wat(""), in_wat("", has_turns=False))
-    yield Row("a turn of the inner loop", PAIRS, bb, lua, wat)
+    """Inner loops one after another. The searches for their words are in both."""
+    loops = 10
+    searches = "".join(f"let n{it} = size(find word in board); " for it in range(loops))
+    bb = in_loop(over_words("b", "") * loops), in_loop(searches)
+    lua, wat = (in_lua("", loops), in_lua("", 0)), (in_wat("", loops), in_wat("", 0))
+    yield Row("a turn of the inner loop", PAIRS * loops, bb, lua, wat)
 
 
 def parts():
