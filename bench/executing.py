@@ -1,6 +1,7 @@
 #!/usr/bin/env python3
 """Runs sources that verified code is compiled from, and prints what a step and a statement of them cost, as a table of
-docs/PERFORMANCE.md. Where Lua 5.4 and the interpreter of wabt are on the path, they do the same sums beside it.
+docs/contributors/PERFORMANCE.md. Where Lua 5.4 and the interpreter of wabt are on the path, they do the same sums
+beside it.
 
     bench/executing.py crates/bb/out/bb [--runs N] [--only WORD]
 

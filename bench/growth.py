@@ -1,5 +1,5 @@
 #!/usr/bin/env python3
-"""Runs the program on inputs of growing size, and prints what each took as the tables of docs/PERFORMANCE.md.
+"""Runs the program on inputs of growing size, and prints what each took, as docs/contributors/PERFORMANCE.md has it.
 
     bench/growth.py crates/bb/out/bb [--runs N] [--only WORD] [--seconds S]
 

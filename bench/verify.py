@@ -1,6 +1,6 @@
 #!/usr/bin/env python3
 """Has the program decode and verify as many sources of some kinds as an input may have, and prints what that costs, as
-the tables of docs/PERFORMANCE.md.
+the tables of docs/contributors/PERFORMANCE.md.
 
     bench/verify.py crates/bb/out/bb crates/bbasm/out/bbasm [--runs N]
 

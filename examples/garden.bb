@@ -14,7 +14,7 @@
            {"name": "b", "class": "bed", "slots": {"name": "mint", "water": 6}}],
  "spaces": [["a", "garden"], ["b", "garden"]]}
 %sources
-// Beds that want water, and what waters them. docs/LANGUAGE.md builds it in steps.
+// Beds that want water, and what waters them. docs/users/LANGUAGE.md builds it in steps.
 
 source want on bed {
   when update bed.water;

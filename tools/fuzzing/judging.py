@@ -1,4 +1,4 @@
-"""Judges what the program makes of an input: what no run may do, as docs/formats has it."""
+"""Judges what the program makes of an input: what no run may do, as docs/users/formats has it."""
 
 import re
 import subprocess

@@ -1,4 +1,4 @@
-"""What foci add to ratings, as docs/formats/trace.md has it, as far as an input and a trace tell."""
+"""What foci add to ratings, as docs/users/formats/trace.md has it, as far as an input and a trace tell."""
 
 from collections import Counter
 from typing import NamedTuple

@@ -1,4 +1,4 @@
-"""The forms of the lines of a trace and of refusals, as docs/formats/trace.md has them."""
+"""The forms of the lines of a trace and of refusals, as docs/users/formats/trace.md has them."""
 
 import re
 

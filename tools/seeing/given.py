@@ -1,4 +1,4 @@
-"""Reads an input, as docs/formats/inputs.md has it: what a page shows of a run that its trace does not tell.
+"""Reads an input, as docs/users/formats/inputs.md has it: what a page shows of a run that its trace does not tell.
 
 An input of a run was accepted by the program, so only what a page needs is looked at.
 """

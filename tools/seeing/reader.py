@@ -1,4 +1,4 @@
-"""Reads a trace, as docs/formats/trace.md has it: its lines, and what they say of steps, activations and units.
+"""Reads a trace, as docs/users/formats/trace.md has it: its lines, and what they say of steps, activations and units.
 
 With the input of the run it knows more: what first units are called, and what foci weigh until a code sets them.
 """

@@ -1,5 +1,5 @@
 /* The blackboard shell as a library. Link `out/libbb_c.a` of this crate, and behind it the kit's `c/lib*_c.a`, as
-   `examples/c/try` does; `docs/EMBEDDING.md` has more. */
+   `examples/c/try` does; `docs/hosts/C_AND_PYTHON.md` has more. */
 #ifndef BB_H
 #define BB_H
 

@@ -1,7 +1,7 @@
 //! The program that runs cases: it reads files of cases, makes their calls, and compares what comes of them with what
 //! should.
 //!
-//! - In: the `.case` files of `data/`, as docs/CASES.md describes them.
+//! - In: the `.case` files of `data/`, as docs/contributors/CASES.md describes them.
 //! - Out: a line for each case that does not hold, and the numbers of those that hold and do not.
 //! - Family: bb_cases_format reads the files.
 #![tactic(auto)]

@@ -16,7 +16,7 @@ use bb_code::{
 use serde_json::Value;
 use std::alloc::Global;
 
-/// The code that a text is, or the first statement that is wrong. `docs/formats/code.md` says how codes are written.
+/// The code that a text is, or the first statement that is wrong. docs/users/formats/code.md says how one is written.
 pub fn assemble(alloc: Global, text: &str) -> Result<Code, AsmFault> {
     let statements = statements_of(alloc, text)?;
     let labels = Labels::of(alloc, &statements)?;

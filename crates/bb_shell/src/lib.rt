@@ -4,7 +4,7 @@
 //! - Out: `run_texts` runs them, `check_texts` reports what their sources cost, `compile_texts` is the bundle of their
 //!   texts; a `Shell` holds a blackboard and sources for hosts that run more than once.
 //! - Callers rely on: the first fault in the order of the texts refuses the input, and then nothing is written.
-//! - Hosts: docs/EMBEDDING.md, and bb_shell_host, which is one.
+//! - Hosts: docs/hosts/EMBEDDING.md, and bb_shell_host, which is one.
 //! - Cases: `refusals`, `check`, `examples_in_text`, `language`, `model-texts`, `model-checks`; tests in
 //!   bb_shell_tests.
 #![tactic(auto)]

@@ -1,5 +1,5 @@
 //! A host of the shell, whole: a native of its own (pricer.rt), an output of its own (ledger.rt), and a run with both.
-//! docs/EMBEDDING.md goes through it.
+//! docs/hosts/EMBEDDING.md goes through it.
 #![tactic(auto)]
 
 ghost use Rattle.std.specs.Prelude.{◌≡◌, false};
