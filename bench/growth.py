@@ -43,6 +43,7 @@ KINDS = source_texts.kinds(short) + [
     ("Units that enter 256 spaces", "pairs", inputs.everywhere, [("short", short)], 12_800, 409_600),
     ("Units set and deleted beside 256 spaces", "units", inputs.cleared, [("short", short)], 4_096, 65_536),
     ("Reactions to events of the activation's own unit", "units", inputs.reacting, [("short", short)], 4_096, 65_536),
+    ("A focus with a long area, set again and again", "units", inputs.weighed, [("short", short)], 128, 65_535),
     ("Values of no slot", "values", inputs.values_of_no_slot, [("others", other), ("colliding", colliding)], 12_500, 400_000),
     ("Class entries", "classes", inputs.classes, [("others", other), ("colliding", colliding)], 10_000, 320_000),
     ("Links to a class of many slots", "slots", inputs.inverses, [("short", short)], 18_750, 300_000),

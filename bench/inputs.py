@@ -231,6 +231,23 @@ def reacting(name, count):
     yield OWN
 
 
+QUIET = "source quiet%d on word { when delete word; rate 1; do { } }\n"
+WEIGH = """source weigh on focus { when create focus; rate 1; do {
+  with f = it as focus { for w in find word in board { set f.weight = 1; } }
+} }
+"""
+
+
+def weighed(name, count):
+    """A focus whose area is as long a text as there may be, set once for each unit, beside 256 sources."""
+    yield '%schema\n{"classes":[{"name":"word"}],"spaces":[{"name":"board","classes":["word"],"dims":[]}]}\n%units\n{"units":['
+    yield '{"name":"f","class":"focus","slots":{"area":"%s"}},' % ("a" * 65_535)
+    yield from separated('{"name":"%s","class":"word"}' % name(i) for i in range(count))
+    yield '],"spaces":['
+    yield from separated('["%s","board"]' % name(i) for i in range(count))
+    yield "]}\n%sources\n" + "".join(QUIET % i for i in range(255)) + WEIGH
+
+
 def objects(name, count):
     """A document of so many objects of one key."""
     yield '%schema\n{"classes":['

@@ -2,11 +2,8 @@
 use Rattle.std.proofs.Common.{◌≡◌, ℕ, zero, suc, ◌+◌, ◌≤◌, ℤ, Bool, true, false, cond, ◌==◌, List, [], ◌∷◌, ◌++◌, length, map, filter, find, Option, Some, None, refl, sym, ap, subst, ◌∙◌, arith, ◌<◌, ◌||◌, ◌⊎◌, inl, inr, eqb-true, eq-eqb, ne_eqb, leb-false}
 use Rattle.std.specs.List.{AllByRecursion, filter_map, range_with_len}
 use Rattle.std.specs.Option.{option_map_or, option_or}
-use Rattle.std.specs.Ordering.{nat_cmp, is_eq}
-use Rattle.std.specs.BTreeMap.{is_at}
-use Rattle.std.specs.Prelude.{nat_le, nat_lt, option_map, is_some}
-use Rattle.std.specs.declared.cmp.Ordering.TheVariants.{Less, Equal, Greater}
-use Rattle.std.proofs.lemmas.Bool.{or_parts, le-ltb, cases_lt}
+use Rattle.std.specs.Prelude.{nat_le, option_map, is_some}
+use Rattle.std.proofs.lemmas.Bool.{or_parts, cases_lt}
 use Rattle.std.proofs.lemmas.List.Elements.{filter_map-append}
 use Rattle.std.proofs.lemmas.List.Folds.{find-append}
 use Rattle.std.proofs.lemmas.List.FromFn.{length-map-range_with_len, map-range_with_len_more, get_or-map-range_with_len}
@@ -19,7 +16,7 @@ use Rattle.bb_agenda_foci.specs.Foci.{Foci, Setting}
 use Rattle.bb_agenda.specs.Changes.{with_activation, becoming, based_at, other_than, rebased}
 use Rattle.bb_agenda.specs.declared.agenda.TheConstants.{PENDING_LIMIT, NUMBER_LIMIT}
 use Rattle.bb_agenda.specs.Fits.{RisesBy, Fits}
-use Rattle.bb_agenda.specs.proving.Kept.{is_gone, entry_in, entries_of, IsKept}
+use Rattle.bb_agenda.specs.proving.Kept.{entry_in, entries_of, IsKept}
 use Rattle.bb_agenda.proofs.AgendaLemmas.{pending_over, pending_changed, entry_rebased}
 use Rattle.bb_agenda.proofs.ChosenLemmas.{each_more, each_weaker, find_none, found_passes, found_holds}
 use Rattle.bb_agenda.proofs.FoundLemmas.{not_found_less, found_less, found_rebased}
@@ -32,12 +29,12 @@ by_gone false e f same = same refl
 
 -- ---- the lists
 
-pub given_kept : (given : ℕ) (kept : List Activation) (gone : List ℕ) → length (entries_of given kept gone) ≡ given
+pub given_kept : (given : ℕ) (kept : List Activation) (gone : ℕ → Bool) → length (entries_of given kept gone) ≡ given
 unfolding entries_of
 given_kept given kept gone = length-map-range_with_len (entry_in kept gone) 1 given
 
 -- a change of each entry
-pub entries_become : (given : ℕ) (kept left : List Activation) (gone went : List ℕ) (f : Entry → Entry) → ((n : ℕ) → entry_in left went n ≡ f (entry_in kept gone n))
+pub entries_become : (given : ℕ) (kept left : List Activation) (gone went : ℕ → Bool) (f : Entry → Entry) → ((n : ℕ) → entry_in left went n ≡ f (entry_in kept gone n))
     → entries_of given left went ≡ map f (entries_of given kept gone)
 unfolding entries_of
 entries_become given kept left gone went f each = all (range_with_len 1 given)
@@ -47,26 +44,26 @@ entries_become given kept left gone went f each = all (range_with_len 1 given)
     all (n ∷ ns) = ap (λ e. e ∷ map (entry_in left went) ns) (each n) ∙ ap (λ es. f (entry_in kept gone n) ∷ es) (all ns)
 
 -- the agenda is full, by what the code keeps
-pub full_kept : (given : ℕ) (kept : List Activation) (gone : List ℕ) (foci : Foci) (setting : Setting) (refused : Bool) → IsKept given kept gone
+pub full_kept : (given : ℕ) (kept : List Activation) (gone : ℕ → Bool) (foci : Foci) (setting : Setting) (refused : Bool) → IsKept given kept gone
     → is_full (record { given = entries_of given kept gone; foci = foci; setting = setting; refused = refused }) ≡ (nat_le PENDING_LIMIT (length kept) || nat_le NUMBER_LIMIT given)
 full_kept given kept gone foci setting refused k =
     ap (λ l. nat_le PENDING_LIMIT (length l) || nat_le NUMBER_LIMIT (length (entries_of given kept gone))) k.all
     ∙ ap (λ n. nat_le PENDING_LIMIT (length kept) || nat_le NUMBER_LIMIT n) (given_kept given kept gone)
 
-pub more_numbers : (given : ℕ) (kept : List Activation) (gone : List ℕ) (foci : Foci) (setting : Setting) (refused : Bool) → IsKept given kept gone
+pub more_numbers : (given : ℕ) (kept : List Activation) (gone : ℕ → Bool) (foci : Foci) (setting : Setting) (refused : Bool) → IsKept given kept gone
     → is_full (record { given = entries_of given kept gone; foci = foci; setting = setting; refused = refused }) ≡ false → given < NUMBER_LIMIT
 more_numbers given kept gone foci setting refused k room =
     leb-false NUMBER_LIMIT given (or_parts (nat_le PENDING_LIMIT (length kept)) (nat_le NUMBER_LIMIT given) (sym (full_kept given kept gone foci setting refused k) ∙ room)).1
 
 -- ---- no activation was given
 
-pub kept_first : IsKept 0 [] []
+pub kept_first : (gone : ℕ → Bool) → ((n : ℕ) → gone n ≡ false) → IsKept 0 [] gone
 unfolding entries_of
-kept_first = record { numbers = tt; gone_given = λ n lt. refl; all = refl }
+kept_first gone none = record { numbers = tt; gone_given = λ n lt. none n; all = refl }
 
-pub none_kept : entries_of 0 [] [] ≡ []
+pub none_kept : (gone : ℕ → Bool) → entries_of 0 [] gone ≡ []
 unfolding entries_of
-none_kept = refl
+none_kept gone = refl
 
 -- ---- an activation is added
 
@@ -74,18 +71,18 @@ or_none : (o : Option Activation) → option_or o None ≡ o
 or_none (Some a) = refl
 or_none None = refl
 
-entry_before : (kept : List Activation) (gone : List ℕ) (a : Activation) (n : ℕ) → has_number n a ≡ false → entry_in (kept ++ a ∷ []) gone n ≡ entry_in kept gone n
+entry_before : (kept : List Activation) (gone : ℕ → Bool) (a : Activation) (n : ℕ) → has_number n a ≡ false → entry_in (kept ++ a ∷ []) gone n ≡ entry_in kept gone n
 entry_before kept gone a n other =
-    ap (λ o. cond (is_gone gone n) obviated (option_map_or pending o executed))
+    ap (λ o. cond (gone n) obviated (option_map_or pending o executed))
     (find-append (has_number n) kept (a ∷ []) ∙ ap (option_or (find (has_number n) kept)) (ap (λ b. cond b (Some a) None) other) ∙ or_none (find (has_number n) kept))
 
-entry_last : (kept : List Activation) (gone : List ℕ) (a : Activation) (n : ℕ) → a.number ≡ n → is_gone gone n ≡ false → find (has_number n) kept ≡ None → entry_in (kept ++ a ∷ []) gone n ≡ pending a
+entry_last : (kept : List Activation) (gone : ℕ → Bool) (a : Activation) (n : ℕ) → a.number ≡ n → gone n ≡ false → find (has_number n) kept ≡ None → entry_in (kept ++ a ∷ []) gone n ≡ pending a
 entry_last kept gone a n is stays none =
     ap (λ b. cond b obviated (option_map_or pending (find (has_number n) (kept ++ a ∷ [])) executed)) stays
     ∙ ap (λ o. option_map_or pending o executed)
     (find-append (has_number n) kept (a ∷ []) ∙ ap (λ o. option_or o (find (has_number n) (a ∷ []))) none ∙ ap (λ b. cond b (Some a) None) (eq-eqb a.number n is))
 
-entries_before : (kept : List Activation) (gone : List ℕ) (a : Activation) (n : ℕ) → n + 1 ≤ a.number → map (entry_in (kept ++ a ∷ []) gone) (range_with_len 1 n) ≡ map (entry_in kept gone) (range_with_len 1 n)
+entries_before : (kept : List Activation) (gone : ℕ → Bool) (a : Activation) (n : ℕ) → n + 1 ≤ a.number → map (entry_in (kept ++ a ∷ []) gone) (range_with_len 1 n) ≡ map (entry_in kept gone) (range_with_len 1 n)
 entries_before kept gone a zero le = refl
 entries_before kept gone a (suc n) le =
     let e : suc n ≡ n + 1 = omega arith in
@@ -96,7 +93,7 @@ entries_before kept gone a (suc n) le =
     ∙ ap (λ s. map (entry_in kept gone) (range_with_len 1 n) ++ s ∷ []) (entry_before kept gone a (suc n) (ne_eqb a.number (suc n) (λ is. omega (arith, is, le))))
     ∙ sym (map-range_with_len_more (entry_in kept gone) 1 n (suc n) below))
 
-module _ (given : ℕ) (kept : List Activation) (gone : List ℕ) (k : IsKept given kept gone) (a : Activation) (is : a.number ≡ given + 1) where
+module _ (given : ℕ) (kept : List Activation) (gone : ℕ → Bool) (k : IsKept given kept gone) (a : Activation) (is : a.number ≡ given + 1) where
   pub all_below : AllByRecursion (λ b. b.number < a.number) kept
   all_below = each_weaker (λ b. b.number ≤ given) (λ b. b.number < a.number) (λ b le. omega (arith, is, le)) kept k.numbers
 
@@ -150,11 +147,11 @@ becoming_gone : (number : ℕ) (f : Activation → Entry) (t : Bool) (e : Entry)
 becoming_gone number f true e = refl
 becoming_gone number f false e = refl
 
-entry_executed : (number n : ℕ) (kept : List Activation) (gone : List ℕ) (t : Bool) → (n == number) ≡ t → entry_in (filter (other_than number) kept) gone n ≡ becoming number (λ _. executed) (entry_in kept gone n)
+entry_executed : (number n : ℕ) (kept : List Activation) (gone : ℕ → Bool) (t : Bool) → (n == number) ≡ t → entry_in (filter (other_than number) kept) gone n ≡ becoming number (λ _. executed) (entry_in kept gone n)
 entry_executed number n kept gone true same =
-    by_gone (is_gone gone n) (option_map_or pending (find (has_number n) (filter (other_than number) kept)) executed) (becoming number (λ _. executed) (option_map_or pending (find (has_number n) kept) executed))
+    by_gone (gone n) (option_map_or pending (find (has_number n) (filter (other_than number) kept)) executed) (becoming number (λ _. executed) (option_map_or pending (find (has_number n) kept) executed))
     (λ stays. ap (λ o. option_map_or pending o executed) (subst (λ m. find (has_number m) (filter (other_than number) kept) ≡ None) (sym is) (not_found_less number kept)) ∙ sym (at (find (has_number n) kept) refl))
-    ∙ sym (becoming_gone number (λ _. executed) (is_gone gone n) (option_map_or pending (find (has_number n) kept) executed))
+    ∙ sym (becoming_gone number (λ _. executed) (gone n) (option_map_or pending (find (has_number n) kept) executed))
   where
     is : n ≡ number
     is = eqb-true n number same
@@ -163,11 +160,11 @@ entry_executed number n kept gone true same =
     at None found = refl
     at (Some a) found = ap (λ b. cond b executed (pending a)) (subst (λ m. has_number m a ≡ true) is (found_passes (has_number n) kept a found))
 entry_executed number n kept gone false other =
-    ap (λ o. cond (is_gone gone n) obviated (option_map_or pending o executed)) (found_less number n kept other)
-    ∙ ap (λ e. cond (is_gone gone n) obviated e) (sym (found_entry number n kept (λ _. executed) other))
-    ∙ sym (becoming_gone number (λ _. executed) (is_gone gone n) (option_map_or pending (find (has_number n) kept) executed))
+    ap (λ o. cond (gone n) obviated (option_map_or pending o executed)) (found_less number n kept other)
+    ∙ ap (λ e. cond (gone n) obviated e) (sym (found_entry number n kept (λ _. executed) other))
+    ∙ sym (becoming_gone number (λ _. executed) (gone n) (option_map_or pending (find (has_number n) kept) executed))
 
-module _ (given : ℕ) (kept : List Activation) (gone : List ℕ) (number : ℕ) where
+module _ (given : ℕ) (kept : List Activation) (gone : ℕ → Bool) (number : ℕ) where
   pub executed_kept : entries_of given (filter (other_than number) kept) gone ≡ map (becoming number (λ _. executed)) (entries_of given kept gone)
   executed_kept = entries_become given kept (filter (other_than number) kept) gone gone (becoming number (λ _. executed)) (λ n. entry_executed number n kept gone (n == number) refl)
 
@@ -178,26 +175,15 @@ module _ (given : ℕ) (kept : List Activation) (gone : List ℕ) (number : ℕ)
     all = ap (filter_map if_pending) executed_kept ∙ pending_over executed refl number (entries_of given kept gone) ∙ ap (filter (other_than number)) k.all;
   }
 
--- whether the query of a number is that of another
-own_query : (number n : ℕ) (t : Bool) → (n == number) ≡ t → is_at (nat_cmp number) n ≡ t
-own_query number n true same = subst (λ m. is_at (nat_cmp m) n ≡ true) (eqb-true n number same) (rw (le-ltb n n (omega arith), eq-eqb n n refl) refl)
-own_query number n false other =
-    let apart : (number == n) ≡ false = ne_eqb number n (λ same. let e : (n == number) ≡ true = eq-eqb n number (sym same) in absurd cc) in
-    ap (λ c. is_eq (cond (nat_lt number n) Less (cond c Equal Greater))) apart ∙ at (nat_lt number n)
-  where
-    at : (b : Bool) → is_eq (cond b Less Greater) ≡ false
-    at true = refl
-    at false = refl
-
 -- the numbers that were obviated, with one more
-abbrev pub IsOneMore : ℕ → List ℕ → List ℕ → Type 0
-IsOneMore number gone went = (n : ℕ) → is_gone went n ≡ cond (is_at (nat_cmp number) n) true (is_gone gone n)
+abbrev pub IsOneMore : ℕ → (gone went : ℕ → Bool) → Type 0
+IsOneMore number gone went = (n : ℕ) → went n ≡ cond (n == number) true (gone n)
 
-module _ (given : ℕ) (kept : List Activation) (gone went : List ℕ) (number : ℕ) (a : Activation) (there : find (has_number number) kept ≡ Some a) (more : IsOneMore number gone went) where
+module _ (given : ℕ) (kept : List Activation) (gone went : ℕ → Bool) (number : ℕ) (a : Activation) (there : find (has_number number) kept ≡ Some a) (more : IsOneMore number gone went) where
   entry_obviated : (n : ℕ) (t : Bool) → (n == number) ≡ t → entry_in (filter (other_than number) kept) went n ≡ becoming number (λ _. obviated) (entry_in kept gone n)
   entry_obviated n true same =
-      ap (λ b. cond b obviated (option_map_or pending (find (has_number n) (filter (other_than number) kept)) executed)) (more n ∙ ap (λ b. cond b true (is_gone gone n)) (own_query number n true same))
-      ∙ sym (becoming_gone number (λ _. obviated) (is_gone gone n) (option_map_or pending (find (has_number n) kept) executed) ∙ at (is_gone gone n))
+      ap (λ b. cond b obviated (option_map_or pending (find (has_number n) (filter (other_than number) kept)) executed)) (more n ∙ ap (λ b. cond b true (gone n)) same)
+      ∙ sym (becoming_gone number (λ _. obviated) (gone n) (option_map_or pending (find (has_number n) kept) executed) ∙ at (gone n))
     where
       is : n ≡ number
       is = eqb-true n number same
@@ -211,10 +197,10 @@ module _ (given : ℕ) (kept : List Activation) (gone went : List ℕ) (number :
       at true = refl
       at false = found
   entry_obviated n false other =
-      ap (λ b. cond b obviated (option_map_or pending (find (has_number n) (filter (other_than number) kept)) executed)) (more n ∙ ap (λ b. cond b true (is_gone gone n)) (own_query number n false other))
-      ∙ ap (λ o. cond (is_gone gone n) obviated (option_map_or pending o executed)) (found_less number n kept other)
-      ∙ ap (λ e. cond (is_gone gone n) obviated e) (sym (found_entry number n kept (λ _. obviated) other))
-      ∙ sym (becoming_gone number (λ _. obviated) (is_gone gone n) (option_map_or pending (find (has_number n) kept) executed))
+      ap (λ b. cond b obviated (option_map_or pending (find (has_number n) (filter (other_than number) kept)) executed)) (more n ∙ ap (λ b. cond b true (gone n)) other)
+      ∙ ap (λ o. cond (gone n) obviated (option_map_or pending o executed)) (found_less number n kept other)
+      ∙ ap (λ e. cond (gone n) obviated e) (sym (found_entry number n kept (λ _. obviated) other))
+      ∙ sym (becoming_gone number (λ _. obviated) (gone n) (option_map_or pending (find (has_number n) kept) executed))
 
   pub obviated_kept : entries_of given (filter (other_than number) kept) went ≡ map (becoming number (λ _. obviated)) (entries_of given kept gone)
   obviated_kept = entries_become given kept (filter (other_than number) kept) gone went (becoming number (λ _. obviated)) (λ n. entry_obviated n (n == number) refl)
@@ -222,7 +208,7 @@ module _ (given : ℕ) (kept : List Activation) (gone went : List ℕ) (number :
   pub kept_obviated : IsKept given kept gone → IsKept given (filter (other_than number) kept) went
   kept_obviated k = record {
     numbers = each_filter (λ b. b.number ≤ given) (other_than number) kept k.numbers;
-    gone_given = λ n lt. more n ∙ ap (λ b. cond b true (is_gone gone n)) (own_query number n false (ne_eqb n number (λ same. let le = within k in omega (arith, lt, same, le)))) ∙ k.gone_given n lt;
+    gone_given = λ n lt. more n ∙ ap (λ b. cond b true (gone n)) (ne_eqb n number (λ same. let le = within k in omega (arith, lt, same, le))) ∙ k.gone_given n lt;
     all = ap (filter_map if_pending) obviated_kept ∙ pending_over obviated refl number (entries_of given kept gone) ∙ ap (filter (other_than number)) k.all;
   }
     where
@@ -233,17 +219,17 @@ module _ (given : ℕ) (kept : List Activation) (gone went : List ℕ) (number :
 
 -- ---- one gets another base
 
-entry_changed : (number n : ℕ) (base : ℤ) (kept : List Activation) (gone : List ℕ) → entry_in (map (rebased number base) kept) gone n ≡ becoming number (λ x. pending (based_at base x)) (entry_in kept gone n)
+entry_changed : (number n : ℕ) (base : ℤ) (kept : List Activation) (gone : ℕ → Bool) → entry_in (map (rebased number base) kept) gone n ≡ becoming number (λ x. pending (based_at base x)) (entry_in kept gone n)
 entry_changed number n base kept gone =
-    ap (λ o. cond (is_gone gone n) obviated (option_map_or pending o executed)) (found_rebased number n base kept)
-    ∙ ap (λ e. cond (is_gone gone n) obviated e) (at (find (has_number n) kept))
-    ∙ sym (becoming_gone number (λ x. pending (based_at base x)) (is_gone gone n) (option_map_or pending (find (has_number n) kept) executed))
+    ap (λ o. cond (gone n) obviated (option_map_or pending o executed)) (found_rebased number n base kept)
+    ∙ ap (λ e. cond (gone n) obviated e) (at (find (has_number n) kept))
+    ∙ sym (becoming_gone number (λ x. pending (based_at base x)) (gone n) (option_map_or pending (find (has_number n) kept) executed))
   where
     at : (o : Option Activation) → option_map_or pending (option_map (rebased number base) o) executed ≡ becoming number (λ x. pending (based_at base x)) (option_map_or pending o executed)
     at None = refl
     at (Some a) = sym (entry_rebased number base a)
 
-module _ (given : ℕ) (kept : List Activation) (gone : List ℕ) (number : ℕ) (base : ℤ) where
+module _ (given : ℕ) (kept : List Activation) (gone : ℕ → Bool) (number : ℕ) (base : ℤ) where
   pub rebased_kept : entries_of given (map (rebased number base) kept) gone ≡ map (becoming number (λ x. pending (based_at base x))) (entries_of given kept gone)
   rebased_kept = entries_become given kept (map (rebased number base) kept) gone gone (becoming number (λ x. pending (based_at base x))) (λ n. entry_changed number n base kept gone)
 
@@ -260,37 +246,37 @@ module _ (given : ℕ) (kept : List Activation) (gone : List ℕ) (number : ℕ)
 
 -- ---- no activation of the number is pending
 
-pub absent_kept : (given : ℕ) (kept : List Activation) (gone : List ℕ) (number : ℕ) (f : Activation → Entry) → find (has_number number) kept ≡ None
+pub absent_kept : (given : ℕ) (kept : List Activation) (gone : ℕ → Bool) (number : ℕ) (f : Activation → Entry) → find (has_number number) kept ≡ None
     → entries_of given kept gone ≡ map (becoming number f) (entries_of given kept gone)
 absent_kept given kept gone number f none = entries_become given kept kept gone gone (becoming number f) (λ n. each n (n == number) refl)
   where
     each : (n : ℕ) (t : Bool) → (n == number) ≡ t → entry_in kept gone n ≡ becoming number f (entry_in kept gone n)
     each n true same =
         let absent : find (has_number n) kept ≡ None = subst (λ m. find (has_number m) kept ≡ None) (sym (eqb-true n number same)) none in
-        ap (λ e. cond (is_gone gone n) obviated e) (ap (λ o. option_map_or pending o executed) absent ∙ sym (ap (λ o. becoming number f (option_map_or pending o executed)) absent))
-        ∙ sym (becoming_gone number f (is_gone gone n) (option_map_or pending (find (has_number n) kept) executed))
+        ap (λ e. cond (gone n) obviated e) (ap (λ o. option_map_or pending o executed) absent ∙ sym (ap (λ o. becoming number f (option_map_or pending o executed)) absent))
+        ∙ sym (becoming_gone number f (gone n) (option_map_or pending (find (has_number n) kept) executed))
     each n false other =
-        ap (λ e. cond (is_gone gone n) obviated e) (sym (found_entry number n kept f other))
-        ∙ sym (becoming_gone number f (is_gone gone n) (option_map_or pending (find (has_number n) kept) executed))
+        ap (λ e. cond (gone n) obviated e) (sym (found_entry number n kept f other))
+        ∙ sym (becoming_gone number f (gone n) (option_map_or pending (find (has_number n) kept) executed))
 
 -- ---- what holds at any time
 
 -- the number of what is pending was given, and was not obviated
-abbrev IsKnown : List ℕ → Activation → Type 0
-IsKnown gone a = (0 < a.number) × (is_gone gone a.number ≡ false)
+abbrev IsKnown : (gone : ℕ → Bool) → Activation → Type 0
+IsKnown gone a = (0 < a.number) × (gone a.number ≡ false)
 
-module _ (kept : List Activation) (gone : List ℕ) where
+module _ (kept : List Activation) (gone : ℕ → Bool) where
   each_known : (ns : List ℕ) → AllByRecursion (λ n. 0 < n) ns → AllByRecursion (IsKnown gone) (filter_map if_pending (map (entry_in kept gone) ns))
   each_known [] all = tt
-  each_known (n ∷ ns) all = at (is_gone gone n) refl (find (has_number n) kept) refl (each_known ns all.1)
+  each_known (n ∷ ns) all = at (gone n) refl (find (has_number n) kept) refl (each_known ns all.1)
     where
-      at : (b : Bool) → is_gone gone n ≡ b → (o : Option Activation) → find (has_number n) kept ≡ o → AllByRecursion (IsKnown gone) (filter_map if_pending (map (entry_in kept gone) ns))
+      at : (b : Bool) → gone n ≡ b → (o : Option Activation) → find (has_number n) kept ≡ o → AllByRecursion (IsKnown gone) (filter_map if_pending (map (entry_in kept gone) ns))
           → AllByRecursion (IsKnown gone) (filter_map if_pending (cond b obviated (option_map_or pending o executed) ∷ map (entry_in kept gone) ns))
       at true h o found later = later
       at false h None found later = later
       at false h (Some a) found later =
           let own : n ≡ a.number = sym (eqb-true a.number n (found_passes (has_number n) kept a found)) in
-          ((subst (λ m. 0 < m) own all.0, subst (λ m. is_gone gone m ≡ false) own h), later)
+          ((subst (λ m. 0 < m) own all.0, subst (λ m. gone m ≡ false) own h), later)
 
   above_nought : (a n : ℕ) → 0 < a → AllByRecursion (λ m. 0 < m) (range_with_len a n)
   above_nought a zero lt = tt
@@ -315,7 +301,7 @@ module _ (kept : List Activation) (gone : List ℕ) where
 
 -- ---- what became of an activation
 
-module _ (given : ℕ) (kept : List Activation) (gone : List ℕ) (foci : Foci) (setting : Setting) (refused : Bool) where
+module _ (given : ℕ) (kept : List Activation) (gone : ℕ → Bool) (foci : Foci) (setting : Setting) (refused : Bool) where
   -- the agenda that is kept so
   abbrev kept_agenda : Agenda
   kept_agenda = record { given = entries_of given kept gone; foci = foci; setting = setting; refused = refused }
@@ -326,12 +312,12 @@ module _ (given : ℕ) (kept : List Activation) (gone : List ℕ) (foci : Foci) 
   status_found (Some a) true there = refl
   status_found (Some a) false there = absurd cc
 
-  status_by : (n : ℕ) (g h : Bool) → is_gone gone n ≡ g → is_some (find (has_number n) kept) ≡ h → status_of (entry_in kept gone n) ≡ cond g statuses.Obviated (cond h statuses.Pending statuses.Executed)
+  status_by : (n : ℕ) (g h : Bool) → gone n ≡ g → is_some (find (has_number n) kept) ≡ h → status_of (entry_in kept gone n) ≡ cond g statuses.Obviated (cond h statuses.Pending statuses.Executed)
   status_by n true h is there = ap (λ b. status_of (cond b obviated (option_map_or pending (find (has_number n) kept) executed))) is
   status_by n false h is there =
       ap (λ b. status_of (cond b obviated (option_map_or pending (find (has_number n) kept) executed))) is ∙ status_found (find (has_number n) kept) h there
 
-  pub status_kept : (n i : ℕ) (g h : Bool) → n ≡ suc i → i < given → is_gone gone n ≡ g → is_some (find (has_number n) kept) ≡ h → status kept_agenda n ≡ Some (cond g statuses.Obviated (cond h statuses.Pending statuses.Executed))
+  pub status_kept : (n i : ℕ) (g h : Bool) → n ≡ suc i → i < given → gone n ≡ g → is_some (find (has_number n) kept) ≡ h → status kept_agenda n ≡ Some (cond g statuses.Obviated (cond h statuses.Pending statuses.Executed))
   status_kept n i g h is lt gone_is there =
       subst (λ m. status kept_agenda m ≡ Some (status_of (entry_in kept gone m))) (sym is) (ap (option_map status_of) (entry_kept kept gone given foci setting refused i lt)) ∙ ap (λ s. Some s) (status_by n g h gone_is there)
 
@@ -351,7 +337,7 @@ module _ (given : ℕ) (kept : List Activation) (gone : List ℕ) (foci : Foci) 
     known_some (suc i) (Some a) found there =
         let own : a.number ≡ suc i = eqb-true a.number (suc i) (found_passes (has_number (suc i)) kept a found) in
         let le : a.number ≤ given = found_holds (has_number (suc i)) (λ b. b.number ≤ given) kept a k.numbers found in
-        let stays : is_gone gone (suc i) ≡ false = subst (λ m. is_gone gone m ≡ false) own (found_holds (has_number (suc i)) (IsKnown gone) kept a (all_known kept gone given k) found).1 in
+        let stays : gone (suc i) ≡ false = subst (λ m. gone m ≡ false) own (found_holds (has_number (suc i)) (IsKnown gone) kept a (all_known kept gone given k) found).1 in
         status_kept (suc i) i false true refl (omega (arith, own, le)) stays (ap is_some found)
 
     known_status : (n : ℕ) → status kept_agenda n ≡ Some statuses.Pending → is_some (find (has_number n) kept) ≡ true
@@ -364,7 +350,7 @@ module _ (given : ℕ) (kept : List Activation) (gone : List ℕ) (foci : Foci) 
         by false false same = absurd cc
 
         at : (i < given) ⊎ (given ≤ i) → is_some (find (has_number (suc i)) kept) ≡ true
-        at (inl lt) = by (is_gone gone (suc i)) (is_some (find (has_number (suc i)) kept)) (sym (status_kept (suc i) i (is_gone gone (suc i)) (is_some (find (has_number (suc i)) kept)) refl lt refl refl) ∙ is)
+        at (inl lt) = by (gone (suc i)) (is_some (find (has_number (suc i)) kept)) (sym (status_kept (suc i) i (gone (suc i)) (is_some (find (has_number (suc i)) kept)) refl lt refl refl) ∙ is)
         at (inr le) = absurd (let none = status_past (suc i) i refl le in let same : ◌≡◌ {A = Option Status} None (Some statuses.Pending) = sym none ∙ is in cc)
 
     pub fits_kept : RisesBy number_of kept → Fits kept_agenda

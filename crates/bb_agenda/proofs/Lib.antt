@@ -1,5 +1,6 @@
 pub mod AgendaLemmas
 pub mod BestLemmas
+pub mod BitLemmas
 pub mod ChoiceLemmas
 pub mod ChosenLemmas
 pub mod FiledLemmas

@@ -1,5 +1,7 @@
 -- how the code keeps an agenda
 pub mod Kept
+-- sets of numbers as bits
+pub mod Numbers
 -- in which order the activations of a source are executed
 pub mod Ranks
 -- how the code finds what is pending

@@ -12,12 +12,12 @@ ghost use Rattle.bb_agenda.specs.Chosen.{chosen};
 mod changes;
 mod steps;
 
+use crate::number_set::NumberSet;
 use crate::status::Status;
 use crate::waiting::Waiting;
 use bb_agenda_foci::{Activation, RatedSource, Setting, Steering};
 use bb_schema::{SharedSchema, UnitId};
 use std::alloc::Global;
-use std::collections::BTreeSet;
 use std::marker::Model;
 
 /// The greatest number of pending activations.
@@ -35,7 +35,7 @@ pub struct Agenda {
     // The number of activations that were given.
     given: u64,
     waiting: Waiting,
-    obviated: BTreeSet<u64>,
+    obviated: NumberSet,
     steering: Steering,
     refused: bool,
 }
@@ -49,15 +49,16 @@ impl Model for Agenda {
     ghost coded = { agenda_code };
 
     ghost use Rattle.bb_agenda.specs.proving.Kept.{IsKept, entries_of};
+    ghost use Rattle.bb_agenda.specs.proving.Numbers.{is_in};
 
     ghost view = { λ a. record {
-      given = entries_of a.given a.waiting a.obviated.keys;
+      given = entries_of a.given a.waiting (is_in a.obviated);
       foci = a.steering.foci;
       setting = a.steering.setting;
       refused = a.refused;
     } };
 
-    ghost invariant = { λ a. IsKept a.given a.waiting a.obviated.keys };
+    ghost invariant = { λ a. IsKept a.given a.waiting (is_in a.obviated) };
 }
 
 impl Agenda {
@@ -69,7 +70,7 @@ impl Agenda {
         Agenda {
             given: 0,
             waiting: Waiting::new(alloc),
-            obviated: BTreeSet::new(alloc),
+            obviated: NumberSet::new(alloc),
             steering: Steering::new(alloc, Setting::new(schema, sources)),
             refused: false,
         }
@@ -117,7 +118,7 @@ impl Agenda {
         if index >= self.given {
             return None;
         }
-        if self.obviated.contains(&number) {
+        if self.obviated.contains(number) {
             return Some(Status::Obviated);
         }
         if self.waiting.has(number) {

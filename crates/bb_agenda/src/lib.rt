@@ -14,6 +14,7 @@ mod choosing;
 mod fault;
 mod history;
 mod lists;
+mod number_set;
 mod order;
 mod rank;
 mod row;

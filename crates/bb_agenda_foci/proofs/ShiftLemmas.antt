@@ -113,6 +113,13 @@ module _ (setting : Setting) (gone new : Option Focus) (from : List ℤ) where
       ∙ sym (moved (weight_by p foci) (weight_by p after) (part_of p gone) (part_of p new) (sum p)) in
       (is, subst IsSum (sym is) (fits p))
 
+-- where nothing is gone all sums are as they were
+pub weights_same : (setting : Setting) (foci after : Foci) (weights : List ℤ) → AreWeights setting foci weights → ((p : Focus → Bool) → weight_by p after +ℤ part_of p None ≡ weight_by p foci) → AreWeights setting after weights
+weights_same setting foci after weights are same = λ place w at.
+    let p = matches_at setting.schema setting.sources place in
+    let is : weight_by p foci ≡ weight_by p after = sym (same p) ∙ (let e : weight_by p after +ℤ pos 0 ≡ weight_by p after = omega (arith, ints) in e) in
+    ((are place w at).0 ∙ is, (are place w at).1)
+
 -- ---- one sum more
 
 pub no_base : (z : ℤ) → pos 0 +ℤ z ≡ z

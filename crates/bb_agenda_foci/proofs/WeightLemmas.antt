@@ -1,5 +1,5 @@
 -- The weights of the foci that match, summed while they are gone through.
-use Rattle.std.proofs.Common.{◌≡◌, ℕ, ◌+◌, ◌*◌, ◌^◌, ◌≤◌, Bool, true, cond, w64, to_z, of_z, ℤ, pos, ◌+ℤ◌, ◌≤ℤ◌, neg_ℤ, List, [], ◌∷◌, filter, refl, sym, ap, ◌∙◌, arith}
+use Rattle.std.proofs.Common.{◌≡◌, ℕ, ◌+◌, ◌*◌, ◌^◌, ◌≤◌, Bool, true, false, cond, w64, to_z, of_z, ℤ, pos, ◌+ℤ◌, ◌≤ℤ◌, neg_ℤ, List, [], ◌∷◌, filter, refl, sym, ap, ◌∙◌, arith}
 use mir.Val.{SFits}
 use Rattle.std.specs.Int.{w128}
 use Rattle.std.proofs.lemmas.Int.{ints, to_z-of_z}
@@ -27,10 +27,13 @@ taken : (sum weight rest : ℤ) → (sum +ℤ weight) +ℤ rest ≡ sum +ℤ (we
 taken sum weight rest = omega (arith, ints)
 
 module _ (p : Focus → Bool) where
-  -- one that matches
-  pub sum_more : (sum : ℤ) (focus : Focus) (left : List Focus) → p focus ≡ true → sum_with p (sum +ℤ focus.weight) left ≡ sum_with p sum (focus ∷ left)
-  sum_more sum focus left is =
-      taken sum focus.weight (total_weight (filter p left)) ∙ sym (ap (λ b. sum +ℤ total_weight (cond b (focus ∷ filter p left) (filter p left))) is)
+  -- one more
+  more_by : (sum : ℤ) (focus : Focus) (left : List Focus) (b : Bool) → (sum +ℤ cond b focus.weight (pos 0)) +ℤ total_weight (filter p left) ≡ sum +ℤ total_weight (cond b (focus ∷ filter p left) (filter p left))
+  more_by sum focus left true = taken sum focus.weight (total_weight (filter p left))
+  more_by sum focus left false = ap (λ z. z +ℤ total_weight (filter p left)) (none_left sum)
+
+  pub sum_more : (sum : ℤ) (focus : Focus) (left : List Focus) → sum_with p (sum +ℤ cond (p focus) focus.weight (pos 0)) left ≡ sum_with p sum (focus ∷ left)
+  sum_more sum focus left = more_by sum focus left (p focus)
 
   -- none is left
   pub sum_all : (sum : ℤ) (left : List Focus) → left ≡ [] → sum ≡ sum_with p sum left

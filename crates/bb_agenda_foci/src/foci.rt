@@ -7,6 +7,7 @@ ghost use Rattle.bb_agenda_foci.specs.Rating.{rating_at};
 ghost use Rattle.bb_agenda_foci.specs.proving.Weights.{weight_by, part_of, IsSum};
 ghost use Rattle.bb_agenda_foci.specs.proving.Entries.{foci_of};
 
+use crate::aim::Aim;
 use crate::focus::Focus;
 use crate::setting::Setting;
 use bb_basis::Memory;
@@ -44,10 +45,7 @@ fn weighed(foci: &BTreeMap<UnitId, Focus>, setting: &Setting, place: usize, base
 {
     let mut sum = i128::from(base);
     for focus in foci.values() {
-        if !focus.matches(setting, place) {
-            continue;
-        }
-        sum += i128::from(focus.weight);
+        sum += i128::from(Aim::new(setting, focus).part(place));
     }
     sum
 }

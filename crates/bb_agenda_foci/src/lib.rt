@@ -3,6 +3,7 @@
 #![tactic(auto)]
 
 mod activation;
+mod aim;
 mod foci;
 mod focus;
 mod setting;

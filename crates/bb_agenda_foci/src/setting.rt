@@ -1,10 +1,11 @@
 //! What foci are matched with: the schema, and the sources by their names and classes. Steering keeps it.
 
-ghost use Rattle.std.specs.Prelude.{◌≡◌, ◌||◌, slice_get};
-ghost use Rattle.bb_agenda_foci.specs.Matching.{is_empty, is_source, is_ancestor, is_area};
+ghost use Rattle.std.specs.Prelude.{◌≡◌, ◌||◌};
+ghost use Rattle.bb_agenda_foci.specs.Matching.{is_empty, is_source};
+ghost use Rattle.bb_agenda_foci.specs.proving.Aims.{area_named, is_in};
 
 use bb_basis::{Items, Text};
-use bb_schema::{ClassId, Schema, SharedSchema};
+use bb_schema::{ClassId, SharedSchema};
 use std::marker::Model;
 
 /// What the agenda knows of a source.
@@ -13,6 +14,15 @@ pub struct RatedSource {
     pub name: Text,
     /// The class of the units that it works on.
     pub class: ClassId,
+}
+
+/// The area of a focus, its name looked up.
+#[derive(Clone, Copy, Debug)]
+pub(crate) enum Area {
+    Everywhere,
+    /// Sources on the class, and on those below it.
+    Of(ClassId),
+    Nowhere,
 }
 
 /// The schema, and the sources in their order.
@@ -33,17 +43,6 @@ impl Model for Setting {
     ghost view = { λ s. record { schema = s.schema; sources = s.sources } };
 }
 
-// Whether a name is that of a class, or of an ancestor of it.
-#[tactic(auto, unfolding(crate::specs::Matching::is_ancestor))]
-fn is_ancestor(schema: &Schema, class: ClassId, name: &str) -> bool
-    ensures { result ≡ is_ancestor schema.now class name.now }
-{
-    match schema.class(name) {
-        None => false,
-        Some(found) => schema.descends(class, found),
-    }
-}
-
 // Whether a name is that of the source at a place.
 #[tactic(auto, unfolding(crate::specs::Matching::is_source))]
 fn is_source(sources: &[RatedSource], place: usize, name: &str) -> bool
@@ -52,17 +51,6 @@ fn is_source(sources: &[RatedSource], place: usize, name: &str) -> bool
     match sources.get(place) {
         None => false,
         Some(source) => name == source.name.as_str(),
-    }
-}
-
-// Whether a name is that of the class of the source at a place, or of an ancestor of that class.
-#[tactic(auto, unfolding(crate::specs::Matching::is_area))]
-fn is_area(schema: &Schema, sources: &[RatedSource], place: usize, name: &str) -> bool
-    ensures { result ≡ is_area schema.now sources.now place name.now }
-{
-    match sources.get(place) {
-        None => false,
-        Some(source) => is_ancestor(schema, source.class, name),
     }
 }
 
@@ -92,18 +80,30 @@ impl Setting {
         is_source(self.sources.as_slice(), place, name.as_str())
     }
 
-    /// Whether a text is empty, or the name of the class of the source at a place, or of an ancestor of that class.
-    pub(crate) fn has_area(&self, place: usize, name: &Text) -> bool
-        ensures { result ≡ (is_empty name.now || is_area self.now.schema self.now.sources place name.now) }
+    /// The area that a text names: an empty one names all sources, and one that is no class none.
+    pub(crate) fn area(&self, name: &Text) -> Area
+        ensures { result ≡ area_named self.now.schema name.now }
     {
         if name.is_empty() {
-            return true;
+            return Area::Everywhere;
         }
-        is_area(
-            self.schema.get(),
-            self.sources.as_slice(),
-            place,
-            name.as_str(),
-        )
+        match self.schema.get().class(name.as_str()) {
+            None => Area::Nowhere,
+            Some(class) => Area::Of(class),
+        }
+    }
+
+    /// Whether the source at a place is in an area.
+    pub(crate) fn is_in(&self, place: usize, area: Area) -> bool
+        ensures { result ≡ is_in self.now.schema self.now.sources place area }
+    {
+        match area {
+            Area::Everywhere => true,
+            Area::Nowhere => false,
+            Area::Of(class) => match self.sources.as_slice().get(place) {
+                None => false,
+                Some(source) => self.schema.get().descends(source.class, class),
+            },
+        }
     }
 }

@@ -1,14 +1,16 @@
 //! What activations are rated by: the foci, what they are matched with, and the sums of their weights. The agenda
 //! (bb_agenda) keeps it.
 
-ghost use Rattle.std.specs.Prelude.{◌≡◌, OnOk, OnErr, length, option_map, slice_get};
+ghost use Rattle.std.specs.Prelude.{◌≡◌, pos, OnOk, OnErr, length, option_map, slice_get};
+ghost use Rattle.std.specs.Option.{option_map_or};
 ghost use Rattle.std.specs.FinMap as fin;
 ghost use Rattle.bb_agenda_foci.specs.Foci.{with_foci};
-ghost use Rattle.bb_agenda_foci.specs.Matching.{matches_at};
 ghost use Rattle.bb_agenda_foci.specs.Rating.{rating, rating_at};
-ghost use Rattle.bb_agenda_foci.specs.proving.Weights.{part_of, AreShifted, AreSums, AreWeights};
+ghost use Rattle.bb_agenda_foci.specs.proving.Aims.{aimed, aimed_part};
+ghost use Rattle.bb_agenda_foci.specs.proving.Weights.{AreShifted, AreSums, AreWeights};
 
 use crate::activation::Activation;
+use crate::aim::Aim;
 use crate::foci::Foci;
 use crate::focus::Focus;
 use crate::setting::Setting;
@@ -48,14 +50,20 @@ fn weight_at(weights: &[i128], place: usize) -> Option<i128>
     weights.get(place).copied()
 }
 
-// What a focus adds to the ratings of the source at a place, if there is one.
-fn part_of(setting: &Setting, focus: Option<&Focus>, place: usize) -> i64
-    ensures { result ≡ part_of (matches_at setting.now.schema setting.now.sources place)
-        (option_map (λ f. f.now) focus.entry) }
+// A focus aimed at the sources, if there is one.
+fn aim<'a>(setting: &'a Setting, focus: Option<&'a Focus>) -> Option<Aim<'a>>
+    ensures { result ≡ option_map (λ f. aimed setting.now f.now) focus.entry }
 {
-    match focus {
-        Some(focus) if focus.matches(setting, place) => focus.weight,
-        _ => 0,
+    Some(Aim::new(setting, focus?))
+}
+
+// What a focus adds to the ratings of the source at a place, if there is one.
+fn part_of(aim: &Option<Aim>, place: usize) -> i64
+    ensures { result ≡ option_map_or (aimed_part place) aim.now (pos 0) }
+{
+    match aim {
+        None => 0,
+        Some(aim) => aim.part(place),
     }
 }
 
@@ -78,9 +86,11 @@ fn shift(weights: &mut Vec<i128>, setting: &Setting, gone: Option<&Focus>, new: 
     ensures { AreShifted setting.now (option_map (λ f. f.now) gone.entry) (option_map (λ f. f.now) new.entry)
         (length weights.old.items) weights.old.items weights.new.items }
 {
+    let gone = aim(setting, gone);
+    let new = aim(setting, new);
     for place in 0..weights.len() {
-        let less = i128::from(part_of(setting, gone, place));
-        let more = i128::from(part_of(setting, new, place));
+        let less = i128::from(part_of(&gone, place));
+        let more = i128::from(part_of(&new, place));
         weights[place] += more - less;
     }
 }
@@ -136,9 +146,12 @@ impl Steering {
     pub fn remove(&mut self, unit: UnitId)
         ensures { self.new ≡ with_foci self.old (fin.remove self.old.foci unit) }
     {
-        let gone = self.foci.remove(unit);
+        // Most units are none, and nothing is gone with them.
+        let Some(gone) = self.foci.remove(unit) else {
+            return;
+        };
         // For the proof: what holds of the foci.
         self.foci.fits();
-        shift(&mut self.weights, &self.setting, gone.as_ref(), None);
+        shift(&mut self.weights, &self.setting, Some(&gone), None);
     }
 }

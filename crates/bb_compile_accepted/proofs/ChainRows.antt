@@ -6,9 +6,10 @@ use Rattle.std.specs.Prelude.{codes}
 use Rattle.bb_basis.specs.Results.{try_fold}
 use Rattle.bb_schema_classes.specs.Inheritance.{climbs, is_among}
 use Rattle.bb_basis.specs.Closure.{closure}
-use Rattle.bb_schema.specs.Ownership.{strikes_in, heirs_in}
-use Rattle.bb_schema.specs.declared.slot.Content.TheVariants as contents
-use Rattle.bb_schema.specs.Schema.{Schema, has_name}
+use Rattle.bb_schema_slots.specs.Heirs.{strikes_in, heirs_in}
+use Rattle.bb_schema_slots.specs.declared.slot.Content.TheVariants as contents
+use Rattle.bb_schema.specs.Schema.{Schema}
+use Rattle.bb_schema_slots.specs.Slots.{has_name}
 use Rattle.bb_code.specs.Version.TheVariants.{One}
 use Rattle.bb_verify_frame.specs.Code.{Code}
 use Rattle.bb_verify_frame.specs.Flaw.TheVariants as flaws

@@ -14,8 +14,9 @@ use Rattle.bb_schema_classes.specs.declared.kind.Kind.{Kind as SlotKind}
 use Rattle.bb_schema_classes.specs.declared.kind.Kind.TheVariants as held
 use Rattle.bb_schema_classes.specs.declared.kind.Link.{Link}
 use Rattle.bb_schema_classes.specs.Inheritance.{is_among}
-use Rattle.bb_schema.specs.declared.slot.Slot.{Slot}
-use Rattle.bb_schema.specs.Schema.{Schema, has_name, slot_named, slots_of, kind_of_slot, owner_of, descends}
+use Rattle.bb_schema_slots.specs.declared.slot.Slot.{Slot}
+use Rattle.bb_schema.specs.Schema.{Schema, slot_named, slots_of, kind_of_slot, owner_of, descends}
+use Rattle.bb_schema_slots.specs.Slots.{has_name}
 use Rattle.bb_schema.specs.Fits as schemas
 use Rattle.bb_verify_frame.specs.Kind.{Kind}
 use Rattle.bb_verify_frame.specs.Kind.TheVariants as kinds

@@ -11,7 +11,8 @@ use Rattle.bb_schema_classes.proofs.Laws.{climbs_sound, descends_complete}
 use Rattle.bb_schema.specs.Schema.{Schema, descends}
 use Rattle.bb_schema.specs.Ownership.{strikes}
 use Rattle.bb_schema.specs.Fits as schemas
-use Rattle.bb_schema.proofs.Laws.{goes_up, strikes_up}
+use Rattle.bb_schema_slots.proofs.Laws.{goes_up}
+use Rattle.bb_schema.proofs.Laws.{strikes_up}
 use Rattle.bb_verify_frame.specs.Kind.{Kind}
 use Rattle.bb_verify_frame.specs.Kind.TheVariants.{Any, Int, Text, Bool as Truth, Label, Interval, Ref, Old, Seq}
 use Rattle.bb_verify_frame.specs.Kinds.{is_same_plain, struck}

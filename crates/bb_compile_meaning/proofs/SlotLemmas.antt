@@ -9,8 +9,9 @@ use Rattle.std.proofs.lemmas.Option.{slice_get-map}
 use Rattle.bb_schema_classes.specs.declared.value.Value.{Value}
 use Rattle.bb_schema_classes.specs.declared.class.Class.{Class}
 use Rattle.bb_schema_classes.specs.Inheritance.{is_among}
-use Rattle.bb_schema.specs.declared.slot.Slot.{Slot}
-use Rattle.bb_schema.specs.Schema.{Schema, has_name, slot_named, slots_of, link_of, descends}
+use Rattle.bb_schema_slots.specs.declared.slot.Slot.{Slot}
+use Rattle.bb_schema.specs.Schema.{Schema, slot_named, slots_of, descends}
+use Rattle.bb_schema_slots.specs.Slots.{has_name, link_of}
 use Rattle.bb_schema.specs.Fits as schemas
 use Rattle.bb_units.specs.declared.unit.Unit.{Unit}
 use Rattle.bb_units.specs.Layout.{Layout, layout_of, default_at}

@@ -39,7 +39,7 @@ eq_turned a b = at (a == b) (b == a) refl refl
     at true false h k = absurd (eqb-false b a k (sym (eqb-true a b h)))
     at false true h k = absurd (eqb-false a b h (sym (eqb-true b a k)))
 
-pub turned : (p q : ℕ × ℕ) → same_pair p q ≡ false → same_pair q p ≡ false
+turned : (p q : ℕ × ℕ) → same_pair p q ≡ false → same_pair q p ≡ false
 turned p q h = ap (λ b. b && (p.1 == q.1)) (eq_turned p.0 q.0) ∙ (ap (λ b. (q.0 == p.0) && b) (eq_turned p.1 q.1) ∙ h)
 
 -- what is found is another pair than one that is not there

@@ -17,7 +17,7 @@ use Rattle.bb_links.proofs.CutLemmas.{filter-filter}
 
 module _ {X : Type 0} (p : X → Bool) where
   -- a filter has no more of what passes
-  pub fewer_pass : (q : X → Bool) (xs : List X) → length (filter p (filter q xs)) ≤ length (filter p xs)
+  fewer_pass : (q : X → Bool) (xs : List X) → length (filter p (filter q xs)) ≤ length (filter p xs)
   fewer_pass q [] = omega arith
   fewer_pass q (x ∷ xs) = at (q x) refl (p x) refl (fewer_pass q xs)
     where
@@ -28,7 +28,7 @@ module _ {X : Type 0} (p : X → Bool) where
       at false h false k less = rw (h, k) less
 
   -- one more may pass
-  pub pass_put : (xs : List X) (x : X) → length (filter p (xs ++ x ∷ [])) ≡ length (filter p xs) + cond (p x) 1 0
+  pass_put : (xs : List X) (x : X) → length (filter p (xs ++ x ∷ [])) ≡ length (filter p xs) + cond (p x) 1 0
   pass_put xs x = ap length (filter-append p xs (x ∷ [])) ∙ (length-append (filter p xs) (filter p (x ∷ [])) ∙ ap (λ n. length (filter p xs) + n) (one (p x)))
     where
       one : (b : Bool) → length (cond b (x ∷ []) []) ≡ cond b 1 0
@@ -73,7 +73,7 @@ found_gone t (q ∷ qs) few = at (t q) refl (λ few. found_gone t qs few)
     at false h rest = rw h (later (find t qs) h (rest (omega (arith, passed false h, few))))
 
 -- none passes that is not there
-pub none_same : (p : ℕ × ℕ) (pairs : List (ℕ × ℕ)) → has_pair p pairs ≡ false → length (filter (same_pair p) pairs) ≡ 0
+none_same : (p : ℕ × ℕ) (pairs : List (ℕ × ℕ)) → has_pair p pairs ≡ false → length (filter (same_pair p) pairs) ≡ 0
 none_same p [] absent = refl
 none_same p (q ∷ qs) absent =
     let parts = or_parts (same_pair p q) (has_pair p qs) absent in

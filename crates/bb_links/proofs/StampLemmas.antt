@@ -1,204 +1,227 @@
--- Pairs under rising stamps, with one more and with one less.
-use Rattle.std.proofs.Common.{◌≡◌, ℕ, ◌+◌, ◌<◌, ◌≤◌, Bool, true, false, not, cond, List, [], ◌∷◌, ◌++◌, filter, length, Option, Some, None, refl, sym, ap, subst, ◌∙◌, arith}
-use Rattle.std.specs.Prelude.{find, option_map, is_some}
-use Rattle.std.specs.List.{AllByRecursion}
-use Rattle.std.specs.Ordering.{nat_cmp, is_eq}
-use Rattle.std.specs.Map.{remove_entry}
-use Rattle.std.specs.BTreeMap.{BTreeMap, is_at, insert_entry}
-use Rattle.std.proofs.lemmas.Bool.{le-ltb, ne_eqb, or_parts}
-use Rattle.std.proofs.lemmas.List.{map-append}
-use Rattle.bb_basis.proofs.NumberLemmas.{nat_cmp_itself}
+-- The pair under each stamp, and the pairs in the order of their stamps, after each change of the stamps.
+use Rattle.std.proofs.Common.{◌≡◌, ℕ, zero, suc, ◌+◌, ◌<◌, ◌==◌, Bool, true, false, not, cond, ◌||◌, List, [], ◌∷◌, ◌++◌, filter, Option, Some, None, refl, sym, ap, subst, ◌∙◌, arith}
+use Rattle.std.specs.Prelude.{find, is_some}
+use Rattle.std.specs.Option.{option_to_list}
+use Rattle.std.specs.Ordering.{nat_cmp}
+use Rattle.std.specs.Map.{lookup, keys_of}
+use Rattle.std.specs.BTreeMap.{BTreeMap, keys, is_at}
+use Rattle.std.proofs.lemmas.Bool.{eqb-true, eqb-false, eq-eqb, ne_eqb, or_left, or_right, or_from}
+use Rattle.std.proofs.lemmas.List.Elements.{filter-append}
+use Rattle.std.proofs.lemmas.List.Folds.{list_any-append}
+use Rattle.std.proofs.lemmas.Map.Entries.{option_filter}
+use Rattle.std.proofs.lemmas.Map.Lookups.{CmpEqualImpliesEq, exact_pairs, exact_unsigned}
+use Rattle.std.proofs.lemmas.Map.Views.{tells_apart}
 use Rattle.bb_links.specs.Pairs.{same_pair, has_pair, without_pair}
-use Rattle.bb_links.specs.proving.Maps.{value_at}
-use Rattle.bb_links.specs.proving.Stamps.{in_order, Rising, AreStamped}
-use Rattle.bb_links.proofs.PairLemmas.{same_itself, without_absent}
-use Rattle.bb_links.proofs.CutLemmas.{turned}
-use Rattle.bb_links.proofs.FitLemmas.{fewer_pass, pass_put, none_same, is_same}
+use Rattle.bb_links.specs.proving.Maps.{pair_cmp, value_at}
+use Rattle.bb_links.specs.proving.Stamps.{is_stamp, pair_under, in_order, AreStamped}
+use Rattle.bb_links.proofs.PairLemmas.{same_itself}
+use Rattle.bb_links.proofs.FitLemmas.{is_same}
 
-abbrev pub Entries : Type 0
-Entries = List (ℕ × (ℕ × ℕ))
+abbrev Stamps : Type 0
+Stamps = BTreeMap (ℕ × ℕ) ℕ
 
--- the test of an entry: it has the pair
-abbrev pub has : ℕ × ℕ → ℕ × (ℕ × ℕ) → Bool
-has p e = same_pair p e.1
+abbrev pub Under : Type 0
+Under = ℕ → Option (ℕ × ℕ)
 
-abbrev pub stamp_in : ℕ × ℕ → Entries → Option ℕ
-stamp_in p es = option_map (λ e. e.0) (find (has p) es)
+pub exact : CmpEqualImpliesEq pair_cmp
+exact = exact_pairs nat_cmp nat_cmp exact_unsigned exact_unsigned
 
--- ---- what holds of each entry
+-- ---- the pair under a stamp
 
-all_weaker : (P Q : ℕ × (ℕ × ℕ) → Type 0) → ((e : ℕ × (ℕ × ℕ)) → P e → Q e) → (es : Entries) → AllByRecursion P es → AllByRecursion Q es
-all_weaker P Q h [] all = tt
-all_weaker P Q h (e ∷ es) all = (h e all.0, all_weaker P Q h es all.1)
-
-all_put : (P : ℕ × (ℕ × ℕ) → Type 0) (es : Entries) (e : ℕ × (ℕ × ℕ)) → AllByRecursion P es → P e → AllByRecursion P (es ++ e ∷ [])
-all_put P [] e all here = (here, tt)
-all_put P (f ∷ fs) e all here = (all.0, all_put P fs e all.1 here)
-
-all_less : (P : ℕ × (ℕ × ℕ) → Type 0) (test : ℕ → Bool) (es : Entries) → AllByRecursion P es → AllByRecursion P (remove_entry test es)
-all_less P test [] all = tt
-all_less P test (e ∷ es) all = at (test e.0) (all_less P test es all.1)
+find_passes : {X : Type 0} (t : X → Bool) (xs : List X) (x : X) → find t xs ≡ Some x → t x ≡ true
+find_passes t [] x is = absurd cc
+find_passes t (y ∷ ys) x is = at (t y) refl is (find_passes t ys x)
   where
-    at : (b : Bool) → AllByRecursion P (remove_entry test es) → AllByRecursion P (cond b es (e ∷ remove_entry test es))
-    at true later = all.1
-    at false later = (all.0, later)
+    at : (b : Bool) → t y ≡ b → cond b (Some y) (find t ys) ≡ Some x → (find t ys ≡ Some x → t x ≡ true) → t x ≡ true
+    at true h is rest = let same : y ≡ x = cc in subst (λ z. t z ≡ true) same h
+    at false h is rest = rest is
 
--- ---- tests
-
-pub there_by_stamp : (p : ℕ × ℕ) (es : Entries) → is_some (stamp_in p es) ≡ has_pair p (in_order es)
-there_by_stamp p [] = refl
-there_by_stamp p (e ∷ es) = at (has p e) refl (there_by_stamp p es)
+-- it has the stamp
+has_found : (m : Stamps) (p : ℕ × ℕ) (s : ℕ) → pair_under m s ≡ Some p → value_at m p ≡ Some s
+has_found m p s is = at (value_at m p) (find_passes (λ q. is_stamp s (value_at m q)) (keys m) p is)
   where
-    at : (b : Bool) → has p e ≡ b → is_some (stamp_in p es) ≡ has_pair p (in_order es) → is_some (stamp_in p (e ∷ es)) ≡ has_pair p (in_order (e ∷ es))
-    at true h later = rw h refl
-    at false h later = rw h later
+    at : (o : Option ℕ) → is_stamp s o ≡ true → o ≡ Some s
+    at None h = absurd cc
+    at (Some k) h = ap (λ n. Some n) (eqb-true k s h)
 
-absent_from : (p : ℕ × ℕ) (es : Entries) → has_pair p (in_order es) ≡ false → find (has p) es ≡ None
-absent_from p [] absent = refl
-absent_from p (e ∷ es) absent =
-    let parts = or_parts (has p e) (has_pair p (in_order es)) absent in
-    rw parts.0 (absent_from p es parts.1)
-
-none_there : (p : ℕ × ℕ) (pairs : List (ℕ × ℕ)) → length (filter (same_pair p) pairs) ≤ 0 → has_pair p pairs ≡ false
-none_there p [] none = refl
-none_there p (q ∷ qs) none = at (same_pair p q) refl (λ rest. none_there p qs rest)
+-- and a pair that has it is found
+none_passes : (p : ℕ × ℕ) (k : ℕ) (t : ℕ × ℕ → Bool) → t p ≡ true → (es : List ((ℕ × ℕ) × ℕ)) → lookup (is_at (pair_cmp p)) es ≡ Some k → find t (keys_of es) ≡ None → ⊥
+none_passes p k t passes [] is none = absurd cc
+none_passes p k t passes (e ∷ es) is none = at (is_at (pair_cmp p) e.0) refl (t e.0) refl is none (none_passes p k t passes es)
   where
-    at : (b : Bool) → same_pair p q ≡ b → (length (filter (same_pair p) qs) ≤ 0 → has_pair p qs ≡ false) → has_pair p (q ∷ qs) ≡ false
-    at true h rest = absurd (let some : length (filter (same_pair p) (q ∷ qs)) ≡ length (q ∷ filter (same_pair p) qs) = rw h refl in omega (arith, none, some))
-    at false h rest = rw h (rest (let same : length (filter (same_pair p) (q ∷ qs)) ≡ length (filter (same_pair p) qs) = rw h refl in omega (arith, none, same)))
+    at : (b : Bool) → is_at (pair_cmp p) e.0 ≡ b → (c : Bool) → t e.0 ≡ c → cond b (Some e.1) (lookup (is_at (pair_cmp p)) es) ≡ Some k → cond c (Some e.0) (find t (keys_of es)) ≡ None
+        → (lookup (is_at (pair_cmp p)) es ≡ Some k → find t (keys_of es) ≡ None → ⊥) → ⊥
+    at b h true g is none rest = absurd cc
+    at false h false g is none rest = rest is none
+    at true h false g is none rest = absurd (let e : true ≡ false = sym passes ∙ (ap t (tells_apart exact p e.0 h) ∙ g) in cc)
 
-gone_pair : (p : ℕ × ℕ) (pairs : List (ℕ × ℕ)) → has_pair p (without_pair p pairs) ≡ false
-gone_pair p [] = refl
-gone_pair p (q ∷ qs) = at (same_pair p q) refl (gone_pair p qs)
-  where
-    at : (b : Bool) → same_pair p q ≡ b → has_pair p (without_pair p qs) ≡ false → has_pair p (without_pair p (q ∷ qs)) ≡ false
-    at true h later = rw h later
-    at false h later = rw (h, h) later
-
--- ---- one stamp more, above all
-
-pub above : (k : ℕ) (e : ℕ) → e < k → is_eq (nat_cmp k e) ≡ false
-above k e lt = rw (le-ltb k e (omega (arith, lt)), ne_eqb k e (λ same. omega (arith, lt, same))) refl
-
-pub insert_last : (k : ℕ) (p : ℕ × ℕ) (es : Entries) → AllByRecursion (λ e. e.0 < k) es → insert_entry nat_cmp es k p ≡ es ++ (k, p) ∷ []
-insert_last k p [] below = refl
-insert_last k p (e ∷ es) below =
-    let lt : e.0 < k = below.0 in
-    rw (le-ltb k e.0 (omega (arith, lt)), ne_eqb k e.0 (λ same. omega (arith, lt, same))) (ap (λ fs. e ∷ fs) (insert_last k p es below.1))
-
-pub remove_last : (k : ℕ) (p : ℕ × ℕ) (es : Entries) → AllByRecursion (λ e. e.0 < k) es → remove_entry (is_at (nat_cmp k)) (es ++ (k, p) ∷ []) ≡ es
-remove_last k p [] below = rw (nat_cmp_itself k) refl
-remove_last k p (e ∷ es) below = rw (above k e.0 below.0) (ap (λ fs. e ∷ fs) (remove_last k p es below.1))
-
-rising_put : (k : ℕ) (p : ℕ × ℕ) (es : Entries) → Rising es → AllByRecursion (λ e. e.0 < k) es → Rising (es ++ (k, p) ∷ [])
-rising_put k p [] rising below = (tt, tt)
-rising_put k p (e ∷ es) rising below = (all_put (λ f. e.0 < f.0) es (k, p) rising.0 below.0, rising_put k p es rising.1 below.1)
-
-find_put : (t : ℕ × (ℕ × ℕ) → Bool) (es : Entries) (e : ℕ × (ℕ × ℕ)) → t e ≡ false → find t (es ++ e ∷ []) ≡ find t es
-find_put t [] e fails = rw fails refl
-find_put t (f ∷ fs) e fails = ap (cond (t f) (Some f)) (find_put t fs e fails)
-
-find_last : (t : ℕ × (ℕ × ℕ) → Bool) (es : Entries) (e : ℕ × (ℕ × ℕ)) → find t es ≡ None → t e ≡ true → find t (es ++ e ∷ []) ≡ Some e
-find_last t [] e none passes = rw passes refl
-find_last t (f ∷ fs) e none passes = at (t f) refl none (λ rest. find_last t fs e rest passes)
-  where
-    at : (b : Bool) → t f ≡ b → cond b (Some f) (find t fs) ≡ None → (find t fs ≡ None → find t (fs ++ e ∷ []) ≡ Some e) → find t (f ∷ (fs ++ e ∷ [])) ≡ Some e
-    at true h none rest = absurd cc
-    at false h none rest = rw h (rest none)
-
-turned_true : (p q : ℕ × ℕ) → same_pair p q ≡ true → same_pair q p ≡ true
-turned_true p q h = subst (λ r. same_pair r p ≡ true) (sym (is_same p q h)) (same_itself p)
-
-module _ (next : ℕ) (es : Entries) (stamps : BTreeMap (ℕ × ℕ) ℕ) (kept : AreStamped next es stamps) where
-  pub stamped_put : (p : ℕ × ℕ) (fs : Entries) (after : BTreeMap (ℕ × ℕ) ℕ) → has_pair p (in_order es) ≡ false → fs ≡ es ++ (next, p) ∷ []
-      → ((q : ℕ × ℕ) → value_at after q ≡ cond (same_pair p q) (Some next) (value_at stamps q)) → AreStamped (next + 1) fs after
-  stamped_put p fs after absent is one = subst (λ gs. AreStamped (next + 1) gs after) (sym is) (record {
-    rising = rising_put next p es kept.rising kept.below;
-    below = all_put (λ e. e.0 < next + 1) es (next, p) (all_weaker (λ e. e.0 < next) (λ e. e.0 < next + 1) (λ e lt. omega (arith, lt)) es kept.below) (omega arith);
-    once = λ q. rw (map-append, pass_put (same_pair q) (in_order es) p) (once q (same_pair q p) refl);
-    found = λ q. one q ∙ found q (same_pair p q) refl;
-  })
+-- so whatever goes with the stamps says which pair is under each
+module _ (next : ℕ) (m : Stamps) (w : Under) (kept : AreStamped next (value_at m) w) where
+  under_is : (s : ℕ) → pair_under m s ≡ w s
+  under_is s = at (pair_under m s) refl (w s) refl
     where
-      once : (q : ℕ × ℕ) (b : Bool) → same_pair q p ≡ b → length (filter (same_pair q) (in_order es)) + cond (same_pair q p) 1 0 ≤ 1
-      once q true h =
-          let none : length (filter (same_pair q) (in_order es)) ≡ 0 = subst (λ r. length (filter (same_pair r) (in_order es)) ≡ 0) (is_same q p h) (none_same p (in_order es) absent) in
-          rw h (omega (arith, none))
-      once q false h = rw h (omega (arith, kept.once q))
+      at : (o : Option (ℕ × ℕ)) → pair_under m s ≡ o → (r : Option (ℕ × ℕ)) → w s ≡ r → o ≡ r
+      at (Some q) h r g = sym (kept.there q s (has_found m q s h)) ∙ g
+      at None h None g = refl
+      at None h (Some q) g =
+          let is = kept.found q s g in
+          absurd (none_passes q s (λ p. is_stamp s (value_at m p)) (rw is (eq-eqb s s refl)) m.entries is h)
 
-      found : (q : ℕ × ℕ) (b : Bool) → same_pair p q ≡ b → cond (same_pair p q) (Some next) (value_at stamps q) ≡ stamp_in q (es ++ (next, p) ∷ [])
-      found q true h =
-          let none : find (has q) es ≡ None = subst (λ r. find (has r) es ≡ None) (sym (is_same p q h)) (absent_from p es absent) in
-          rw (h, find_last (has q) es (next, p) none (turned_true p q h)) refl
-      found q false h = rw (h, find_put (has q) es (next, p) (turned p q h)) (kept.found q)
+  stamped_as : AreStamped next (value_at m) (pair_under m)
+  stamped_as = record { below = kept.below; there = λ p s is. under_is s ∙ kept.there p s is; found = has_found m }
 
-  -- what the map of stamps has is the same
-  pub stamped_same : (after : BTreeMap (ℕ × ℕ) ℕ) → ((q : ℕ × ℕ) → value_at after q ≡ value_at stamps q) → AreStamped next es after
-  stamped_same after same = record { rising = kept.rising; below = kept.below; once = kept.once; found = λ q. same q ∙ kept.found q }
+-- ---- the pairs in order
 
--- ---- one stamp less
+agree : (u v : Under) (n : ℕ) → ((s : ℕ) → s < n → v s ≡ u s) → in_order n v ≡ in_order n u
+agree u v zero same = refl
+agree u v (suc n) same = rw (agree u v n (λ s lt. same s (omega (arith, lt))), same n (omega arith)) refl
 
-pub found_above : (m k : ℕ) (t : ℕ × (ℕ × ℕ) → Bool) (es : Entries) → AllByRecursion (λ e. m < e.0) es → option_map (λ (e : ℕ × (ℕ × ℕ)). e.0) (find t es) ≡ Some k → m < k
-found_above m k t [] all is = absurd cc
-found_above m k t (e ∷ es) all is = at (t e) is (λ rest. found_above m k t es all.1 rest)
+one_filtered : (t : ℕ × ℕ → Bool) (o : Option (ℕ × ℕ)) → option_to_list (option_filter t o) ≡ filter t (option_to_list o)
+one_filtered t None = refl
+one_filtered t (Some q) = at (t q)
   where
-    at : (b : Bool) → option_map (λ (f : ℕ × (ℕ × ℕ)). f.0) (cond b (Some e) (find t es)) ≡ Some k → (option_map (λ (f : ℕ × (ℕ × ℕ)). f.0) (find t es) ≡ Some k → m < k) → m < k
-    at true is rest = let same : e.0 ≡ k = cc in subst (λ n. m < n) same all.0
-    at false is rest = rest is
+    at : (b : Bool) → option_to_list (cond b (Some q) None) ≡ cond b (q ∷ []) []
+    at true = refl
+    at false = refl
 
-module _ (p : ℕ × ℕ) (k : ℕ) where
-  abbrev less : Entries → Entries
-  less es = remove_entry (is_at (nat_cmp k)) es
+all_filtered : (t : ℕ × ℕ → Bool) (u : Under) (n : ℕ) → in_order n (λ s. option_filter t (u s)) ≡ filter t (in_order n u)
+all_filtered t u zero = refl
+all_filtered t u (suc n) =
+    ap (λ l. l ++ option_to_list (option_filter t (u n))) (all_filtered t u n)
+    ∙ (ap (λ l. filter t (in_order n u) ++ l) (one_filtered t (u n)) ∙ sym (filter-append t (in_order n u) (option_to_list (u n))))
 
-  in_order-less : (es : Entries) → Rising es → length (filter (same_pair p) (in_order es)) ≤ 1 → stamp_in p es ≡ Some k → in_order (less es) ≡ without_pair p (in_order es)
-  in_order-less [] rising once is = absurd cc
-  in_order-less (e ∷ es) rising once is = at (has p e) refl is (λ once is. in_order-less es rising.1 once is)
+-- a pair is there if it is under a stamp
+module _ (u : Under) (p : ℕ × ℕ) where
+  is_there : (s : ℕ) → u s ≡ Some p → (n : ℕ) → s < n → has_pair p (in_order n u) ≡ true
+  is_there s is zero lt = absurd (omega (arith, lt))
+  is_there s is (suc n) lt = list_any-append (same_pair p) (in_order n u) (option_to_list (u n)) ∙ at (s == n) refl (is_there s is n)
     where
-      at : (b : Bool) → has p e ≡ b → option_map (λ (f : ℕ × (ℕ × ℕ)). f.0) (cond b (Some e) (find (has p) es)) ≡ Some k
-          → (length (filter (same_pair p) (in_order es)) ≤ 1 → stamp_in p es ≡ Some k → in_order (less es) ≡ without_pair p (in_order es))
-          → in_order (less (e ∷ es)) ≡ without_pair p (in_order (e ∷ es))
-      at true h is rest =
-          let same : e.0 ≡ k = cc in
-          let here : is_eq (nat_cmp k e.0) ≡ true = subst (λ n. is_eq (nat_cmp k n) ≡ true) (sym same) (nat_cmp_itself k) in
-          let more : length (filter (same_pair p) (in_order (e ∷ es))) ≡ length (e.1 ∷ filter (same_pair p) (in_order es)) = rw h refl in
-          rw (here, h) (sym (without_absent p (in_order es) (none_there p (in_order es) (omega (arith, once, more)))))
-      at false h is rest =
-          let fewer : length (filter (same_pair p) (in_order (e ∷ es))) ≡ length (filter (same_pair p) (in_order es)) = rw h refl in
-          rw (above k e.0 (found_above e.0 k (has p) es rising.0 is), h) (ap (λ qs. e.1 ∷ qs) (rest (omega (arith, once, fewer)) is))
+      at : (b : Bool) → (s == n) ≡ b → (s < n → has_pair p (in_order n u) ≡ true) → (has_pair p (in_order n u) || has_pair p (option_to_list (u n))) ≡ true
+      at true h rest = or_right (has_pair p (in_order n u)) (has_pair p (option_to_list (u n))) (rw (ap u (sym (eqb-true s n h)) ∙ is, same_itself p) refl)
+      at false h rest = let apart = eqb-false s n h in or_left (has_pair p (in_order n u)) (has_pair p (option_to_list (u n))) (rest (omega (arith, lt, apart)))
 
-  find-less : (q : ℕ × ℕ) (es : Entries) → same_pair p q ≡ false → Rising es → stamp_in p es ≡ Some k → find (has q) (less es) ≡ find (has q) es
-  find-less q [] apart rising is = refl
-  find-less q (e ∷ es) apart rising is = at (has p e) refl is (λ is. find-less q es apart rising.1 is)
+  not_there : ((s : ℕ) → u s ≡ Some p → ⊥) → (n : ℕ) → has_pair p (in_order n u) ≡ false
+  not_there none zero = refl
+  not_there none (suc n) = list_any-append (same_pair p) (in_order n u) (option_to_list (u n)) ∙ or_from _ _ (not_there none n) (at (u n) refl)
     where
-      at : (b : Bool) → has p e ≡ b → option_map (λ (f : ℕ × (ℕ × ℕ)). f.0) (cond b (Some e) (find (has p) es)) ≡ Some k → (stamp_in p es ≡ Some k → find (has q) (less es) ≡ find (has q) es) → find (has q) (less (e ∷ es)) ≡ find (has q) (e ∷ es)
-      at true h is rest =
-          let same : e.0 ≡ k = cc in
-          let here : is_eq (nat_cmp k e.0) ≡ true = subst (λ n. is_eq (nat_cmp k n) ≡ true) (sym same) (nat_cmp_itself k) in
-          let other : same_pair q e.1 ≡ false = subst (λ r. same_pair q r ≡ false) (sym (is_same p e.1 h)) (turned p q apart) in
-          rw (here, other) refl
-      at false h is rest = rw (above k e.0 (found_above e.0 k (has p) es rising.0 is)) (ap (cond (has q e) (Some e)) (rest is))
+      by : (q : ℕ × ℕ) → u n ≡ Some q → (b : Bool) → same_pair p q ≡ b → (b || false) ≡ false
+      by q is true h = absurd (none n (is ∙ ap (λ r. Some r) (is_same p q h)))
+      by q is false h = refl
 
-  rising-less : (es : Entries) → Rising es → Rising (less es)
-  rising-less [] rising = tt
-  rising-less (e ∷ es) rising = at (is_at (nat_cmp k) e.0) (rising-less es rising.1)
+      at : (o : Option (ℕ × ℕ)) → u n ≡ o → has_pair p (option_to_list o) ≡ false
+      at None is = refl
+      at (Some q) is = by q is (same_pair p q) refl
+
+module _ (next : ℕ) (f : ℕ × ℕ → Option ℕ) (u : Under) (kept : AreStamped next f u) where
+  -- no pair is under a stamp above all
+  pub none_next : u next ≡ None
+  none_next = at (u next) refl
     where
-      at : (b : Bool) → Rising (less es) → Rising (cond b es (e ∷ less es))
-      at true later = rising.1
-      at false later = (all_less (λ f. e.0 < f.0) (is_at (nat_cmp k)) es rising.0, later)
+      at : (o : Option (ℕ × ℕ)) → u next ≡ o → o ≡ None
+      at None is = refl
+      at (Some q) is = absurd (let lt = kept.below q next (kept.found q next is) in omega (arith, lt))
 
-module _ (next : ℕ) (es : Entries) (stamps : BTreeMap (ℕ × ℕ) ℕ) (kept : AreStamped next es stamps) (p : ℕ × ℕ) (k : ℕ) (is : value_at stamps p ≡ Some k) where
-  pub order_less : in_order (less p k es) ≡ without_pair p (in_order es)
-  order_less = in_order-less p k es kept.rising (kept.once p) (sym (kept.found p) ∙ is)
+  module _ (p : ℕ × ℕ) where
+    -- a pair is there if it has a stamp
+    pub there_stamped : is_some (f p) ≡ has_pair p (in_order next u)
+    there_stamped = at (f p) refl
+      where
+        at : (o : Option ℕ) → f p ≡ o → is_some o ≡ has_pair p (in_order next u)
+        at None h = sym (not_there u p (λ s is. let e : None ≡ Some s = sym h ∙ kept.found p s is in absurd cc) next)
+        at (Some s) h = sym (is_there u p s (kept.there p s h) next (kept.below p s h))
 
-  pub stamped_less : (fs : Entries) (after : BTreeMap (ℕ × ℕ) ℕ) → fs ≡ less p k es → ((q : ℕ × ℕ) → value_at after q ≡ cond (same_pair p q) None (value_at stamps q)) → AreStamped next fs after
-  stamped_less fs after made one = subst (λ gs. AreStamped next gs after) (sym made) (record {
-    rising = rising-less p k es kept.rising;
-    below = all_less (λ e. e.0 < next) (is_at (nat_cmp k)) es kept.below;
-    once = λ q. rw order_less (omega (arith, fewer_pass (same_pair q) (λ r. not (same_pair p r)) (in_order es), kept.once q));
-    found = λ q. one q ∙ found q (same_pair p q) refl;
-  })
-    where
-      found : (q : ℕ × ℕ) (b : Bool) → same_pair p q ≡ b → cond (same_pair p q) None (value_at stamps q) ≡ stamp_in q (less p k es)
-      found q true h =
-          let none : find (has q) (less p k es) ≡ None = subst (λ r. find (has r) (less p k es) ≡ None) (sym (is_same p q h)) (absent_from p (less p k es) (ap (has_pair p) order_less ∙ gone_pair p (in_order es))) in
-          rw (h, none) refl
-      found q false h = rw (h, find-less p k q es h kept.rising (sym (kept.found p) ∙ is)) (kept.found q)
+    -- ---- one pair more, under a stamp above all
+
+    module _ (m : Stamps) (absent : has_pair p (in_order next u) ≡ false) (one : (q : ℕ × ℕ) → value_at m q ≡ cond (same_pair p q) (Some next) (f q)) where
+      abbrev more : Under
+      more s = cond (s == next) (Some p) (u s)
+
+      more_stamped : AreStamped (next + 1) (value_at m) more
+      more_stamped = record {
+        below = λ q s is. below q s (same_pair p q) (sym (one q) ∙ is);
+        there = λ q s is. there q s (same_pair p q) refl (sym (one q) ∙ is);
+        found = λ q s is. found q s (s == next) refl is;
+      }
+        where
+          below : (q : ℕ × ℕ) (s : ℕ) (b : Bool) → cond b (Some next) (f q) ≡ Some s → s < next + 1
+          below q s true is = let same : next ≡ s = cc in omega (arith, same)
+          below q s false is = omega (arith, kept.below q s is)
+
+          there : (q : ℕ × ℕ) (s : ℕ) (b : Bool) → same_pair p q ≡ b → cond b (Some next) (f q) ≡ Some s → more s ≡ Some q
+          there q s true h is = let same : s ≡ next = cc in rw (eq-eqb s next same) (ap (λ r. Some r) (sym (is_same p q h)))
+          there q s false h is = rw (ne_eqb s next (λ same. let lt = kept.below q s is in omega (arith, same, lt))) (kept.there q s is)
+
+          old : (q : ℕ × ℕ) (s : ℕ) → f q ≡ Some s → (b : Bool) → same_pair p q ≡ b → value_at m q ≡ Some s
+          old q s is true h = absurd (let e : true ≡ false = sym (ap is_some (ap f (sym (is_same p q h)) ∙ is)) ∙ (there_stamped ∙ absent) in cc)
+          old q s is false h = one q ∙ rw h is
+
+          found : (q : ℕ × ℕ) (s : ℕ) (b : Bool) → (s == next) ≡ b → cond b (Some p) (u s) ≡ Some q → value_at m q ≡ Some s
+          found q s true h is =
+              let same : p ≡ q = cc in
+              subst (λ r. value_at m r ≡ Some s) same (one p ∙ rw (same_itself p) (ap (λ n. Some n) (sym (eqb-true s next h))))
+          found q s false h is = old q s (kept.found q s is) (same_pair p q) refl
+
+      pub put_is : (s : ℕ) → pair_under m s ≡ cond (s == next) (Some p) (u s)
+      put_is s = under_is (next + 1) m more more_stamped s
+
+      pub put_stamped : AreStamped (next + 1) (value_at m) (pair_under m)
+      put_stamped = stamped_as (next + 1) m more more_stamped
+
+      pub put_order : in_order (next + 1) (pair_under m) ≡ in_order next u ++ p ∷ []
+      put_order =
+          let e : next + 1 ≡ suc next = omega arith in
+          let now : pair_under m next ≡ Some p = put_is next ∙ rw (eq-eqb next next refl) refl in
+          let before = agree u (pair_under m) next (λ s lt. put_is s ∙ rw (ne_eqb s next (λ same. omega (arith, lt, same))) refl) in
+          ap (λ n. in_order n (pair_under m)) e ∙ (ap (λ l. l ++ option_to_list (pair_under m next)) before ∙ ap (λ o. in_order next u ++ option_to_list o) now)
+
+    -- ---- one pair less
+
+    module _ (m : Stamps) (one : (q : ℕ × ℕ) → value_at m q ≡ cond (same_pair p q) None (f q)) where
+      abbrev less : Under
+      less s = option_filter (λ q. not (same_pair p q)) (u s)
+
+      less_stamped : AreStamped next (value_at m) less
+      less_stamped = record {
+        below = λ q s is. kept.below q s (was q s (same_pair p q) refl (sym (one q) ∙ is)).0;
+        there = λ q s is. let w = was q s (same_pair p q) refl (sym (one q) ∙ is) in rw (kept.there q s w.0, w.1) refl;
+        found = λ q s is. found q s (u s) refl is;
+      }
+        where
+          was : (q : ℕ × ℕ) (s : ℕ) (b : Bool) → same_pair p q ≡ b → cond b None (f q) ≡ Some s → (f q ≡ Some s) × (same_pair p q ≡ false)
+          was q s true h is = absurd cc
+          was q s false h is = (is, h)
+
+          by : (q r : ℕ × ℕ) (s : ℕ) → f r ≡ Some s → (b : Bool) → same_pair p r ≡ b → cond (not b) (Some r) None ≡ Some q → value_at m q ≡ Some s
+          by q r s has true h is = absurd cc
+          by q r s has false h is = let same : r ≡ q = cc in subst (λ x. value_at m x ≡ Some s) same (one r ∙ rw h has)
+
+          found : (q : ℕ × ℕ) (s : ℕ) (o : Option (ℕ × ℕ)) → u s ≡ o → option_filter (λ r. not (same_pair p r)) o ≡ Some q → value_at m q ≡ Some s
+          found q s None h is = absurd cc
+          found q s (Some r) h is = by q r s (kept.found r s h) (same_pair p r) refl is
+
+      pub take_stamped : AreStamped next (value_at m) (pair_under m)
+      take_stamped = stamped_as next m less less_stamped
+
+      pub take_order : in_order next (pair_under m) ≡ without_pair p (in_order next u)
+      take_order = agree less (pair_under m) next (λ s lt. under_is next m less less_stamped s) ∙ all_filtered (λ q. not (same_pair p q)) u next
+
+      -- it is the one under its stamp that goes
+      pub take_is : (k : ℕ) → f p ≡ Some k → (s : ℕ) → pair_under m s ≡ cond (s == k) None (u s)
+      take_is k has s = under_is next m less less_stamped s ∙ at (u s) refl (s == k) refl
+        where
+          by : (q : ℕ × ℕ) → u s ≡ Some q → (b : Bool) → (s == k) ≡ b → (c : Bool) → same_pair p q ≡ c → cond (not c) (Some q) None ≡ cond b None (Some q)
+          by q is true h true g = refl
+          by q is false h false g = refl
+          by q is true h false g =
+              let e : Some q ≡ Some p = sym is ∙ (ap u (eqb-true s k h) ∙ kept.there p k has) in
+              let same : q ≡ p = cc in
+              absurd (let d : true ≡ false = sym (same_itself p) ∙ (ap (same_pair p) (sym same) ∙ g) in cc)
+          by q is false h true g =
+              let e : Some s ≡ Some k = sym (kept.found q s is) ∙ (ap f (is_same p q g) ∙ has) in
+              let same : s ≡ k = cc in
+              absurd (eqb-false s k h same)
+
+          at : (o : Option (ℕ × ℕ)) → u s ≡ o → (b : Bool) → (s == k) ≡ b → option_filter (λ q. not (same_pair p q)) o ≡ cond b None o
+          at None is true h = refl
+          at None is false h = refl
+          at (Some q) is b h = by q is b h (same_pair p q) refl

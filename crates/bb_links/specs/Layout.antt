@@ -3,8 +3,9 @@ use Rattle.std.specs.Prelude.{ℕ, Bool, false, not, List, map, length, Option, 
 use Rattle.std.specs.List.{range_with_len}
 use Rattle.std.specs.Option.{option_map_or}
 use Rattle.bb_schema.specs.declared.couple.Side.{Side}
-use Rattle.bb_schema.specs.declared.slot.Slot.{Slot}
-use Rattle.bb_schema.specs.Schema.{Schema, link_of, inverse_of}
+use Rattle.bb_schema_slots.specs.declared.slot.Slot.{Slot}
+use Rattle.bb_schema.specs.Schema.{Schema, inverse_of}
+use Rattle.bb_schema_slots.specs.Slots.{link_of}
 use Rattle.bb_schema.specs.Couples.{couples, couple_of}
 use Rattle.bb_links.specs.declared.couple.Singular.{Singular}
 

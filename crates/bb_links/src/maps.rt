@@ -1,7 +1,7 @@
 //! Maps from two numbers to one, in the order of the first and then of the second. `pairs.rt` keeps in them the stamps
 //! of its pairs, and the partners of each unit under the stamps of their pairs.
 
-ghost use Rattle.std.specs.Prelude.{◌≡◌, ℕ, Some, None, if◌then◌else◌, OnOk, OnErr, IfOk, slice_get};
+ghost use Rattle.std.specs.Prelude.{◌≡◌, ℕ, Some, None, if◌then◌else◌, OnOk, OnErr, IfOk, IfNone, slice_get};
 ghost use Rattle.std.specs.BTreeMap.{IsOrdered};
 ghost use Rattle.bb_links.specs.Pairs.{same_pair};
 ghost use Rattle.bb_links.specs.proving.Maps.{pair_cmp, value_at, row};
@@ -18,7 +18,7 @@ pub(crate) fn put(
 ) -> Result<(), AllocError>
     ensures ok { OnOk result ((q : ℕ × ℕ) →
         value_at map.new q ≡ (if same_pair key q then Some value else value_at map.old q)) }
-    ensures err { OnErr result ((q : ℕ × ℕ) → value_at map.new q ≡ value_at map.old q) }
+    ensures err { OnErr result (map.new.entries ≡ map.old.entries) }
 {
     map.insert(key, value)?;
     Ok(())
@@ -28,6 +28,7 @@ pub(crate) fn put(
 pub(crate) fn take(map: &mut BTreeMap<(u64, u64), u64>, key: (u64, u64)) -> Option<u64>
     ensures value { result ≡ value_at map.old key }
     ensures gone { (q : ℕ × ℕ) → value_at map.new q ≡ (if same_pair key q then None else value_at map.old q) }
+    ensures none { IfNone result (map.new.entries ≡ map.old.entries) }
 {
     map.remove(&key)
 }

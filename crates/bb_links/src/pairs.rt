@@ -1,11 +1,8 @@
 //! The pairs of one couple, in order of addition. `couple.rt` changes them and reads them.
 
-ghost use Rattle.std.specs.Prelude.{◌≡◌, ◌<◌, ◌+◌, ◌^◌, ℕ, [], ◌∷◌, ◌++◌, true, false, if◌then◌else◌};
-ghost use Rattle.std.specs.Prelude.{OnOk, OnErr, IfOk, SomeIff, Some, None, slice_get};
-ghost use Rattle.std.specs.List.{AllByRecursion};
-ghost use Rattle.bb_links.specs.Pairs.{has_pair, same_pair, without_pair};
+ghost use Rattle.std.specs.Prelude.{◌≡◌, ◌<◌, ◌+◌, ◌^◌, [], ◌∷◌, ◌++◌, false, OnOk, OnErr, IfOk, SomeIff, slice_get};
+ghost use Rattle.bb_links.specs.Pairs.{has_pair, without_pair};
 ghost use Rattle.bb_links.specs.Links.{partners};
-ghost use Rattle.bb_links.specs.proving.Maps.{value_at};
 ghost use Rattle.bb_links.specs.proving.Stamps.{without_at};
 
 use crate::maps::{put, take};
@@ -22,7 +19,7 @@ use std::marker::Model;
 pub(crate) struct Pairs {
     // The stamp that the next pair gets.
     next: u64,
-    by_stamp: BTreeMap<u64, (UnitId, UnitId)>,
+    // The stamp of each pair. Nothing keeps the pairs in order: the view puts them in the order of their stamps.
     stamps: BTreeMap<(UnitId, UnitId), u64>,
     partners: Partners,
 }
@@ -32,11 +29,11 @@ impl Model for Pairs {
 
     ghost Value = { List (ℕ × ℕ) };
 
-    ghost use Rattle.bb_links.specs.proving.Stamps.{in_order, AreKept};
+    ghost use Rattle.bb_links.specs.proving.Stamps.{pair_under, in_order, AreKept};
 
-    ghost view = { λ p. in_order p.by_stamp.entries };
+    ghost view = { λ p. in_order p.next (pair_under p.stamps) };
 
-    ghost invariant = { λ p. AreKept p.next p.by_stamp.entries p.stamps p.partners };
+    ghost invariant = { λ p. AreKept p.next p.stamps p.partners };
 }
 
 // The stamp after one. There is none after 2^64 - 1.
@@ -46,30 +43,6 @@ fn next_stamp(stamp: u64) -> Option<u64>
     stamp.checked_add(1)
 }
 
-// Puts a pair under a stamp above all, and the stamp under the pair. An error changes nothing.
-fn stamp(
-    by_stamp: &mut BTreeMap<u64, (UnitId, UnitId)>,
-    stamps: &mut BTreeMap<(UnitId, UnitId), u64>,
-    pair: (UnitId, UnitId),
-    next: u64,
-) -> Result<(), AllocError>
-    requires { AllByRecursion (λ e. e.0 < next) by_stamp.old.entries }
-    ensures pairs { OnOk result (by_stamp.new.entries ≡ by_stamp.old.entries ++ (next, pair) ∷ []) }
-    ensures stamps { OnOk result ((q : ℕ × ℕ) →
-        value_at stamps.new q ≡ (if same_pair pair q then Some next else value_at stamps.old q)) }
-    ensures err_pairs { OnErr result (by_stamp.new.entries ≡ by_stamp.old.entries) }
-    ensures err_stamps { OnErr result ((q : ℕ × ℕ) → value_at stamps.new q ≡ value_at stamps.old q) }
-{
-    by_stamp.insert(next, pair)?;
-    match put(stamps, pair, next) {
-        Ok(()) => Ok(()),
-        Err(refused) => {
-            by_stamp.remove(&next);
-            Err(refused)
-        }
-    }
-}
-
 impl Pairs {
     /// No pairs. It allocates nothing.
     pub(crate) fn new(alloc: Global) -> Pairs
@@ -77,7 +50,6 @@ impl Pairs {
     {
         Pairs {
             next: 0,
-            by_stamp: BTreeMap::new(alloc),
             stamps: BTreeMap::new(alloc),
             partners: Partners::new(alloc),
         }
@@ -118,7 +90,7 @@ impl Pairs {
     {
         let after = next_stamp(self.next).ok_or(AllocError)?;
         self.partners.put(pair, self.next)?;
-        match stamp(&mut self.by_stamp, &mut self.stamps, pair, self.next) {
+        match put(&mut self.stamps, pair, self.next) {
             Ok(()) => {
                 self.next = after;
                 Ok(())
@@ -135,7 +107,6 @@ impl Pairs {
         ensures { self.new ≡ without_pair pair self.old }
     {
         if let Some(stamp) = take(&mut self.stamps, pair) {
-            self.by_stamp.remove(&stamp);
             self.partners.take(pair, stamp);
         }
     }

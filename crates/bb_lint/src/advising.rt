@@ -32,9 +32,10 @@ pub struct Accepted<'a> {
     pub floor: i64,
 }
 
-// What is known of all sources of an input.
+// What is known of an input before its sources are gone over.
 #[derive(Drop)]
 struct Known {
+    admitted: Admitted,
     names: Names,
     possible: Possible,
     // Whether a source may make a focus.
@@ -57,15 +58,15 @@ pub fn advice(alloc: Global, input: Accepted<'_>) -> Result<String, Memory> {
     let mut text = String::new(alloc);
     write_reserved(&mut text, schema)?;
     let texts = Texts::of(alloc, input.text)?;
-    let admitted = Admitted::of(alloc, schema)?;
     let known = Known {
+        admitted: Admitted::of(alloc, schema)?,
         names: source_names(alloc, sources)?,
         possible: Possible::of(alloc, schema, sources, first)?,
         raised: any_makes_focus(schema, sources),
     };
     for (index, source) in sources.iter().enumerate() {
         let sites = texts.sites(alloc, index, source)?;
-        write_codes(alloc, &mut text, schema, &admitted, &known, source, &sites)?;
+        write_codes(alloc, &mut text, schema, &known, source, &sites)?;
         write_source(&mut text, schema, &known, floor, source, &sites)?;
     }
     if !sources.is_empty() {
@@ -79,12 +80,11 @@ fn write_codes(
     alloc: Global,
     text: &mut String,
     schema: &Schema,
-    admitted: &Admitted,
     known: &Known,
     source: &Source,
     sites: &SourceSites<'_>,
 ) -> Result<(), Memory>
-    requires { AreAdmitted schema.now admitted.now.lists.items }
+    requires { AreAdmitted schema.now known.now.admitted.lists.items }
 {
     for code in codes_of(source) {
         if let Some(checked) = code {
@@ -94,7 +94,7 @@ fn write_codes(
                 checked,
                 sites: &ops,
             };
-            write_code(alloc, text, schema, admitted, part)?;
+            write_code(alloc, text, schema, &known.admitted, part)?;
             write_empty_finds(text, schema, &known.possible, part)?;
             write_mistakes(text, schema, &known.names, part)?;
         }

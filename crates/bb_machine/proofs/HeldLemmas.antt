@@ -14,11 +14,12 @@ use Rattle.bb_schema_classes.specs.declared.value.Value.{Value as SlotValue}
 use Rattle.bb_schema_classes.specs.Inheritance.{is_among}
 use Rattle.bb_schema_classes.specs.Kinds.{kind_of_value}
 use Rattle.bb_schema_classes.specs.Values.{label_counts, is_label, value_fits}
-use Rattle.bb_schema.specs.declared.slot.Content.TheVariants as contents
-use Rattle.bb_schema.specs.declared.slot.Slot.{Slot}
+use Rattle.bb_schema_slots.specs.declared.slot.Content.TheVariants as contents
+use Rattle.bb_schema_slots.specs.declared.slot.Slot.{Slot}
 use Rattle.bb_schema.specs.Fits as schemas
-use Rattle.bb_schema.specs.Kinds.{kind_of}
-use Rattle.bb_schema.specs.Schema.{Schema, descends, default_in, default_of, label_at, slots_of}
+use Rattle.bb_schema_slots.specs.Kinds.{kind_of}
+use Rattle.bb_schema.specs.Schema.{Schema, descends, default_of, label_at, slots_of}
+use Rattle.bb_schema_slots.specs.Slots.{default_in}
 use Rattle.bb_units.specs.declared.unit.Unit.{Unit as OneUnit}
 use Rattle.bb_units.specs.Layout as layouts
 use Rattle.bb_units.specs.Units.{Units, class_of, value_of, has_slot}

@@ -5,7 +5,7 @@
 //! - Callers rely on: the answer is that of bb_shell on the sections of the input; an input past `INPUT_LIMIT` is
 //!   refused; and whatever happens, each native is closed.
 //! - Family: bb_main_options has the command line, bb_main_input the reading and the cutting of an input; `bb` is the
-//!   program, bb_c the library for C, and bb_main_refused the program for the gate's test of a refusal.
+//!   program, bb_c the library for C.
 //! - Cases: `program`, `outputs`, `sentences`, `advice`, `limits`; tests here and in bb_shell_tests.
 #![tactic(auto)]
 

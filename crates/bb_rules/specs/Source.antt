@@ -12,7 +12,8 @@ use Rattle.bb_bundle.specs.declared.draft.ReactionDraft.{ReactionDraft}
 use Rattle.bb_bundle.specs.declared.draft.ActDraft.{ActDraft}
 use Rattle.bb_bundle.specs.declared.draft.ActDraft.TheVariants as drafts
 use Rattle.bb_bundle.specs.declared.draft.SourceDraft.{SourceDraft}
-use Rattle.bb_schema.specs.Schema.{Schema, class_named, default_of, descends, link_of, slot_named, space_named}
+use Rattle.bb_schema.specs.Schema.{Schema, class_named, default_of, descends, slot_named, space_named}
+use Rattle.bb_schema_slots.specs.Slots.{link_of}
 use Rattle.bb_verify.specs.Accepted.{Checked}
 use Rattle.bb_verify.specs.PartType.{Part}
 use Rattle.bb_verify.specs.PartType.TheVariants as parts

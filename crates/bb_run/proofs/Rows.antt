@@ -3,7 +3,7 @@ use Rattle.std.proofs.Common.{◌≡◌, ℕ, [], ◌∷◌, Option, None, Some,
 use Rattle.std.specs.Prelude.{pos, ℤ, List}
 use Rattle.bb_schema.specs.Schema.{Schema}
 use Rattle.bb_schema_classes.specs.Inheritance.{climbs}
-use Rattle.bb_schema.specs.declared.slot.Content.TheVariants.{Default}
+use Rattle.bb_schema_slots.specs.declared.slot.Content.TheVariants.{Default}
 use Rattle.bb_schema_classes.specs.declared.value.Value.TheVariants.{Int, Text, Bool}
 use Rattle.bb_code.specs.Op.{Op}
 use Rattle.bb_code.specs.Op.TheVariants.{PushText, PushBool, PushInt, Say, Done, Decline, Rate, Answer}

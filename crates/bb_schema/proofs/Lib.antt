@@ -1,14 +1,11 @@
 pub mod CoupleLemmas
 pub mod CoupleListLemmas
 pub mod CountLemmas
+pub mod NameLemmas
 pub mod SameLemmas
 pub mod SlotLemmas
 pub mod LinkLemmas
 pub mod SchemaFitLemmas
-pub mod LineageLemmas
-pub mod HeirLemmas
-pub mod StrikeLemmas
-pub mod RelationLemmas
-pub mod StruckLemmas
+pub mod OwnershipLemmas
 pub mod Laws
 pub mod Limits

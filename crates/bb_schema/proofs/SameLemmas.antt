@@ -6,16 +6,9 @@ use Rattle.std.specs.Option.{option_eq}
 use Rattle.std.specs.Str.{bytes_eq}
 use Rattle.std.specs.Cmp.Lexicographic.{pointwise, pointwise_decides, bytes_decides}
 use Rattle.std.proofs.lemmas.Bool.Decides.{Decides-eqb, Decides-and, Decides-like}
-use Rattle.bb_schema.specs.declared.slot.Slot.{Slot}
-use Rattle.bb_schema.specs.declared.slot.Content.{Content}
-use Rattle.bb_schema.specs.declared.slot.Content.TheVariants as contents
 use Rattle.bb_schema.specs.declared.space.Space.{Space}
 use Rattle.bb_schema.specs.declared.space.Dim.{Dim}
-use Rattle.bb_schema_classes.specs.contracts.value.ValuePartialEq.TheImpl as value_eq
-use Rattle.bb_schema_classes.specs.contracts.kind.LinkPartialEq.TheImpl as link_eq
-use Rattle.bb_schema_classes.proofs.Laws.{option_decides, link_decides, value_decides}
-use Rattle.bb_schema.specs.contracts.slot.ContentPartialEq.TheImpl as content_eq
-use Rattle.bb_schema.specs.contracts.slot.SlotPartialEq.TheImpl as slot_eq
+use Rattle.bb_schema_classes.proofs.Laws.{option_decides}
 use Rattle.bb_schema.specs.contracts.space.SpacePartialEq.TheImpl as space_eq
 use Rattle.bb_schema.specs.contracts.space.DimPartialEq.TheImpl as dim_eq
 use Rattle.bb_schema.specs.Schema.{Schema}
@@ -30,21 +23,6 @@ space_decides a b =
     Decides-like (space_eq.eq-value.it a b) (λ (h : (a.name ≡ b.name) × (let p : Type 0 = (a.classes ≡ b.classes) × (a.dims ≡ b.dims) in p)) i. record { name = h.0 i; classes = h.1.0 i; dims = h.1.1 i }) (λ h. (ap (λ k. k.name) h, (ap (λ k. k.classes) h, ap (λ k. k.dims) h)))
     (Decides-and (bytes_eq a.name b.name) (pointwise nat_eq a.classes b.classes && pointwise dim_eq.eq-value.it a.dims b.dims) (bytes_decides a.name b.name)
     (Decides-and (pointwise nat_eq a.classes b.classes) (pointwise dim_eq.eq-value.it a.dims b.dims) (bytes_decides a.classes b.classes) (pointwise_decides dim_decides a.dims b.dims)))
-
-content_decides : (a b : Content) → Decides (content_eq.eq-value.it a b) (a ≡ b)
-content_decides (contents.Default x) (contents.Default y) = Decides-like (value_eq.eq-value.it x y) (λ h. ap contents.Default h) (λ h. cc) (value_decides x y)
-content_decides (contents.Link x) (contents.Link y) = Decides-like (link_eq.eq-value.it x y) (λ h. ap contents.Link h) (λ h. cc) (link_decides x y)
-content_decides (contents.Default x) (contents.Link y) = (λ h. absurd cc, λ h. absurd cc)
-content_decides (contents.Link x) (contents.Default y) = (λ h. absurd cc, λ h. absurd cc)
-
-slot_decides : (a b : Slot) → Decides (slot_eq.eq-value.it a b) (a ≡ b)
-slot_decides a b =
-    Decides-like (slot_eq.eq-value.it a b) (λ (h : (a.name ≡ b.name) × (let p : Type 0 = (a.owner ≡ b.owner) × (a.content ≡ b.content) in p)) i. record { name = h.0 i; owner = h.1.0 i; content = h.1.1 i }) (λ h. (ap (λ k. k.name) h, (ap (λ k. k.owner) h, ap (λ k. k.content) h)))
-    (Decides-and (bytes_eq a.name b.name) (nat_eq a.owner b.owner && content_eq.eq-value.it a.content b.content) (bytes_decides a.name b.name)
-    (Decides-and (nat_eq a.owner b.owner) (content_eq.eq-value.it a.content b.content) (Decides-eqb a.owner b.owner) (content_decides a.content b.content)))
-
-pub slots_decide : (xs ys : List Slot) → Decides (pointwise slot_eq.eq-value.it xs ys) (xs ≡ ys)
-slots_decide = pointwise_decides slot_decides
 
 pub spaces_decide : (xs ys : List Space) → Decides (pointwise space_eq.eq-value.it xs ys) (xs ≡ ys)
 spaces_decide = pointwise_decides space_decides

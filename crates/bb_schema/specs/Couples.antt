@@ -1,11 +1,12 @@
 -- Two link slots that are each other's inverse form a couple. The first of them is its side A.
 use Rattle.std.specs.Prelude.{ℕ, suc, Bool, false, nat_lt, List, [], ◌∷◌, length, take, Option, option_map, if◌then◌else◌}
 use Rattle.std.specs.Option.{option_map_or}
-use Rattle.bb_schema.specs.declared.slot.Slot.{Slot}
+use Rattle.bb_schema_slots.specs.declared.slot.Slot.{Slot}
 use Rattle.bb_schema_classes.specs.declared.kind.Link.{Link}
 use Rattle.bb_schema.specs.declared.couple.Side.{Side}
 use Rattle.bb_schema.specs.declared.couple.Side.TheVariants.{A, B}
-use Rattle.bb_schema.specs.Schema.{Schema, link_in, link_of}
+use Rattle.bb_schema.specs.Schema.{Schema}
+use Rattle.bb_schema_slots.specs.Slots.{link_in, link_of}
 
 -- the slot of the number n is a link slot and comes before its inverse
 abbrev pub comes_first : ℕ → Slot → Bool

@@ -11,12 +11,13 @@ use Rattle.bb_schema_classes.specs.Inheritance.{ParentsAreEarlier, parent_of, de
 use Rattle.bb_schema_classes.specs.Naming.{AreNames}
 use Rattle.bb_schema_classes.specs.Focus.{focus_class}
 use Rattle.bb_schema_classes.specs.Fits.{AreLabelSets, IsHeld, IsClass, StartsWith}
-use Rattle.bb_schema.specs.declared.slot.Slot.{Slot}
+use Rattle.bb_schema_slots.specs.declared.slot.Slot.{Slot}
 use Rattle.bb_schema.specs.declared.read.spaces.TheConstants.{DIM_LIMIT, SPACE_LIMIT}
 use Rattle.bb_schema.specs.declared.space.Space.{Space}
 use Rattle.bb_schema.specs.SpaceReading.{has_slot_for}
 use Rattle.bb_schema.specs.Focus.{focus_slots}
-use Rattle.bb_schema.specs.Schema.{Schema, link_of, default_in}
+use Rattle.bb_schema.specs.Schema.{Schema}
+use Rattle.bb_schema_slots.specs.Slots.{link_of, default_in}
 
 -- a slot has a name, is of one of class_count classes, and can hold its default
 pub record IsSlot (sets : List LabelSet) (class_count : ℕ) (t : Slot) : Type 0 where

@@ -1,8 +1,8 @@
 -- The slots of the built-in class, which each schema has as its first ones.
 use Rattle.std.specs.Prelude.{pos, true, List, [], ◌∷◌, codes}
 use Rattle.bb_schema_classes.specs.declared.value.Value.TheVariants.{Int, Text, Bool as Truth}
-use Rattle.bb_schema.specs.declared.slot.Slot.{Slot}
-use Rattle.bb_schema.specs.declared.slot.Content.TheVariants.{Default}
+use Rattle.bb_schema_slots.specs.declared.slot.Slot.{Slot}
+use Rattle.bb_schema_slots.specs.declared.slot.Content.TheVariants.{Default}
 
 -- two texts, a number and a truth
 abbrev pub focus_slots : List Slot

@@ -1,5 +1,3 @@
--- what a slot can hold
-pub mod Kinds
 -- what a schema is, and how its parts are found
 pub mod Schema
 -- couples of link slots
@@ -12,8 +10,6 @@ pub mod Spaces
 pub mod Focus
 -- what holds of every schema
 pub mod Fits
--- slots with numbers in place of names
-pub mod Resolution
 -- the spaces that entries mean
 pub mod SpaceReading
 -- the schema that a text means, or its first fault

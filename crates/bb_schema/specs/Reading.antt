@@ -13,7 +13,7 @@ use Rattle.bb_schema_form.specs.declared.place.ListKey.TheVariants as lists
 use Rattle.bb_schema.specs.Schema.{Schema}
 use Rattle.bb_schema_classes.specs.declared.read.Walked.{Walked}
 use Rattle.bb_schema_classes.specs.Walk.{walk_of}
-use Rattle.bb_schema.specs.Resolution.{resolved_slot}
+use Rattle.bb_schema_slots.specs.Resolution.{resolved_slot}
 use Rattle.bb_schema.specs.SpaceReading.{space_after}
 
 -- a fault of the document as one of the schema

@@ -1,19 +1,17 @@
 -- What a schema is, and how its parts are found (GBBopen Reference Manual, unit classes and slots).
-use Rattle.std.specs.Prelude.{ℕ, Bool, false, List, [], map, slice_get, Option, Some, None, option_and_then, option_map, position, find}
+use Rattle.std.specs.Prelude.{ℕ, Bool, List, [], map, slice_get, Option, option_and_then, option_map, position, find}
 use Rattle.std.specs.Option.{option_map_or}
 use Rattle.std.specs.Str.{bytes_eq}
 use Rattle.bb_schema_classes.specs.declared.label_set.LabelSet.{LabelSet}
 use Rattle.bb_schema_classes.specs.declared.class.Class.{Class}
 use Rattle.bb_schema_classes.specs.declared.value.Value.{Value}
-use Rattle.bb_schema.specs.declared.slot.Slot.{Slot}
-use Rattle.bb_schema_classes.specs.declared.kind.Link.{Link}
+use Rattle.bb_schema_slots.specs.declared.slot.Slot.{Slot}
 use Rattle.bb_schema_classes.specs.declared.kind.Kind.{Kind}
-use Rattle.bb_schema.specs.declared.slot.Content.{Content}
-use Rattle.bb_schema.specs.declared.slot.Content.TheVariants as contents
 use Rattle.bb_schema.specs.declared.space.Space.{Space}
 use Rattle.bb_schema.specs.declared.space.Dim.{Dim}
-use Rattle.bb_schema.specs.Kinds.{kind_of}
+use Rattle.bb_schema_slots.specs.Kinds.{kind_of}
 use Rattle.bb_schema_classes.specs.Inheritance.{descends_in, slots_in}
+use Rattle.bb_schema_slots.specs.Slots.{has_name, default_in, link_of}
 
 -- all parts by their numbers: class 0 is `focus`
 pub record Schema : Type 0 where
@@ -39,10 +37,6 @@ label_named s set name = option_and_then (λ l. position (bytes_eq name) l.value
 -- all slots of a class, in class order
 abbrev pub slots_of : Schema → ℕ → List ℕ
 slots_of s c = slots_in s.classes c
-
--- the slot of the number is there and has the name
-unfoldable pub has_name : List Slot → List ℕ → ℕ → Bool
-has_name slots name n = option_map_or (λ t. bytes_eq name t.name) (slice_get slots n) false
 
 -- the slot that a name means in a class
 abbrev pub slot_named : Schema → ℕ → List ℕ → Option ℕ
@@ -71,22 +65,9 @@ owner_of s n = option_map (λ t. t.owner) (slice_get s.slots n)
 abbrev pub kind_of_slot : Schema → ℕ → Option Kind
 kind_of_slot s n = option_map (λ t. kind_of t.content) (slice_get s.slots n)
 
--- the default, and the link, that a slot holds
-abbrev pub default_in : Content → Option Value
-default_in (contents.Default v) = Some v
-default_in (contents.Link l) = None
-
-abbrev pub link_in : Content → Option Link
-link_in (contents.Default v) = None
-link_in (contents.Link l) = Some l
-
 -- the default of an ordinary slot
 abbrev pub default_of : Schema → ℕ → Option Value
 default_of s n = option_and_then (λ t. default_in t.content) (slice_get s.slots n)
-
--- the link of a link slot
-abbrev pub link_of : List Slot → ℕ → Option Link
-link_of slots n = option_and_then (λ t. link_in t.content) (slice_get slots n)
 
 -- the inverse of a link slot
 abbrev pub inverse_of : List Slot → ℕ → ℕ

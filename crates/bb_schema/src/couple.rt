@@ -4,9 +4,9 @@ ghost use Rattle.std.specs.Prelude.{◌≡◌, ◌≤◌, ◌<◌, length, IfOk}
 ghost use Rattle.bb_schema.specs.Couples.{comes_first, firsts, counts, couple_end, pair_of};
 ghost use Rattle.bb_schema_classes.specs.declared.draft.TheConstants.{SLOT_LIMIT};
 
-use crate::slot::{Content, Slot};
 use crate::unit::UnitId;
 use bb_schema_classes::{Link, SlotId};
+use bb_schema_slots::{Content, Slot};
 use std::alloc::{AllocError, Global};
 
 /// The number of a couple of link slots that are each other's inverse, by the order of their first slots.

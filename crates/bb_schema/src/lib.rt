@@ -4,20 +4,16 @@
 //! - Out: `Schema::read`, the schema that the document means, or the first `SchemaFault` with the entry that it is at.
 //! - Callers rely on: what a schema declares has a number from here on (`ClassId`, `SlotId`, `SpaceId`, ..), and no
 //!   name is looked up again to run anything. A `SharedSchema` is one schema with many owners.
-//! - Family: bb_schema_form has the JSON, bb_schema_classes the classes and slots.
+//! - Family: bb_schema_form has the JSON, bb_schema_classes the classes, bb_schema_slots the slots.
 //! - Cases: `schemas`, `documents`, `limits_of_documents`, `model-schemas`; tests in bb_board_parts_tests.
 #![tactic(auto)]
 
 mod couple;
-mod lineage;
 mod ownership;
 mod read;
-mod relation;
 mod schema;
 mod shared_schema;
-mod slot;
 mod space;
-mod struck;
 mod unit;
 
 pub use bb_schema_classes::{

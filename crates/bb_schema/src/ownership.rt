@@ -4,8 +4,8 @@ ghost use Rattle.std.specs.Prelude.{◌≡◌};
 ghost use Rattle.bb_schema.specs.Ownership.{owns, owns_any, strikes};
 
 use crate::schema::Schema;
-use crate::struck::struck_at;
 use bb_schema_classes::{ClassId, SlotId};
+use bb_schema_slots::struck_at;
 
 impl Schema {
     /// Whether the slot of a number is there and a link slot that owns: a unit owns those that the slot holds, and they

@@ -9,17 +9,14 @@ ghost use Rattle.bb_schema_classes.specs.declared.fault.SchemaFault.TheVariants.
 ghost use Rattle.bb_schema_classes.specs.Fits.{IsWalked};
 ghost use Rattle.bb_schema.specs.Reading.{fault_of, bare_schema, schema_with_spaces, declared_schema, schema_of};
 
-mod resolve;
 mod spaces;
 
 use crate::couple::count_couples;
-use crate::lineage::Lineage;
 use crate::schema::Schema;
-use crate::struck::struck_table;
 use bb_basis::Table;
 use bb_schema_classes::{SchemaFault, SchemaFlaw, Walked, spans_of};
 use bb_schema_form::{Document, DocumentFault, SpaceEntry};
-use resolve::resolve_slots;
+use bb_schema_slots::{Lineage, resolve_slots, struck_table};
 use spaces::spaces_of;
 use std::alloc::Global;
 

@@ -2,7 +2,8 @@
 
 ghost use Rattle.std.specs.Prelude.{◌≡◌, ◌<◌, ◌≤◌, ◌↔◌, Some, IsSome, is_some, IsTrue, length, min, slice_get, option_map, ◌⊎◌};
 ghost use Rattle.std.specs.List.{list_any};
-ghost use Rattle.bb_schema.specs.Schema.{class_named, space_named, label_set_named, label_named, slot_named, name_of_class, name_of_slot, name_of_space, name_of_label, slots_of, owner_of, kind_of_slot, default_of, link_of, inverse_of, dims_of, descends};
+ghost use Rattle.bb_schema.specs.Schema.{class_named, space_named, label_set_named, label_named, slot_named, name_of_class, name_of_slot, name_of_space, name_of_label, slots_of, owner_of, kind_of_slot, default_of, inverse_of, dims_of, descends};
+ghost use Rattle.bb_schema_slots.specs.Slots.{link_of};
 ghost use Rattle.bb_schema_classes.specs.Inheritance.{parent_of, Descends};
 ghost use Rattle.bb_schema.specs.Couples.{couples, couple_of};
 ghost use Rattle.bb_schema.specs.Fits.{Fits, AreSpaces};
@@ -14,13 +15,12 @@ ghost use Rattle.bb_schema.specs.declared.read.spaces.TheConstants.{SPACE_LIMIT}
 ghost use Rattle.bb_schema.specs.Spaces.{allowed, IsAllowed};
 
 use crate::couple::{CoupleId, Side, couple_end};
-use crate::lineage::Lineage;
-use crate::slot::{Content, Slot, find_slot, link_at};
 use crate::space::{Dim, Space, SpaceId};
-use bb_basis::{Items, Table};
+use bb_basis::{Items, NAME_LIMIT, Table};
 use bb_schema_classes::{
     Class, ClassId, Kind, LabelId, LabelSet, LabelSetId, Link, SlotId, Span, Value, parent,
 };
+use bb_schema_slots::{Content, Lineage, Slot, find_slot, link_at};
 use std::marker::Model;
 
 /// The classes of units, their slots, the label sets of these, and the spaces (GBBopen Reference Manual, unit classes
@@ -82,7 +82,12 @@ impl Schema {
     pub fn class(&self, name: &str) -> Option<ClassId>
         ensures { result ≡ class_named self.now name.now }
     {
-        self.classes.index_of(name)
+        let classes = &self.classes;
+        // What is too long for a name is not hashed.
+        if name.len() > NAME_LIMIT {
+            return None;
+        }
+        classes.index_of(name)
     }
 
     /// The number of the space of a name.

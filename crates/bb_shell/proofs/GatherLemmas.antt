@@ -9,11 +9,11 @@ use Rattle.bb_run.specs.Source.{Source}
 use Rattle.bb_shell.specs.declared.fitting.Unfit.{Unfit}
 use Rattle.bb_refusal.specs.declared.input_fault.InputFault.{InputFault}
 use Rattle.bb_refusal.specs.declared.input_fault.InputFault.TheVariants.{Memory}
-use Rattle.bb_shell.specs.declared.sources.Gathered.{Gathered}
+use Rattle.bb_shell.specs.declared.sources.Resolution.{Resolution}
 use Rattle.bb_shell.specs.Accepting.{accepted_source}
 use Rattle.bb_shell.specs.Fitting.{source_after}
 use Rattle.bb_shell.specs.Sources.{in_input, resolved_source, sources_for}
-use Rattle.bb_shell.specs.proving.Gathering.{Gathering, ended, gathered_as, gathering, with_code, with_draft}
+use Rattle.bb_shell.specs.proving.Gathering.{Gathering, ended, resolution_as, gathering, with_code, with_draft}
 
 module _ (natives : List (List ℕ)) where
   -- what comes of the sources so far and those whose codes are accepted, by steps
@@ -79,8 +79,8 @@ module _ (natives : List (List ℕ)) where
 
   -- ---- what it tells in the end
 
-  pub ends_as : (s : Schema) (codes : List (SourceDraft Code)) (g h : Gathered) → gathering natives s codes ≡ Ok (gathered_as g) → g ≡ h → sources_for natives s codes ≡ ended (gathered_as h)
-  ends_as s codes g h all is = sym (gathers s codes) ∙ (ap (λ r. r >>= ended) all ∙ ap (λ x. ended (gathered_as x)) is)
+  pub ends_as : (s : Schema) (codes : List (SourceDraft Code)) (g h : Resolution) → gathering natives s codes ≡ Ok (resolution_as g) → g ≡ h → sources_for natives s codes ≡ ended (resolution_as h)
+  ends_as s codes g h all is = sym (gathers s codes) ∙ (ap (λ r. r >>= ended) all ∙ ap (λ x. ended (resolution_as x)) is)
 
   pub fails_as : (s : Schema) (codes : List (SourceDraft Code)) (e : InputFault) → (e ≡ Memory) ⊎ (gathering natives s codes ≡ Err e) → (e ≡ Memory) ⊎ (sources_for natives s codes ≡ Err e)
   fails_as s codes e (inl memory) = inl memory

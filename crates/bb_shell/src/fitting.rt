@@ -27,12 +27,12 @@ pub(crate) enum Unfit {
 
 /// Sources that run together, in order: each fits those before it. Contracts see them as their list.
 #[derive(Drop)]
-pub(crate) struct Together {
+pub(crate) struct SourceSet {
     names: Names,
     sources: Vec<Source>,
 }
 
-impl Model for Together {
+impl Model for SourceSet {
     ghost use Rattle.std.specs.Prelude.{◌≡◌, ◌≤◌, List, length};
     ghost use Rattle.bb_run.specs.Limits.{SOURCE_LIMIT};
     ghost use Rattle.bb_run.specs.Source.{Source as Placed};
@@ -150,12 +150,12 @@ fn fit(
     }
 }
 
-impl Together {
+impl SourceSet {
     /// No sources. It allocates nothing.
-    pub(crate) fn new(alloc: Global) -> Together
+    pub(crate) fn new(alloc: Global) -> SourceSet
         ensures { result ≡ [] }
     {
-        Together {
+        SourceSet {
             names: Names::new(alloc),
             sources: Vec::new(alloc),
         }
@@ -188,12 +188,12 @@ pub(crate) fn fit_all(
     alloc: Global,
     natives: &[Closing],
     sources: Vec<Source>,
-) -> Result<Together, Unfit>
+) -> Result<SourceSet, Unfit>
     ensures { Gives OutOfMemory (λ t. t) result (fitted (names_in natives.now) sources.items) }
 {
-    let mut together = Together::new(alloc);
+    let mut source_set = SourceSet::new(alloc);
     for source in sources {
-        together.add(alloc, natives, source)?;
+        source_set.add(alloc, natives, source)?;
     }
-    Ok(together)
+    Ok(source_set)
 }

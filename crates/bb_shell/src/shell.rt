@@ -98,8 +98,8 @@ fn plan_for(
 {
     let schema = board.shared_schema()?;
     match fit_all(alloc, natives, sources) {
-        Ok(together) => {
-            let plan = Plan::new(alloc, schema, together.into_sources(), floor)?;
+        Ok(source_set) => {
+            let plan = Plan::new(alloc, schema, source_set.into_sources(), floor)?;
             Ok(plan)
         }
         Err(Unfit::Source { fault, .. }) => Err(fault),

@@ -4,10 +4,10 @@ ghost use Rattle.std.specs.Prelude.{◌≡◌, ◌≤◌, length, IfOk, Ok, Err}
 ghost use Rattle.bb_basis.specs.Results.{Gives};
 ghost use Rattle.bb_shell.specs.Fitting.{names_in, source_after};
 ghost use Rattle.bb_shell.specs.Sources.{resolved_source, sources_for};
-ghost use Rattle.bb_shell.specs.proving.Gathering.{gathered_as, gathering, with_draft};
+ghost use Rattle.bb_shell.specs.proving.Gathering.{resolution_as, gathering, with_draft};
 
 use crate::accepting::accept;
-use crate::fitting::{Together, Unfit};
+use crate::fitting::{SourceSet, Unfit};
 use bb_basis::Text;
 use bb_bundle::{SourceCode, SourceDraft};
 use bb_refusal::InputFault;
@@ -18,9 +18,9 @@ use std::alloc::{AllocError, Global};
 
 /// What comes of the sources so far, whose codes are all accepted.
 #[derive(Drop)]
-pub(crate) enum Gathered {
+pub(crate) enum Resolution {
     /// Each source fits those before it.
-    Fit(Together),
+    Fit(SourceSet),
     /// A source does not fit those before it. One after it whose names are not found is refused first.
     Unfit(Unfit),
     /// The names of a source are not found. One after it whose code is not accepted is refused first.
@@ -41,10 +41,10 @@ pub(crate) fn sources_for(
     ensures few { IfOk result (λ v. length v.items ≤ SOURCE_LIMIT) }
 {
     match gather_all(alloc, natives, schema, codes)? {
-        Gathered::Fit(together) => Ok(together.into_sources()),
-        Gathered::Unfit(Unfit::Source { name, fault }) => Err(InputFault::Rule { name, fault }),
-        Gathered::Unfit(Unfit::Memory) => Err(InputFault::Memory),
-        Gathered::Unresolved(fault) => Err(fault),
+        Resolution::Fit(source_set) => Ok(source_set.into_sources()),
+        Resolution::Unfit(Unfit::Source { name, fault }) => Err(InputFault::Rule { name, fault }),
+        Resolution::Unfit(Unfit::Memory) => Err(InputFault::Memory),
+        Resolution::Unresolved(fault) => Err(fault),
     }
 }
 
@@ -53,15 +53,15 @@ fn gather_all(
     natives: &[Closing],
     schema: &Schema,
     codes: Vec<SourceCode>,
-) -> Result<Gathered, InputFault>
-    ensures { Gives InputFault.Memory gathered_as result (gathering (names_in natives.now) schema.now codes.items) }
+) -> Result<Resolution, InputFault>
+    ensures { Gives InputFault.Memory resolution_as result (gathering (names_in natives.now) schema.now codes.items) }
 {
-    let mut gathered = Gathered::Fit(Together::new(alloc));
+    let mut resolution = Resolution::Fit(SourceSet::new(alloc));
     for code in codes {
         let draft = accept(alloc, schema, code.into_draft())?;
-        gathered = gather(alloc, natives, schema, gathered, draft)?;
+        resolution = gather(alloc, natives, schema, resolution, draft)?;
     }
-    Ok(gathered)
+    Ok(resolution)
 }
 
 // What comes of the sources with one more.
@@ -69,18 +69,18 @@ fn gather(
     alloc: Global,
     natives: &[Closing],
     schema: &Schema,
-    gathered: Gathered,
+    resolution: Resolution,
     draft: SourceDraft<Checked>,
-) -> Result<Gathered, AllocError>
-    ensures { IfOk result (λ g. gathered_as g
-        ≡ with_draft (names_in natives.now) schema.now (gathered_as gathered) draft) }
+) -> Result<Resolution, AllocError>
+    ensures { IfOk result (λ g. resolution_as g
+        ≡ with_draft (names_in natives.now) schema.now (resolution_as resolution) draft) }
 {
-    match gathered {
-        Gathered::Fit(together) => gather_fit(alloc, natives, schema, together, draft),
-        Gathered::Unfit(unfit) => gather_unfit(alloc, natives, schema, unfit, draft),
-        Gathered::Unresolved(fault) => {
+    match resolution {
+        Resolution::Fit(source_set) => gather_fit(alloc, natives, schema, source_set, draft),
+        Resolution::Unfit(unfit) => gather_unfit(alloc, natives, schema, unfit, draft),
+        Resolution::Unresolved(fault) => {
             drop(draft);
-            Ok(Gathered::Unresolved(fault))
+            Ok(Resolution::Unresolved(fault))
         }
     }
 }
@@ -90,14 +90,14 @@ fn gather_fit(
     alloc: Global,
     natives: &[Closing],
     schema: &Schema,
-    together: Together,
+    source_set: SourceSet,
     draft: SourceDraft<Checked>,
-) -> Result<Gathered, AllocError>
-    ensures { IfOk result (λ g. gathered_as g ≡ with_draft (names_in natives.now) schema.now (Ok (Ok together)) draft) }
+) -> Result<Resolution, AllocError>
+    ensures { IfOk result (λ g. resolution_as g ≡ with_draft (names_in natives.now) schema.now (Ok (Ok source_set)) draft) }
 {
     match resolve(alloc, schema, draft)? {
-        Ok(source) => join(alloc, natives, together, source),
-        Err(fault) => Ok(Gathered::Unresolved(fault)),
+        Ok(source) => join(alloc, natives, source_set, source),
+        Err(fault) => Ok(Resolution::Unresolved(fault)),
     }
 }
 
@@ -108,15 +108,15 @@ fn gather_unfit(
     schema: &Schema,
     unfit: Unfit,
     draft: SourceDraft<Checked>,
-) -> Result<Gathered, AllocError>
-    ensures { IfOk result (λ g. gathered_as g ≡ with_draft (names_in natives.now) schema.now (Ok (Err unfit)) draft) }
+) -> Result<Resolution, AllocError>
+    ensures { IfOk result (λ g. resolution_as g ≡ with_draft (names_in natives.now) schema.now (Ok (Err unfit)) draft) }
 {
     match resolve(alloc, schema, draft)? {
         Ok(source) => {
             drop(source);
-            Ok(Gathered::Unfit(unfit))
+            Ok(Resolution::Unfit(unfit))
         }
-        Err(fault) => Ok(Gathered::Unresolved(fault)),
+        Err(fault) => Ok(Resolution::Unresolved(fault)),
     }
 }
 
@@ -140,14 +140,14 @@ fn resolve(
 fn join(
     alloc: Global,
     natives: &[Closing],
-    mut together: Together,
+    mut source_set: SourceSet,
     source: Source,
-) -> Result<Gathered, AllocError>
-    ensures { IfOk result (λ g. gathered_as g ≡ Ok (source_after (names_in natives.now) together source)) }
+) -> Result<Resolution, AllocError>
+    ensures { IfOk result (λ g. resolution_as g ≡ Ok (source_after (names_in natives.now) source_set source)) }
 {
-    match together.add(alloc, natives, source) {
-        Ok(()) => Ok(Gathered::Fit(together)),
+    match source_set.add(alloc, natives, source) {
+        Ok(()) => Ok(Resolution::Fit(source_set)),
         Err(Unfit::Memory) => Err(AllocError),
-        Err(unfit) => Ok(Gathered::Unfit(unfit)),
+        Err(unfit) => Ok(Resolution::Unfit(unfit)),
     }
 }

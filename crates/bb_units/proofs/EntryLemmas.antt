@@ -1,4 +1,4 @@
--- Units in a list by their numbers: where one stands, and which units the list holds.
+-- Keys in a list by their numbers: where one stands, and which units the slab has under them.
 use Rattle.std.proofs.Common.{◌≡◌, ℕ, zero, suc, ◌+◌, ◌<◌, ◌≤◌, Bool, true, false, cond, List, [], ◌∷◌, length, get_or, Option, Some, None, Result, Ok, Err, Ordering, Less, Equal, Greater, inl, inr, refl, sym, ap, subst, ◌∙◌, arith, eq-eqb, ne_eqb}
 use Rattle.std.specs.Prelude.{◌==◌, option_map, option_and_then}
 use Rattle.std.specs.List.{AllByRecursion, position_from}
@@ -15,50 +15,55 @@ use Rattle.std.proofs.lemmas.Cmp.{ranked}
 use Rattle.std.proofs.lemmas.List.{get_or-map}
 use Rattle.std.proofs.lemmas.List.Sorted.{IsNonDecreasingBy-from_default}
 use Rattle.std.proofs.lemmas.Map.Keys.{below_from_sorted}
+use Rattle.std.proofs.lemmas.Map.Made.{lookup-map_values}
 use Rattle.std.proofs.lemmas.Iterator.Adapters.{position_from-zero}
-use Rattle.bb_units.specs.declared.unit.Unit.{Unit}
-use Rattle.bb_units.specs.proving.Numbered.{held, units_in, Rise, IsAt, place_in}
+use Rattle.slab.specs.Slab.{get as under}
+use Rattle.bb_units.specs.proving.Numbered.{UnitSlab, held, stored, units_in, Rise, IsAt, place_in, key_in}
 
 abbrev pub Entries : Type 0
-Entries = List (ℕ × Option Unit)
+Entries = List (ℕ × Option ℕ)
 
 -- ---- what the list holds
 
--- the unit of an entry that was looked up
-abbrev pub unit_of : Option (Option Unit) → Option Unit
-unit_of o = option_and_then (λ x. x) o
+-- what an entry that was looked up has
+abbrev pub content : {X : Type 0} → Option (Option X) → Option X
+content o = option_and_then (λ x. x) o
 
--- a number below those of all entries
-pub above_holds_none : (n : ℕ) (es : Entries) → AllByRecursion (λ k. nat_cmp n k ≡ Less) (keys_of es) → find nat_cmp n (held es) ≡ None
-above_holds_none n [] above = refl
-above_holds_none n ((k, None) ∷ es) above = above_holds_none n es above.1
-above_holds_none n ((k, Some x) ∷ es) above = rw above.0 (above_holds_none n es above.1)
+module _ {X : Type 0} where
+  -- a number below those of all entries
+  above_holds_none : (n : ℕ) (es : List (ℕ × Option X)) → AllByRecursion (λ k. nat_cmp n k ≡ Less) (keys_of es) → find nat_cmp n (held es) ≡ None
+  above_holds_none n [] above = refl
+  above_holds_none n ((k, None) ∷ es) above = above_holds_none n es above.1
+  above_holds_none n ((k, Some x) ∷ es) above = rw above.0 (above_holds_none n es above.1)
 
--- a number above those of all entries
-pub below_holds_none : (n : ℕ) (es : Entries) → AllByRecursion (λ k. k < n) (keys_of es) → find nat_cmp n (held es) ≡ None
-below_holds_none n [] below = refl
-below_holds_none n ((k, None) ∷ es) below = below_holds_none n es below.1
-below_holds_none n ((k, Some x) ∷ es) below =
-    let lt : k < n = below.0 in
-    rw (unsigned_tied n k, ne_eqb n k (λ same. omega (arith, lt, same))) (below_holds_none n es below.1)
+  gap_by : (n k : ℕ) (es : List (ℕ × Option X)) (b : Bool) → (n == k) ≡ b → AllByRecursion (λ j. nat_cmp k j ≡ Less) (keys_of es) → find nat_cmp n (held es) ≡ content (lookup (λ j. n == j) es) → find nat_cmp n (held es) ≡ content (cond b (Some None) (lookup (λ j. n == j) es))
+  gap_by n k es true same above rest = above_holds_none n es (subst (λ m. AllByRecursion (λ j. nat_cmp m j ≡ Less) (keys_of es)) (sym (eqb-true n k same)) above)
+  gap_by n k es false other above rest = rest
 
-gap_by : (n k : ℕ) (es : Entries) (b : Bool) → (n == k) ≡ b → AllByRecursion (λ j. nat_cmp k j ≡ Less) (keys_of es) → find nat_cmp n (held es) ≡ unit_of (lookup (λ j. n == j) es) → find nat_cmp n (held es) ≡ unit_of (cond b (Some None) (lookup (λ j. n == j) es))
-gap_by n k es true same above rest = above_holds_none n es (subst (λ m. AllByRecursion (λ j. nat_cmp m j ≡ Less) (keys_of es)) (sym (eqb-true n k same)) above)
-gap_by n k es false other above rest = rest
+  content_by : (b : Bool) (x : X) (found : Option X) (seen : Option (Option X)) → found ≡ content seen → cond b (Some x) found ≡ content (cond b (Some (Some x)) seen)
+  content_by true x found seen rest = refl
+  content_by false x found seen rest = rest
 
-unit_by : (b : Bool) (x : Unit) (found : Option Unit) (seen : Option (Option Unit)) → found ≡ unit_of seen → cond b (Some x) found ≡ unit_of (cond b (Some (Some x)) seen)
-unit_by true x found seen rest = refl
-unit_by false x found seen rest = rest
+  pub found_in : (es : List (ℕ × Option X)) (n : ℕ) → Rise es → find nat_cmp n (held es) ≡ content (lookup (λ k. n == k) es)
+  unfolding IsStrictlySortedBy
+  found_in [] n rise = refl
+  found_in ((k, None) ∷ es) n rise = gap_by n k es (n == k) refl rise.0 (found_in es n rise.1)
+  found_in ((k, Some x) ∷ es) n rise = rw (unsigned_tied n k) (content_by (n == k) x (find nat_cmp n (held es)) (lookup (λ k. n == k) es) (found_in es n rise.1))
 
-found_in : (es : Entries) (n : ℕ) → Rise es → find nat_cmp n (held es) ≡ unit_of (lookup (λ k. n == k) es)
-unfolding IsStrictlySortedBy
-found_in [] n rise = refl
-found_in ((k, None) ∷ es) n rise = gap_by n k es (n == k) refl rise.0 (found_in es n rise.1)
-found_in ((k, Some x) ∷ es) n rise = rw (unsigned_tied n k) (unit_by (n == k) x (find nat_cmp n (held es)) (lookup (λ k. n == k) es) (found_in es n rise.1))
+keys_stored : (s : UnitSlab) (es : Entries) → keys_of (stored s es) ≡ keys_of es
+keys_stored s [] = refl
+keys_stored s (e ∷ es) = ap (λ ks. e.0 ∷ ks) (keys_stored s es)
 
--- the unit of a number is that of its entry
-pub get_is_lookup : (es : Entries) (n : ℕ) → Rise es → get (units_in es) n ≡ unit_of (lookup (λ k. n == k) es)
-get_is_lookup es n rise = get-from_entries nat_cmp_total (held es) n ∙ found_in es n rise
+content_under : (s : UnitSlab) (o : Option (Option ℕ)) → content (option_map (λ c. option_and_then (under s) c) o) ≡ option_and_then (under s) (content o)
+content_under s None = refl
+content_under s (Some c) = refl
+
+-- the unit of a number is what the slab has under its key
+pub get_is_under : (s : UnitSlab) (es : Entries) (n : ℕ) → Rise es → get (units_in s es) n ≡ option_and_then (under s) (key_in n es)
+get_is_under s es n rise =
+    get-from_entries nat_cmp_total (held (stored s es)) n
+    ∙ (found_in (stored s es) n (subst (IsStrictlySortedBy nat_cmp) (sym (keys_stored s es)) rise)
+    ∙ (ap content (lookup-map_values (λ c. option_and_then (under s) c) (λ k. n == k) es) ∙ content_under s (lookup (λ k. n == k) es)))
 
 -- ---- where an entry stands
 
@@ -90,8 +95,8 @@ number_at es i = (get_or es i (0, None)).0
 
 number_rises : (es : Entries) (i j : ℕ) → Rise es → i < j → j < length es → number_at es i < number_at es j
 number_rises es i j rise lt within =
-    let first = get_or-map (λ (e : ℕ × Option Unit). e.0) es i (0, None) 0 (omega (arith, lt, within)) in
-    let second = get_or-map (λ (e : ℕ × Option Unit). e.0) es j (0, None) 0 within in
+    let first = get_or-map (λ (e : ℕ × Option ℕ). e.0) es i (0, None) 0 (omega (arith, lt, within)) in
+    let second = get_or-map (λ (e : ℕ × Option ℕ). e.0) es j (0, None) 0 within in
     rw (← first, ← second) (below_from_sorted (keys_of es) i j 0 rise lt (rw (length-keys_of es) within))
 
 number_le : (es : Entries) (i j : ℕ) → Rise es → i ≤ j → j < length es → number_at es i ≤ number_at es j

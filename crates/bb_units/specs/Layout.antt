@@ -5,7 +5,8 @@ use Rattle.std.specs.Option.{option_map_or}
 use Rattle.bb_schema_classes.specs.declared.value.Value.{Value}
 use Rattle.bb_schema_classes.specs.Kinds.{kind_of_value}
 use Rattle.bb_schema_classes.specs.Values.{label_counts, value_fits}
-use Rattle.bb_schema.specs.Schema.{Schema, default_in}
+use Rattle.bb_schema.specs.Schema.{Schema}
+use Rattle.bb_schema_slots.specs.Slots.{default_in}
 
 pub record Layout : Type 0 where
   -- by class, all its slots in class order

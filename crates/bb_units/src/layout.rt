@@ -2,7 +2,8 @@
 
 ghost use Rattle.std.specs.Prelude.{◌≡◌, ◌<◌, ◌↔◌, IsTrue, IfOk, length, map, option_map};
 ghost use Rattle.bb_schema_classes.specs.Values.{label_counts};
-ghost use Rattle.bb_schema.specs.Schema.{default_in, default_of};
+ghost use Rattle.bb_schema.specs.Schema.{default_of};
+ghost use Rattle.bb_schema_slots.specs.Slots.{default_in};
 ghost use Rattle.bb_units.specs.Layout.{layout_of, default_at, can_hold, defaults_of, blank};
 
 use crate::held::Held;

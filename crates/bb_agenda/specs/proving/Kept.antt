@@ -1,30 +1,24 @@
--- How the code keeps an agenda: how many activations were given, those that are pending, and the numbers of those that
--- were obviated. No public clause cites it.
+-- How the code keeps an agenda: how many activations were given, those that are pending, and which numbers are those of
+-- activations that were obviated. No public clause cites it.
 use Rattle.std.specs.Prelude.{◌≡◌, ◌<◌, ◌≤◌, ℕ, Bool, false, List, map, find, if◌then◌else◌}
-use Rattle.std.specs.List.{AllByRecursion, filter_map, list_any, range_with_len}
+use Rattle.std.specs.List.{AllByRecursion, filter_map, range_with_len}
 use Rattle.std.specs.Option.{option_map_or}
-use Rattle.std.specs.Ordering.{nat_cmp}
-use Rattle.std.specs.BTreeMap.{is_at}
 use Rattle.bb_agenda_foci.specs.declared.activation.Activation.{Activation}
 use Rattle.bb_agenda.specs.Agenda.{Entry, pending, executed, obviated, if_pending, has_number}
 
--- the number is one of those that were obviated
-abbrev pub is_gone : List ℕ → ℕ → Bool
-is_gone gone number = list_any (is_at (nat_cmp number)) gone
-
 -- what became of the activation of a number
-abbrev pub entry_in : List Activation → List ℕ → ℕ → Entry
+abbrev pub entry_in : List Activation → (gone : ℕ → Bool) → ℕ → Entry
 entry_in kept gone number =
-    if is_gone gone number then obviated else option_map_or pending (find (has_number number) kept) executed
+    if gone number then obviated else option_map_or pending (find (has_number number) kept) executed
 
 -- what became of all activations that were given
-unfoldable pub entries_of : ℕ → List Activation → List ℕ → List Entry
+unfoldable pub entries_of : ℕ → List Activation → (gone : ℕ → Bool) → List Entry
 entries_of given kept gone = map (entry_in kept gone) (range_with_len 1 given)
 
-pub record IsKept (given : ℕ) (kept : List Activation) (gone : List ℕ) : Type 0 where
+pub record IsKept (given : ℕ) (kept : List Activation) (gone : ℕ → Bool) : Type 0 where
   -- each pending number was given
   pub numbers : AllByRecursion (λ a. a.number ≤ given) kept
   -- no other number was obviated
-  pub gone_given : (number : ℕ) → given < number → is_gone gone number ≡ false
+  pub gone_given : (number : ℕ) → given < number → gone number ≡ false
   -- the activations that are kept are all that is pending
   pub all : filter_map if_pending (entries_of given kept gone) ≡ kept

@@ -1,8 +1,6 @@
 -- The partners of each unit at both sides, under the stamps of their pairs.
 use Rattle.std.specs.Prelude.{◌≡◌, ◌==◌, ℕ, List, Option, Some, None, option_and_then, if◌then◌else◌}
-use Rattle.std.specs.Ordering.{nat_cmp}
-use Rattle.std.specs.Map.{lookup}
-use Rattle.std.specs.BTreeMap.{BTreeMap, is_at}
+use Rattle.std.specs.BTreeMap.{BTreeMap}
 use Rattle.bb_schema.specs.declared.couple.Side.{Side}
 use Rattle.bb_schema.specs.declared.couple.Side.TheVariants.{A, B}
 use Rattle.bb_links.specs.declared.partners.Partners.{Partners}
@@ -40,14 +38,10 @@ IsTaken pair stamp old new = (side : Side) (key : ℕ × ℕ) →
 abbrev pub IsUnchanged : Partners → Partners → Type 0
 IsUnchanged old new = (side : Side) (key : ℕ × ℕ) → partner_at side new key ≡ partner_at side old key
 
--- the pair under a stamp
-abbrev pub pair_under : List (ℕ × (ℕ × ℕ)) → ℕ → Option (ℕ × ℕ)
-pair_under entries stamp = lookup (is_at (nat_cmp stamp)) entries
-
 -- the partner of a unit in a pair in which it is at a side
 abbrev pub partner_in : Side → ℕ → ℕ × ℕ → Option ℕ
 partner_in side n p = if near side p == n then Some (far side p) else None
 
 -- at each side the unit of each pair has its partner under the pair's stamp, and no more
-abbrev pub Follow : List (ℕ × (ℕ × ℕ)) → Partners → Type 0
-Follow entries p = (side : Side) (key : ℕ × ℕ) → partner_at side p key ≡ option_and_then (partner_in side key.0) (pair_under entries key.1)
+abbrev pub Follow : (ℕ → Option (ℕ × ℕ)) → Partners → Type 0
+Follow under p = (side : Side) (key : ℕ × ℕ) → partner_at side p key ≡ option_and_then (partner_in side key.0) (under key.1)

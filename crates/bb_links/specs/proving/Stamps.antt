@@ -1,33 +1,34 @@
--- Pairs under stamps that rise, so that the list of pairs is that of the stamps.
-use Rattle.std.specs.Prelude.{◌≡◌, ◌==◌, ◌<◌, ◌≤◌, ℕ, not, List, [], ◌∷◌, map, filter, length, find, option_map}
-use Rattle.std.specs.List.{AllByRecursion}
-use Rattle.std.specs.BTreeMap.{BTreeMap}
+-- The stamps of pairs. They rise, so the pairs in the order of their stamps are those in order of addition.
+use Rattle.std.specs.Prelude.{◌≡◌, ◌==◌, ◌<◌, ℕ, zero, suc, Bool, false, not, List, [], ◌++◌, Option, Some, filter, find}
+use Rattle.std.specs.Option.{option_map_or, option_to_list}
+use Rattle.std.specs.BTreeMap.{BTreeMap, keys}
 use Rattle.bb_schema.specs.declared.couple.Side.{Side}
 use Rattle.bb_links.specs.declared.partners.Partners.{Partners}
-use Rattle.bb_links.specs.Pairs.{near, same_pair}
+use Rattle.bb_links.specs.Pairs.{near}
 use Rattle.bb_links.specs.proving.Maps.{value_at}
 use Rattle.bb_links.specs.proving.Partners.{Follow}
 
--- the pairs in the order of their stamps
-abbrev pub in_order : List (ℕ × (ℕ × ℕ)) → List (ℕ × ℕ)
-in_order entries = map (λ e. e.1) entries
+abbrev pub is_stamp : ℕ → Option ℕ → Bool
+is_stamp s stamp = option_map_or (λ k. k == s) stamp false
 
--- the stamps rise
-abbrev pub Rising : List (ℕ × (ℕ × ℕ)) → Type 0
-Rising [] = Unit {0}
-Rising (e ∷ es) = AllByRecursion (λ f. e.0 < f.0) es × Rising es
+-- the pair that has a stamp
+abbrev pub pair_under : BTreeMap (ℕ × ℕ) ℕ → ℕ → Option (ℕ × ℕ)
+pair_under stamps s = find (λ p. is_stamp s (value_at stamps p)) (keys stamps)
 
-pub record AreStamped (next : ℕ) (entries : List (ℕ × (ℕ × ℕ))) (stamps : BTreeMap (ℕ × ℕ) ℕ) : Type 0 where
-  pub rising : Rising entries
-  pub below : AllByRecursion (λ e. e.0 < next) entries
-  -- no pair has two stamps
-  pub once : (p : ℕ × ℕ) → length (filter (same_pair p) (in_order entries)) ≤ 1
-  -- the stamp of a pair is the one under which it is kept
-  pub found : (p : ℕ × ℕ) → value_at stamps p ≡ option_map (λ e. e.0) (find (λ e. same_pair p e.1) entries)
+-- the pairs under stamps below one, in the order of their stamps
+abbrev pub in_order : ℕ → (ℕ → Option (ℕ × ℕ)) → List (ℕ × ℕ)
+in_order zero under = []
+in_order (suc n) under = in_order n under ++ option_to_list (under n)
 
-pub record AreKept (next : ℕ) (entries : List (ℕ × (ℕ × ℕ))) (stamps : BTreeMap (ℕ × ℕ) ℕ) (partners : Partners) : Type 0 where
-  pub stamped : AreStamped next entries stamps
-  pub follow : Follow entries partners
+-- the stamp of each pair that has one, and the pair under each stamp that one has
+pub record AreStamped (next : ℕ) (stamp : ℕ × ℕ → Option ℕ) (under : ℕ → Option (ℕ × ℕ)) : Type 0 where
+  pub below : (p : ℕ × ℕ) (s : ℕ) → stamp p ≡ Some s → s < next
+  pub there : (p : ℕ × ℕ) (s : ℕ) → stamp p ≡ Some s → under s ≡ Some p
+  pub found : (p : ℕ × ℕ) (s : ℕ) → under s ≡ Some p → stamp p ≡ Some s
+
+pub record AreKept (next : ℕ) (stamps : BTreeMap (ℕ × ℕ) ℕ) (partners : Partners) : Type 0 where
+  pub stamped : AreStamped next (value_at stamps) (pair_under stamps)
+  pub follow : Follow (pair_under stamps) partners
 
 -- the pairs without those of a unit at a side
 unfoldable pub without_at : Side → ℕ → List (ℕ × ℕ) → List (ℕ × ℕ)

@@ -11,8 +11,9 @@ use Rattle.bb_schema_classes.specs.declared.value.Value.{Value as SlotValue}
 use Rattle.bb_schema_classes.specs.declared.value.Value.TheVariants as slots
 use Rattle.bb_schema_classes.specs.Kinds.{kind_of_value}
 use Rattle.bb_schema_classes.specs.Values.{label_counts, is_label, value_fits}
-use Rattle.bb_schema.specs.declared.slot.Slot.{Slot}
-use Rattle.bb_schema.specs.Schema.{Schema, default_in, default_of, name_of_label}
+use Rattle.bb_schema_slots.specs.declared.slot.Slot.{Slot}
+use Rattle.bb_schema.specs.Schema.{Schema, default_of, name_of_label}
+use Rattle.bb_schema_slots.specs.Slots.{default_in}
 use Rattle.bb_schema.specs.Fits as schemas
 use Rattle.bb_units.specs.Layout.{Layout, layout_of, can_hold}
 use Rattle.bb_units.specs.Units.{is_live, has_slot, value_of, after_set as with_value}

@@ -10,7 +10,8 @@ use Rattle.bb_schema.specs.declared.couple.Side.{Side}
 use Rattle.bb_schema.specs.declared.couple.Side.TheVariants.{A, B}
 use Rattle.bb_schema.specs.Couples.{couple_end}
 use Rattle.bb_schema.specs.Fits as schemas
-use Rattle.bb_schema.specs.Schema.{Schema, descends, link_of, owner_of}
+use Rattle.bb_schema.specs.Schema.{Schema, descends, owner_of}
+use Rattle.bb_schema_slots.specs.Slots.{link_of}
 use Rattle.bb_units.specs.Units.{class_of}
 use Rattle.bb_links.specs.Couples.{end_of, pairs_of}
 use Rattle.bb_links.specs.Links.{partners, ends}

@@ -10,12 +10,13 @@ use Rattle.bb_schema_classes.specs.declared.value.Value.{Value as SlotValue}
 use Rattle.bb_schema_classes.specs.declared.value.Value.TheVariants as held
 use Rattle.bb_schema_classes.specs.Kinds.{kind_of_value}
 use Rattle.bb_schema_classes.specs.Values.{label_counts, is_label, value_fits}
-use Rattle.bb_schema.specs.declared.slot.Content.{Content}
-use Rattle.bb_schema.specs.declared.slot.Content.TheVariants as contents
-use Rattle.bb_schema.specs.declared.slot.Slot.{Slot}
+use Rattle.bb_schema_slots.specs.declared.slot.Content.{Content}
+use Rattle.bb_schema_slots.specs.declared.slot.Content.TheVariants as contents
+use Rattle.bb_schema_slots.specs.declared.slot.Slot.{Slot}
 use Rattle.bb_schema.specs.Fits as schemas
-use Rattle.bb_schema.specs.Kinds.{kind_of}
-use Rattle.bb_schema.specs.Schema.{Schema, descends, link_in, link_of}
+use Rattle.bb_schema_slots.specs.Kinds.{kind_of}
+use Rattle.bb_schema.specs.Schema.{Schema, descends}
+use Rattle.bb_schema_slots.specs.Slots.{link_in, link_of}
 use Rattle.bb_units.specs.Units.{value_of}
 use Rattle.bb_board.specs.Fits.{Fits}
 use Rattle.bb_board.specs.May.{class_has, has_link}

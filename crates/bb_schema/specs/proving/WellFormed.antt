@@ -5,8 +5,9 @@ use Rattle.bb_schema_classes.specs.Spans.{AreSpans}
 use Rattle.bb_schema.specs.Schema.{Schema}
 use Rattle.bb_schema.specs.Fits.{Fits}
 use Rattle.bb_schema.specs.Couples.{couples, counts}
-use Rattle.bb_schema.specs.Ownership.{owns_any, related_in, strikes}
-use Rattle.bb_schema.specs.proving.Struck.{struck_at}
+use Rattle.bb_schema.specs.Ownership.{owns_any, strikes}
+use Rattle.bb_schema_slots.specs.Heirs.{related_in}
+use Rattle.bb_schema_slots.specs.proving.Struck.{struck_at}
 
 -- what is kept of what a delete strikes: nothing where no slot owns, and where nothing is kept of two classes, one
 -- strikes the other if they are related

@@ -8,8 +8,8 @@ use Rattle.bb_bundle.specs.declared.draft.SourceDraft.{SourceDraft}
 use Rattle.bb_run.specs.Source.{Source}
 use Rattle.bb_shell.specs.declared.fitting.Unfit.{Unfit}
 use Rattle.bb_refusal.specs.declared.input_fault.InputFault.{InputFault}
-use Rattle.bb_shell.specs.declared.sources.Gathered.{Gathered}
-use Rattle.bb_shell.specs.declared.sources.Gathered.TheVariants as gathereds
+use Rattle.bb_shell.specs.declared.sources.Resolution.{Resolution}
+use Rattle.bb_shell.specs.declared.sources.Resolution.TheVariants as resolutions
 use Rattle.bb_shell.specs.Accepting.{accepted_source}
 use Rattle.bb_shell.specs.Fitting.{source_after}
 use Rattle.bb_shell.specs.Sources.{in_input, resolved_source}
@@ -18,10 +18,10 @@ use Rattle.bb_shell.specs.Sources.{in_input, resolved_source}
 abbrev pub Gathering : Type 0
 Gathering = Result (Result (List Source) Unfit) InputFault
 
-abbrev pub gathered_as : Gathered → Gathering
-gathered_as (gathereds.Fit sources) = Ok (Ok sources)
-gathered_as (gathereds.Unfit unfit) = Ok (Err unfit)
-gathered_as (gathereds.Unresolved fault) = Err fault
+abbrev pub resolution_as : Resolution → Gathering
+resolution_as (resolutions.Fit sources) = Ok (Ok sources)
+resolution_as (resolutions.Unfit unfit) = Ok (Err unfit)
+resolution_as (resolutions.Unresolved fault) = Err fault
 
 -- what comes of the sources with one more, whose codes are accepted
 abbrev pub with_draft : (natives : List (List ℕ)) → Schema → Gathering → SourceDraft Checked → Gathering

@@ -1,4 +1,4 @@
-use Rattle.std.proofs.Common.{◌≡◌, ◌+◌, ◌≤◌, ◌^◌, ◌∙◌, ◌++◌, [], ◌∷◌, length, List, sym, ap, subst, rules, arith, length-append, filter, ◌+ℤ◌, w64, to_z}
+use Rattle.std.proofs.Common.{◌≡◌, ◌+◌, ◌≤◌, ◌^◌, ◌∙◌, ◌++◌, [], ◌∷◌, length, List, sym, ap, subst, rules, arith, length-append, filter, ◌+ℤ◌, cond, pos, w64, to_z}
 use mir.Val.{SFits}
 use Rattle.std.specs.Int.{w128}
 use Rattle.std.specs.BTreeMap.{values}
@@ -8,6 +8,7 @@ use Rattle.std.proofs.lemmas.Map.Iter.{rest_more, rest_all}
 use Rattle.bb_agenda_foci.specs.declared.focus.Focus.{Focus}
 use Rattle.bb_agenda_foci.specs.Matching.{matches, matches_at}
 use Rattle.bb_agenda_foci.specs.Rating.{rating, total_weight}
+use Rattle.bb_agenda_foci.specs.proving.Aims.{aimed_part}
 use Rattle.bb_basis.proofs.EntryLemmas.{values_are}
 use Rattle.bb_agenda_foci.proofs.WeightLemmas.{sum_with, sum_more, sum_all, IsNear, near_more, added}
 use Rattle.bb_agenda_foci.proofs.foci.weighed.Goals as goal
@@ -23,13 +24,15 @@ loop-focus-preserved c =
     let one_more : length (c.loop-focus.yielded ++ c.in-Some.focus ∷ []) ≡ count = length-append c.loop-focus.yielded (c.in-Some.focus ∷ []) in
     let all = ap length split in
     let few : count ≤ 2 ^ 63 = omega (arith, all, c.loop-focus.invariant.counted, c.values-focus-items.ensures.fits) in
-    let fits : SFits w64 focus.weight = search rules in
-    let summed = added count sum focus.weight c.from-sum-in-loop-focus.result c.loop-focus.invariant.near few fits c.from-sum-in-loop-focus.ensures in
+    let part = c.part.result in
+    let fits : SFits w64 part = search rules in
+    let is : part ≡ cond (p focus) focus.weight (pos 0) = c.part.ensures ∙ ap (aimed_part c.args.place) c.new.ensures in
+    let summed = added count sum part c.from-sum-in-loop-focus.result c.loop-focus.invariant.near few fits c.from-sum-in-loop-focus.ensures in
     record {
-      so_far = ap (λ z. sum_with p z left) summed ∙ sum_more p sum focus left (sym c.matches.ensures ∙ c.if-not-matches.false) ∙ ap (sum_with p sum) (sym split) ∙ c.loop-focus.invariant.so_far;
+      so_far = ap (λ z. sum_with p z left) (summed ∙ ap (λ z. sum +ℤ z) is) ∙ sum_more p sum focus left ∙ ap (sum_with p sum) (sym split) ∙ c.loop-focus.invariant.so_far;
       counted = omega (arith, one_more, all, c.loop-focus.invariant.counted);
       near = subst (IsNear (length (c.loop-focus.yielded ++ c.in-Some.focus ∷ []) + 1)) (sym summed)
-          (near_more count (length (c.loop-focus.yielded ++ c.in-Some.focus ∷ []) + 1) sum focus.weight c.loop-focus.invariant.near fits (ap (λ n. n + 1) one_more));
+          (near_more count (length (c.loop-focus.yielded ++ c.in-Some.focus ∷ []) + 1) sum part c.loop-focus.invariant.near fits (ap (λ n. n + 1) one_more));
     }
 
 pub returns : goal.returns

@@ -5,6 +5,6 @@ use Rattle.bb_agenda_foci.proofs.steering.shift.Given as goal
 
 abbrev pub invariant-loop-place : goal.invariant-loop-place
 invariant-loop-place l = record {
-  shifted : AreShifted l.setting (option_map (λ f. f.now) l.gone) (option_map (λ f. f.now) l.new) l.place l.fn.weights.items l.weights.items;
+  shifted : AreShifted l.setting (option_map (λ f. f.now) l.fn.gone) (option_map (λ f. f.now) l.fn.new) l.place l.fn.weights.items l.weights.items;
   same : length l.weights.items ≡ length l.fn.weights.items;
 }

@@ -5,13 +5,14 @@ use Rattle.bb_agenda.specs.Agenda.{Agenda, number_of, has_number, pending_at, pe
 use Rattle.bb_agenda.specs.Chosen.{chosen}
 use Rattle.bb_agenda.specs.Rating.{rating_in}
 use Rattle.bb_agenda.specs.proving.Kept.{entries_of}
+use Rattle.bb_agenda.specs.proving.Numbers.{is_in}
 use Rattle.bb_agenda.proofs.ChoiceLemmas.{same_choice}
 use Rattle.bb_agenda.proofs.agenda.Agenda.choose.Goals as goal
 
 pub returns : goal.returns
 returns c =
     let old = c.self.inside in
-    let seen : Agenda = record { given = entries_of old.given old.waiting old.obviated.keys; foci = old.steering.foci; setting = old.steering.setting; refused = old.refused } in
+    let seen : Agenda = record { given = entries_of old.given old.waiting (is_in old.obviated); foci = old.steering.foci; setting = old.steering.setting; refused = old.refused } in
     record {
       number = c.choose.ensures.number ∙ ap (λ z. option_map number_of (chosen (rating_in seen) z old.waiting)) (to_z-of_z w64 c.args.floor c.ranges.floor)
           ∙ ap (λ xs. option_map number_of (chosen (rating_in seen) c.args.floor xs)) (sym c.self.invariant.all)

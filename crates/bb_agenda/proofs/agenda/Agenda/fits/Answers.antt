@@ -1,8 +1,9 @@
 use Rattle.std.proofs.Common.{subst}
 use Rattle.bb_agenda.specs.Fits.{Fits}
+use Rattle.bb_agenda.specs.proving.Numbers.{is_in}
 use Rattle.bb_agenda.proofs.KeptLemmas.{fits_kept}
 use Rattle.bb_agenda.proofs.agenda.Agenda.fits.Goals as goal
 
 pub returns : goal.returns
 returns c =
-    subst Fits c.self.view_is (fits_kept c.self.inside.given c.self.inside.waiting c.self.inside.obviated.keys c.self.inside.steering.foci c.self.inside.steering.setting c.self.inside.refused c.self.invariant c.numbers-numbers.ensures.rising)
+    subst Fits c.self.view_is (fits_kept c.self.inside.given c.self.inside.waiting (is_in c.self.inside.obviated) c.self.inside.steering.foci c.self.inside.steering.setting c.self.inside.refused c.self.invariant c.numbers-numbers.ensures.rising)

@@ -1,32 +1,32 @@
-use Rattle.std.proofs.Common.{◌≡◌, ◌∙◌, ap, sym, false}
-use Rattle.std.specs.Prelude.{is_some}
-use Rattle.bb_links.specs.Pairs.{has_pair, without_pair}
-use Rattle.bb_links.specs.proving.Stamps.{in_order}
-use Rattle.bb_links.proofs.PairLemmas.{without_absent}
-use Rattle.bb_links.proofs.StampLemmas.{there_by_stamp, order_less, stamped_less}
-use Rattle.bb_links.proofs.FollowLemmas.{under_found, follow_taken}
+use Rattle.std.proofs.Common.{◌∙◌, ap, sym}
+use Rattle.bb_links.specs.Pairs.{without_pair}
+use Rattle.bb_links.specs.proving.Maps.{value_at}
+use Rattle.bb_links.specs.proving.Stamps.{pair_under}
+use Rattle.bb_links.proofs.StampLemmas.{take_is, take_stamped, take_order}
+use Rattle.bb_links.proofs.FollowLemmas.{follow_less}
 use Rattle.bb_links.proofs.pairs.Pairs.remove.Goals as goal
 
 pub invariant_of-self : goal.invariant_of-self
 invariant_of-self c =
     let old = c.self.inside in
-    let kept = c.self.invariant.stamped in
+    let kept = c.self.invariant in
+    let u = pair_under old.stamps in
     let is = sym c.take.ensures.value ∙ c.in-Some.is in
     record {
-      stamped = stamped_less old.next old.by_stamp.entries old.stamps kept c.args.pair c.in-Some.stamp is c.remove.new.self.entries c.take.new.map c.remove.ensures.entries c.take.ensures.gone;
-      follow = follow_taken old.by_stamp.entries old.partners c.self.invariant.follow c.args.pair c.in-Some.stamp c.take-in-Some.new.self c.remove.new.self.entries
-          (under_found c.args.pair c.in-Some.stamp old.by_stamp.entries kept.rising (sym (kept.found c.args.pair) ∙ is)) c.remove.ensures.updates.0 c.take-in-Some.ensures;
+      stamped = take_stamped old.next (value_at old.stamps) u kept.stamped c.args.pair c.take.new.map c.take.ensures.gone;
+      follow = follow_less u (pair_under c.take.new.map) old.partners c.take-in-Some.new.self c.args.pair c.in-Some.stamp kept.follow (kept.stamped.there c.args.pair c.in-Some.stamp is)
+          (take_is old.next (value_at old.stamps) u kept.stamped c.args.pair c.take.new.map c.take.ensures.gone c.in-Some.stamp is) c.take-in-Some.ensures;
     }
 
 pub returns-in-Some : goal.returns-in-Some
 returns-in-Some c =
     let old = c.self.inside in
-    ap in_order c.remove.ensures.entries
-    ∙ (order_less old.next old.by_stamp.entries old.stamps c.self.invariant.stamped c.args.pair c.in-Some.stamp (sym c.take.ensures.value ∙ c.in-Some.is) ∙ ap (without_pair c.args.pair) c.self.view_is)
+    take_order old.next (value_at old.stamps) (pair_under old.stamps) c.self.invariant.stamped c.args.pair c.take.new.map c.take.ensures.gone ∙ ap (without_pair c.args.pair) c.self.view_is
+
+pub invariant_of-self-in_default : goal.invariant_of-self-in_default
+invariant_of-self-in_default c = record { stamped = rw c.in_default.ensures.none c.self.invariant.stamped; follow = rw c.in_default.ensures.none c.self.invariant.follow }
 
 pub returns-in_default : goal.returns-in_default
 returns-in_default c =
-    let es = c.self.inside.by_stamp.entries in
-    let absent : has_pair c.args.pair (in_order es) ≡ false =
-    sym (there_by_stamp c.args.pair es) ∙ (ap is_some (sym (c.self.invariant.stamped.found c.args.pair)) ∙ ap is_some (sym c.take.ensures.value ∙ c.in_default.is)) in
-    sym (without_absent c.args.pair (in_order es) absent) ∙ ap (without_pair c.args.pair) c.self.view_is
+    let old = c.self.inside in
+    take_order old.next (value_at old.stamps) (pair_under old.stamps) c.self.invariant.stamped c.args.pair c.take.new.map c.take.ensures.gone ∙ ap (without_pair c.args.pair) c.self.view_is
