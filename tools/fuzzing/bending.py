@@ -28,6 +28,18 @@ def bend_digit(random, text):
     return text[:at] + random.choice(b"0123456789abcdef").to_bytes(1, "big") + text[at + 1 :]
 
 
+def bend_code(random, text):
+    """A byte of a code, in hex, becomes another, or one more or less, or is doubled or taken away."""
+    codes = [it.span() for it in re.finditer(rb"(?<= )(?:[0-9a-f]{2}){15,}(?=\s)", text)]
+    if not codes:
+        return bend_digit(random, text)
+    begin, end = random.choice(codes)
+    at = begin + 2 * random.randrange((end - begin) // 2)
+    byte = int(text[at : at + 2], 16)
+    others = [[random.randrange(256)], [(byte + 1) % 256], [(byte - 1) % 256], [byte, byte], []]
+    return text[:at] + bytes(random.choice(others)).hex().encode() + text[at + 2 :]
+
+
 def put(random, text):
     at = place(random, text)
     return text[:at] + random.choice(BYTES) + text[at:]
@@ -76,7 +88,7 @@ def bend_number(random, text):
 
 
 # Each as often as it stands here.
-BENDS = [bend_byte, *[bend_digit] * 2, put, cut, *[bend_word] * 3, bend_line, bend_section, bend_number]
+BENDS = [bend_byte, bend_digit, *[bend_code] * 3, put, cut, *[bend_word] * 3, bend_line, bend_section, bend_number]
 
 
 def bent(random: Random, text: bytes, times: int):

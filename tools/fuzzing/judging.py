@@ -5,7 +5,7 @@ import subprocess
 import tempfile
 from pathlib import Path
 
-from forms import FORMS, REFUSAL
+from forms import FORMS
 from given import NoInput, given_of
 from reader import NoTrace, read
 
@@ -14,7 +14,15 @@ SECONDS = 60
 STATUSES = {0: b"finish quiescence", 3: b"finish limit", 4: b"finish full"}
 REFUSED = 2
 MEMORY = 5
+NAME = r"[a-z][a-z0-9_]{0,30}"
+PART = r"(?:require|obviate|retrigger|revalidate|do)"
+PLACE = r"[1-9]\d*:[1-9]\d*"
+REFUSAL = re.compile(
+    rf"refused (?:input (?:read|limit|utf8|sections)|(?:schema|units) [1-8]|lang {PLACE} [1-5]|compile {NAME} {PLACE} [1-8]"
+    rf"|bundle [1-9]\d* (?:[12]|code [1-7])|verify {NAME} {PART} \d+ (?:[1-9]|1[0-3])|rule {NAME} [125678])"
+)
 CHECKED = re.compile(rb"([a-z][a-z0-9_]*) (require|obviate|retrigger|revalidate|do) ops \d+ budget (\d+) (\d+)")
+NATIVE = re.compile(rb"(?:tally|reaper) native")
 CYCLE = re.compile(rb"cycle \d+ act \d+ ([a-z][a-z0-9_]*) unit \d+ rating -?\d+")
 END = re.compile(rb"end steps (\d+) found (\d+) budget (\d+)")
 HEADER = re.compile(rb"(?m)^%(schema|units|sources|bundle)\r?(?:\n|\Z)")
@@ -61,6 +69,7 @@ class Judge:
             raise Wrong("again", "a second run differs")
         check = self.answer(text, "check")
         agree(run, check)
+        check_is_due(check)
         if not run.is_refused():
             ends_keep_budgets(run, check)
             self.is_seen(text, run)
@@ -77,16 +86,21 @@ class Judge:
             except (NoTrace, NoInput) as refused:
                 raise Wrong("seen", str(refused)) from None
 
-    def means_its_bundle(self, text, run):
-        """The bundle of the texts, before that of the input, runs as the texts do."""
+    def as_bundle(self, text):
+        """An input with the bundle of its texts in place of these, if it is not refused."""
         compiled = self.answer(text, "compile")
         if compiled.status != 0:
-            raise Wrong("compiles", f"status {compiled.status} where a run is not refused")
+            return text
         sections = sections_of(text)
         bundle = compiled.out + b"\n" + sections.get("bundle", b"")
         parts = [(it, sections[it]) for it in ("schema", "units") if it in sections] + [("bundle", bundle)]
-        other = b"".join(b"%%%s\n%s\n" % (name.encode(), part) for name, part in parts)
-        if self.answer(other, "run", f"--limit={LIMIT}").out != run.out:
+        return b"".join(b"%%%s\n%s\n" % (name.encode(), part) for name, part in parts)
+
+    def means_its_bundle(self, text, run):
+        """The bundle of the texts, before that of the input, runs as the texts do."""
+        if self.answer(text, "compile").status != 0:
+            raise Wrong("compiles", "a refusal where a run is not refused")
+        if self.answer(self.as_bundle(text), "run", f"--limit={LIMIT}").out != run.out:
             raise Wrong("compiled", "the compiled bundle runs otherwise than its text")
 
 
@@ -126,6 +140,18 @@ def agree(run, check):
             raise Wrong("agree", f"a run gives {run.out[:100]!r}, a check {check.out[:100]!r}")
     elif check.status != 0:
         raise Wrong("agree", f"a check of what runs has status {check.status}: {check.out[:100]!r}")
+
+
+def check_is_due(check):
+    """The lines of a check are one for each part, and one that counts the sources."""
+    if check.status != 0:
+        return
+    *parts, last = check.lines
+    sources = {it.split(b" ")[0] for it in parts}
+    if not all(CHECKED.fullmatch(it) or NATIVE.fullmatch(it) for it in parts) or not re.fullmatch(rb"checked \d+", last):
+        raise Wrong("check", f"no lines of a check: {check.lines[-3:]}")
+    if int(last.split(b" ")[1]) < len(sources):
+        raise Wrong("check", f"{last.decode()} of {len(sources)}")
 
 
 def ends_keep_budgets(run, check):

@@ -5,8 +5,11 @@ from dataclasses import dataclass, field
 from random import Random
 
 INT_LIMIT = 1 << 63
+# The class that each schema has, and its slots: what a unit of it weighs.
+FOCUS = "focus"
+WEIGHED = {"source": "text", "area": "text", "weight": "int", "active": "bool"}
 NUMBERS = [0, 1, 2, 3, 5, -1, 10, 100, INT_LIMIT - 1, -INT_LIMIT]
-TEXTS = ["", "a", "b\\n", '\\"', "é", "long enough to be more than a word"]
+TEXTS = ["", "a", "b\\n", '\\"', "é", "long enough to be more than a word", "r0", "r1", "c0", "focus"]
 EVENTS = ["create", "delete", "update", "link", "unlink", "enter", "leave"]
 
 
@@ -56,6 +59,10 @@ class Schema:
     classes: dict[str, Class]
     spaces: list[Space]
 
+    def declared(self):
+        """The classes that the document has to name."""
+        return [it for it in self.classes.values() if it.name != FOCUS]
+
     def above(self, name):
         """A class and those that it descends from."""
         found = []
@@ -94,7 +101,7 @@ def slot(random, name, labels):
 
 def couple(random, schema, number):
     """Two link slots that lead back to each other."""
-    a, b = (schema.classes[random.choice([*schema.classes])] for _ in range(2))
+    a, b = (random.choice(schema.declared()) for _ in range(2))
     there, back = f"l{number}", f"m{number}"
     owns = random.random() < 0.3
     many = not owns and random.random() < 0.5
@@ -112,10 +119,13 @@ def space(random, schema, number):
 
 def schema(random: Random):
     labels = {f"e{i}": [f"v{i}{j}" for j in range(random.randint(1, 3))] for i in range(some(random, 2))}
-    made = Schema(labels, {}, [])
+    focus = Class(FOCUS, "", [Slot(name, kind) for name, kind in WEIGHED.items()])
+    made = Schema(labels, {FOCUS: focus}, [])
     for i in range(random.randint(1, 4)):
-        parent = random.choice([*made.classes]) if made.classes and random.random() < 0.4 else ""
+        parent = random.choice([*made.classes]) if random.random() < 0.4 else ""
         slots = [slot(random, f"s{i}{j}", labels) for j in range(some(random, 4))]
+        if i == 0 and random.random() < 0.3:
+            slots.append(Slot("count", "int"))
         made.classes[f"c{i}"] = Class(f"c{i}", parent, slots)
     for i in range(some(random, 3)):
         couple(random, made, i)
@@ -147,7 +157,7 @@ def of_space(it: Space):
 
 def schema_text(made: Schema):
     labels = [{"name": name, "values": values} for name, values in made.labels.items()]
-    classes = [of_class(it) for it in made.classes.values()]
+    classes = [of_class(it) for it in made.declared()]
     return json.dumps({"labels": labels, "classes": classes, "spaces": [of_space(it) for it in made.spaces]})
 
 

@@ -6,6 +6,8 @@ from random import Random
 from making import EVENTS, NUMBERS, TEXTS, Schema, some
 
 DEPTH = 3
+# The natives of the program. The first sets the slot `count` of its unit, and the second deletes that.
+NATIVES = ["tally", "reaper"]
 
 
 @dataclass
@@ -27,7 +29,7 @@ class Writer:
     """Writes one source after another; each name that it makes up is a new one."""
 
     def __init__(self, random: Random, schema: Schema):
-        self.random, self.schema, self.names = random, schema, 0
+        self.random, self.schema, self.names, self.natives = random, schema, 0, [*NATIVES]
 
     def name(self):
         self.names += 1
@@ -207,9 +209,10 @@ class Writer:
 
     def source(self, number):
         of = self.random.choice([*self.schema.classes])
+        name = self.natives.pop(0) if self.natives and self.is_likely(0.1) else f"r{number}"
         rate = lambda scope: f"rate {self.random.randint(0, 9)};" if self.is_likely(0.8) else "decline;"
         answer = lambda scope: f"answer {self.random.choice(['true', 'false'])};"
-        parts = [f"source r{number} on {of} {{", self.events(of)]
+        parts = [f"source {name} on {of} {{", self.events(of)]
         parts.append(f"rate {self.random.randint(-1, 20)};")
         if self.is_likely(0.3):
             parts.append(f"require {self.answering(of, '', rate)}")
@@ -219,7 +222,8 @@ class Writer:
                 parts.append(f"{word} on {event} {self.events(event)} {self.answering(of, event, last)}")
         if self.is_likely(0.2):
             parts.append(f"revalidate {self.answering(of, '', answer)}")
-        parts.append(f"do {self.block(Scope(old={'it': of}), 1, DEPTH)}")
+        act = f"do {self.block(Scope(old={'it': of}), 1, DEPTH)}"
+        parts.append("native;" if name in NATIVES else act)
         return "\n  ".join(parts) + "\n}\n"
 
     def sources(self):

@@ -29,12 +29,13 @@ const THING: ClassId = 1;
 
 const POS: SlotId = 4;
 
-const BOARD: SpaceId = 0;
+/// The space of things.
+pub(crate) const BOARD: SpaceId = 0;
 
 const DESK: SpaceId = 1;
 
-// A blackboard with the units of a document, whose notes are taken.
-fn loaded(alloc: Global, text: &str) -> Result<Board, Fail> {
+/// A blackboard with the units of a document, whose notes are taken.
+pub(crate) fn loaded(alloc: Global, text: &str) -> Result<Board, Fail> {
     let mut board = Board::new(alloc, Schema::read(alloc, SCHEMA)?)?;
     load(&mut board, text)?;
     drop(board.take_notes());
@@ -101,8 +102,13 @@ pub(crate) fn found(
     }
 }
 
-// The things on the board within `[low, high]`.
-fn within(alloc: Global, board: &Board, low: i64, high: i64) -> Result<Vec<UnitId>, Fail> {
+/// The things on the board within `[low, high]`.
+pub(crate) fn within(
+    alloc: Global,
+    board: &Board,
+    low: i64,
+    high: i64,
+) -> Result<Vec<UnitId>, Fail> {
     let operands = [DimValue::Interval(low, high)];
     let pattern = ordered(Relation::Within, 0, 0);
     found(alloc, board, THING, BOARD, pattern, &operands)

@@ -12,3 +12,5 @@ mod find;
 mod pattern;
 #[cfg(test)]
 mod query;
+#[cfg(test)]
+mod refused;

@@ -6,6 +6,7 @@
 //! - Family: bb_cases_format reads the files.
 #![tactic(auto)]
 
+mod bent;
 mod board;
 mod executions;
 mod inputs;

@@ -1,5 +1,6 @@
 //! Codes are verified, and the verdict is written in lines; then they are executed, if a case asks for that.
 
+use crate::bent::Bending;
 use crate::board::schema_of;
 use crate::executions::{add_on_scene, entry_of};
 use bb_cases_format::{
@@ -121,9 +122,29 @@ fn given(
             limit: header.number("limit", 1_000)?,
             part: Some(part),
         };
-        add_on_scene(alloc, &mut lines, scene, &code_of(alloc, text)?, asked)?;
+        let code = code_of(alloc, text)?;
+        add_on_scene(alloc, &mut lines, scene, &code, asked)?;
+        if is_bent(header)? {
+            let bending = Bending {
+                alloc,
+                schema: &schema,
+                scene,
+                part,
+                asked,
+            };
+            bending.add(&mut lines, &code)?;
+        }
     }
     Ok(lines)
+}
+
+// Whether a header asks for what lies next to its code.
+fn is_bent(header: &Header<'_>) -> Result<bool, Fault> {
+    match header.option("bent") {
+        None => Ok(false),
+        Some("bytes") => Ok(true),
+        Some(_) => Err(Fault::Options),
+    }
 }
 
 /// Compares a case of a code.
@@ -133,7 +154,7 @@ pub(crate) fn compare_code(
     entry: &Entry<'_>,
 ) -> Result<Option<Difference>, Fault> {
     let header = &entry.first.header;
-    header.check(&["schema", "board", "part", "entry", "limit"])?;
+    header.check(&["schema", "board", "part", "entry", "limit", "bent"])?;
     let scope = Scope::new(alloc, names);
     let text = expanded_text(scope, entry.first.text(alloc)?.as_str())?;
     let gives = entry.second("gives")?;

@@ -2,7 +2,8 @@
 
 use bb_board::Board;
 use bb_code::Code;
-use bb_machine_step::{Answer, Entry, Outcome, Stop, Stuck, execute};
+use bb_machine::trial;
+use bb_machine_step::{Answer, Entry, Outcome, Stop, Stuck};
 use bb_trace::add_board_note;
 use bb_verify::Part;
 use std::alloc::{AllocError, Global};
@@ -27,7 +28,7 @@ pub(crate) fn add_trial(
     code: &Code,
     asked: Asked,
 ) -> Result<bool, AllocError> {
-    let ended = execute(alloc, code, board, asked.entry, u128::from(asked.limit));
+    let ended = trial(alloc, code, board, asked.entry, u128::from(asked.limit));
     add_end(text, ended)?;
     add_notes(alloc, text, board)?;
     Ok(!is_cut(ended))

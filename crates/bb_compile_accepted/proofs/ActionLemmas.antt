@@ -43,6 +43,7 @@ use Rattle.bb_compile_accepted.proofs.LayLemmas.{Known, bare, bare_op, known_sam
 use Rattle.bb_compile_accepted.proofs.QueryLemmas.{piled, pile_count}
 use Rattle.bb_compile_accepted.proofs.PatternLemmas.{AreSmall}
 use Rattle.bb_compile_accepted.proofs.ExprLemmas.{expr_lays}
+use Rattle.bb_compile_accepted.proofs.MoveLemmas.{last_some, moves_same}
 use Rattle.bb_compile_accepted.proofs.StoreLemmas.{Does, marks, marks_same, all_room, let_does, assign_does, new_does}
 use Rattle.bb_compile_accepted.proofs.UnitLemmas.{enter_does, leave_does, delete_does, set_does, relink_does}
 
@@ -157,6 +158,8 @@ module _ (schema : Schema) (sf : schemas.Fits schema) (part : Part) (code : Code
             same = ap marks put_is ∙ marks_same s u m.same;
             locals = let e : t.locals ≡ s.locals = ap (λ (x : Buffer). x.locals) put_is ∙ ap (λ (x : Buffer). x.locals) m.same in omega (arith, e);
             right = λ no. absurd cc;
+            moves = moves_same schema sf s t (ap (λ (x : Buffer). x.scope) put_is ∙ ap (λ (x : Buffer). x.scope) m.same) (ap (λ (x : Buffer). x.locals) put_is ∙ ap (λ (x : Buffer). x.locals) m.same);
+            some = last_some m.grown.ops op;
             leads = λ few f stands.
                 let x = m.leads f stands.1 (all_room schema sf part code small f stands.0) in
                 let end : Leads schema part code (op ∷ []) (with_stack (reverse x.0 ++ f.stack) f) f = (f, say_gives (may m.clean) (length es) f x.0 x.1 x.2, refl) in
@@ -182,6 +185,8 @@ module _ (schema : Schema) (sf : schemas.Fits schema) (part : Part) (code : Code
         same = ap marks put_is ∙ marks_same s u m.same;
         locals = let e : t.locals ≡ s.locals = ap (λ (x : Buffer). x.locals) put_is ∙ ap (λ (x : Buffer). x.locals) m.same in omega (arith, e);
         right = λ yes_it_is. other;
+        moves = moves_same schema sf s t (ap (λ (x : Buffer). x.scope) put_is ∙ ap (λ (x : Buffer). x.scope) m.same) (ap (λ (x : Buffer). x.locals) put_is ∙ ap (λ (x : Buffer). x.locals) m.same);
+        some = last_some m.grown.ops op;
         leads = λ few f stands.
             let x = m.leads f stands.1 (all_room schema sf part code small f stands.0) in
             runs_on schema part code m.grown.ops (op ∷ []) f (with_stack (x.0 ∷ f.stack) f) x.2 (inl (gives f x.0 (is_due schema sf x.0 m.kind wanted x.1 same), refl));
@@ -217,6 +222,8 @@ module _ (schema : Schema) (sf : schemas.Fits schema) (part : Part) (code : Code
         same = ap marks put_is;
         locals = let e : t.locals ≡ s.locals = ap (λ (x : Buffer). x.locals) put_is in omega (arith, e);
         right = λ yes_it_is. other;
+        moves = moves_same schema sf s t (ap (λ (x : Buffer). x.scope) put_is) (ap (λ (x : Buffer). x.locals) put_is);
+        some = omega arith;
         leads = λ few f stands. inl (decline_ends f may, refl);
       }
 

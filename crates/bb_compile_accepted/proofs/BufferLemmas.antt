@@ -8,6 +8,7 @@ use Rattle.bb_code.specs.Limits.{OP_LIMIT}
 use Rattle.bb_verify_frame.specs.Kind.{Kind}
 use Rattle.bb_verify_frame.specs.Kinds.{is_same_plain}
 use Rattle.bb_verify_frame.specs.Op.{Op}
+use Rattle.bb_verify_frame.specs.Op.TheVariants as ops
 use Rattle.bb_verify_frame.specs.Query.{Query}
 use Rattle.bb_compile_scope.specs.declared.fault.CompileFault.TheVariants.{At}
 use Rattle.bb_compile_scope.specs.declared.fault.TextFlaw.{TextFlaw}
@@ -110,11 +111,27 @@ grown_on s t u g h = record {
 pub count_of : (s t : Buffer) → (g : Grown s t) → length t.ops ≡ length s.ops + length g.ops
 count_of s t g = ap length g.ops_are ∙ length-append s.ops g.ops
 
--- ---- a code that begins as a buffer does
+-- ---- lists that begin as others do
+
+pub front : {A : Type 0} (xs ys : List A) (i : ℕ) (x : A) → slice_get xs i ≡ Some x → slice_get (xs ++ ys) i ≡ Some x
+front [] ys i x h = absurd cc
+front (y ∷ xs) ys zero x h = h
+front (y ∷ xs) ys (suc i) x h = front xs ys i x h
+
+-- ---- a code that has what a buffer has, but for ops that are aimed later
+
+-- an op goes to a place ahead, and that place is not known yet
+abbrev pub is_open : Op → Bool
+is_open (ops.One slot place) = place == 0
+is_open (ops.Alive place) = place == 0
+is_open (ops.As class place) = place == 0
+is_open (ops.Jump place) = place == 0
+is_open (ops.Unless place) = place == 0
+is_open (ops.Next local place) = place == 0
+is_open op = false
 
 pub record Has (code : Code) (t : Buffer) : Type 0 where
-  pub ops : List Op
-  pub ops_are : code.ops ≡ t.ops ++ ops
+  pub ops : (i : ℕ) (op : Op) → slice_get t.ops i ≡ Some op → is_open op ≡ false → slice_get code.ops i ≡ Some op
   pub texts : List (List ℕ)
   pub texts_are : code.texts ≡ t.texts ++ texts
   pub queries : List Query
@@ -122,8 +139,7 @@ pub record Has (code : Code) (t : Buffer) : Type 0 where
 
 pub has_before : (code : Code) (s t : Buffer) → Grown s t → Has code t → Has code s
 has_before code s t g h = record {
-  ops = g.ops ++ h.ops;
-  ops_are = both_grown s.ops t.ops code.ops g.ops h.ops g.ops_are h.ops_are;
+  ops = λ i op at closed. h.ops i op (ap (λ l. slice_get l i) g.ops_are ∙ front s.ops g.ops i op at) closed;
   texts = g.texts ++ h.texts;
   texts_are = both_grown s.texts t.texts code.texts g.texts h.texts g.texts_are h.texts_are;
   queries = g.queries ++ h.queries;
@@ -135,17 +151,8 @@ seam [] ys x = refl
 seam (y ∷ xs) ys x = seam xs ys x
 
 -- the op that was put last stands at its place
-pub op_at : (code : Code) (s t : Buffer) (op : Op) → t ≡ with_op op s → Has code t → slice_get code.ops (length s.ops) ≡ Some op
-op_at code s t op is h =
-    let all : code.ops ≡ s.ops ++ op ∷ h.ops = h.ops_are ∙ (ap (λ (u : Buffer). u.ops ++ h.ops) is ∙ append_assoc s.ops (op ∷ []) h.ops) in
-    ap (λ l. slice_get l (length s.ops)) all ∙ seam s.ops h.ops op
+pub op_at : (code : Code) (s t : Buffer) (op : Op) → t ≡ with_op op s → is_open op ≡ false → Has code t → slice_get code.ops (length s.ops) ≡ Some op
+op_at code s t op is closed h = h.ops (length s.ops) op (ap (λ (u : Buffer). slice_get u.ops (length s.ops)) is ∙ seam s.ops [] op) closed
 
 pub count_op : (s t : Buffer) (op : Op) → t ≡ with_op op s → length t.ops ≡ length s.ops + 1
 count_op s t op is = ap (λ (u : Buffer). length u.ops) is ∙ length-append s.ops (op ∷ [])
-
--- ---- texts and queries
-
-pub front : {A : Type 0} (xs ys : List A) (i : ℕ) (x : A) → slice_get xs i ≡ Some x → slice_get (xs ++ ys) i ≡ Some x
-front [] ys i x h = absurd cc
-front (y ∷ xs) ys zero x h = h
-front (y ∷ xs) ys (suc i) x h = front xs ys i x h

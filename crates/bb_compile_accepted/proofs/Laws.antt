@@ -1,6 +1,11 @@
 -- What the crates above use of what the compiler lays out, and that its code is accepted.
-pub use Rattle.bb_compile_accepted.proofs.BufferLemmas.{Clean, passed, not_failed, never_noted, is_due, is_known, with_op, put_ok, put_clean, put_value_ok, Grown, grown_none, grown_op, grown_on, count_of, Has, has_before, seam, op_at, count_op, front}
+pub use Rattle.bb_compile_accepted.proofs.BufferLemmas.{Clean, passed, not_failed, never_noted, is_due, is_known, with_op, put_ok, put_clean, put_value_ok, Grown, grown_none, grown_op, grown_on, count_of, is_open, Has, has_before, seam, op_at, count_op, front}
 pub use Rattle.bb_compile_accepted.proofs.PutLemmas.{pair_ok, triple_ok, clean_before, IsPut, pushed_ok, IsLoaded, variable_ok, IsUnit, unit_ok, one_due_ok, two_due_ok}
 pub use Rattle.bb_compile_accepted.proofs.HeldLemmas.{find_sound, named_slot}
+pub use Rattle.bb_compile_accepted.proofs.ExprLemmas.{class_there}
 pub use Rattle.bb_compile_accepted.proofs.StoreLemmas.{declared_on, declare_is}
-pub use Rattle.bb_compile_accepted.proofs.PartLemmas.{settled_clean, block_clean, part_accepted}
+pub use Rattle.bb_compile_accepted.proofs.PartLemmas.{part_accepted}
+pub use Rattle.bb_compile_accepted.proofs.BranchedLemmas.{branched_accepted}
+pub use Rattle.bb_compile_accepted.proofs.BranchLemmas.{TestLaid, AbsentLaid, ElseEnded, ElseOn, if_absent, if_else}
+pub use Rattle.bb_compile_accepted.proofs.AimLemmas.{no_place, same_more, more_after, block_count, aims_grown, aims_count, aims_has, aims_there, aimed_behind, aimed_before, jump_count, open_is, closed_is, end_count, open_has, jump_there}
+pub use Rattle.bb_compile_accepted.proofs.BlockLemmas.{stated, plain_branched, block_clean, statement_clean, block_now, block_grown}

@@ -32,7 +32,47 @@ pub mod StoreLemmas
 pub mod UnitLemmas
 -- all statements without blocks
 pub mod ActionLemmas
+-- labels by their places, and declared frames
+pub mod LabelLemmas
+-- what is known of all locals
+pub mod KnowLemmas
+-- label sets of slots
+pub mod SlotKinds
+-- kinds of expressions
+pub mod ValueLemmas
+-- what statements without blocks do to a scope
+pub mod MoveLemmas
+-- ops that go ahead, and frames that are declared
+pub mod WalkLemmas
+-- what is found where a label stands
+pub mod JoinLemmas
+-- an `if`, its blocks and the jumps around them
+pub mod BranchLemmas
+-- where the ops of an `if` stand
+pub mod AimLemmas
+-- expressions without parts only add
+pub mod GrownLemmas
+-- all expressions, and statements without blocks, only add
+pub mod MoreLemmas
+-- flaws and ends of blocks
+pub mod BlockLemmas
+-- kinds behind two branches
+pub mod MergeLemmas
+-- statements without blocks, where labels stand before
+pub mod GoesLemmas
+-- scopes behind an `if`
+pub mod BranchScopes
+-- the test of an `if`, for the verifier
+pub mod TestGoes
+-- an `if`, for the verifier
+pub mod BranchGoes
+-- statements of all kinds
+pub mod AcceptLemmas
+-- what a part begins with, and a code that is walked
+pub mod WholeLemmas
 -- whole parts
 pub mod PartLemmas
+-- whole parts with `if`
+pub mod BranchedLemmas
 -- what crates above use
 pub mod Laws

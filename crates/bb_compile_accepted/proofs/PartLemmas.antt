@@ -1,10 +1,10 @@
 -- The code of a part without branches and loops is accepted.
-use Rattle.std.proofs.Common.{◌≡◌, inl, inr, ℕ, zero, suc, ◌+◌, ◌-◌, ◌≤◌, Bool, true, false, cond, ◌&&◌, ◌||◌, not, List, [], ◌∷◌, ◌++◌, length, Option, Some, None, Result, Ok, Err, refl, subst, sym, ap, ◌∙◌, arith, length-append}
+use Rattle.std.proofs.Common.{◌≡◌, inl, inr, ℕ, zero, suc, ◌+◌, ◌-◌, ◌≤◌, Bool, true, false, cond, ◌&&◌, ◌||◌, not, List, [], ◌∷◌, ◌++◌, length, Some, None, Result, Ok, Err, refl, subst, sym, ap, ◌∙◌, arith, length-append}
 use Rattle.std.specs.Prelude.{slice_get, replicate, is_ok, nat_le}
 use Rattle.std.specs.List.{list_all}
 use Rattle.std.proofs.lemmas.Bool.{leb-true}
 use Rattle.std.proofs.lemmas.List.{append-nil, length-replicate}
-use Rattle.bb_basis.proofs.BoolLemmas.{or_false, and_first, and_second}
+use Rattle.bb_basis.proofs.BoolLemmas.{and_first, and_second}
 use Rattle.bb_basis.specs.Results.{◌>>=◌}
 use Rattle.bb_basis.proofs.ResultLemmas.{bind_ok, guard_ok, same_ok}
 use Rattle.bb_code_ops.specs.PatternLimits.{NODE_LIMIT, OPERAND_LIMIT}
@@ -16,23 +16,20 @@ use Rattle.bb_verify_frame.specs.Flaw.{Flaw as CodeFlaw}
 use Rattle.bb_verify_frame.specs.Kind.TheVariants as kinds
 use Rattle.bb_verify_frame.specs.Op.TheVariants as ops
 use Rattle.bb_verify_frame.specs.Query.{Query}
-use Rattle.bb_lang.specs.Action.{Action}
 use Rattle.bb_lang.specs.Blocks.{BlockTree, no_statement, before_others, action, if_of, with_of, for_of}
 use Rattle.bb_schema.specs.Ownership.{owns_any}
 use Rattle.bb_code.specs.Version.TheVariants.{One, Two}
 use Rattle.bb_compile_scope.specs.Place.{Place}
 use Rattle.bb_compile_scope.specs.declared.fault.CompileFault.{CompileFault}
 use Rattle.bb_compile_scope.specs.declared.fault.CompileFault.TheVariants.{At}
-use Rattle.bb_compile_scope.specs.declared.fault.TextFlaw.{TextFlaw}
 use Rattle.bb_compile_scope.specs.declared.fault.TextFlaw.TheVariants.{NoEnd, Limit}
-use Rattle.bb_compile_scope.specs.Ending.{ends, always_ends, block_ends}
+use Rattle.bb_compile_scope.specs.Ending.{ends, block_ends}
 use Rattle.bb_compile_scope.specs.Scope.{begin_with, mark_of}
 use Rattle.bb_compile_buffer.specs.declared.buffer.Buffer.{Buffer}
-use Rattle.bb_compile_buffer.specs.Buffers.{settled, refused_at, put, leave}
+use Rattle.bb_compile_buffer.specs.Buffers.{put, leave}
 use Rattle.bb_compile_buffer.specs.Finish.{empty_buffer, code_of, if_within}
 use Rattle.bb_code.specs.Limits.{LOCAL_LIMIT, TEXT_COUNT_LIMIT, QUERY_LIMIT, FRAME_LIMIT, LOOP_LIMIT, OP_LIMIT}
 use Rattle.bb_compile_buffer.specs.Within.{text_within, query_within, frame_within, loop_within, op_within, list_within, is_within}
-use Rattle.bb_compile_emit.specs.Actions.{action_code}
 use Rattle.bb_compile_emit.specs.Statements.{left, after_end, action_of, statement_code, statements_code, block_code}
 use Rattle.bb_compile_emit.specs.Parts.{has_no_end, done, version_for, part_code}
 use Rattle.bb_compile_emit.specs.declared.part.TheConstants.{LOOP_NESTING}
@@ -50,65 +47,24 @@ use Rattle.bb_compile_accepted.proofs.StraightLemmas.{Ends, Leads, Runs, leads_o
 use Rattle.bb_compile_accepted.proofs.UnderLemmas.{AreKnown, descends_same}
 use Rattle.bb_compile_accepted.proofs.BufferLemmas.{Clean, Grown, Has, with_op, never_noted, put_ok, grown_none, grown_op, grown_on, has_before}
 use Rattle.bb_compile_accepted.proofs.PutLemmas.{pair_ok}
+use Rattle.bb_compile_accepted.proofs.BlockLemmas.{stated, plain_branched, block_clean, block_now}
 use Rattle.bb_compile_accepted.proofs.PatternLemmas.{AreSmall}
 use Rattle.bb_compile_accepted.proofs.StoreLemmas.{Stands, After, Does, marks}
 use Rattle.bb_compile_accepted.proofs.ActionLemmas.{action_does}
 
-pub settled_clean : (place : Place) (o : Option TextFlaw) (u : Unit {0}) → refused_at place o ≡ Ok u → o ≡ None
-settled_clean place None u h = refl
-settled_clean place (Some flaw) u h = absurd cc
-
--- what comes of a statement, taken apart
-record Stated (schema : Schema) (part : Part) (place : Place) (a : Action) (s t : Buffer) (now : Bool) : Type 0 where
-  code_is : action_code schema part a s ≡ Ok t
-  clean : Clean t
-  now_is : ends a ≡ now
-
-stated : (schema : Schema) (part : Part) (place : Place) (a : Action) (s t : Buffer) (now : Bool) → action_of schema part place a s ≡ Ok (now, t) → Stated schema part place a s t now
-stated schema part place a s t now h =
-    let one = bind_ok (action_code schema part a s) (λ u. settled place u >>= λ _. Ok (ends a, u)) (now, t) h in
-    let two = bind_ok (settled place one.0) (λ _. Ok (ends a, one.0)) (now, t) one.2 in
-    let same = pair_ok (ends a) now one.0 t two.2 in
-    record {
-      code_is = one.1 ∙ ap (λ u. Ok u) same.1;
-      clean = ap (λ (x : Buffer). x.flaw) (sym same.1) ∙ settled_clean place one.0.flaw two.0 two.1;
-      now_is = same.0;
-    }
-
-or_assoc : (a b c : Bool) → ((a || b) || c) ≡ (a || (b || c))
-or_assoc true b c = refl
-or_assoc false b c = refl
-
 module _ (schema : Schema) (part : Part) where
-  -- a statement with a flaw is refused, so there is none behind a block
-  pub block_clean : (b : BlockTree) (loops : ℕ) (was now : Bool) (s t : Buffer) → is_plain b ≡ true → Clean s → statements_code schema part loops was b s ≡ Ok (now, t) → Clean t
-  unfolding statements_code statement_code
-  block_clean no_statement loops was now s t plain clean h = ap (λ (x : Buffer). x.flaw) (sym (pair_ok was now s t h).1) ∙ clean
-  block_clean (before_others place (action a) others) loops was now s t plain clean h =
-      let here = after_end was s in
-      let one = bind_ok (action_of schema part place a here) (λ p. statements_code schema part loops (was || p.0) others p.1) (now, t) h in
-      block_clean others loops (was || one.0.0) now one.0.1 t plain (stated schema part place a here one.0.1 one.0.0 one.1).clean one.2
-  block_clean (before_others place (if_of test then other) others) loops was now s t plain clean h = absurd cc
-  block_clean (before_others place (with_of binding then other) others) loops was now s t plain clean h = absurd cc
-  block_clean (before_others place (for_of name sequence body) others) loops was now s t plain clean h = absurd cc
-
-  -- whether a block ends
-  block_now : (b : BlockTree) (loops : ℕ) (was now : Bool) (s t : Buffer) → is_plain b ≡ true → statements_code schema part loops was b s ≡ Ok (now, t) → now ≡ (was || block_ends b)
-  unfolding statements_code statement_code block_ends always_ends
-  block_now no_statement loops was now s t plain h = sym (pair_ok was now s t h).0 ∙ sym (or_false was)
-  block_now (before_others place (action a) others) loops was now s t plain h =
-      let here = after_end was s in
-      let one = bind_ok (action_of schema part place a here) (λ p. statements_code schema part loops (was || p.0) others p.1) (now, t) h in
-      let rest = block_now others loops (was || one.0.0) now one.0.1 t plain one.2 in
-      let same = (stated schema part place a here one.0.1 one.0.0 one.1).now_is in
-      rest ∙ (or_assoc was one.0.0 (block_ends others) ∙ ap (λ b. was || (b || block_ends others)) (sym same))
-  block_now (before_others place (if_of test then other) others) loops was now s t plain h = absurd cc
-  block_now (before_others place (with_of binding then other) others) loops was now s t plain h = absurd cc
-  block_now (before_others place (for_of name sequence body) others) loops was now s t plain h = absurd cc
-
   module _ (sf : schemas.Fits schema) (code : Code) (small : AreSmall schema sf part code) where
-    abbrev DoesHere : Bool → Buffer → Buffer → Type 0
-    DoesHere ended s t = Does schema sf part code small ended s t
+    -- what is laid out from one buffer to another, of any number of statements
+    record DoesHere (ended : Bool) (s t : Buffer) : Type 0 where
+      grown : Grown s t
+      clean : Clean s
+      same : marks t ≡ marks s
+      locals : s.locals ≤ t.locals
+      right : ended ≡ true → is_ok (ends_done part) ≡ false
+      leads : t.locals ≤ code.locals → (f : Frame) → Stands schema sf part code small f s → After schema sf part code small ended t grown.ops f
+
+    does_one : (e : Bool) (s t : Buffer) → Does schema sf part code small e s t → DoesHere e s t
+    does_one e s t d = record { grown = d.grown; clean = d.clean; same = d.same; locals = d.locals; right = d.right; leads = d.leads }
 
     -- behind a statement that ends there is no other
     abbrev Block : (was now : Bool) → Buffer → Buffer → Type 0
@@ -169,7 +125,7 @@ module _ (schema : Schema) (part : Part) where
         let is = stated schema part place a here one.0.1 one.0.0 one.1 in
         let rest = block_does others loops (was || one.0.0) now one.0.1 t plain one.2 clean has in
         let own : Has code one.0.1 = has_before code one.0.1 t (block_grown (was || one.0.0) now one.0.1 t rest) has in
-        let first = subst (λ e. DoesHere e here one.0.1) is.now_is (action_does schema sf part code small a here one.0.1 is.code_is is.clean own) in
+        let first = subst (λ e. DoesHere e here one.0.1) is.now_is (does_one (ends a) here one.0.1 (action_does schema sf part code small a here one.0.1 is.code_is is.clean own)) in
         by_was was now s t one.0.0 one.0.1 first rest
       where
         by_was : (w n : Bool) (x z : Buffer) (e : Bool) (y : Buffer) → DoesHere e (after_end w x) y → Block (w || e) n y z → Block w n x z
@@ -181,14 +137,14 @@ module _ (schema : Schema) (part : Part) where
 
 -- ---- what a part begins with
 
-begin_known : (schema : Schema) (sf : schemas.Fits schema) (part : Part) (n : ℕ) → length (units_of part) ≤ n → AreKnown schema sf (entry_frame part n).locals (begin_with part).kinds (begin_with part).names
+pub begin_known : (schema : Schema) (sf : schemas.Fits schema) (part : Part) (n : ℕ) → length (units_of part) ≤ n → AreKnown schema sf (entry_frame part n).locals (begin_with part).kinds (begin_with part).names
 begin_known schema sf (Require c) n few = (omega arith, (c, inr refl, descends_same schema sf c), tt)
 begin_known schema sf (Obviate c of) n few = (omega arith, (c, inr refl, descends_same schema sf c), (omega arith, (of, inr refl, descends_same schema sf of), tt))
 begin_known schema sf (Retrigger c of) n few = (omega arith, (c, inr refl, descends_same schema sf c), (omega arith, (of, inr refl, descends_same schema sf of), tt))
 begin_known schema sf (Revalidate c) n few = (omega arith, (c, inr refl, descends_same schema sf c), tt)
 begin_known schema sf (Do c) n few = (omega arith, (c, inr refl, descends_same schema sf c), tt)
 
-begin_count : (part : Part) (n : ℕ) → length (units_of part) ≤ n → length (entry_frame part n).locals ≡ n
+pub begin_count : (part : Part) (n : ℕ) → length (units_of part) ≤ n → length (entry_frame part n).locals ≡ n
 begin_count part n few =
     let rest : length (replicate (n - length (units_of part)) kinds.Any) ≡ n - length (units_of part) = length-replicate (n - length (units_of part)) kinds.Any in
     let all : length (units_of part ++ replicate (n - length (units_of part)) kinds.Any) ≡ length (units_of part) + length (replicate (n - length (units_of part)) kinds.Any) = length-append (units_of part) (replicate (n - length (units_of part)) kinds.Any) in
@@ -196,12 +152,12 @@ begin_count part n few =
 
 -- ---- the limits of a code that is within them
 
-all_at : {X : Type 0} (p : X → Bool) (xs : List X) (i : ℕ) (x : X) → list_all p xs ≡ true → slice_get xs i ≡ Some x → p x ≡ true
+pub all_at : {X : Type 0} (p : X → Bool) (xs : List X) (i : ℕ) (x : X) → list_all p xs ≡ true → slice_get xs i ≡ Some x → p x ≡ true
 all_at p [] i x h at = absurd cc
 all_at p (y ∷ ys) zero x h at = let e : y ≡ x = cc in ap p (sym e) ∙ and_first (p y) (list_all p ys) h
 all_at p (y ∷ ys) (suc i) x h at = all_at p ys i x (and_second (p y) (list_all p ys) h) at
 
-query_limits : (q : Query) → query_within q ≡ true → (node_count q.pattern ≤ NODE_LIMIT) × (length q.kinds ≤ OPERAND_LIMIT)
+pub query_limits : (q : Query) → query_within q ≡ true → (node_count q.pattern ≤ NODE_LIMIT) × (length q.kinds ≤ OPERAND_LIMIT)
 query_limits q h =
     let one = and_second _ _ h in
     let two = and_second _ _ one in
@@ -211,7 +167,7 @@ query_limits q h =
     let nodes = and_first _ _ four in
     (leb-true (node_count q.pattern) NODE_LIMIT nodes, leb-true (length q.kinds) OPERAND_LIMIT few)
 
-queries_within : (code : Code) → is_within code ≡ true → list_all query_within code.queries ≡ true
+pub queries_within : (code : Code) → is_within code ≡ true → list_all query_within code.queries ≡ true
 unfolding is_within
 queries_within code h =
     let locals = nat_le 1 code.locals && nat_le code.locals LOCAL_LIMIT in
@@ -231,7 +187,7 @@ unfolding fit_version
 version_by s true is = refl
 version_by s false is = rw is refl
 
-version_fits : (s : Schema) → fit_version s (version_for s) ≡ Ok tt
+pub version_fits : (s : Schema) → fit_version s (version_for s) ≡ Ok tt
 version_fits s = version_by s (owns_any s) refl
 
 module _ (schema : Schema) (sf : schemas.Fits schema) (part : Part) where
@@ -266,8 +222,7 @@ module _ (schema : Schema) (sf : schemas.Fits schema) (part : Part) where
 
       has : Has code u
       has = record {
-        ops = [];
-        ops_are = sym (append-nil u.ops);
+        ops = λ i op at closed. at;
         texts = [];
         texts_are = sym (append-nil u.texts);
         queries = [];
@@ -279,7 +234,7 @@ module _ (schema : Schema) (sf : schemas.Fits schema) (part : Part) where
 
       -- ---- a part that ends by its last statement
 
-      ends_accepted : (t : Buffer) → Does schema sf part code small true first t → u.ops ≡ t.ops → t.locals ≡ u.locals → IsAccepted code
+      ends_accepted : (t : Buffer) → DoesHere schema part sf code small true first t → u.ops ≡ t.ops → t.locals ≡ u.locals → IsAccepted code
       ends_accepted t d ops locals =
           let enough = d.locals in
           let few : length (units_of part) ≤ u.locals = omega (arith, enough, locals) in
@@ -292,7 +247,7 @@ module _ (schema : Schema) (sf : schemas.Fits schema) (part : Part) where
       unfolding effect in_tables effects.done
       done_ends f may = record { straight = refl; tables = refl; ends = ap (λ (r : Result (Unit {0}) CodeFlaw). r >>= λ _. Ok nothing_follows) may }
 
-      do_accepted : (t : Buffer) → ends_done part ≡ Ok tt → Does schema sf part code small false first t → u.ops ≡ t.ops ++ ops.Done ∷ [] → t.locals ≡ u.locals → IsAccepted code
+      do_accepted : (t : Buffer) → ends_done part ≡ Ok tt → DoesHere schema part sf code small false first t → u.ops ≡ t.ops ++ ops.Done ∷ [] → t.locals ≡ u.locals → IsAccepted code
       do_accepted t may d listed locals =
           let enough = d.locals in
           let few : length (units_of part) ≤ u.locals = omega (arith, enough, locals) in
@@ -302,9 +257,9 @@ module _ (schema : Schema) (sf : schemas.Fits schema) (part : Part) where
 
       -- ---- either
 
-      does_block : (now : Bool) (t : Buffer) → statements_code schema part LOOP_NESTING false block first ≡ Ok (now, t) → Grown t u → Does schema sf part code small now first t
+      does_block : (now : Bool) (t : Buffer) → statements_code schema part LOOP_NESTING false block first ≡ Ok (now, t) → Grown t u → DoesHere schema part sf code small now first t
       does_block now t h more =
-          block_does schema part sf code small block LOOP_NESTING false now first t plain h (block_clean schema part block LOOP_NESTING false now first t plain refl h) (has_before code t u more has)
+          block_does schema part sf code small block LOOP_NESTING false now first t plain h (block_clean schema part block LOOP_NESTING false now first t (plain_branched block plain) refl h) (has_before code t u more has)
 
       -- what is accepted is the code
       whole : marks u ≡ marks first → IsAccepted code → IsAccepted (code_of (version_for schema) u)
@@ -337,10 +292,10 @@ module _ (schema : Schema) (sf : schemas.Fits schema) (part : Part) where
             queries_are = ap (λ (x : Buffer). x.queries) put_is ∙ sym (append-nil t.queries);
           }
 
-          d : Does schema sf part code small now first t
+          d : DoesHere schema part sf code small now first t
           d = does_block now t h more
 
-          by_now : (n : Bool) → Does schema sf part code small n first t → IsAccepted (code_of (version_for schema) u)
+          by_now : (n : Bool) → DoesHere schema part sf code small n first t → IsAccepted (code_of (version_for schema) u)
           by_now true e = absurd (let no : true ≡ false = sym ends_so ∙ e.right refl in cc)
           by_now false e = whole (ap marks put_is ∙ e.same) (do_accepted t (may_end part ends_so) e (ap (λ (x : Buffer). x.ops) put_is) (ap (λ (x : Buffer). x.locals) (sym put_is)))
 
@@ -356,7 +311,7 @@ module _ (schema : Schema) (sf : schemas.Fits schema) (part : Part) where
           } in
           let d = does_block now t h more in
           whole (ap marks (sym last) ∙ d.same)
-          (ends_accepted t (subst (λ n. Does schema sf part code small n first t) ends_so d) (ap (λ (x : Buffer). x.ops) (sym last)) (ap (λ (x : Buffer). x.locals) last))
+          (ends_accepted t (subst (λ n. DoesHere schema part sf code small n first t) ends_so d) (ap (λ (x : Buffer). x.ops) (sym last)) (ap (λ (x : Buffer). x.locals) last))
 
     within_same : (u : Buffer) (b : Bool) (code : Code) → is_within (code_of (version_for schema) u) ≡ b → (let r : Result Code CompileFault = cond b (Ok (code_of (version_for schema) u)) (Err (At Limit u.start)) in r) ≡ Ok code → (is_within (code_of (version_for schema) u) ≡ true) × (code_of (version_for schema) u ≡ code)
     within_same u true code is h = (is, same_ok (code_of (version_for schema) u) code h)
@@ -366,7 +321,7 @@ module _ (schema : Schema) (sf : schemas.Fits schema) (part : Part) where
         → (let r : Result Buffer CompileFault = cond b (put ops.Done (leave (mark_of first.scope) t)) (Ok (leave (mark_of first.scope) t)) in r) ≡ Ok u → is_within (code_of (version_for schema) u) ≡ true → IsAccepted (code_of (version_for schema) u)
     by_end true now t u ends_so no_end h last within = do_whole u within now t ends_so h last
     by_end false now t u other no_end h last within =
-        ends_whole u within now t (block_now schema part block LOOP_NESTING false now first t plain h ∙ ended (block_ends block) no_end) h (same_ok (leave (mark_of first.scope) t) u last)
+        ends_whole u within now t (block_now schema part block LOOP_NESTING false now first t (plain_branched block plain) h ∙ ended (block_ends block) no_end) h (same_ok (leave (mark_of first.scope) t) u last)
       where
         ended : (b : Bool) → not b ≡ false → b ≡ true
         ended true h = refl

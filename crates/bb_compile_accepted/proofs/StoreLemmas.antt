@@ -33,7 +33,7 @@ use Rattle.bb_verify.specs.PartType.{Part}
 use Rattle.bb_verify.specs.FrameType.{Frame}
 use Rattle.bb_verify.specs.Frame.{with_stack, with_local, pop, push}
 use Rattle.bb_verify.specs.Effect.{effect, on, store_local, new_unit}
-use Rattle.bb_verify.specs.Tables.{in_tables}
+use Rattle.bb_verify.specs.Tables.{in_tables, known_kind}
 use Rattle.bb_compile_accepted.proofs.StraightLemmas.{Gives, Leads, Runs, leads_on}
 use Rattle.bb_compile_accepted.proofs.UnderLemmas.{IsUnder, AreKnown, descends_same, under_assigned, under_known, known_set, known_more, known_named, known_within, set_here, set_twice}
 use Rattle.bb_compile_accepted.proofs.BufferLemmas.{Clean, Grown, Has, with_op, never_noted, put_ok, grown_on, has_before}
@@ -42,6 +42,8 @@ use Rattle.bb_compile_accepted.proofs.LayLemmas.{Known, Lays, bare, push_lays}
 use Rattle.bb_compile_accepted.proofs.EffectLemmas.{push_on}
 use Rattle.bb_compile_accepted.proofs.PatternLemmas.{AreSmall, room_on}
 use Rattle.bb_compile_accepted.proofs.ExprLemmas.{expr_lays, class_there}
+use Rattle.bb_compile_accepted.proofs.ValueLemmas.{IsGood, local_good, made_good}
+use Rattle.bb_compile_accepted.proofs.MoveLemmas.{Tidy, Moves, last_some, moves_same, moves_on, declared_moves, assigned_moves}
 
 -- a buffer but for what statements put on it
 abbrev pub marks : Buffer → Buffer
@@ -92,6 +94,9 @@ module _ (schema : Schema) (sf : schemas.Fits schema) (part : Part) (code : Code
     pub locals : s.locals ≤ t.locals
     -- a part that ends so does not end by itself
     pub right : ended ≡ true → is_ok (ends_done part) ≡ false
+    -- the scope, and at least one op
+    pub moves : Moves schema sf s t
+    pub some : 1 ≤ length grown.ops
     pub leads : t.locals ≤ code.locals → (f : Frame) → Stands f s → After ended t grown.ops f
 
   -- an empty stack has all its room
@@ -105,10 +110,10 @@ module _ (schema : Schema) (sf : schemas.Fits schema) (part : Part) (code : Code
   store_gives l k f within = record { straight = refl; tables = rw (lt-ltb l code.locals within) refl; gives = refl }
 
   -- a value, and its local, in another scope
-  stores : (s u t : Buffer) (made : Made) (local count : ℕ) (scope : Scope) → (m : Lays schema sf part code STACK_LIMIT s u made) → t ≡ with_op (ops.Store local) (record u { scope = scope; locals = count }) → u.locals ≤ count
+  stores : (s u t : Buffer) (made : Made) (local count : ℕ) (scope : Scope) → (m : Lays schema sf part code STACK_LIMIT s u made) → t ≡ with_op (ops.Store local) (record u { scope = scope; locals = count }) → u.locals ≤ count → Moves schema sf s t
       → ((f : Frame) (k : Kind) → Known schema sf part code f u → IsUnder schema sf k m.kind → count ≤ code.locals → (local < length f.locals) × AreKnown schema sf (set f.locals local k) scope.kinds scope.names) → Does false s t
   unfolding grown_on
-  stores s u t made local count scope m put_is le known_after =
+  stores s u t made local count scope m put_is le moves known_after =
       let last : Grown u t = record {
         ops = ops.Store local ∷ [];
         ops_are = ap (λ (x : Buffer). x.ops) put_is;
@@ -126,6 +131,8 @@ module _ (schema : Schema) (sf : schemas.Fits schema) (part : Part) (code : Code
         same = ap marks put_is ∙ marks_same s u m.same;
         locals = omega (arith, le, locals_are, count_is);
         right = λ h. absurd cc;
+        moves = moves;
+        some = last_some m.grown.ops (ops.Store local);
         leads = λ few f stands.
             let x = m.leads f stands.1 (all_room f stands.0) in
             let own = known_after f x.0 (stands.1.0, subst (λ (y : Buffer). AreKnown schema sf f.locals y.scope.kinds y.scope.names) (sym m.same) stands.1.1) x.1 (omega (arith, few, count_is)) in
@@ -139,11 +146,15 @@ module _ (schema : Schema) (sf : schemas.Fits schema) (part : Part) (code : Code
       }
 
   -- a name is declared
-  declares : (name : List ℕ) (kind : Kind) (s u t : Buffer) (m : Lays schema sf part code STACK_LIMIT s u (Some kind)) → declare name kind u ≡ Ok t → Does false s t
-  declares name kind s u t m h =
+  declares : (name : List ℕ) (kind : Kind) (s u t : Buffer) (m : Lays schema sf part code STACK_LIMIT s u (Some kind)) → (Tidy schema sf s → IsGood schema sf kind) → declare name kind u ≡ Ok t → Does false s t
+  declares name kind s u t m good h =
       let d = declare_is name kind u t h in
       let scope = (declared_on name d.0 kind u).scope in
-      stores s u t (Some kind) d.0 (max u.locals (d.0 + 1)) scope m d.2 (le-max_left u.locals (d.0 + 1))
+      let same_scope : u.scope ≡ s.scope = ap (λ (x : Buffer). x.scope) m.same in
+      let same_locals : u.locals ≡ s.locals = ap (λ (x : Buffer). x.locals) m.same in
+      let last =
+      declared_moves schema sf u t name d.0 kind d.1 (λ tidy. good ((moves_same schema sf u s (sym same_scope) (sym same_locals)).tidy tidy)) (ap (λ (x : Buffer). x.scope.names) d.2) (ap (λ (x : Buffer). x.scope.kinds) d.2) (ap (λ (x : Buffer). x.locals) d.2) in
+      stores s u t (Some kind) d.0 (max u.locals (d.0 + 1)) scope m d.2 (le-max_left u.locals (d.0 + 1)) (moves_on schema sf s u t (moves_same schema sf s u same_scope same_locals) last)
       (λ f k known under few.
       let lt = position_within is_free u.scope.kinds d.0 d.1 in
       let high = le-max_right u.locals (d.0 + 1) in
@@ -188,7 +199,7 @@ module _ (schema : Schema) (sf : schemas.Fits schema) (part : Part) (code : Code
           let d = declare_is name kind u t h in
           let to = declared_on name d.0 kind u in
           let m = expr_lays schema sf part code small e STACK_LIMIT s u (Some kind) code_is (stored_clean (ops.Store d.0) u t to.scope to.locals d.2 clean) (stored_has (ops.Store d.0) u t to.scope to.locals d.2 has) in
-          declares name kind s u t m h
+          declares name kind s u t m (λ tidy. made_good schema sf e STACK_LIMIT s u kind code_is tidy.taken tidy.good) h
 
   -- ---- assignment
 
@@ -203,7 +214,12 @@ module _ (schema : Schema) (sf : schemas.Fits schema) (part : Part) (code : Code
           let put_is = put_ok (ops.Store local) (with_kinds (set u.scope.kinds local now) u) t h in
           let scope : Scope = record { names = u.scope.names; kinds = set u.scope.kinds local now } in
           let m = expr_lays schema sf part code small e STACK_LIMIT s u (Some kind) code_is (stored_clean (ops.Store local) u t scope u.locals put_is clean) (stored_has (ops.Store local) u t scope u.locals put_is has) in
-          stores s u t (Some kind) local u.locals scope m put_is (omega arith)
+          let same_scope : u.scope ≡ s.scope = ap (λ (x : Buffer). x.scope) m.same in
+          let same_locals : u.locals ≡ s.locals = ap (λ (x : Buffer). x.locals) m.same in
+          let last =
+          assigned_moves schema sf u t local kind now (ap (λ (x : Buffer). x.scope.names) put_is) (ap (λ (x : Buffer). x.scope.kinds) put_is) (ap (λ (x : Buffer). x.locals) put_is)
+          (λ tidy. local_good schema sf u.scope.kinds name local u.scope.names tidy.taken at) becomes in
+          stores s u t (Some kind) local u.locals scope m put_is (omega arith) (moves_on schema sf s u t (moves_same schema sf s u same_scope same_locals) last)
           (λ f k known under few.
           let named = known_named schema sf f.locals u.scope.kinds name local u.scope.names known.1 at in
           let kind_is : m.kind ≡ kind = (let e = m.made_is in cc) in
@@ -228,6 +244,9 @@ module _ (schema : Schema) (sf : schemas.Fits schema) (part : Part) (code : Code
   unfolding effect in_tables
   new_gives class f may there lt = record { straight = refl; tables = rw (lt-ltb class (length schema.classes) there) refl; gives = ap on (new_on class f may lt) }
 
+  class_good : (c : ℕ) → c < length schema.classes → known_kind schema (kinds.Ref c) ≡ Ok tt
+  class_good c lt = rw (lt-ltb c (length schema.classes) lt) refl
+
   pub new_does : (name class : List ℕ) (s t : Buffer) → (Clean s → writes part ≡ Ok tt) → new_code schema name class s ≡ Ok t → Clean t → Has code t → Does false s t
   unfolding new_code
   new_does name class s t may h clean has = by_class (class_named schema class) refl h
@@ -242,4 +261,4 @@ module _ (schema : Schema) (sf : schemas.Fits schema) (part : Part) (code : Code
           let free : Clean s = sym (ap (λ (x : Buffer). x.flaw) put_is) ∙ stored_clean (ops.Store d.0) one.0 t to.scope to.locals d.2 clean in
           let m = push_lays schema sf part code STACK_LIMIT s one.0 (ops.New c) (Some (kinds.Ref c)) (kinds.Ref c) free put_is refl (omega arith)
           (λ f known lt. (kinds.Ref c, (c, refl, descends_same schema sf c), new_gives c f (may free) (class_there schema class c at) lt)) in
-          declares name (kinds.Ref c) s one.0 t m one.2
+          declares name (kinds.Ref c) s one.0 t m (λ tidy. (class_good c (class_there schema class c at), (c, refl, descends_same schema sf c))) one.2

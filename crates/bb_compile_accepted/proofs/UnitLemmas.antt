@@ -1,5 +1,5 @@
 -- Statements that change a unit lead from frame to frame.
-use Rattle.std.proofs.Common.{◌≡◌, ℕ, ◌-◌, ◌<◌, Bool, true, false, ◌||◌, List, [], ◌∷◌, ◌++◌, length, map, Option, Some, None, Result, Ok, Err, refl, subst, sym, ap, ◌∙◌, arith}
+use Rattle.std.proofs.Common.{◌≡◌, ℕ, ◌+◌, ◌-◌, ◌<◌, Bool, true, false, ◌||◌, List, [], ◌∷◌, ◌++◌, length, map, Option, Some, None, Result, Ok, Err, refl, subst, sym, ap, ◌∙◌, arith, length-append}
 use Rattle.std.proofs.lemmas.Bool.{lt-ltb}
 use Rattle.std.proofs.lemmas.List.{append-nil, length-map}
 use Rattle.std.specs.List.{list_any}
@@ -48,6 +48,7 @@ use Rattle.bb_compile_accepted.proofs.AtomLemmas.{LaysUnit, live_on, unit_lays, 
 use Rattle.bb_compile_accepted.proofs.PatternLemmas.{AreSmall}
 use Rattle.bb_compile_accepted.proofs.ExprLemmas.{expr_lays, space_there}
 use Rattle.bb_compile_accepted.proofs.StoreLemmas.{Does, marks, marks_same, all_room}
+use Rattle.bb_compile_accepted.proofs.MoveLemmas.{last_some, moves_same, struck_moves}
 
 module _ (schema : Schema) (sf : schemas.Fits schema) (part : Part) (code : Code) (small : AreSmall schema sf part code) where
   abbrev DoesHere : Buffer → Buffer → Type 0
@@ -80,6 +81,8 @@ module _ (schema : Schema) (sf : schemas.Fits schema) (part : Part) (code : Code
     same = ap marks put_is ∙ marks_same s u m.same;
     locals = let e : t.locals ≡ s.locals = ap (λ (x : Buffer). x.locals) put_is ∙ ap (λ (x : Buffer). x.locals) m.same in omega (arith, e);
     right = λ h. absurd cc;
+    moves = moves_same schema sf s t (ap (λ (x : Buffer). x.scope) put_is ∙ ap (λ (x : Buffer). x.scope) m.same) (ap (λ (x : Buffer). x.locals) put_is ∙ ap (λ (x : Buffer). x.locals) m.same);
+    some = last_some m.grown.ops op;
     leads = λ few f stands.
         let x = m.leads f stands.1 (all_room schema sf part code small f stands.0) in
         let end : Leads schema part code (op ∷ []) (with_stack (x.0 ∷ f.stack) f) f = (f, gives f x.0 x.1, refl) in
@@ -95,6 +98,10 @@ module _ (schema : Schema) (sf : schemas.Fits schema) (part : Part) (code : Code
     same = ap marks put_is ∙ (marks_same u w n.same ∙ marks_same s u m.same);
     locals = let e : t.locals ≡ s.locals = ap (λ (x : Buffer). x.locals) put_is ∙ (ap (λ (x : Buffer). x.locals) n.same ∙ ap (λ (x : Buffer). x.locals) m.same) in omega (arith, e);
     right = λ h. absurd cc;
+    moves =
+        moves_same schema sf s t (ap (λ (x : Buffer). x.scope) put_is ∙ (ap (λ (x : Buffer). x.scope) n.same ∙ ap (λ (x : Buffer). x.scope) m.same))
+        (ap (λ (x : Buffer). x.locals) put_is ∙ (ap (λ (x : Buffer). x.locals) n.same ∙ ap (λ (x : Buffer). x.locals) m.same));
+    some = let own = last_some n.grown.ops op in let count : length (m.grown.ops ++ (n.grown.ops ++ op ∷ [])) ≡ length m.grown.ops + length (n.grown.ops ++ op ∷ []) = length-append m.grown.ops (n.grown.ops ++ op ∷ []) in omega (arith, own, count);
     leads = λ few f stands.
         let room = all_room schema sf part code small f stands.0 in
         let x = m.leads f stands.1 room in
@@ -244,6 +251,8 @@ module _ (schema : Schema) (sf : schemas.Fits schema) (part : Part) (code : Code
             same = ap marks all ∙ marks_same s u m.same;
             locals = let e : t.locals ≡ s.locals = ap (λ (x : Buffer). x.locals) all ∙ ap (λ (x : Buffer). x.locals) m.same in omega (arith, e);
             right = λ no. absurd cc;
+            moves = struck_moves schema sf s t c names_are kinds_are (ap (λ (x : Buffer). x.locals) all ∙ ap (λ (x : Buffer). x.locals) m.same);
+            some = last_some m.grown.ops ops.Delete;
             leads = λ few f stands.
                 let x = m.leads f stands.1 (all_room schema sf part code small f stands.0) in
                 let d = delete_gives (may m.clean) m.kind c f x.0 is_live.0 is_live.1 x.1 in

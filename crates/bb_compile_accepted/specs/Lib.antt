@@ -1,5 +1,7 @@
 -- texts without branches and loops
 pub mod Plain
+-- texts without `with` and `for`
+pub mod Branched
 -- what the compiler lays out, for crates above
 pub use Rattle.bb_compile_buffer.specs.declared.buffer.Buffer
 pub use Rattle.bb_compile_buffer.specs.Buffers
@@ -8,6 +10,7 @@ pub use Rattle.bb_compile_buffer.specs.Atoms
 pub use Rattle.bb_compile_buffer.specs.Within
 pub use Rattle.bb_compile_buffer.specs.Finish
 pub use Rattle.bb_compile_emit.specs.declared.asked.Asked
+pub use Rattle.bb_compile_emit.specs.declared.exits.Exits
 pub use Rattle.bb_compile_emit.specs.declared.part.TheConstants as PartLimits
 pub use Rattle.bb_compile_emit.specs.Queries
 pub use Rattle.bb_compile_emit.specs.Expressions

@@ -1,5 +1,5 @@
 -- What statements without blocks lay out does what they mean: the parts of the proof that all share.
-use Rattle.std.proofs.Common.{◌≡◌, ℕ, ◌+◌, ◌<◌, Bool, true, false, cond, List, [], ◌∷◌, ◌++◌, length, Option, Some, Result, Ok, refl, subst, sym, ap, ◌∙◌, arith, append_assoc, length-append}
+use Rattle.std.proofs.Common.{◌≡◌, ℕ, ◌+◌, ◌<◌, Bool, true, false, cond, List, [], ◌∷◌, ◌++◌, length, Option, Some, Result, Ok, refl, subst, sym, ap, ◌∙◌, arith, length-append}
 use Rattle.std.specs.Prelude.{slice_get, set, position, nat_le}
 use Rattle.std.proofs.lemmas.Bool.{leb-false}
 use Rattle.bb_basis.specs.Results.{◌>>=◌}
@@ -22,7 +22,7 @@ use Rattle.bb_machine_step.specs.Step.{step, keeps}
 use Rattle.bb_machine_step.specs.Stuck.TheVariants as reasons
 use Rattle.bb_machine_step.specs.Value.{stuck}
 use Rattle.bb_machine_step.specs.Values.{Value}
-use Rattle.bb_compile_accepted.proofs.Laws.{Clean, Grown, Has, with_op, grown_on, seam, declare_is}
+use Rattle.bb_compile_accepted.proofs.Laws.{Clean, Grown, Has, is_open, with_op, grown_on, seam, declare_is}
 use Rattle.bb_compile_meaning.specs.Meaning.{Meaning, Name}
 use Rattle.bb_compile_meaning.specs.Meaning as names
 use Rattle.bb_compile_meaning.specs.Statements.{Scene, where_named}
@@ -30,7 +30,8 @@ use Rattle.bb_compile_meaning.proofs.ComeLemmas.{Leaves, done_on, Comes, Gets, g
 use Rattle.bb_compile_meaning.proofs.MeansLemmas.{Means, part_gets, Value₀}
 use Rattle.bb_compile_meaning.proofs.NameLemmas.{AreHeld, AreTaken}
 use Rattle.bb_compile_meaning.proofs.OpLemmas.{Pushed}
-use Rattle.bb_compile_meaning.proofs.SceneLemmas.{AreApart, all_known, known_new, taken_more, free_other, apart_more, first_free, held_declared}
+use Rattle.bb_compile_meaning.proofs.SceneLemmas.{AreApart, known_set, all_known, known_new, taken_more, free_other, apart_more, first_free, held_declared}
+use Rattle.bb_compile_meaning.proofs.KeepLemmas.{Keeps, Moves, moves_same, moves_kept}
 use Rattle.std.proofs.lemmas.List.{append-nil, length-set}
 
 -- what the names hold is known, and each name has a local of its own
@@ -101,22 +102,29 @@ declared_tidy name kind s t d known tidy =
       apart = subst AreApart (sym d.names) (apart_more s.scope.names n tidy.apart (free_other s.scope.names s.scope.kinds d.local tidy.taken (first_free s.scope.kinds d.local d.free)));
     }
 
+pub declared_moves : (name : List ℕ) (kind : Kind) (s t : Buffer) → Declares name kind s t → is_free kind ≡ false → Moves s.scope t.scope
+declared_moves name kind s t d known = record {
+  more = record { name = name; local = d.local } ∷ [];
+  names = d.names;
+  keeps = λ i taken. subst (λ ks. is_free (kind_at ks i) ≡ false) (sym d.kinds) (known_set (set s.scope.kinds d.local kind) d.local i kind known (known_set s.scope.kinds d.local i kind known taken));
+}
+
 module _ (code : Code) (start : State) where
   -- what is laid out from one buffer to another does what a statement means
   pub record Acts (s t : Buffer) (act : Scene → Meaning Scene) : Type 0 where
     pub grown : Grown s t
     pub clean : Clean s
     pub tidy : IsTidy s.scope → IsTidy t.scope
+    pub moves : IsTidy s.scope → Moves s.scope t.scope
     pub gets : IsTidy s.scope → (st : State) (scene : Scene) → Comes code start (length s.ops) (Ok st) → IsScene (length s.ops) s.scope.names scene st → Gets code start (IsScene (length t.ops) t.scope.names) (act scene) (length t.ops)
 
   -- the last op
-  pub last_gets : {X : Type 0} (op : Op) (s t : Buffer) (P : ℕ → X → State → Type 0) (r : Meaning X) (st : State) → Last op s t → Has code t → Comes code start (length s.ops) (Ok st)
+  pub last_gets : {X : Type 0} (op : Op) (s t : Buffer) (P : ℕ → X → State → Type 0) (r : Meaning X) (st : State) → Last op s t → is_open op ≡ false → Has code t → Comes code start (length s.ops) (Ok st)
       → ((n : ℕ) (x : X) (next : State) → P n x next → next.0.place ≡ n) → Leaves (P (length s.ops + 1)) r (done_on st.1 (step code op (go_to (length s.ops + 1) st.0, st.1)))
       → Gets code start (P (length t.ops)) r (length t.ops)
-  last_gets op s t P r st last has c place leaves =
+  last_gets op s t P r st last closed has c place leaves =
       let count : length t.ops ≡ length s.ops + 1 = ap length last.ops ∙ length-append s.ops (op ∷ []) in
-      let all : code.ops ≡ s.ops ++ op ∷ has.ops = has.ops_are ∙ (ap (λ l. l ++ has.ops) last.ops ∙ append_assoc s.ops (op ∷ []) has.ops) in
-      let at : slice_get code.ops (length s.ops) ≡ Some op = ap (λ l. slice_get l (length s.ops)) all ∙ seam s.ops has.ops op in
+      let at : slice_get code.ops (length s.ops) ≡ Some op = has.ops (length s.ops) op (ap (λ l. slice_get l (length s.ops)) last.ops ∙ seam s.ops [] op) closed in
       subst (λ n. Gets code start (P n) r n) (sym count) (gets_op code start (P (length s.ops + 1)) r (length s.ops) st op c at (place (length s.ops + 1)) leaves)
 
   -- a state with the values of names in its locals and one value on its stack
@@ -161,7 +169,7 @@ module _ (code : Code) (start : State) where
   pub declare_gets : (name : List ℕ) (kind : Kind) (s t : Buffer) → Declares name kind s t → Has code t → IsTidy s.scope → (st : State) (scene : Scene) (v : Value) → Comes code start (length s.ops) (Ok st) → Holds (length s.ops) s.scope.names scene v st
       → Gets code start (IsScene (length t.ops) t.scope.names) (Ok (where_named name v scene)) (length t.ops)
   declare_gets name kind s t d has tidy st scene v c h =
-      last_gets (ops.Store d.local) s t (λ n. IsScene n t.scope.names) (Ok (where_named name v scene)) st d.last has c (λ n x next i. i.place)
+      last_gets (ops.Store d.local) s t (λ n. IsScene n t.scope.names) (Ok (where_named name v scene)) st d.last refl has c (λ n x next i. i.place)
       (store_leaves d.local (length s.ops + 1) t.scope.names (where_named name v scene) (go_to (length s.ops + 1) st.0) st.1 v refl h.stack h.board
       (λ lt. subst (λ ns. AreHeld (set st.0.locals d.local (Some v)) ns (names.with_name name v scene.names)) (sym d.names)
       (held_declared st.0.locals s.scope.names scene.names name d.local v (free_other s.scope.names s.scope.kinds d.local tidy.taken (first_free s.scope.kinds d.local d.free)) h.held lt)))
@@ -170,7 +178,7 @@ module _ (code : Code) (start : State) where
   pub assign_gets : (local : ℕ) (s t : Buffer) → Last (ops.Store local) s t → Has code t → (st : State) (scene after : Scene) (v : Value) → Comes code start (length s.ops) (Ok st) → Holds (length s.ops) s.scope.names scene v st → after.board ≡ scene.board
       → (local < length st.0.locals → AreHeld (set st.0.locals local (Some v)) t.scope.names after.names) → Gets code start (IsScene (length t.ops) t.scope.names) (Ok after) (length t.ops)
   assign_gets local s t last has st scene after v c h same held =
-      last_gets (ops.Store local) s t (λ n. IsScene n t.scope.names) (Ok after) st last has c (λ n x next i. i.place)
+      last_gets (ops.Store local) s t (λ n. IsScene n t.scope.names) (Ok after) st last refl has c (λ n x next i. i.place)
       (store_leaves local (length s.ops + 1) t.scope.names after (go_to (length s.ops + 1) st.0) st.1 v refl h.stack (h.board ∙ sym same) held)
 
   -- ---- an op on one value, and one on two
@@ -179,11 +187,11 @@ module _ (code : Code) (start : State) where
   OneLeaf ns op P f = (n : ℕ) (m : Machine) (b : Board) (v : Value) (ms : List Name) → P b → m.place ≡ n → AreHeld m.locals ns ms → m.stack ≡ v ∷ []
       → Leaves (IsScene n ns) (f (record { names = ms; board = b }) v) (done_on b (step code op (m, b)))
 
-  pub one_gets : (ns : List NamedLocal) (op : Op) (P : Board → Type 0) (f : Scene → Value → Meaning Scene) (t u : Buffer) → ((n : ℕ) (st : State) → Comes code start n (Ok st) → P st.1) → Last op t u → Has code u → OneLeaf ns op P f
+  pub one_gets : (ns : List NamedLocal) (op : Op) (P : Board → Type 0) (f : Scene → Value → Meaning Scene) (t u : Buffer) → ((n : ℕ) (st : State) → Comes code start n (Ok st) → P st.1) → Last op t u → is_open op ≡ false → Has code u → OneLeaf ns op P f
       → (st : State) (scene : Scene) (v : Value) → Comes code start (length t.ops) (Ok st) → Holds (length t.ops) ns scene v st → Gets code start (IsScene (length u.ops) ns) (f scene v) (length u.ops)
-  one_gets ns op P f t u good last has leaf st scene v c h =
+  one_gets ns op P f t u good last closed has leaf st scene v c h =
       subst (λ b. Gets code start (IsScene (length u.ops) ns) (f (record { names = scene.names; board = b }) v) (length u.ops)) h.board
-      (last_gets op t u (λ n. IsScene n ns) (f (record { names = scene.names; board = st.1 }) v) st last has c (λ n x next i. i.place)
+      (last_gets op t u (λ n. IsScene n ns) (f (record { names = scene.names; board = st.1 }) v) st last closed has c (λ n x next i. i.place)
       (leaf (length t.ops + 1) (go_to (length t.ops + 1) st.0) st.1 v scene.names (good (length t.ops) st c) refl h.held h.stack))
 
   abbrev pub TwoLeaf : (ns : List NamedLocal) → Op → (Board → Type 0) → (Scene → (v w : Value) → Meaning Scene) → Type 0
@@ -192,14 +200,15 @@ module _ (code : Code) (start : State) where
 
   -- two values, and an op on both
   pub two_act : (op : Op) (P : Board → Type 0) (s t u w : Buffer) (made kind : Option Kind) (one other : Value₀) (f : Scene → (v w : Value) → Meaning Scene) → ((n : ℕ) (st : State) → Comes code start n (Ok st) → P st.1)
-      → Means code start s t made one → Means code start t u kind other → Last op u w → w.scope ≡ u.scope → Has code w → TwoLeaf s.scope.names op P f → Acts s w (λ scene. one scene.board scene.names >>= λ v. other scene.board scene.names >>= f scene v)
-  two_act op P s t u w made kind one other f good first second last scope has leaf =
+      → Means code start s t made one → Means code start t u kind other → Last op u w → is_open op ≡ false → w.scope ≡ u.scope → Has code w → TwoLeaf s.scope.names op P f → Acts s w (λ scene. one scene.board scene.names >>= λ v. other scene.board scene.names >>= f scene v)
+  two_act op P s t u w made kind one other f good first second last closed scope has leaf =
       let all : w.scope ≡ s.scope = scope ∙ (second.scope ∙ first.scope) in
       let rest = grown_on t u w second.grown (last_grown op u w last) in
       record {
         grown = grown_on s t w first.grown rest;
         clean = first.clean;
         tidy = λ tidy. subst IsTidy (sym all) tidy;
+        moves = λ tidy. moves_same s.scope w.scope all;
         gets = λ tidy st scene c is.
             act_one s t w made one (λ sc v. other sc.board sc.names >>= f sc v) first rest
             (λ st' sc v here h.
@@ -208,7 +217,7 @@ module _ (code : Code) (start : State) where
             (λ x next there p.
             subst (λ (d : Scope). Gets code start (IsScene (length w.ops) d.names) (f sc v x) (length w.ops)) (sym all)
             (subst (λ b. Gets code start (IsScene (length w.ops) s.scope.names) (f (record { names = sc.names; board = b }) v x) (length w.ops)) (p.board ∙ h.board)
-            (last_gets op u w (λ n. IsScene n s.scope.names) (f (record { names = sc.names; board = next.1 }) v x) next last has there (λ n y after i. i.place)
+            (last_gets op u w (λ n. IsScene n s.scope.names) (f (record { names = sc.names; board = next.1 }) v x) next last closed has there (λ n y after i. i.place)
             (leaf (length u.ops + 1) (go_to (length u.ops + 1) next.0) next.1 v x sc.names (good (length u.ops) next there) refl (subst (λ l. AreHeld l s.scope.names sc.names) (sym p.locals) h.held)
             (p.stack ∙ ap (λ l. x ∷ l) h.stack))))))
             st scene c is;
@@ -216,14 +225,15 @@ module _ (code : Code) (start : State) where
 
   -- a value, and an op on it
   pub one_act : (op : Op) (P : Board → Type 0) (s t u : Buffer) (made : Option Kind) (one : Value₀) (f : Scene → Value → Meaning Scene) → ((n : ℕ) (st : State) → Comes code start n (Ok st) → P st.1)
-      → Means code start s t made one → Last op t u → u.scope.names ≡ s.scope.names → (IsTidy s.scope → IsTidy u.scope) → Has code u → OneLeaf s.scope.names op P f → Acts s u (λ scene. one scene.board scene.names >>= f scene)
-  one_act op P s t u made one f good first last names tidy has leaf = record {
+      → Means code start s t made one → Last op t u → is_open op ≡ false → u.scope.names ≡ s.scope.names → Keeps s.scope.kinds u.scope.kinds → (IsTidy s.scope → IsTidy u.scope) → Has code u → OneLeaf s.scope.names op P f → Acts s u (λ scene. one scene.board scene.names >>= f scene)
+  one_act op P s t u made one f good first last closed names keeps tidy has leaf = record {
     grown = grown_on s t u first.grown (last_grown op t u last);
     clean = first.clean;
     tidy = tidy;
+    moves = λ is_tidy. moves_kept s.scope u.scope names keeps;
     gets = λ is_tidy st scene c is.
         act_one s t u made one f first (last_grown op t u last)
-        (λ st' sc v here h. subst (λ ns. Gets code start (IsScene (length u.ops) ns) (f sc v) (length u.ops)) (sym names) (one_gets s.scope.names op P f t u good last has leaf st' sc v here h))
+        (λ st' sc v here h. subst (λ ns. Gets code start (IsScene (length u.ops) ns) (f sc v) (length u.ops)) (sym names) (one_gets s.scope.names op P f t u good last closed has leaf st' sc v here h))
         st scene c is;
   }
 

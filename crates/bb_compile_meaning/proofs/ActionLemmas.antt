@@ -22,6 +22,8 @@ use Rattle.bb_compile_scope.specs.declared.fault.CompileFault.{CompileFault}
 use Rattle.bb_compile_scope.specs.declared.fault.TextFlaw.TheVariants.{Effect, NoEnd, Limit}
 use Rattle.bb_compile_scope.specs.declared.scope.Scope.{Scope}
 use Rattle.bb_compile_scope.specs.declared.scope.NamedLocal.{NamedLocal}
+use Rattle.bb_compile_scope.specs.LocalKinds.{is_free, kind_at}
+use Rattle.bb_compile_meaning.proofs.KeepLemmas.{moves_same}
 use Rattle.bb_compile_accepted.specs.Buffer.{Buffer}
 use Rattle.bb_compile_accepted.specs.Buffers.{noted, due, put}
 use Rattle.bb_compile_accepted.specs.Expressions.{expr_code}
@@ -37,7 +39,7 @@ use Rattle.bb_machine_step.specs.Step.{step}
 use Rattle.bb_machine_step.specs.Stuck.TheVariants as reasons
 use Rattle.bb_machine_step.specs.Value.{stuck, said_of}
 use Rattle.bb_machine_step.specs.Values.{Value}
-use Rattle.bb_compile_accepted.proofs.Laws.{Clean, Grown, Has, passed, never_noted, is_due, put_ok, put_clean, grown_none, grown_on, grown_op, has_before, clean_before}
+use Rattle.bb_compile_accepted.proofs.Laws.{Clean, Grown, Has, is_open, passed, never_noted, is_due, put_ok, put_clean, grown_none, grown_on, grown_op, has_before, clean_before}
 use Rattle.bb_compile_meaning.specs.Meaning.{Meaning, Name, meaningless, named}
 use Rattle.bb_compile_meaning.specs.Meaning as ends
 use Rattle.bb_compile_meaning.specs.Values.{number, truth}
@@ -155,6 +157,7 @@ module _ (schema : Schema) (sf : schemas.Fits schema) (code : Code) (start : Sta
             grown = grown_on s u t m.grown (grown_op op u t put_is);
             clean = m.clean;
             tidy = λ tidy. subst IsTidy (sym scope) tidy;
+            moves = λ tidy. moves_same s.scope t.scope scope;
             gets = λ tidy st scene c here.
                 part_gets code start u t (λ ws next. Piled (length u.ops) st ([] ++ ws) next × (length ws ≡ length es)) (IsScene (length t.ops) t.scope.names) (try_map (value_of scene.board scene.names) es) (all_values_said scene) (grown_op op u t put_is)
                 (subst (λ b. Gets code start (λ ws next. Piled (length u.ops) st ([] ++ ws) next × (length ws ≡ length es)) (try_map (value_of b scene.names) es) (length u.ops)) here.board
@@ -162,23 +165,23 @@ module _ (schema : Schema) (sf : schemas.Fits schema) (code : Code) (start : Sta
                 (λ vs next there p.
                 subst (λ (d : Scope). Gets code start (IsScene (length t.ops) d.names) (all_values_said scene vs) (length t.ops)) (sym scope)
                 (subst (λ b. Gets code start (IsScene (length t.ops) s.scope.names) (all_values_said (record { names = scene.names; board = b }) vs) (length t.ops)) (p.0.board ∙ here.board)
-                (last_gets code start op u t (λ n. IsScene n s.scope.names) (all_values_said (record { names = scene.names; board = next.1 }) vs) next last has there (λ n x after i. i.place)
+                (last_gets code start op u t (λ n. IsScene n s.scope.names) (all_values_said (record { names = scene.names; board = next.1 }) vs) next last refl has there (λ n x after i. i.place)
                 (say_leaves (length es) (length u.ops + 1) s.scope.names (go_to (length u.ops + 1) next.0) next.1 scene.names vs (sym p.1) refl (subst (λ l. AreHeld l s.scope.names scene.names) (sym p.0.locals) here.held)
                 (p.0.stack ∙ ap (λ l. reverse vs ++ l) here.stack)))));
           }
 
   -- ---- ends
 
-  end_does : (e : ExprTree) (wanted : Kind) (op : Op) (f : Scene → Value → Meaning Scene) (s t : Buffer) → end_code schema e wanted op s ≡ Ok t → Clean t → Has code t → ((ns : List NamedLocal) → OneLeaf code start ns op (λ b. Unit {0}) f)
+  end_does : (e : ExprTree) (wanted : Kind) (op : Op) (f : Scene → Value → Meaning Scene) (s t : Buffer) → end_code schema e wanted op s ≡ Ok t → Clean t → is_open op ≡ false → Has code t → ((ns : List NamedLocal) → OneLeaf code start ns op (λ b. Unit {0}) f)
       → Does s t (λ scene. value_of scene.board scene.names e >>= f scene)
   unfolding end_code
-  end_does e wanted op f s t h clean has leaf =
+  end_does e wanted op f s t h clean closed has leaf =
       let one = bind_ok (expr_code schema STACK_LIMIT e s) (λ p. put op (due p.0 wanted p.1)) t h in
       let u = one.0.1 in
       let put_is = put_clean op u (due one.0.0 wanted u) t (is_due one.0.0 wanted u) one.2 clean in
       let m = expr_means schema sf code start good e STACK_LIMIT s u one.0.0 one.1 (clean_before op u t put_is clean) (has_before code u t (grown_op op u t put_is) has) in
       let scope : t.scope ≡ s.scope = ap (λ (x : Buffer). x.scope) put_is ∙ m.scope in
-      one_act code start op (λ b. Unit {0}) s u t one.0.0 (λ b names. value_of b names e) f anything m (last_put op u t put_is) (ap (λ (x : Scope). x.names) scope) (λ tidy. subst IsTidy (sym scope) tidy) has (leaf s.scope.names)
+      one_act code start op (λ b. Unit {0}) s u t one.0.0 (λ b names. value_of b names e) f anything m (last_put op u t put_is) closed (ap (λ (x : Scope). x.names) scope) (λ i taken. subst (λ (x : Scope). is_free (kind_at x.kinds i) ≡ false) (sym scope) taken) (λ tidy. subst IsTidy (sym scope) tidy) has (leaf s.scope.names)
 
   decline_on : (m : Machine) (b : Board) → step code ops.Decline (m, b) ≡ answered Declined
   unfolding step
@@ -191,8 +194,9 @@ module _ (schema : Schema) (sf : schemas.Fits schema) (code : Code) (start : Sta
         grown = grown_op ops.Decline s t put_is;
         clean = clean_before ops.Decline s t put_is clean;
         tidy = λ tidy. subst IsTidy (sym (ap (λ (x : Buffer). x.scope) put_is)) tidy;
+        moves = λ tidy. moves_same s.scope t.scope (ap (λ (x : Buffer). x.scope) put_is);
         gets = λ tidy st scene c here.
-            last_gets code start ops.Decline s t (λ n. IsScene n t.scope.names) (Err (ends.answered Declined scene.board)) st (last_put ops.Decline s t put_is) has c (λ n x next i. i.place)
+            last_gets code start ops.Decline s t (λ n. IsScene n t.scope.names) (Err (ends.answered Declined scene.board)) st (last_put ops.Decline s t put_is) refl has c (λ n x next i. i.place)
             (subst (λ r. Leaves (IsScene (length s.ops + 1) t.scope.names) (Err (ends.answered Declined scene.board)) (done_on st.1 r)) (sym (decline_on (go_to (length s.ops + 1) st.0) st.1)) (ap (λ b. Err (ends.answered Declined b)) (sym here.board)));
       }
 
@@ -211,12 +215,12 @@ module _ (schema : Schema) (sf : schemas.Fits schema) (code : Code) (start : Sta
     action_does (actions.Assign name value) s t h clean has = assign_does schema sf code start good name value s t h clean has
     action_does (actions.Rate value) s t h clean has =
         acts_as code start (end_noted (is_ok (ends_rated part)) s) s t (acted (actions.Rate value)) (end_free (is_ok (ends_rated part)) s)
-        (end_does value kinds.Int ops.Rate (λ scene v. number v >>= λ n. Err (ends.answered (Rated n) scene.board)) (end_noted (is_ok (ends_rated part)) s) t h clean has (λ ns. rates code start ns))
+        (end_does value kinds.Int ops.Rate (λ scene v. number v >>= λ n. Err (ends.answered (Rated n) scene.board)) (end_noted (is_ok (ends_rated part)) s) t h clean refl has (λ ns. rates code start ns))
     action_does actions.Decline s t h clean has =
         acts_as code start (end_noted (is_ok (ends_rated part)) s) s t (acted actions.Decline) (end_free (is_ok (ends_rated part)) s) (decline_does (end_noted (is_ok (ends_rated part)) s) t h clean has)
     action_does (actions.Answer value) s t h clean has =
         acts_as code start (end_noted (is_ok (ends_answered part)) s) s t (acted (actions.Answer value)) (end_free (is_ok (ends_answered part)) s)
-        (end_does value kinds.Bool ops.Answer (λ scene v. truth v >>= λ b. Err (says.yes_or_no scene.board b)) (end_noted (is_ok (ends_answered part)) s) t h clean has (λ ns. answers code start ns))
+        (end_does value kinds.Bool ops.Answer (λ scene v. truth v >>= λ b. Err (says.yes_or_no scene.board b)) (end_noted (is_ok (ends_answered part)) s) t h clean refl has (λ ns. answers code start ns))
     action_does (actions.New name class) s t h clean has = acts_as code start (effect_noted part s) s t (acted (actions.New name class)) (effect_free s) (new_does schema sf code start good name class (effect_noted part s) t h clean has)
     action_does (actions.Set unit slot value) s t h clean has = acts_as code start (effect_noted part s) s t (acted (actions.Set unit slot value)) (effect_free s) (set_does schema sf code start good unit slot value (effect_noted part s) t h clean has)
     action_does (actions.Link unit slot other) s t h clean has = acts_as code start (effect_noted part s) s t (acted (actions.Link unit slot other)) (effect_free s) (relink_does schema sf code start good changes.Link unit slot other (effect_noted part s) t h clean has)

@@ -48,7 +48,7 @@ use Rattle.bb_machine_step.specs.Stuck.TheVariants as reasons
 use Rattle.bb_machine_step.specs.Value.{copy_of, value_from, stuck}
 use Rattle.bb_machine_step.specs.Values.{Value}
 use Rattle.bb_machine_step.specs.Values.TheVariants.{Int, Text, Bool as Truth, Label, Interval, Unit as One, Seq}
-use Rattle.bb_compile_accepted.proofs.Laws.{Clean, Grown, Has, with_op, passed, never_noted, put_ok, grown_none, grown_on, grown_op, has_before, front, seam, pair_ok, clean_before, IsPut, pushed_ok, IsLoaded, variable_ok, unit_ok}
+use Rattle.bb_compile_accepted.proofs.Laws.{Clean, Grown, Has, is_open, with_op, passed, never_noted, put_ok, grown_none, grown_on, grown_op, has_before, front, seam, pair_ok, clean_before, IsPut, pushed_ok, IsLoaded, variable_ok, unit_ok}
 use Rattle.bb_compile_meaning.specs.Meaning.{Meaning, meaningless, named}
 use Rattle.bb_compile_meaning.specs.Values.{unit}
 use Rattle.bb_compile_meaning.specs.Units as texts
@@ -189,7 +189,7 @@ module _ (schema : Schema) (sf : schemas.Fits schema) (code : Code) where
     -- a name
     pub name_means : (v : Variable) (s t : Buffer) (made : Option Kind) → Clean t → Has code t → IsLoaded v s t made → Means code start s t made (λ b names. named (name_of v) names)
     name_means v s t made clean has loaded =
-        push_means code start s t (ops.Load loaded.0) made (λ b names. named (name_of v) names) (clean_before (ops.Load loaded.0) s t loaded.2 clean) loaded.2 has (kind_at s.scope.kinds loaded.0, loaded.3)
+        push_means code start s t (ops.Load loaded.0) made (λ b names. named (name_of v) names) (clean_before (ops.Load loaded.0) s t loaded.2 clean) loaded.2 refl has (kind_at s.scope.kinds loaded.0, loaded.3)
         (λ taken. subst IsKind (sym loaded.3) (name_taken s.scope.kinds (name_of v) loaded.0 s.scope.names taken loaded.1))
         (λ st names c held.
         let n = length s.ops + 1 in
@@ -199,10 +199,10 @@ module _ (schema : Schema) (sf : schemas.Fits schema) (code : Code) where
         (copy_leaves n st (go_to n st.0) st.1 is.0 (record { place = refl; locals = refl; stack = refl; board = refl }))))
 
     -- a value that does not depend on anything
-    fixed_means : (op : Op) (v : Value) (kind : Kind) (s t : Buffer) (made : Option Kind) → is_free kind ≡ false → Clean t → Has code t → IsPut op kind s t made
+    fixed_means : (op : Op) (v : Value) (kind : Kind) (s t : Buffer) (made : Option Kind) → is_free kind ≡ false → Clean t → is_open op ≡ false → Has code t → IsPut op kind s t made
         → ((m : Machine) (b : Board) → step code op (m, b) ≡ keeps b (push v m)) → Means code start s t made (λ b names. Ok v)
-    fixed_means op v kind s t made known clean has put does =
-        push_means code start s t op made (λ b names. Ok v) (clean_before op s t put.0 clean) put.0 has (kind, put.1) (λ taken. subst IsKind (sym put.1) known)
+    fixed_means op v kind s t made known clean closed has put does =
+        push_means code start s t op made (λ b names. Ok v) (clean_before op s t put.0 clean) put.0 closed has (kind, put.1) (λ taken. subst IsKind (sym put.1) known)
         (λ st names c held.
         subst (λ r. Leaves (Pushed (length s.ops + 1) st) (Ok v) (done_on st.1 r)) (sym (does (go_to (length s.ops + 1) st.0) st.1))
         (push_leaves (length s.ops + 1) st (go_to (length s.ops + 1) st.0) st.1 (record { place = refl; locals = refl; stack = refl; board = refl }) v))
@@ -261,7 +261,7 @@ module _ (schema : Schema) (sf : schemas.Fits schema) (code : Code) where
         let here : slice_get code.texts one.0.0 ≡ Some text =
         let own = has_before code one.0.1 t (grown_op (ops.PushText one.0.0) one.0.1 t put.0) has in
         ap (λ l. slice_get l one.0.0) own.texts_are ∙ front one.0.1.texts own.texts one.0.0 text there.4 in
-        let means = fixed_means (ops.PushText one.0.0) (Text text) kinds.Text one.0.1 t made refl clean has put (λ m b. push_text_on one.0.0 text m b here) in
+        let means = fixed_means (ops.PushText one.0.0) (Text text) kinds.Text one.0.1 t made refl clean refl has put (λ m b. push_text_on one.0.0 text m b here) in
         let free = passed (nat_le (length text) TEXT_BYTES_LIMIT) Limit s (sym there.2 ∙ means.clean) in
         subst (λ u. Means code start u t made (λ b names. Ok (Text text))) free.1 (after_text text (text_noted text s) one.0.1 t one.0.0 made (Ok (Text text)) there means)
 
@@ -283,7 +283,7 @@ module _ (schema : Schema) (sf : schemas.Fits schema) (code : Code) where
         by_label k None is at h = never_noted Unknown s (ap (λ (u : Buffer). u.flaw) (pair_ok (Some (kinds.Label k)) made (noted Unknown s) t h).1 ∙ clean)
         by_label k (Some l) is at h =
             let put = pushed_ok (ops.PushLabel k l) (kinds.Label k) room s t made h clean in
-            push_means code start s t (ops.PushLabel k l) made (λ b names. label b set name) (clean_before (ops.PushLabel k l) s t put.0 clean) put.0 has (kinds.Label k, put.1) (λ taken. subst IsKind (sym put.1) refl)
+            push_means code start s t (ops.PushLabel k l) made (λ b names. label b set name) (clean_before (ops.PushLabel k l) s t put.0 clean) put.0 refl has (kinds.Label k, put.1) (λ taken. subst IsKind (sym put.1) refl)
             (λ st names c held.
             let same = (good (length s.ops) st c).schema in
             let means : label st.1 set name ≡ Ok (Label k l) =
@@ -312,7 +312,7 @@ module _ (schema : Schema) (sf : schemas.Fits schema) (code : Code) where
             let unit_is = unit_ok v room s u class code_is free in
             let slot = value_slot_ok schema c name p is in
             let first = name_means v s u (Some unit_is.0) free (has_before code u t (grown_op (ops.Get p.0) u t put) has) unit_is.2 in
-            let then = one_turns_on code start (Good schema) u t (ops.Get p.0) made (got name) good free put has (p.1, sym same.0) (subst IsKind same.0 slot.1) (get_does c p.0 name slot.0) in
+            let then = one_turns_on code start (Good schema) u t (ops.Get p.0) made (got name) good free put refl has (p.1, sym same.0) (subst IsKind same.0 slot.1) (get_does c p.0 name slot.0) in
             means_as code start s t made made (λ b names. named (name_of v) names >>= got name b) (λ b names. texts.value_in b names v name) refl (λ b names. by_assoc b (named (name_of v) names))
             (means_on code start s u t (Some unit_is.0) made (λ b names. named (name_of v) names) (λ b names v. got name b v) first then)
           where
@@ -331,9 +331,9 @@ module _ (schema : Schema) (sf : schemas.Fits schema) (code : Code) where
 
     pub atom_means : (a : Atom) (room : ℕ) (s t : Buffer) (made : Option Kind) → atom_code schema room a s ≡ Ok (made, t) → Clean t → Has code t → Means code start s t made (λ b names. atom_value b names a)
     unfolding atom_code atom_value step
-    atom_means (atoms.Int n) room s t made h clean has = fixed_means (ops.PushInt n) (Int n) kinds.Int s t made refl clean has (pushed_ok (ops.PushInt n) kinds.Int room s t made h clean) (λ m b. refl)
+    atom_means (atoms.Int n) room s t made h clean has = fixed_means (ops.PushInt n) (Int n) kinds.Int s t made refl clean refl has (pushed_ok (ops.PushInt n) kinds.Int room s t made h clean) (λ m b. refl)
     atom_means (atoms.Text text) room s t made h clean has = text_means text room s t made h clean has
-    atom_means (atoms.Bool x) room s t made h clean has = fixed_means (ops.PushBool x) (Truth x) kinds.Bool s t made refl clean has (pushed_ok (ops.PushBool x) kinds.Bool room s t made h clean) (λ m b. refl)
+    atom_means (atoms.Bool x) room s t made h clean has = fixed_means (ops.PushBool x) (Truth x) kinds.Bool s t made refl clean refl has (pushed_ok (ops.PushBool x) kinds.Bool room s t made h clean) (λ m b. refl)
     atom_means (atoms.Label set name) room s t made h clean has = label_means set name room s t made h clean has
     atom_means (atoms.Variable v) room s t made h clean has = name_means v s t made clean has (variable_ok v room s t made h clean)
     atom_means (atoms.Slot v name) room s t made h clean has = slot_means v name room s t made h clean has

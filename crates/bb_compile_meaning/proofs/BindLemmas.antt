@@ -44,8 +44,9 @@ use Rattle.bb_compile_meaning.proofs.MeansLemmas.{part_gets}
 use Rattle.bb_compile_meaning.proofs.NameLemmas.{AreHeld, AreTaken, value_named, name_taken}
 use Rattle.bb_compile_meaning.proofs.AtomLemmas.{Good}
 use Rattle.bb_compile_meaning.proofs.ExprLemmas.{expr_means}
-use Rattle.bb_compile_meaning.proofs.SceneLemmas.{AreApart, all_known, held_assigned}
-use Rattle.bb_compile_meaning.proofs.ActLemmas.{IsTidy, IsScene, Last, Holds, Acts, last_grown, last_put, last_clean, declare_ok, declared_tidy, last_gets, act_one, declare_gets, assign_gets}
+use Rattle.bb_compile_meaning.proofs.SceneLemmas.{AreApart, known_set, all_known, held_assigned}
+use Rattle.bb_compile_meaning.proofs.KeepLemmas.{Moves, moves_kept}
+use Rattle.bb_compile_meaning.proofs.ActLemmas.{IsTidy, IsScene, Last, Holds, Acts, last_grown, last_put, last_clean, declare_ok, declared_tidy, declared_moves, last_gets, act_one, declare_gets, assign_gets}
 
 -- the kind of what is assigned is known where that of the name is
 assigned_known : (s : Schema) (held value k : Kind) → assigned s held value ≡ Some k → is_free held ≡ false → is_free k ≡ false
@@ -96,6 +97,7 @@ module _ (schema : Schema) (sf : schemas.Fits schema) (code : Code) (start : Sta
             grown = grown_on s u t m.grown last;
             clean = m.clean;
             tidy = λ tidy. declared_tidy name kind u t d (m.kind tidy.taken) (subst IsTidy (sym m.scope) tidy);
+            moves = λ tidy. subst (λ c. Moves c t.scope) m.scope (declared_moves name kind u t d (m.kind tidy.taken));
             gets = λ tidy st scene c here.
                 act_one code start s u t (Some kind) (λ b names. value_of b names e) (λ sc v. Ok (where_named name v sc)) m last
                 (λ st' sc v at held. declare_gets code start name kind u t d has (subst IsTidy (sym m.scope) tidy) st' sc v at (subst (λ (x : Scope). Holds code start (length u.ops) x.names sc v st') (sym m.scope) held))
@@ -129,6 +131,11 @@ module _ (schema : Schema) (sf : schemas.Fits schema) (code : Code) (start : Sta
                       (all_known u.scope.names u.scope.kinds local k (assigned_known schema (kind_at u.scope.kinds local) kind k known (name_taken u.scope.kinds name local u.scope.names own.taken at)) own.taken));
                   apart = subst AreApart (sym names_are) own.apart;
                 };
+            moves = λ tidy.
+                let own = subst IsTidy (sym m.scope) tidy in
+                let now_known = assigned_known schema (kind_at u.scope.kinds local) kind k known (name_taken u.scope.kinds name local u.scope.names own.taken at) in
+                subst (λ c. Moves c t.scope) m.scope
+                (moves_kept u.scope t.scope names_are (λ i taken. subst (λ ks. is_free (kind_at ks i) ≡ false) (sym kinds_are) (known_set u.scope.kinds local i k now_known taken)));
             gets = λ tidy st scene c here.
                 act_one code start s u t (Some kind) (λ b names. value_of b names e) (λ sc v. named name sc.names >>= λ _. Ok (record { names = ends.assigned name v sc.names; board = sc.board })) m grown
                 (λ st' sc v there held.
@@ -194,12 +201,13 @@ module _ (schema : Schema) (sf : schemas.Fits schema) (code : Code) (start : Sta
           grown = grown_on s one.0 t (last_grown (ops.New class) s one.0 first) last;
           clean = last_clean (ops.New class) s one.0 first (last_clean (ops.Store d.local) one.0 t d.last clean);
           tidy = λ tidy. declared_tidy name (kinds.Ref class) one.0 t d refl (subst IsTidy (sym scope) tidy);
+          moves = λ tidy. subst (λ c. Moves c t.scope) scope (declared_moves name (kinds.Ref class) one.0 t d refl);
           gets = λ tidy st scene c here.
               subst (λ r. Gets code start (IsScene (length t.ops) t.scope.names) r (length t.ops)) (sym (created_as scene (units.is_full scene.board.world.units)))
               (part_gets code start one.0 t (λ after. Holds code start (length one.0.ops) s.scope.names after (One scene.board.world.units.next)) (IsScene (length t.ops) t.scope.names)
               (cond (units.is_full scene.board.world.units) (Err (ends.full scene.board)) (Ok (in_world scene (after_create scene.board.world class)))) (λ after. Ok (where_named name (One scene.board.world.units.next) after)) last
               (last_gets code start (ops.New class) s one.0 (λ n after. Holds code start n s.scope.names after (One scene.board.world.units.next))
-              (cond (units.is_full scene.board.world.units) (Err (ends.full scene.board)) (Ok (in_world scene (after_create scene.board.world class)))) st first own c (λ n x next i. i.place)
+              (cond (units.is_full scene.board.world.units) (Err (ends.full scene.board)) (Ok (in_world scene (after_create scene.board.world class)))) st first refl own c (λ n x next i. i.place)
               (new_leaves (length s.ops) s.scope.names st scene here (go_to (length s.ops + 1) st.0) refl refl here.stack))
               (λ after next there held.
               declare_gets code start name (kinds.Ref class) one.0 t d has (subst IsTidy (sym scope) tidy) next after (One scene.board.world.units.next) there
@@ -212,6 +220,7 @@ module _ (schema : Schema) (sf : schemas.Fits schema) (code : Code) (start : Sta
     grown = a.grown;
     clean = a.clean;
     tidy = a.tidy;
+    moves = a.moves;
     gets = λ tidy st scene c here.
         subst (λ r. Gets code start (IsScene (length t.ops) t.scope.names) r (length t.ops)) (same scene (subst (Good schema) here.board (good (length s.ops) st c))) (a.gets tidy st scene c here);
   }

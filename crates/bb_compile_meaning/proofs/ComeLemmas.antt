@@ -1,5 +1,5 @@
--- What comes of the first ops of a code, one after another.
-use Rattle.std.proofs.Common.{◌≡◌, ℕ, suc, ◌+◌, Some, Result, Ok, Err, refl, subst, sym, ap, ◌∙◌, arith}
+-- What comes of the ops of a code at its places, where each op goes on, or goes ahead.
+use Rattle.std.proofs.Common.{◌≡◌, ℕ, suc, ◌+◌, ◌≤◌, Some, Result, Ok, Err, refl, subst, sym, ap, ◌∙◌, arith}
 use Rattle.std.specs.Prelude.{slice_get}
 use Rattle.bb_basis.specs.Results.{◌>>=◌}
 use Rattle.bb_code.specs.Code.{Code}
@@ -40,46 +40,49 @@ leaves_on P Q r f (halts.Stuck reason, b) h = tt
 leaves_on P Q r f (halts.Memory, b) h = h
 
 module _ (code : Code) (start : State) where
-  -- what came of the first n ops, however many are still to come
+  -- what came at a place: no more steps were made than ops stand before it, and however many are still to come
   abbrev pub Comes : ℕ → Came → Type 0
-  Comes n (Ok next) = (next.0.place ≡ n) × ((k : ℕ) → steps_from (n + k) 0 code start ≡ steps_from k n code next)
-  Comes n (Err (halt, b)) = (steps : ℕ) × (found : ℕ) × ((k : ℕ) → steps_from (n + k) 0 code start ≡ (halted halt steps found, b))
+  Comes n (Ok next) = (next.0.place ≡ n) × (j : ℕ) × (j ≤ n) × ((k : ℕ) → steps_from (j + k) 0 code start ≡ steps_from k j code next)
+  Comes n (Err (halt, b)) = (steps : ℕ) × (found : ℕ) × (j : ℕ) × (j ≤ n) × ((k : ℕ) → steps_from (j + k) 0 code start ≡ (halted halt steps found, b))
 
   -- where an execution ended it stays ended
-  pub ended_on : (n m : ℕ) (e : Halt × Board) → Comes n (Err e) → Comes (n + m) (Err e)
-  ended_on n m (halt, b) c = (c.0, c.1, λ k. let e : n + m + k ≡ n + (m + k) = omega arith in ap (λ i. steps_from i 0 code start) e ∙ c.2 (m + k))
+  pub ended_by : (n m : ℕ) (e : Halt × Board) → n ≤ m → Comes n (Err e) → Comes m (Err e)
+  ended_by n m (halt, b) le c = let few = c.3 in (c.0, c.1, c.2, omega (arith, le, few), c.4)
 
-  -- what an op that was done leaves stands at the next place
+  -- what an op that was done leaves stands at a place
   abbrev pub IsPlaced : ℕ → Result State Halt → Type 0
   IsPlaced n (Ok next) = next.0.place ≡ n
   IsPlaced n (Err halt) = Unit {0}
 
-  one_step : (n k : ℕ) (m : Machine) (b : Board) (op : Op) (r : Result State Halt) → Comes n (Ok (m, b)) → slice_get code.ops n ≡ Some op → step code op (go_to (n + 1) m, b) ≡ r
-      → steps_from (n + 1 + k) 0 code start ≡ after_op k n code m b r
-  one_step n k m b op r c at is =
-      let more : n + 1 + k ≡ n + suc k = omega arith in
-      let here : Some op ≡ slice_get code.ops m.place = sym at ∙ ap (slice_get code.ops) (sym c.0) in
-      ap (λ i. steps_from i 0 code start) more ∙ c.1 (suc k) ∙ by_op k n code m b (Some op) here
-      ∙ ap (λ i. after_op k n code m b (step code op (go_to (i + 1) m, b))) c.0 ∙ ap (after_op k n code m b) is
+  one_step : (n j k : ℕ) (m : Machine) (b : Board) (op : Op) (r : Result State Halt) → m.place ≡ n → ((k : ℕ) → steps_from (j + k) 0 code start ≡ steps_from k j code (m, b)) → slice_get code.ops n ≡ Some op → step code op (go_to (n + 1) m, b) ≡ r
+      → steps_from (j + 1 + k) 0 code start ≡ after_op k j code m b r
+  one_step n j k m b op r place c at is =
+      let more : j + 1 + k ≡ j + suc k = omega arith in
+      let here : Some op ≡ slice_get code.ops m.place = sym at ∙ ap (slice_get code.ops) (sym place) in
+      ap (λ i. steps_from i 0 code start) more ∙ c (suc k) ∙ by_op k j code m b (Some op) here
+      ∙ ap (λ i. after_op k j code m b (step code op (go_to (i + 1) m, b))) place ∙ ap (after_op k j code m b) is
 
-  -- one op more
+  -- one op more, which goes on to the next place, or to one ahead
+  pub comes_to : (n p : ℕ) (st : State) (op : Op) (r : Result State Halt) → n + 1 ≤ p → Comes n (Ok st) → slice_get code.ops n ≡ Some op → step code op (go_to (n + 1) st.0, st.1) ≡ r → IsPlaced p r → Comes p (done_on st.1 r)
+  comes_to n p st op (Ok next) le c at is place = let few = c.2 in (place, c.1 + 1, omega (arith, le, few), λ k. one_step n c.1 k st.0 st.1 op (Ok next) c.0 c.3 at is)
+  comes_to n p st op (Err halt) le c at is place = let few = c.2 in (c.1 + 1, st.0.found, c.1 + 1, omega (arith, le, few), λ k. one_step n c.1 k st.0 st.1 op (Err halt) c.0 c.3 at is)
+
   pub comes_on : (n : ℕ) (st : State) (op : Op) (r : Result State Halt) → Comes n (Ok st) → slice_get code.ops n ≡ Some op → step code op (go_to (n + 1) st.0, st.1) ≡ r → IsPlaced (n + 1) r → Comes (n + 1) (done_on st.1 r)
-  comes_on n st op (Ok next) c at is place = (place, λ k. one_step n k st.0 st.1 op (Ok next) c at is)
-  comes_on n st op (Err halt) c at is place = (n + 1, st.0.found, λ k. one_step n k st.0 st.1 op (Err halt) c at is)
+  comes_on n st op r c at is place = comes_to n (n + 1) st op r (omega arith) c at is place
 
-  -- what comes of so many ops is what a meaning says
+  -- what comes at a place is what a meaning says
   abbrev pub Gets : {X : Type 0} → (X → State → Type 0) → Meaning X → ℕ → Type 0
   Gets P r n = (came : Came) × Comes n came × Leaves P r came
 
-  gets_by : {X Y : Type 0} (P : X → State → Type 0) (Q : Y → State → Type 0) (r : Meaning X) (f : X → Meaning Y) (n m : ℕ) (came : Came) → Comes n came → Leaves P r came
-      → ((x : X) (st : State) → Comes n (Ok st) → P x st → Gets Q (f x) (n + m)) → Gets Q (r >>= f) (n + m)
-  gets_by P Q r f n m (Ok st) c h next = subst (λ r. Gets Q (r >>= f) (n + m)) (sym h.1) (next h.0 st c h.2)
-  gets_by P Q r f n m (Err e) c h next = (Err e, ended_on n m e c, leaves_on P Q r f e h)
+  gets_by : {X Y : Type 0} (P : X → State → Type 0) (Q : Y → State → Type 0) (r : Meaning X) (f : X → Meaning Y) (n m : ℕ) (came : Came) → n ≤ m → Comes n came → Leaves P r came
+      → ((x : X) (st : State) → Comes n (Ok st) → P x st → Gets Q (f x) m) → Gets Q (r >>= f) m
+  gets_by P Q r f n m (Ok st) le c h next = subst (λ r. Gets Q (r >>= f) m) (sym h.1) (next h.0 st c h.2)
+  gets_by P Q r f n m (Err e) le c h next = (Err e, ended_by n m e le c, leaves_on P Q r f e h)
 
   -- one part after another
-  pub gets_then : {X Y : Type 0} (P : X → State → Type 0) (Q : Y → State → Type 0) (r : Meaning X) (f : X → Meaning Y) (n m : ℕ) → Gets P r n
-      → ((x : X) (st : State) → Comes n (Ok st) → P x st → Gets Q (f x) (n + m)) → Gets Q (r >>= f) (n + m)
-  gets_then P Q r f n m g next = gets_by P Q r f n m g.0 g.1 g.2 next
+  pub gets_then : {X Y : Type 0} (P : X → State → Type 0) (Q : Y → State → Type 0) (r : Meaning X) (f : X → Meaning Y) (n m : ℕ) → n ≤ m → Gets P r n
+      → ((x : X) (st : State) → Comes n (Ok st) → P x st → Gets Q (f x) m) → Gets Q (r >>= f) m
+  gets_then P Q r f n m le g next = gets_by P Q r f n m g.0 le g.1 g.2 next
 
   placed_by : {X : Type 0} (P : X → State → Type 0) (r : Meaning X) (n : ℕ) (b : Board) (given : Result State Halt) → ((x : X) (next : State) → P x next → next.0.place ≡ n) → Leaves P r (done_on b given) → IsPlaced n given
   placed_by P r n b (Ok next) place h = place h.0 next h.2

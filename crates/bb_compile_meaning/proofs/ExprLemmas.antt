@@ -132,7 +132,7 @@ module _ (schema : Schema) (sf : schemas.Fits schema) (code : Code) (start : Sta
         let left = expr_means l room s one.0.1 one.0.0 one.1 right.clean (has_before code one.0.1 t (grown_on one.0.1 two.0.1 t right.grown free.1) has) in
         let puts = binary_puts code operation one.0.0 two.0.0 two.0.1 t made left.some right.some two.2 clean in
         means_on code start s one.0.1 t one.0.0 made (λ b names. value_of b names l) (λ b names v. value_of b names r >>= binary_value operation v) left
-        (two_turns code start one.0.1 two.0.1 t puts.op two.0.0 made (λ b names. value_of b names r) (binary_value operation) right puts.is has puts.some puts.kind puts.does)
+        (two_turns code start one.0.1 two.0.1 t puts.op two.0.0 made (λ b names. value_of b names r) (binary_value operation) right puts.is puts.closed has puts.some puts.kind puts.does)
     expr_means (chain first steps) room s t made h clean has =
         let one = bind_ok (expr_code schema room first s) (λ p. steps_code schema room p.0 steps p.1) (made, t) h in
         let more = steps_mean steps room one.0.0 one.0.1 t made one.2 clean has in
@@ -156,7 +156,7 @@ module _ (schema : Schema) (sf : schemas.Fits schema) (code : Code) (start : Sta
         let puts = operator_puts code operator left one.0.0 one.0.1 two.0.1 two.0.0 two.1 more.clean in
         let has_op = has_before code two.0.1 t more.grown has in
         let right = expr_means e (room - 1) s one.0.1 one.0.0 one.1 (clean_before puts.op one.0.1 two.0.1 puts.is more.clean) (has_before code one.0.1 two.0.1 (grown_op puts.op one.0.1 two.0.1 puts.is) has_op) in
-        let both = two_turns code start s one.0.1 two.0.1 puts.op one.0.0 two.0.0 (λ b names. value_of b names e) (operator_value operator) right puts.is has_op puts.some puts.kind puts.does in
+        let both = two_turns code start s one.0.1 two.0.1 puts.op one.0.0 two.0.0 (λ b names. value_of b names e) (operator_value operator) right puts.is puts.closed has_op puts.some puts.kind puts.does in
         record {
           grown = grown_on s two.0.1 t both.grown more.grown;
           clean = right.clean;

@@ -366,7 +366,7 @@ module _ (schema : Schema) (code : Code) (start : State) (good : (n : ℕ) (st :
                   (part_gets code start t u (Ready (length t.ops) st pattern asked) (Pushed (length u.ops) st) (value st.1 names space []) (λ p. found_by st.1 p >>= as_sequence) (grown_on t more u grown last)
                   (m.gets space refl st st names [] c (record { place = c.0; locals = refl; stack = refl; board = refl }) held refl)
                   (λ p next here r.
-                  op_gets code start more u (ops.Find i) (λ n. Pushed n st) (found_by st.1 p >>= as_sequence) next is has here (λ n x after y. y.place)
+                  op_gets code start more u (ops.Find i) (λ n. Pushed n st) (found_by st.1 p >>= as_sequence) next is refl has here (λ n x after y. y.place)
                   (subst (λ b. Leaves (Pushed (length t.ops + 1) st) (found_by b p >>= as_sequence) (done_on next.1 (step code (ops.Find i) (go_to (length t.ops + 1) next.0, next.1)))) r.piled.board
                   (subst (λ tree. Leaves (Pushed (length t.ops + 1) st) (found_by next.1 (tree, p.1) >>= as_sequence) (done_on next.1 (step code (ops.Find i) (go_to (length t.ops + 1) next.0, next.1)))) (sym r.tree)
                   (find_does i (length t.ops + 1) st (go_to (length t.ops + 1) next.0) next.1 p.1 at r.piled.stack (record { place = refl; locals = r.piled.locals; stack = refl; board = r.piled.board }) r.count)))));

@@ -32,7 +32,19 @@ pub mod BindLemmas
 pub mod UnitLemmas
 -- all statements without blocks
 pub mod ActionLemmas
+-- what statements keep of a scope
+pub mod KeepLemmas
+-- blocks that end
+pub mod EndLemmas
+-- an `if`
+pub mod BranchLemmas
+-- blocks
+pub mod BlockLemmas
 -- whole parts
 pub mod PartLemmas
+-- codes within their limits
+pub mod CodeLemmas
+-- what a source is compiled from
+pub mod MadeLemmas
 -- the codes of a source
 pub mod SourceLemmas

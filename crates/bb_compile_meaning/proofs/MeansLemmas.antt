@@ -1,5 +1,5 @@
 -- Parts of an expression mean what their ops do, one after another.
-use Rattle.std.proofs.Common.{◌≡◌, ℕ, ◌+◌, false, List, ◌∷◌, length, Option, Some, None, Result, Ok, Err, refl, subst, sym, ap, ◌∙◌}
+use Rattle.std.proofs.Common.{◌≡◌, ℕ, ◌+◌, false, List, ◌∷◌, length, Option, Some, None, Result, Ok, Err, refl, subst, sym, ap, ◌∙◌, arith}
 use Rattle.bb_basis.specs.Results.{◌>>=◌}
 use Rattle.bb_code.specs.Code.{Code}
 use Rattle.bb_verify_frame.specs.Kind.{Kind}
@@ -12,7 +12,7 @@ use Rattle.bb_machine_step.specs.Changing.{State}
 use Rattle.bb_machine_step.specs.Machine.{Machine, with_stack, go_to}
 use Rattle.bb_machine_step.specs.Step.{step}
 use Rattle.bb_machine_step.specs.Values.{Value}
-use Rattle.bb_compile_accepted.proofs.Laws.{Clean, Grown, Has, with_op, grown_on, grown_op, count_op, count_of, op_at}
+use Rattle.bb_compile_accepted.proofs.Laws.{Clean, Grown, Has, is_open, with_op, grown_on, grown_op, count_op, count_of, op_at}
 use Rattle.bb_compile_meaning.specs.Meaning.{Meaning, Name}
 use Rattle.bb_compile_meaning.proofs.ComeLemmas.{Leaves, done_on, Comes, Gets, gets_then, gets_op}
 use Rattle.bb_compile_meaning.proofs.NameLemmas.{AreHeld, AreTaken}
@@ -77,17 +77,15 @@ module _ (code : Code) (start : State) where
   pub part_gets : {X Y : Type 0} (s t : Buffer) (P : X → State → Type 0) (Q : Y → State → Type 0) (r : Meaning X) (f : X → Meaning Y) → Grown s t → Gets code start P r (length s.ops)
       → ((x : X) (st : State) → Comes code start (length s.ops) (Ok st) → P x st → Gets code start Q (f x) (length t.ops)) → Gets code start Q (r >>= f) (length t.ops)
   part_gets s t P Q r f g first next =
-      let count = count_of s t g in
-      subst (Gets code start Q (r >>= f)) (sym count)
-      (gets_then code start P Q r f (length s.ops) (length g.ops) first (λ x st c p. subst (Gets code start Q (f x)) count (next x st c p)))
+      let count = count_of s t g in gets_then code start P Q r f (length s.ops) (length t.ops) (omega (arith, count)) first next
 
   -- an op
-  pub op_gets : {X : Type 0} (s t : Buffer) (op : Op) (P : ℕ → X → State → Type 0) (r : Meaning X) (st : State) → t ≡ with_op op s → Has code t → Comes code start (length s.ops) (Ok st)
+  pub op_gets : {X : Type 0} (s t : Buffer) (op : Op) (P : ℕ → X → State → Type 0) (r : Meaning X) (st : State) → t ≡ with_op op s → is_open op ≡ false → Has code t → Comes code start (length s.ops) (Ok st)
       → ((n : ℕ) (x : X) (next : State) → P n x next → next.0.place ≡ n) → Leaves (P (length s.ops + 1)) r (done_on st.1 (step code op (go_to (length s.ops + 1) st.0, st.1)))
       → Gets code start (P (length t.ops)) r (length t.ops)
-  op_gets s t op P r st is has c place leaves =
+  op_gets s t op P r st is closed has c place leaves =
       subst (λ n. Gets code start (P n) r n) (sym (count_op s t op is))
-      (gets_op code start (P (length s.ops + 1)) r (length s.ops) st op c (op_at code s t op is has) (place (length s.ops + 1)) leaves)
+      (gets_op code start (P (length s.ops + 1)) r (length s.ops) st op c (op_at code s t op is closed has) (place (length s.ops + 1)) leaves)
 
   pub means_on : (s t u : Buffer) (made kind : Option Kind) (value : Value₀) (turn : Value₁) → Means s t made value → Turns t u kind turn → Means s u kind (λ b names. value b names >>= turn b names)
   means_on s t u made kind value turn first then = record {
@@ -114,28 +112,28 @@ module _ (code : Code) (start : State) where
   }
 
   -- an op on the newest entry
-  pub one_turns_on : (P : Board → Type 0) (s t : Buffer) (op : Op) (made : Option Kind) (f : Board → Value → Meaning Value) → ((n : ℕ) (st : State) → Comes code start n (Ok st) → P st.1) → Clean s → t ≡ with_op op s → Has code t
+  pub one_turns_on : (P : Board → Type 0) (s t : Buffer) (op : Op) (made : Option Kind) (f : Board → Value → Meaning Value) → ((n : ℕ) (st : State) → Comes code start n (Ok st) → P st.1) → Clean s → t ≡ with_op op s → is_open op ≡ false → Has code t
       → IsMade made → IsKind made → OneOpOn P code op f → Turns s t made (λ b names v. f b v)
-  one_turns_on P s t op made f good clean is has some kind does = record {
+  one_turns_on P s t op made f good clean is closed has some kind does = record {
     grown = grown_op op s t is;
     clean = clean;
     scope = ap (λ (u : Buffer). u.scope) is;
     some = some;
     kind = λ taken. kind;
     gets = λ st base v names c p held.
-        op_gets s t op (λ n. Pushed n base) (f base.1 v) st is has c (λ n x next q. q.place)
+        op_gets s t op (λ n. Pushed n base) (f base.1 v) st is closed has c (λ n x next q. q.place)
         (subst (λ b. Leaves (Pushed (length s.ops + 1) base) (f b v) (done_on st.1 (step code op (go_to (length s.ops + 1) st.0, st.1)))) p.board
         (does (length s.ops + 1) base (go_to (length s.ops + 1) st.0) st.1 v base.0.stack (good (length s.ops) st c) p.stack (record { place = refl; locals = p.locals; stack = refl; board = p.board })));
   }
 
-  pub one_turns : (s t : Buffer) (op : Op) (made : Option Kind) (f : Board → Value → Meaning Value) → Clean s → t ≡ with_op op s → Has code t → IsMade made → IsKind made → OneOp code op f → Turns s t made (λ b names v. f b v)
-  one_turns s t op made f clean is has some kind does =
-      one_turns_on (λ b. Unit {0}) s t op made f (λ n st c. tt) clean is has some kind (λ n base m b v rest good stack like. does n base m b v rest stack like)
+  pub one_turns : (s t : Buffer) (op : Op) (made : Option Kind) (f : Board → Value → Meaning Value) → Clean s → t ≡ with_op op s → is_open op ≡ false → Has code t → IsMade made → IsKind made → OneOp code op f → Turns s t made (λ b names v. f b v)
+  one_turns s t op made f clean is closed has some kind does =
+      one_turns_on (λ b. Unit {0}) s t op made f (λ n st c. tt) clean is closed has some kind (λ n base m b v rest good stack like. does n base m b v rest stack like)
 
   -- an operand more, and an op on both
-  pub two_turns : (s t u : Buffer) (op : Op) (made kind : Option Kind) (value : Value₀) (f : Value → Value → Meaning Value) → Means s t made value → u ≡ with_op op t → Has code u → IsMade kind → IsKind kind → TwoOp code op f
+  pub two_turns : (s t u : Buffer) (op : Op) (made kind : Option Kind) (value : Value₀) (f : Value → Value → Meaning Value) → Means s t made value → u ≡ with_op op t → is_open op ≡ false → Has code u → IsMade kind → IsKind kind → TwoOp code op f
       → Turns s u kind (λ b names v. value b names >>= f v)
-  two_turns s t u op made kind value f right is has some known does = record {
+  two_turns s t u op made kind value f right is closed has some known does = record {
     grown = grown_on s t u right.grown (grown_op op t u is);
     clean = right.clean;
     scope = ap (λ (x : Buffer). x.scope) is ∙ right.scope;
@@ -146,22 +144,22 @@ module _ (code : Code) (start : State) where
         (subst (λ b. Gets code start (Pushed (length t.ops) st) (value b names) (length t.ops)) p.board
         (right.gets st names c (subst (λ l. AreHeld l s.scope.names names) (sym p.locals) held)))
         (λ w next here q.
-        op_gets t u op (λ n. Pushed n base) (f v w) next is has here (λ n x after r. r.place)
+        op_gets t u op (λ n. Pushed n base) (f v w) next is closed has here (λ n x after r. r.place)
         (does (length t.ops + 1) base (go_to (length t.ops + 1) next.0) next.1 v w base.0.stack (q.stack ∙ ap (λ vs. w ∷ vs) p.stack)
         (record { place = refl; locals = q.locals ∙ p.locals; stack = refl; board = q.board ∙ p.board })));
   }
 
   -- an op that pushes a value
-  pub push_means : (s t : Buffer) (op : Op) (made : Option Kind) (value : Value₀) → Clean s → t ≡ with_op op s → Has code t → IsMade made → (AreTaken s.scope.kinds s.scope.names → IsKind made)
+  pub push_means : (s t : Buffer) (op : Op) (made : Option Kind) (value : Value₀) → Clean s → t ≡ with_op op s → is_open op ≡ false → Has code t → IsMade made → (AreTaken s.scope.kinds s.scope.names → IsKind made)
       → ((st : State) (names : List Name) → Comes code start (length s.ops) (Ok st) → AreHeld st.0.locals s.scope.names names → Leaves (Pushed (length s.ops + 1) st) (value st.1 names) (done_on st.1 (step code op (go_to (length s.ops + 1) st.0, st.1))))
       → Means s t made value
-  push_means s t op made value clean is has some kind does = record {
+  push_means s t op made value clean is closed has some kind does = record {
     grown = grown_op op s t is;
     clean = clean;
     scope = ap (λ (u : Buffer). u.scope) is;
     some = some;
     kind = kind;
-    gets = λ st names c held. op_gets s t op (λ n. Pushed n st) (value st.1 names) st is has c (λ n x next q. q.place) (does st names c held);
+    gets = λ st names c held. op_gets s t op (λ n. Pushed n st) (value st.1 names) st is closed has c (λ n x next q. q.place) (does st names c held);
   }
 
   -- a meaning may be replaced by an equal one, and its kind by an equal one

@@ -37,7 +37,7 @@ use Rattle.bb_machine_step.specs.Changing.{State}
 use Rattle.bb_machine_step.specs.Machine.{with_stack}
 use Rattle.bb_machine_step.specs.Values.{Value}
 use Rattle.bb_machine_step.specs.Values.TheVariants.{Int, Bool as Truth, Interval}
-use Rattle.bb_compile_accepted.proofs.Laws.{Clean, Grown, Has, with_op, grown_op, grown_none, not_failed, never_noted, put_ok, IsPut, pair_ok, clean_before, one_due_ok, two_due_ok}
+use Rattle.bb_compile_accepted.proofs.Laws.{Clean, Grown, Has, is_open, with_op, grown_op, grown_none, not_failed, never_noted, put_ok, IsPut, pair_ok, clean_before, one_due_ok, two_due_ok}
 use Rattle.bb_compile_meaning.specs.Meaning.{Meaning}
 use Rattle.bb_compile_meaning.specs.Values.{unary_value, of_numbers, of_truths, equal, binary_value, operator_value, division_value}
 use Rattle.bb_compile_meaning.proofs.ComeLemmas.{Leaves, done_on}
@@ -49,12 +49,13 @@ module _ (code : Code) where
   pub record Puts (s t : Buffer) (made : Made) (f : Value → Value → Meaning Value) : Type 0 where
     pub op : Op
     pub is : t ≡ with_op op s
+    pub closed : is_open op ≡ false
     pub some : IsMade made
     pub kind : IsKind made
     pub does : TwoOp code op f
 
-  puts : (op : Op) (gives : Kind) (s t : Buffer) (made : Made) (f : Value → Value → Meaning Value) → is_free gives ≡ false → TwoOp code op f → IsPut op gives s t made → Puts s t made f
-  puts op gives s t made f known does put = record { op = op; is = put.0; some = (gives, put.1); kind = subst IsKind (sym put.1) known; does = does }
+  puts : (op : Op) (gives : Kind) (s t : Buffer) (made : Made) (f : Value → Value → Meaning Value) → is_free gives ≡ false → is_open op ≡ false → TwoOp code op f → IsPut op gives s t made → Puts s t made f
+  puts op gives s t made f known closed does put = record { op = op; is = put.0; closed = closed; some = (gives, put.1); kind = subst IsKind (sym put.1) known; does = does }
 
   calculates : (c : Calculation) → TwoOp code (ops.Calculate c) (of_numbers (λ a b. Int (calculated c a b)))
   calculates c n base m b v w rest stack like =
@@ -117,6 +118,27 @@ module _ (code : Code) where
   unfolding equality
   equal_does l r op h = equal_by l op (is_some (class_of l) && is_some (class_of r)) (is_same_plain l r) h
 
+  -- no op that compares goes anywhere
+  plain_closed : (k : Kind) (op : Op) → plain_equality k ≡ Some op → is_open op ≡ false
+  plain_closed kinds.Int op h = let e : ops.Compare comparisons.EqInt ≡ op = cc in ap is_open (sym e)
+  plain_closed kinds.Text op h = let e : ops.EqText ≡ op = cc in ap is_open (sym e)
+  plain_closed (kinds.Label set) op h = let e : ops.EqLabel ≡ op = cc in ap is_open (sym e)
+  plain_closed kinds.Any op h = absurd cc
+  plain_closed kinds.Bool op h = absurd cc
+  plain_closed kinds.Interval op h = absurd cc
+  plain_closed (kinds.Ref c) op h = absurd cc
+  plain_closed (kinds.Old c) op h = absurd cc
+  plain_closed (kinds.Seq c) op h = absurd cc
+
+  closed_by : (k : Kind) (op : Op) (both same : Bool) → cond both (Some ops.EqUnit) (cond same (plain_equality k) None) ≡ Some op → is_open op ≡ false
+  closed_by k op true same h = let e : ops.EqUnit ≡ op = cc in ap is_open (sym e)
+  closed_by k op false true h = plain_closed k op h
+  closed_by k op false false h = absurd cc
+
+  equal_closed : (l r : Kind) (op : Op) → equality l r ≡ Some op → is_open op ≡ false
+  unfolding equality
+  equal_closed l r op h = closed_by l op (is_some (class_of l) && is_some (class_of r)) (is_same_plain l r) h
+
   abbrev as_truth : Buffer → Result (Made × Buffer) CompileFault
   as_truth u = Ok (Some kinds.Bool, u)
 
@@ -128,7 +150,7 @@ module _ (code : Code) where
     where
       by_op : (o : Option Op) → equality l r ≡ o → (u : Buffer) → equality_by o s ≡ Ok u → u ≡ t → Some kinds.Bool ≡ made → Puts s t made equal
       by_op None is u h same kind = never_noted WrongKind s (ap (λ (x : Buffer). x.flaw) (same_ok (noted WrongKind s) u h ∙ same) ∙ clean)
-      by_op (Some op) is u h same kind = puts op kinds.Bool s t made equal refl (equal_does l r op is) (sym same ∙ put_ok op s u h, sym kind)
+      by_op (Some op) is u h same kind = puts op kinds.Bool s t made equal refl (equal_closed l r op is) (equal_does l r op is) (sym same ∙ put_ok op s u h, sym kind)
 
   -- ---- two operands
 
@@ -153,15 +175,15 @@ module _ (code : Code) where
   pub binary_puts : (operation : Binary) (left right : Made) (s t : Buffer) (made : Made) → IsMade left → IsMade right → binary_code operation left right s ≡ Ok (made, t) → Clean t → Puts s t made (binary_value operation)
   unfolding binary_code binary_value
   binary_puts binaries.Less l r s t made k j h clean =
-      puts (ops.Compare comparisons.Lt) kinds.Bool s t made (binary_value binaries.Less) refl (compares comparisons.Lt) (two_due_ok l r kinds.Int (ops.Compare comparisons.Lt) kinds.Bool s t made h clean)
+      puts (ops.Compare comparisons.Lt) kinds.Bool s t made (binary_value binaries.Less) refl refl (compares comparisons.Lt) (two_due_ok l r kinds.Int (ops.Compare comparisons.Lt) kinds.Bool s t made h clean)
   binary_puts binaries.AtMost l r s t made k j h clean =
-      puts (ops.Compare comparisons.Le) kinds.Bool s t made (binary_value binaries.AtMost) refl (compares comparisons.Le) (two_due_ok l r kinds.Int (ops.Compare comparisons.Le) kinds.Bool s t made h clean)
+      puts (ops.Compare comparisons.Le) kinds.Bool s t made (binary_value binaries.AtMost) refl refl (compares comparisons.Le) (two_due_ok l r kinds.Int (ops.Compare comparisons.Le) kinds.Bool s t made h clean)
   binary_puts binaries.Min l r s t made k j h clean =
-      puts (ops.Calculate calculations.Min) kinds.Int s t made (binary_value binaries.Min) refl (calculates calculations.Min) (two_due_ok l r kinds.Int (ops.Calculate calculations.Min) kinds.Int s t made h clean)
+      puts (ops.Calculate calculations.Min) kinds.Int s t made (binary_value binaries.Min) refl refl (calculates calculations.Min) (two_due_ok l r kinds.Int (ops.Calculate calculations.Min) kinds.Int s t made h clean)
   binary_puts binaries.Max l r s t made k j h clean =
-      puts (ops.Calculate calculations.Max) kinds.Int s t made (binary_value binaries.Max) refl (calculates calculations.Max) (two_due_ok l r kinds.Int (ops.Calculate calculations.Max) kinds.Int s t made h clean)
+      puts (ops.Calculate calculations.Max) kinds.Int s t made (binary_value binaries.Max) refl refl (calculates calculations.Max) (two_due_ok l r kinds.Int (ops.Calculate calculations.Max) kinds.Int s t made h clean)
   binary_puts binaries.Interval l r s t made k j h clean =
-      puts ops.MakeInterval kinds.Interval s t made (binary_value binaries.Interval) refl intervals (two_due_ok l r kinds.Int ops.MakeInterval kinds.Interval s t made h clean)
+      puts ops.MakeInterval kinds.Interval s t made (binary_value binaries.Interval) refl refl intervals (two_due_ok l r kinds.Int ops.MakeInterval kinds.Interval s t made h clean)
   binary_puts binaries.Equal (Some l) (Some r) s t made k j h clean = equal_puts l r s t made h clean
   binary_puts binaries.Equal (Some l) None s t made k j h clean = absurd (let e = j.1 in cc)
   binary_puts binaries.Equal None r s t made k j h clean = absurd (let e = k.1 in cc)
@@ -169,15 +191,15 @@ module _ (code : Code) where
   pub operator_puts : (operator : Operator) (left right : Made) (s t : Buffer) (made : Made) → operator_code operator left right s ≡ Ok (made, t) → Clean t → Puts s t made (operator_value operator)
   unfolding operator_value
   operator_puts operators.Or l r s t made h clean =
-      puts (ops.Combine logics.Or) kinds.Bool s t made (operator_value operators.Or) refl (combines logics.Or) (two_due_ok l r kinds.Bool (ops.Combine logics.Or) kinds.Bool s t made h clean)
+      puts (ops.Combine logics.Or) kinds.Bool s t made (operator_value operators.Or) refl refl (combines logics.Or) (two_due_ok l r kinds.Bool (ops.Combine logics.Or) kinds.Bool s t made h clean)
   operator_puts operators.And l r s t made h clean =
-      puts (ops.Combine logics.And) kinds.Bool s t made (operator_value operators.And) refl (combines logics.And) (two_due_ok l r kinds.Bool (ops.Combine logics.And) kinds.Bool s t made h clean)
+      puts (ops.Combine logics.And) kinds.Bool s t made (operator_value operators.And) refl refl (combines logics.And) (two_due_ok l r kinds.Bool (ops.Combine logics.And) kinds.Bool s t made h clean)
   operator_puts operators.Plus l r s t made h clean =
-      puts (ops.Calculate calculations.Add) kinds.Int s t made (operator_value operators.Plus) refl (calculates calculations.Add) (two_due_ok l r kinds.Int (ops.Calculate calculations.Add) kinds.Int s t made h clean)
+      puts (ops.Calculate calculations.Add) kinds.Int s t made (operator_value operators.Plus) refl refl (calculates calculations.Add) (two_due_ok l r kinds.Int (ops.Calculate calculations.Add) kinds.Int s t made h clean)
   operator_puts operators.Minus l r s t made h clean =
-      puts (ops.Calculate calculations.Sub) kinds.Int s t made (operator_value operators.Minus) refl (calculates calculations.Sub) (two_due_ok l r kinds.Int (ops.Calculate calculations.Sub) kinds.Int s t made h clean)
+      puts (ops.Calculate calculations.Sub) kinds.Int s t made (operator_value operators.Minus) refl refl (calculates calculations.Sub) (two_due_ok l r kinds.Int (ops.Calculate calculations.Sub) kinds.Int s t made h clean)
   operator_puts operators.Times l r s t made h clean =
-      puts (ops.Calculate calculations.Mul) kinds.Int s t made (operator_value operators.Times) refl (calculates calculations.Mul) (two_due_ok l r kinds.Int (ops.Calculate calculations.Mul) kinds.Int s t made h clean)
+      puts (ops.Calculate calculations.Mul) kinds.Int s t made (operator_value operators.Times) refl refl (calculates calculations.Mul) (two_due_ok l r kinds.Int (ops.Calculate calculations.Mul) kinds.Int s t made h clean)
 
   -- ---- one operand
 
@@ -203,22 +225,22 @@ module _ (code : Code) where
       (number_leaves n base (with_stack rest m) b like (λ x. Int (divided (division_op divisions.Remainder) x by)) v)
 
   module _ (start : State) where
-    turned : (op : Op) (gives : Kind) (s t : Buffer) (made : Made) (f : Value → Meaning Value) → is_free gives ≡ false → Clean t → Has code t → OneOp code op (λ b v. f v) → IsPut op gives s t made
+    turned : (op : Op) (gives : Kind) (s t : Buffer) (made : Made) (f : Value → Meaning Value) → is_free gives ≡ false → is_open op ≡ false → Clean t → Has code t → OneOp code op (λ b v. f v) → IsPut op gives s t made
         → Turns code start s t made (λ b names v. f v)
-    turned op gives s t made f known clean has does put =
-        one_turns code start s t op made (λ b v. f v) (clean_before op s t put.0 clean) put.0 has (gives, put.1) (subst IsKind (sym put.1) known) does
+    turned op gives s t made f known closed clean has does put =
+        one_turns code start s t op made (λ b v. f v) (clean_before op s t put.0 clean) put.0 closed has (gives, put.1) (subst IsKind (sym put.1) known) does
 
     pub unary_turns : (operation : Unary) (operand : Made) (s t : Buffer) (made : Made) → unary_code operation operand s ≡ Ok (made, t) → Clean t → Has code t → Turns code start s t made (λ b names v. unary_value operation v)
     unary_turns unaries.Not operand s t made h clean has =
-        turned ops.Not kinds.Bool s t made (unary_value unaries.Not) refl clean has negates (one_due_ok operand kinds.Bool ops.Not kinds.Bool s t made h clean)
+        turned ops.Not kinds.Bool s t made (unary_value unaries.Not) refl refl clean has negates (one_due_ok operand kinds.Bool ops.Not kinds.Bool s t made h clean)
     unary_turns unaries.Low operand s t made h clean has =
-        turned (ops.BoundOf bounds.Low) kinds.Int s t made (unary_value unaries.Low) refl clean has lows (one_due_ok operand kinds.Interval (ops.BoundOf bounds.Low) kinds.Int s t made h clean)
+        turned (ops.BoundOf bounds.Low) kinds.Int s t made (unary_value unaries.Low) refl refl clean has lows (one_due_ok operand kinds.Interval (ops.BoundOf bounds.Low) kinds.Int s t made h clean)
     unary_turns unaries.High operand s t made h clean has =
-        turned (ops.BoundOf bounds.High) kinds.Int s t made (unary_value unaries.High) refl clean has highs (one_due_ok operand kinds.Interval (ops.BoundOf bounds.High) kinds.Int s t made h clean)
+        turned (ops.BoundOf bounds.High) kinds.Int s t made (unary_value unaries.High) refl refl clean has highs (one_due_ok operand kinds.Interval (ops.BoundOf bounds.High) kinds.Int s t made h clean)
 
     pub division_turns : (d : Division) (by : ℤ) (left : Made) (s t : Buffer) (made : Made) → division_code d by left s ≡ Ok (made, t) → Clean t → Has code t → Turns code start s t made (λ b names v. division_value d by v)
     unfolding division_code
     division_turns d by left s t made h clean has =
         let put = one_due_ok left kinds.Int (ops.Divide (division_op d) by) kinds.Int (divisor_noted by s) t made h clean in
         let free = not_failed (int_lt by (pos 1)) Limit s (clean_before (ops.Divide (division_op d) by) (divisor_noted by s) t put.0 clean) in
-        turned (ops.Divide (division_op d) by) kinds.Int s t made (division_value d by) refl clean has (divides d by) (put.0 ∙ ap (with_op (ops.Divide (division_op d) by)) free.1, put.1)
+        turned (ops.Divide (division_op d) by) kinds.Int s t made (division_value d by) refl refl clean has (divides d by) (put.0 ∙ ap (with_op (ops.Divide (division_op d) by)) free.1, put.1)

@@ -1,5 +1,5 @@
 -- The code of a part does what its text means.
-use Rattle.std.proofs.Common.{◌≡◌, ℕ, zero, suc, ◌+◌, ◌-◌, ◌≤◌, Bool, true, false, cond, ◌||◌, List, [], ◌∷◌, length, Option, Some, None, Result, Ok, Err, refl, subst, sym, ap, ◌∙◌, arith, length-append}
+use Rattle.std.proofs.Common.{◌≡◌, ℕ, zero, suc, ◌+◌, ◌-◌, ◌≤◌, Bool, true, false, cond, List, [], ◌∷◌, length, Option, Some, None, Result, Ok, Err, refl, subst, sym, ap, ◌∙◌, arith, length-append}
 use Rattle.std.specs.Prelude.{slice_get, nat_lt}
 use Rattle.std.proofs.lemmas.List.{append-nil}
 use Rattle.std.proofs.lemmas.Option.{slice_get_past}
@@ -11,7 +11,7 @@ use Rattle.bb_verify_frame.specs.declared.part.Part.TheVariants.{Require, Obviat
 use Rattle.bb_verify_frame.specs.Op.TheVariants as ops
 use Rattle.bb_schema.specs.Schema.{Schema}
 use Rattle.bb_schema.specs.Fits as schemas
-use Rattle.bb_lang.specs.Blocks.{BlockTree, no_statement, before_others, action, if_of, with_of, for_of}
+use Rattle.bb_lang.specs.Blocks.{BlockTree}
 use Rattle.bb_compile_scope.specs.Place.{Place}
 use Rattle.bb_compile_scope.specs.declared.fault.CompileFault.{CompileFault}
 use Rattle.bb_compile_scope.specs.declared.fault.CompileFault.TheVariants.{At}
@@ -19,11 +19,10 @@ use Rattle.bb_compile_scope.specs.declared.fault.TextFlaw.TheVariants.{NoEnd, Li
 use Rattle.bb_compile_scope.specs.Ending.{ends}
 use Rattle.bb_compile_scope.specs.Scope.{begin_with, of_unit, of_event, mark_of}
 use Rattle.bb_compile_accepted.specs.Buffer.{Buffer}
-use Rattle.bb_compile_accepted.specs.Buffers.{settled, put, leave}
+use Rattle.bb_compile_accepted.specs.Buffers.{put, leave}
 use Rattle.bb_compile_accepted.specs.Finish.{empty_buffer, code_of, if_within}
 use Rattle.bb_compile_accepted.specs.Within.{is_within}
-use Rattle.bb_compile_accepted.specs.Actions.{action_code}
-use Rattle.bb_compile_accepted.specs.Statements.{left, after_end, action_of, statement_code, statements_code, block_code}
+use Rattle.bb_compile_accepted.specs.Statements.{left, statements_code, block_code}
 use Rattle.bb_compile_accepted.specs.Parts.{has_no_end, done, version_for, part_code}
 use Rattle.bb_compile_accepted.specs.PartLimits.{LOOP_NESTING}
 use Rattle.bb_machine_state.specs.Board.{Board}
@@ -31,6 +30,7 @@ use Rattle.bb_machine_state.specs.Fits.{Fits}
 use Rattle.bb_machine_state.specs.State.{World}
 use Rattle.bb_verify.specs.Budget.{budget}
 use Rattle.bb_verify.specs.declared.checked.TheConstants.{FOUND_LIMIT}
+use Rattle.bb_verify.specs.Accepted.{checked}
 use Rattle.bb_verify.specs.FrameType.{Frame}
 use Rattle.bb_machine_step.specs.Activation.{Execution, halted, steps_from, activation}
 use Rattle.bb_machine_step.specs.Answer.TheVariants.{Done}
@@ -47,62 +47,20 @@ use Rattle.bb_machine_step.specs.Stuck.TheVariants as reasons
 use Rattle.bb_machine_step.proofs.Laws.{activation_schema, by_op}
 use Rattle.bb_machine.specs.NeverWrong.{Begins, EntryFits, NeverStuck}
 use Rattle.bb_machine.proofs.Laws.{activation_fits, activation_never_stuck}
-use Rattle.bb_compile_accepted.proofs.Laws.{Clean, Grown, Has, not_failed, put_ok, grown_none, grown_on, grown_op, has_before, op_at, pair_ok, settled_clean, block_clean, part_accepted}
+use Rattle.bb_compile_accepted.proofs.Laws.{Grown, Has, put_ok, grown_none, grown_on, grown_op, has_before, op_at, pair_ok, plain_branched, part_accepted, branched_accepted}
 use Rattle.bb_verify.proofs.Laws.{checked_facts}
 use Rattle.bb_compile_meaning.specs.Meaning.{End, Meaning, Name, meaningless}
 use Rattle.bb_compile_meaning.specs.Meaning as comes
-use Rattle.bb_compile_meaning.specs.Statements.{Scene, acted, statement, statements}
+use Rattle.bb_compile_meaning.specs.Statements.{Scene, statements}
 use Rattle.bb_compile_meaning.specs.Parts.{first_names, first_scene, ended, meaning}
 use Rattle.bb_compile_meaning.specs.Plain.{is_plain}
+use Rattle.bb_compile_meaning.specs.Branched.{is_branched, HasClasses}
 use Rattle.bb_compile_meaning.specs.Told.{IsTold}
-use Rattle.bb_compile_meaning.proofs.ComeLemmas.{Came, Leaves, Comes, Gets, comes_on, gets_none}
-use Rattle.bb_compile_meaning.proofs.MeansLemmas.{part_gets}
+use Rattle.bb_compile_meaning.proofs.ComeLemmas.{Came, Leaves, Comes, Gets, comes_on}
 use Rattle.bb_compile_meaning.proofs.NameLemmas.{AreHeld}
 use Rattle.bb_compile_meaning.proofs.AtomLemmas.{Good}
-use Rattle.bb_compile_meaning.proofs.ActLemmas.{IsTidy, IsScene, Acts}
-use Rattle.bb_compile_meaning.proofs.ActionLemmas.{action_does}
-
--- ---- statements, one after another
-
-module _ (schema : Schema) (sf : schemas.Fits schema) (part : Part) (code : Code) (start : State) (good : (n : ℕ) (st : State) → Comes code start n (Ok st) → Good schema st.1) where
-  acts_on : (s t u : Buffer) (f g : Scene → Meaning Scene) → Acts code start s t f → Acts code start t u g → Acts code start s u (λ scene. f scene >>= g)
-  acts_on s t u f g first then = record {
-    grown = grown_on s t u first.grown then.grown;
-    clean = first.clean;
-    tidy = λ tidy. then.tidy (first.tidy tidy);
-    gets = λ tidy st scene c here.
-        part_gets code start t u (IsScene (length t.ops) t.scope.names) (IsScene (length u.ops) u.scope.names) (f scene) g then.grown (first.gets tidy st scene c here)
-        (λ after next there is. then.gets (first.tidy tidy) next after there is);
-  }
-
-  acts_none : (s t : Buffer) → s ≡ t → Clean t → Acts code start s t (λ scene. Ok scene)
-  acts_none s t same clean =
-      subst (λ u. Acts code start s u (λ scene. Ok scene)) same
-      (record {
-        grown = grown_none s s refl refl refl;
-        clean = ap (λ (x : Buffer). x.flaw) same ∙ clean;
-        tidy = λ tidy. tidy;
-        gets = λ tidy st scene c here. gets_none code start (IsScene (length s.ops) s.scope.names) scene (length s.ops) st c here;
-      })
-
-  pub block_does : (b : BlockTree) (loops : ℕ) (was now : Bool) (s t : Buffer) → is_plain b ≡ true → statements_code schema part loops was b s ≡ Ok (now, t) → Clean t → Has code t → Acts code start s t (statements b)
-  unfolding statements_code statement_code statements statement
-  block_does no_statement loops was now s t plain h clean has = acts_none s t (pair_ok was now s t h).1 clean
-  block_does (before_others place (action a) others) loops was now s t plain h clean has =
-      let here = after_end was s in
-      let one = bind_ok (action_of schema part place a here) (λ p. statements_code schema part loops (was || p.0) others p.1) (now, t) h in
-      let two = bind_ok (action_code schema part a here) (λ u. settled place u >>= λ _. Ok (ends a, u)) one.0 one.1 in
-      let three = bind_ok (settled place two.0) (λ _. Ok (ends a, two.0)) one.0 two.2 in
-      let same = pair_ok (ends a) one.0.0 two.0 one.0.1 three.2 in
-      let rest = block_does others loops (was || one.0.0) now one.0.1 t plain one.2 clean has in
-      let u = two.0 in
-      let own : Has code u = subst (Has code) (sym same.1) (has_before code one.0.1 t rest.grown has) in
-      let first = action_does schema sf code start good part a here u two.1 (settled_clean place u.flaw three.0 three.1) own in
-      let free = not_failed was NoEnd s first.clean in
-      acts_on s one.0.1 t (acted a) (statements others) (subst (λ x. Acts code start x one.0.1 (acted a)) free.1 (subst (λ x. Acts code start here x (acted a)) same.1 first)) rest
-  block_does (before_others place (if_of test then other) others) loops was now s t plain h clean has = absurd cc
-  block_does (before_others place (with_of binding then other) others) loops was now s t plain h clean has = absurd cc
-  block_does (before_others place (for_of name sequence body) others) loops was now s t plain h clean has = absurd cc
+use Rattle.bb_compile_meaning.proofs.ActLemmas.{IsTidy, IsScene}
+use Rattle.bb_compile_meaning.proofs.BlockLemmas.{block_does}
 
 -- ---- what a part begins with
 
@@ -168,11 +126,12 @@ module _ (part : Part) (frames : List Frame) (code : Code) (entry : Entry) (b : 
   -- each blackboard that is met fits
   good : (n : ℕ) (st : State) → Comes code start n (Ok st) → Good b.schema st.1
   good n st c =
-      let plus : n ≡ n + 0 = omega arith in
-      let e : activation n code entry b ≡ (Err (stops.Stuck reasons.Turns n st.0.found), st.1) = as_steps n ∙ (ap (λ i. steps_from i 0 code start) plus ∙ (c.1 0 ∙ none_left n st.0 st.1)) in
+      let j = c.1 in
+      let plus : j ≡ j + 0 = omega arith in
+      let e : activation j code entry b ≡ (Err (stops.Stuck reasons.Turns j st.0.found), st.1) = as_steps j ∙ (ap (λ i. steps_from i 0 code start) plus ∙ (c.3 0 ∙ none_left j st.0 st.1)) in
       record {
-        schema = ap (λ (x : Execution). x.1.schema) (sym e) ∙ activation_schema n code entry b;
-        fits = subst (λ (x : Execution). Fits b.schema x.1.world) e (activation_fits part frames code entry b n is sf fits begins);
+        schema = ap (λ (x : Execution). x.1.schema) (sym e) ∙ activation_schema j code entry b;
+        fits = subst (λ (x : Execution). Fits b.schema x.1.world) e (activation_fits part frames code entry b j is sf fits begins);
       }
 
   -- at the limit there is what came of some ops that ended the execution
@@ -183,10 +142,12 @@ module _ (part : Part) (frames : List Frame) (code : Code) (entry : Entry) (b : 
 
   -- what an execution came to, where it ended
   told : (r : Meaning Scene) (P : Scene → State → Type 0) (n limit : ℕ) (halt : Halt) (left : Board) → n ≤ limit → Comes code start n (Err (halt, left)) → Leaves P r (Err (halt, left)) → IsTold (ended part r) (activation limit code entry b)
-  told r P n limit (halts.Answered a) left le c h = subst (IsTold (ended part r)) (sym (at_limit n limit c.0 c.1 (halts.Answered a) left le c.2)) (ap (ended part) h ∙ ended_err part (comes.answered a left))
-  told r P n limit halts.Full left le c h = subst (IsTold (ended part r)) (sym (at_limit n limit c.0 c.1 halts.Full left le c.2)) (ap (ended part) h ∙ ended_err part (comes.full left))
+  told r P n limit (halts.Answered a) left le c h =
+      let few = c.3 in subst (IsTold (ended part r)) (sym (at_limit c.2 limit c.0 c.1 (halts.Answered a) left (omega (arith, le, few)) c.4)) (ap (ended part) h ∙ ended_err part (comes.answered a left))
+  told r P n limit halts.Full left le c h =
+      let few = c.3 in subst (IsTold (ended part r)) (sym (at_limit c.2 limit c.0 c.1 halts.Full left (omega (arith, le, few)) c.4)) (ap (ended part) h ∙ ended_err part (comes.full left))
   told r P n limit (halts.Stuck reason) left le c h =
-      absurd (not_stuck (n + budget code FOUND_LIMIT) reason c.0 c.1 left (omega arith) (at_limit n (n + budget code FOUND_LIMIT) c.0 c.1 (halts.Stuck reason) left (omega arith) c.2))
+      absurd (not_stuck (c.2 + budget code FOUND_LIMIT) reason c.0 c.1 left (omega arith) (at_limit c.2 (c.2 + budget code FOUND_LIMIT) c.0 c.1 (halts.Stuck reason) left (omega arith) c.4))
   told r P n limit halts.Memory left le c h = absurd h
 
   -- ---- behind the last statement
@@ -200,7 +161,8 @@ module _ (part : Part) (frames : List Frame) (code : Code) (entry : Entry) (b : 
       → IsTold (ended part r) (activation limit code entry b)
   told_done class r t limit st x do_is at le c means board =
       let after = comes_on code start (length t.ops) st ops.Done (answered Done) c at (done_on (go_to (length t.ops + 1) st.0) st.1) tt in
-      subst (IsTold (ended part r)) (sym (at_limit (length t.ops + 1) limit after.0 after.1 (halts.Answered Done) st.1 le after.2))
+      let few = after.3 in
+      subst (IsTold (ended part r)) (sym (at_limit after.2 limit after.0 after.1 (halts.Answered Done) st.1 (omega (arith, le, few)) after.4))
       (ap (λ p. ended p r) do_is ∙ (ap (ended (Do class)) means ∙ ap (comes.answered Done) (sym board)))
 
   -- another part does not come to its end
@@ -209,27 +171,26 @@ module _ (part : Part) (frames : List Frame) (code : Code) (entry : Entry) (b : 
       let past : slice_get code.ops n ≡ None = slice_get_past code.ops n le in
       let here : None ≡ slice_get code.ops st.0.place = sym past ∙ ap (slice_get code.ops) (sym c.0) in
       let k = budget code FOUND_LIMIT in
-      let e : activation (n + suc k) code entry b ≡ (Err (stops.Stuck reasons.Outside n st.0.found), st.1) = as_steps (n + suc k) ∙ (c.1 (suc k) ∙ by_op k n code st.0 st.1 None here) in
-      absurd (not_stuck (n + suc k) reasons.Outside n st.0.found st.1 (omega arith) e)
+      let j = c.1 in
+      let e : activation (j + suc k) code entry b ≡ (Err (stops.Stuck reasons.Outside j st.0.found), st.1) = as_steps (j + suc k) ∙ (c.3 (suc k) ∙ by_op k j code st.0 st.1 None here) in
+      absurd (not_stuck (j + suc k) reasons.Outside j st.0.found st.1 (omega arith) e)
 
   -- ---- the whole
 
-  module _ (place : Place) (block : BlockTree) (limit : ℕ) (enough_steps : length code.ops ≤ limit) (plain : is_plain block ≡ true) where
+  module _ (place : Place) (block : BlockTree) (limit : ℕ) (enough_steps : length code.ops ≤ limit) (branched : is_branched block ≡ true) where
     abbrev first : Buffer
     first = empty_buffer part place
 
     block_gets : (now : Bool) (t : Buffer) → statements_code b.schema part LOOP_NESTING false block first ≡ Ok (now, t) → Has code t → Gets code start (IsScene (length t.ops) t.scope.names) (statements block (first_scene entry b)) (length t.ops)
     block_gets now t h has =
-        let clean = block_clean b.schema part block LOOP_NESTING false now first t plain refl h in
-        (block_does b.schema sf part code start good block LOOP_NESTING false now first t plain h clean has).gets (begin_tidy part) start (first_scene entry b)
-        (refl, (λ k. let e : 0 + k ≡ k = omega arith in ap (λ i. steps_from i 0 code start) e))
+        (block_does b.schema sf part code start good block LOOP_NESTING false now first t branched refl h has).gets (begin_tidy part) start (first_scene entry b)
+        (refl, 0, omega arith, (λ k. let e : 0 + k ≡ k = omega arith in ap (λ i. steps_from i 0 code start) e))
         (record { place = refl; held = begin_held b.schema b.world part code entry begins.units; stack = refl; board = refl })
 
     -- the code is that of a buffer
     buffer_has : (u : Buffer) → code_of (version_for b.schema) u ≡ code → Has code u
     buffer_has u same = record {
-      ops = [];
-      ops_are = ap (λ (c : Code). c.ops) (sym same) ∙ sym (append-nil u.ops);
+      ops = λ i op at closed. ap (λ (c : Code). slice_get c.ops i) (sym same) ∙ at;
       texts = [];
       texts_are = ap (λ (c : Code). c.texts) (sym same) ∙ sym (append-nil u.texts);
       queries = [];
@@ -256,7 +217,7 @@ module _ (part : Part) (frames : List Frame) (code : Code) (entry : Entry) (b : 
         let put_is = put_ok ops.Done was u last in
         let has = buffer_has u same in
         let own = has_before code t u (grown_on t was u (left_grown t) (grown_op ops.Done was u put_is)) has in
-        let at : slice_get code.ops (length t.ops) ≡ Some ops.Done = op_at code was u ops.Done put_is has in
+        let at : slice_get code.ops (length t.ops) ≡ Some ops.Done = op_at code was u ops.Done put_is refl has in
         let e : length code.ops ≡ length t.ops + 1 = ap (λ (c : Code). length c.ops) (sym same) ∙ (ap (λ (x : Buffer). length x.ops) put_is ∙ length-append t.ops (ops.Done ∷ [])) in
         let g = block_gets now t h own in
         by_came t class part_is at (omega (arith, e)) g.0 g.1 g.2
@@ -292,11 +253,22 @@ module _ (part : Part) (frames : List Frame) (code : Code) (entry : Entry) (b : 
         let same = pair_ok two.0.0 one.0.0 (leave (mark_of first.scope) two.0.1) one.0.1 two.2 in
         by_part part refl two.0.0 two.0.1 three.0 two.1 (ap (done part) same.1 ∙ three.1) (within_same three.0 (is_within (code_of (version_for b.schema) three.0)) three.2)
 
--- ---- the code of a part is accepted, so it does what its text means
+-- ---- a code that is accepted does what its text means, and that of a part without `with` and `for` is accepted
 
-pub compiled_told : (part : Part) (code : Code) (entry : Entry) (b : Board) → IsCode code → schemas.Fits b.schema → Fits b.schema b.world → (place : Place) (block : BlockTree) (limit : ℕ) → is_plain block ≡ true → part_code b.schema part place block ≡ Ok code
+accepted_told : (part : Part) (code : Code) (frames : List Frame) (entry : Entry) (b : Board) → IsCode code → schemas.Fits b.schema → Fits b.schema b.world → (place : Place) (block : BlockTree) (limit : ℕ) → is_branched block ≡ true → part_code b.schema part place block ≡ Ok code
+    → checked b.schema part code ≡ Ok (record { code = code; part = part; frames = frames }) → EntryFits b.schema b.world part entry → length code.ops ≤ limit → IsTold (meaning part block entry b) (activation limit code entry b)
+accepted_told part code frames entry b is sf fits place block limit branched code_is accepted entry_fits enough =
+    let begins : Begins part frames code entry b = record { accepted = checked_facts b.schema part code (record { code = code; part = part; frames = frames }) accepted is.ops.some; units = entry_fits } in
+    part_told part frames code entry b is sf fits begins place block limit enough branched code_is
+
+pub plain_told : (part : Part) (code : Code) (entry : Entry) (b : Board) → IsCode code → schemas.Fits b.schema → Fits b.schema b.world → (place : Place) (block : BlockTree) (limit : ℕ) → is_plain block ≡ true → part_code b.schema part place block ≡ Ok code
     → EntryFits b.schema b.world part entry → length code.ops ≤ limit → IsTold (meaning part block entry b) (activation limit code entry b)
-compiled_told part code entry b is sf fits place block limit plain code_is entry_fits enough =
+plain_told part code entry b is sf fits place block limit plain code_is entry_fits enough =
     let it = part_accepted b.schema sf part place block plain code code_is in
-    let begins : Begins part it.0 code entry b = record { accepted = checked_facts b.schema part code (record { code = code; part = part; frames = it.0 }) it.1 is.ops.some; units = entry_fits } in
-    part_told part it.0 code entry b is sf fits begins place block limit enough plain code_is
+    accepted_told part code it.0 entry b is sf fits place block limit (plain_branched block plain) code_is it.1 entry_fits enough
+
+pub branched_told : (part : Part) (code : Code) (entry : Entry) (b : Board) → IsCode code → schemas.Fits b.schema → Fits b.schema b.world → (place : Place) (block : BlockTree) (limit : ℕ) → is_branched block ≡ true → HasClasses b.schema part → part_code b.schema part place block ≡ Ok code
+    → EntryFits b.schema b.world part entry → length code.ops ≤ limit → IsTold (meaning part block entry b) (activation limit code entry b)
+branched_told part code entry b is sf fits place block limit branched classes code_is entry_fits enough =
+    let it = branched_accepted b.schema sf part classes place block branched code code_is in
+    accepted_told part code it.0 entry b is sf fits place block limit branched code_is it.1 entry_fits enough

@@ -89,7 +89,7 @@ struck_known s class kinds.Interval known = known
 struck_known s class (kinds.Old c) known = known
 struck_known s class (kinds.Seq c) known = known
 
-struck_at : (s : Schema) (class : ℕ) (ks : List Kind) (i : ℕ) → is_free (kind_at ks i) ≡ false → is_free (kind_at (map (struck s class) ks) i) ≡ false
+pub struck_at : (s : Schema) (class : ℕ) (ks : List Kind) (i : ℕ) → is_free (kind_at ks i) ≡ false → is_free (kind_at (map (struck s class) ks) i) ≡ false
 struck_at s class [] i known = known
 struck_at s class (k ∷ ks) zero known = struck_known s class k known
 struck_at s class (k ∷ ks) (suc i) known = struck_at s class ks i known

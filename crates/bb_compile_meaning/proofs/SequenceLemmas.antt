@@ -118,7 +118,7 @@ module _ (schema : Schema) (sf : schemas.Fits schema) (code : Code) where
             let unit_is = unit_ok v room s u class' code_is free in
             let slot = link_slot_ok schema c name p is in
             let first = name_means schema sf code start good v s u (Some unit_is.0) free (has_before code u t (grown_op (ops.Links p.0) u t put) has) unit_is.2 in
-            let then = one_turns_on code start (Good schema) u t (ops.Links p.0) (Some kinds.Int) (linked name) good free put has (kinds.Int, refl) refl (links_do c p.0 name slot) in
+            let then = one_turns_on code start (Good schema) u t (ops.Links p.0) (Some kinds.Int) (linked name) good free put refl has (kinds.Int, refl) refl (links_do c p.0 name slot) in
             means_as code start s t (Some kinds.Int) (Some kinds.Int) (λ b names. named (name_of v) names >>= linked name b) (λ b names. texts.linked_units b names v name >>= as_sequence) refl
             (λ b names. by_assoc b (named (name_of v) names))
             (means_on code start s u t (Some unit_is.0) (Some kinds.Int) (λ b names. named (name_of v) names) (λ b names v. linked name b v) first then)
@@ -165,7 +165,7 @@ module _ (schema : Schema) (sf : schemas.Fits schema) (code : Code) where
     size_means s t u made us first is clean has kind =
         means_as code start s u (Some kinds.Int) made (λ b names. (us b names >>= as_sequence) >>= counted) (λ b names. us b names >>= λ xs. Ok (Int (pos (length xs)))) (sym kind) (λ b names. by_units (us b names))
         (means_on code start s t u (Some kinds.Int) (Some kinds.Int) (λ b names. us b names >>= as_sequence) (λ b names v. counted v) first
-        (one_turns code start t u ops.Size (Some kinds.Int) (λ b v. counted v) (clean_before ops.Size t u is clean) is has (kinds.Int, refl) refl size_does))
+        (one_turns code start t u ops.Size (Some kinds.Int) (λ b v. counted v) (clean_before ops.Size t u is clean) is refl has (kinds.Int, refl) refl size_does))
       where
         by_units : (r : Meaning (List ℕ)) → ((r >>= as_sequence) >>= counted) ≡ (r >>= λ xs. Ok (Int (pos (length xs))))
         by_units (Ok xs) = refl

@@ -1,137 +1,163 @@
--- The codes of a source whose parts have no statements with blocks are accepted.
-use Rattle.std.proofs.Common.{◌≡◌, ℕ, Bool, true, false, ◌&&◌, List, Option, Some, None, Result, Ok, Err, subst, ◌∙◌}
-use Rattle.std.specs.Prelude.{IfSome, if◌then◌else◌}
+-- The codes of a source of which no part has a `with` or a `for` are accepted, and mean its text.
+use Rattle.std.proofs.Common.{◌≡◌, ℕ, Bool, true, false, cond, ◌&&◌, Option, Some, None, Result, Ok, Err, refl, subst, ap, ◌∙◌}
+use Rattle.std.specs.Prelude.{IfSome}
 use Rattle.bb_basis.proofs.BoolLemmas.{and_first, and_second}
-use Rattle.bb_basis.specs.Results.{◌>>=◌, ok_or}
-use Rattle.bb_basis.proofs.ResultLemmas.{bind_ok, same_ok, ok_or_ok}
+use Rattle.bb_basis.specs.Results.{◌>>=◌}
+use Rattle.bb_basis.proofs.ResultLemmas.{bind_ok, guard_ok, same_ok}
 use Rattle.bb_schema.specs.Schema.{Schema, class_named}
 use Rattle.bb_schema.specs.Fits as schemas
 use Rattle.bb_code.specs.Code.{Code}
 use Rattle.bb_lang.specs.ActText.{ActText}
 use Rattle.bb_lang.specs.ActText.TheVariants as acts
+use Rattle.bb_lang.specs.Blocks.{BlockTree}
 use Rattle.bb_lang.specs.PartText.{PartText}
-use Rattle.bb_lang.specs.PartTexts.{PartTexts}
 use Rattle.bb_lang.specs.ReactionText.{ReactionText}
 use Rattle.bb_lang.specs.SourceText.{SourceText}
-use Rattle.bb_compile_scope.specs.Ending.{block_ends}
 use Rattle.bb_compile_scope.specs.Place.{Place}
 use Rattle.bb_compile_scope.specs.declared.fault.CompileFault.{CompileFault}
 use Rattle.bb_compile_scope.specs.declared.fault.CompileFault.TheVariants.{At}
-use Rattle.bb_compile_scope.specs.declared.fault.TextFlaw.TheVariants.{Unknown, NoEnd}
+use Rattle.bb_compile_scope.specs.declared.fault.TextFlaw.TheVariants.{NoEnd, Limit}
 use Rattle.bb_bundle.specs.declared.draft.ActDraft.{ActDraft}
 use Rattle.bb_bundle.specs.declared.draft.ActDraft.TheVariants as drafts
-use Rattle.bb_bundle.specs.declared.draft.Parts.{Parts}
+use Rattle.bb_bundle.specs.declared.draft.Header.{Header}
 use Rattle.bb_bundle.specs.declared.draft.ReactionDraft.{ReactionDraft}
 use Rattle.bb_bundle.specs.declared.draft.SourceDraft.{SourceDraft}
-use Rattle.bb_bundle.specs.Spelled.{is_spelled, if_spelled}
-use Rattle.bb_compile.specs.Compiled.{class_on, class_of_events, part_of, reaction_of, reaction_if, act_of, header_of, parts_of, draft_of, compiled}
+use Rattle.bb_compile.specs.Compiled.{compiled}
+use Rattle.bb_machine_state.specs.Board.{Board}
+use Rattle.bb_machine_state.specs.Fits.{Fits}
 use Rattle.bb_verify.specs.PartType.{Part}
 use Rattle.bb_verify.specs.PartType.TheVariants.{Require, Obviate, Retrigger, Revalidate, Do}
-use Rattle.bb_compile_accepted.specs.Parts.{part_code}
-use Rattle.bb_compile_accepted.proofs.Laws.{part_accepted}
-use Rattle.bb_compile_meaning.specs.Sources.{part_is_plain, reaction_is_plain, act_is_plain, is_plain_source, IsAccepted, IsAcceptedFor, IsAcceptedAct, AreAccepted}
+use Rattle.bb_compile_accepted.specs.Buffer.{Buffer}
+use Rattle.bb_compile_accepted.specs.Finish.{empty_buffer, code_of, if_within}
+use Rattle.bb_compile_accepted.specs.Within.{is_within}
+use Rattle.bb_compile_accepted.specs.Statements.{block_code}
+use Rattle.bb_compile_accepted.specs.Parts.{has_no_end, done, version_for, part_code}
+use Rattle.bb_compile_accepted.specs.PartLimits.{LOOP_NESTING}
+use Rattle.bb_compile_accepted.proofs.Laws.{class_there, branched_accepted}
+use Rattle.bb_compile_meaning.specs.Branched.{is_branched, HasClass, HasClasses}
+use Rattle.bb_compile_meaning.specs.Sources.{part_is_branched, reaction_is_branched, act_is_branched, is_branched_source, IsAccepted, IsAcceptedFor, IsAcceptedAct, AreAccepted, IsMeant, IsMeantIf, IsMeantReaction, IsMeantAct, AreMeant}
+use Rattle.bb_compile_meaning.proofs.CodeLemmas.{within_code}
+use Rattle.bb_compile_meaning.proofs.MadeLemmas.{IsMade, IsMadeReaction, IsMadeAct, source_made}
+use Rattle.bb_compile_meaning.proofs.PartLemmas.{branched_told}
 
-spelled_same : (b : Bool) (d e : SourceDraft Code) → (let o : Option (SourceDraft Code) = if b then Some d else None in o) ≡ Some e → d ≡ e
-spelled_same true d e h = cc
-spelled_same false d e h = absurd cc
+-- no part has a `with` or a `for`
+record AreBranched (text : SourceText) : Type 0 where
+  require : part_is_branched text.parts.require ≡ true
+  obviate : reaction_is_branched text.parts.obviate ≡ true
+  retrigger : reaction_is_branched text.parts.retrigger ≡ true
+  revalidate : part_is_branched text.parts.revalidate ≡ true
+  act : act_is_branched text.act ≡ true
 
--- the draft of a tree with these parts and this act
-abbrev whole_of : SourceText → Parts Code → ActDraft Code → SourceDraft Code
-whole_of text parts act = record { header = header_of text; parts = parts; act = act }
+are_branched : (text : SourceText) → is_branched_source text ≡ true → AreBranched text
+are_branched text branched =
+    let p = text.parts in
+    let four = part_is_branched p.revalidate && act_is_branched text.act in
+    let three = reaction_is_branched p.retrigger && four in
+    let two = reaction_is_branched p.obviate && three in
+    let behind_one = and_second (part_is_branched p.require) two branched in
+    let behind_two = and_second (reaction_is_branched p.obviate) three behind_one in
+    let behind_three = and_second (reaction_is_branched p.retrigger) four behind_two in
+    record {
+      require = and_first (part_is_branched p.require) two branched;
+      obviate = and_first (reaction_is_branched p.obviate) three behind_one;
+      retrigger = and_first (reaction_is_branched p.retrigger) four behind_two;
+      revalidate = and_first (part_is_branched p.revalidate) (act_is_branched text.act) behind_three;
+      act = and_second (part_is_branched p.revalidate) (act_is_branched text.act) behind_three;
+    }
 
-class_ok : (schema : Schema) (name : List ℕ) (on : Place) (c : ℕ) → class_on schema name on ≡ Ok c → class_named schema name ≡ Some c
-class_ok schema name on c h = ok_or_ok (At Unknown on) (class_named schema name) c h
+-- ---- accepted
 
 module _ (schema : Schema) (sf : schemas.Fits schema) where
-  part_ok : (part : Part) (o : Option PartText) (code : Option Code) → part_is_plain o ≡ true → part_of schema part o ≡ Ok code → IfSome code (IsAccepted schema part)
-  part_ok part None code plain h = subst (λ c. IfSome c (IsAccepted schema part)) (same_ok None code h) tt
-  part_ok part (Some text) code plain h =
-      let one = bind_ok (part_code schema part text.place text.block) (λ c. Ok (Some c)) code h in
-      subst (λ c. IfSome c (IsAccepted schema part)) (same_ok (Some one.0) code one.2) (part_accepted schema sf part text.place text.block plain one.0 one.1)
+  part_ok : (part : Part) (o : Option PartText) (code : Option Code) → part_is_branched o ≡ true → HasClasses schema part → IsMade schema part o code → IfSome code (IsAccepted schema part)
+  part_ok part None None branched classes made = tt
+  part_ok part None (Some code) branched classes made = absurd made
+  part_ok part (Some text) None branched classes made = absurd made
+  part_ok part (Some text) (Some code) branched classes made = branched_accepted schema sf part classes text.place text.block branched code made
 
-  events_ok : (text : ReactionText) (of : ℕ) → class_of_events schema text ≡ Ok of → class_named schema text.class ≡ Some of
-  events_ok text of h = by_end (block_ends text.block) h
-    where
-      by_end : (b : Bool) → (let r : Result ℕ CompileFault = if b then class_on schema text.class text.on else Err (At NoEnd text.place) in r) ≡ Ok of → class_named schema text.class ≡ Some of
-      by_end true h = class_ok schema text.class text.on of h
-      by_end false h = absurd cc
+  reaction_ok : (part : (of : ℕ) → Part) (o : Option ReactionText) (r : Option (ReactionDraft Code)) → reaction_is_branched o ≡ true → ((of : ℕ) → HasClass schema of → HasClasses schema (part of)) → IsMadeReaction schema part o r → IfSome r (IsAcceptedFor schema part)
+  reaction_ok part None None branched classes made = tt
+  reaction_ok part None (Some r) branched classes made = absurd made
+  reaction_ok part (Some text) None branched classes made = absurd made
+  reaction_ok part (Some text) (Some r) branched classes made =
+      let there = classes made.of (class_there schema text.class made.of made.named) in
+      (made.of, ap (class_named schema) made.class ∙ made.named, branched_accepted schema sf (part made.of) there text.place text.block branched r.code made.code)
 
-  reaction_ok : (part : (of : ℕ) → Part) (o : Option ReactionText) (r : Option (ReactionDraft Code)) → reaction_is_plain o ≡ true → reaction_if schema part o ≡ Ok r → IfSome r (IsAcceptedFor schema part)
-  unfolding reaction_of
-  reaction_ok part None r plain h = subst (λ x. IfSome x (IsAcceptedFor schema part)) (same_ok None r h) tt
-  reaction_ok part (Some text) r plain h =
-      let one = bind_ok (class_of_events schema text) (λ of. reaction_of schema (part of) text >>= λ x. Ok (Some x)) r h in
-      let two = bind_ok (reaction_of schema (part one.0) text) (λ x. Ok (Some x)) r one.2 in
-      let three = bind_ok (part_code schema (part one.0) text.place text.block) (λ code. Ok (record { class = text.class; clauses = text.clauses; code = code })) two.0 two.1 in
-      let made : ReactionDraft Code = record { class = text.class; clauses = text.clauses; code = three.0 } in
-      let own : IsAcceptedFor schema part made = (one.0, events_ok text one.0 one.1, part_accepted schema sf (part one.0) text.place text.block plain three.0 three.1) in
-      subst (λ x. IfSome x (IsAcceptedFor schema part)) (same_ok (Some two.0) r two.2) (subst (IsAcceptedFor schema part) (same_ok made two.0 three.2) own)
+  act_ok : (class : ℕ) (text : ActText) (act : ActDraft Code) → act_is_branched text ≡ true → HasClass schema class → IsMadeAct schema class text act → IsAcceptedAct schema class act
+  act_ok class acts.Native drafts.Native branched there made = tt
+  act_ok class acts.Native (drafts.Do code) branched there made = absurd made
+  act_ok class (acts.Do text) drafts.Native branched there made = absurd made
+  act_ok class (acts.Do text) (drafts.Do code) branched there made = branched_accepted schema sf (Do class) there text.place text.block branched code made
 
-  act_ok : (class : ℕ) (text : ActText) (act : ActDraft Code) → act_is_plain text ≡ true → act_of schema class text ≡ Ok act → IsAcceptedAct schema class act
-  act_ok class acts.Native act plain h = subst (IsAcceptedAct schema class) (same_ok drafts.Native act h) tt
-  act_ok class (acts.Do text) act plain h =
-      let one = bind_ok (part_code schema (Do class) text.place text.block) (λ code. Ok (drafts.Do code)) act h in
-      subst (IsAcceptedAct schema class) (same_ok (drafts.Do one.0) act one.2) (part_accepted schema sf (Do class) text.place text.block plain one.0 one.1)
+  pub source_accepted : (text : SourceText) (draft : SourceDraft Code) → is_branched_source text ≡ true → compiled schema text ≡ Ok draft → AreAccepted schema draft
+  source_accepted text draft branched h =
+      let m = source_made schema text draft h in
+      let p = are_branched text branched in
+      let there : HasClass schema m.of = class_there schema text.header.class m.of m.named in
+      record {
+        class = m.of;
+        named = ap (λ (x : Header). class_named schema x.class) m.header ∙ m.named;
+        require = part_ok (Require m.of) text.parts.require draft.parts.require p.require there m.require;
+        obviate = reaction_ok (Obviate m.of) text.parts.obviate draft.parts.obviate p.obviate (λ of other. (there, other)) m.obviate;
+        retrigger = reaction_ok (Retrigger m.of) text.parts.retrigger draft.parts.retrigger p.retrigger (λ of other. (there, other)) m.retrigger;
+        revalidate = part_ok (Revalidate m.of) text.parts.revalidate draft.parts.revalidate p.revalidate there m.revalidate;
+        act = act_ok m.of text.act draft.act p.act there m.act;
+      }
 
-  -- ---- the parts besides the act, one after another
+-- ---- meant
 
-  record PartsAccepted (c : ℕ) (parts : Parts Code) : Type 0 where
-    require : IfSome parts.require (IsAccepted schema (Require c))
-    obviate : IfSome parts.obviate (IsAcceptedFor schema (Obviate c))
-    retrigger : IfSome parts.retrigger (IsAcceptedFor schema (Retrigger c))
-    revalidate : IfSome parts.revalidate (IsAccepted schema (Revalidate c))
+-- what is laid out for a part is within the limits of codes
+part_within : (schema : Schema) (part : Part) (place : Place) (block : BlockTree) (code : Code) → part_code schema part place block ≡ Ok code → is_within code ≡ true
+unfolding part_code if_within
+part_within schema part place block code h =
+    let first = empty_buffer part place in
+    let body = guard_ok (has_no_end part block) (At NoEnd place) (block_code schema part LOOP_NESTING block first >>= λ p. done part p.1 >>= λ u. if_within u.start (code_of (version_for schema) u)) code h in
+    let one = bind_ok (block_code schema part LOOP_NESTING block first) (λ p. done part p.1 >>= λ u. if_within u.start (code_of (version_for schema) u)) code body.1 in
+    let two = bind_ok (done part one.0.1) (λ u. if_within u.start (code_of (version_for schema) u)) code one.2 in
+    by_test two.0 (is_within (code_of (version_for schema) two.0)) refl two.2
+  where
+    by_test : (u : Buffer) (b : Bool) → is_within (code_of (version_for schema) u) ≡ b → (let r : Result Code CompileFault = cond b (Ok (code_of (version_for schema) u)) (Err (At Limit u.start)) in r) ≡ Ok code → is_within code ≡ true
+    by_test u true is h = subst (λ c. is_within c ≡ true) (same_ok (code_of (version_for schema) u) code h) is
+    by_test u false is h = absurd cc
 
-  parts_ok : (c : ℕ) (p : PartTexts) (parts : Parts Code) → part_is_plain p.require ≡ true → reaction_is_plain p.obviate ≡ true → reaction_is_plain p.retrigger ≡ true → part_is_plain p.revalidate ≡ true → parts_of schema c p ≡ Ok parts → PartsAccepted c parts
-  unfolding parts_of
-  parts_ok c p parts one two three four h =
-      let require = part_of schema (Require c) p.require in
-      let obviate = reaction_if schema (Obviate c) p.obviate in
-      let retrigger = reaction_if schema (Retrigger c) p.retrigger in
-      let revalidate = part_of schema (Revalidate c) p.revalidate in
-      let whole : Option Code → Option (ReactionDraft Code) → Option (ReactionDraft Code) → Option Code → Parts Code =
-      λ r o t v. record { require = r; obviate = o; retrigger = t; revalidate = v } in
-      let a = bind_ok require (λ r. obviate >>= λ o. retrigger >>= λ t. revalidate >>= λ v. Ok (whole r o t v)) parts h in
-      let b = bind_ok obviate (λ o. retrigger >>= λ t. revalidate >>= λ v. Ok (whole a.0 o t v)) parts a.2 in
-      let d = bind_ok retrigger (λ t. revalidate >>= λ v. Ok (whole a.0 b.0 t v)) parts b.2 in
-      let e = bind_ok revalidate (λ v. Ok (whole a.0 b.0 d.0 v)) parts d.2 in
-      subst (PartsAccepted c) (same_ok (whole a.0 b.0 d.0 e.0) parts e.2) (record {
-        require = part_ok (Require c) p.require a.0 one a.1;
-        obviate = reaction_ok (Obviate c) p.obviate b.0 two b.1;
-        retrigger = reaction_ok (Retrigger c) p.retrigger d.0 three d.1;
-        revalidate = part_ok (Revalidate c) p.revalidate e.0 four e.1;
-      })
+module _ (b : Board) (sf : schemas.Fits b.schema) (fits : Fits b.schema b.world) where
+  code_meant : (part : Part) (place : Place) (block : BlockTree) (code : Code) → is_branched block ≡ true → HasClasses b.schema part → part_code b.schema part place block ≡ Ok code → IsMeant b part block code
+  code_meant part place block code branched classes made entry limit entry_fits enough = branched_told part code entry b (within_code code (part_within b.schema part place block code made)) sf fits place block limit branched classes made entry_fits enough
 
-  -- ---- the whole
+  part_meant : (part : Part) (o : Option PartText) (code : Option Code) → part_is_branched o ≡ true → HasClasses b.schema part → IsMade b.schema part o code → IsMeantIf b part o code
+  part_meant part None None branched classes made = tt
+  part_meant part None (Some code) branched classes made = made
+  part_meant part (Some text) None branched classes made = made
+  part_meant part (Some text) (Some code) branched classes made = code_meant part text.place text.block code branched classes made
 
-  pub source_accepted : (text : SourceText) (draft : SourceDraft Code) → is_plain_source text ≡ true → compiled schema text ≡ Ok draft → AreAccepted schema draft
-  unfolding compiled draft_of
-  source_accepted text draft plain h =
-      let made = bind_ok (draft_of schema text) (λ d. ok_or (if_spelled d) (At Unknown text.header.on)) draft h in
-      let spelled : made.0 ≡ draft = spelled_same (is_spelled made.0) made.0 draft (ok_or_ok (At Unknown text.header.on) (if_spelled made.0) draft made.2) in
-      let whole : Parts Code → ActDraft Code → SourceDraft Code = whole_of text in
-      let class = bind_ok (class_on schema text.header.class text.header.on) (λ c. parts_of schema c text.parts >>= λ parts. act_of schema c text.act >>= λ act. Ok (whole parts act)) made.0 made.1 in
-      let parts = bind_ok (parts_of schema class.0 text.parts) (λ parts. act_of schema class.0 text.act >>= λ act. Ok (whole parts act)) made.0 class.2 in
-      let act = bind_ok (act_of schema class.0 text.act) (λ act. Ok (whole parts.0 act)) made.0 parts.2 in
-      by_parts class.0 parts.0 act.0 class.1 parts.1 act.1 (same_ok (whole parts.0 act.0) made.0 act.2 ∙ spelled)
-    where
-      by_parts : (c : ℕ) (made : Parts Code) (act : ActDraft Code) → class_on schema text.header.class text.header.on ≡ Ok c → parts_of schema c text.parts ≡ Ok made → act_of schema c text.act ≡ Ok act → whole_of text made act ≡ draft → AreAccepted schema draft
-      by_parts c made act at_class at_parts at_act whole =
-          let p = text.parts in
-          let four = part_is_plain p.revalidate && act_is_plain text.act in
-          let three = reaction_is_plain p.retrigger && four in
-          let two = reaction_is_plain p.obviate && three in
-          let behind_one = and_second (part_is_plain p.require) two plain in
-          let behind_two = and_second (reaction_is_plain p.obviate) three behind_one in
-          let behind_three = and_second (reaction_is_plain p.retrigger) four behind_two in
-          let parts = parts_ok c p made (and_first (part_is_plain p.require) two plain) (and_first (reaction_is_plain p.obviate) three behind_one) (and_first (reaction_is_plain p.retrigger) four behind_two)
-          (and_first (part_is_plain p.revalidate) (act_is_plain text.act) behind_three) at_parts in
-          subst (AreAccepted schema) whole
-          (record {
-            class = c;
-            named = class_ok schema text.header.class text.header.on c at_class;
-            require = parts.require;
-            obviate = parts.obviate;
-            retrigger = parts.retrigger;
-            revalidate = parts.revalidate;
-            act = act_ok c text.act act (and_second (part_is_plain p.revalidate) (act_is_plain text.act) behind_three) at_act;
-          })
+  reaction_meant : (part : (of : ℕ) → Part) (o : Option ReactionText) (r : Option (ReactionDraft Code)) → reaction_is_branched o ≡ true → ((of : ℕ) → HasClass b.schema of → HasClasses b.schema (part of)) → IsMadeReaction b.schema part o r → IsMeantReaction b part o r
+  reaction_meant part None None branched classes made = tt
+  reaction_meant part None (Some r) branched classes made = made
+  reaction_meant part (Some text) None branched classes made = made
+  reaction_meant part (Some text) (Some r) branched classes made =
+      let there = classes made.of (class_there b.schema text.class made.of made.named) in
+      record { of = made.of; named = made.named; class = made.class; clauses = made.clauses; code = code_meant (part made.of) text.place text.block r.code branched there made.code }
+
+  act_meant : (class : ℕ) (text : ActText) (act : ActDraft Code) → act_is_branched text ≡ true → HasClass b.schema class → IsMadeAct b.schema class text act → IsMeantAct b class text act
+  act_meant class acts.Native drafts.Native branched there made = tt
+  act_meant class acts.Native (drafts.Do code) branched there made = made
+  act_meant class (acts.Do text) drafts.Native branched there made = made
+  act_meant class (acts.Do text) (drafts.Do code) branched there made = code_meant (Do class) text.place text.block code branched there made
+
+  pub source_meant : (text : SourceText) (draft : SourceDraft Code) → is_branched_source text ≡ true → compiled b.schema text ≡ Ok draft → AreMeant b text draft
+  source_meant text draft branched h =
+      let m = source_made b.schema text draft h in
+      let p = are_branched text branched in
+      let there : HasClass b.schema m.of = class_there b.schema text.header.class m.of m.named in
+      record {
+        name = ap (λ (x : Header). x.name) m.header;
+        class = ap (λ (x : Header). x.class) m.header;
+        rate = ap (λ (x : Header). x.rate) m.header;
+        triggers = ap (λ (x : Header). x.triggers) m.header;
+        of = m.of;
+        named = m.named;
+        require = part_meant (Require m.of) text.parts.require draft.parts.require p.require there m.require;
+        obviate = reaction_meant (Obviate m.of) text.parts.obviate draft.parts.obviate p.obviate (λ of other. (there, other)) m.obviate;
+        retrigger = reaction_meant (Retrigger m.of) text.parts.retrigger draft.parts.retrigger p.retrigger (λ of other. (there, other)) m.retrigger;
+        revalidate = part_meant (Revalidate m.of) text.parts.revalidate draft.parts.revalidate p.revalidate there m.revalidate;
+        act = act_meant m.of text.act draft.act p.act there m.act;
+      }

@@ -1,5 +1,5 @@
 -- Statements that change a unit.
-use Rattle.std.proofs.Common.{◌≡◌, ℕ, ◌-◌, List, map, Option, Some, None, Result, Ok, Err, refl, subst, sym, ap, ◌∙◌}
+use Rattle.std.proofs.Common.{◌≡◌, ℕ, ◌-◌, false, List, map, Option, Some, None, Result, Ok, Err, refl, subst, sym, ap, ◌∙◌}
 use Rattle.bb_basis.specs.Results.{◌>>=◌}
 use Rattle.bb_basis.proofs.ResultLemmas.{bind_ok, same_ok}
 use Rattle.bb_schema_classes.specs.declared.kind.Link.{Link}
@@ -20,6 +20,7 @@ use Rattle.bb_compile_scope.specs.declared.fault.TextFlaw.{TextFlaw}
 use Rattle.bb_compile_scope.specs.declared.fault.TextFlaw.TheVariants.{Unknown, LinkClass, Space}
 use Rattle.bb_compile_scope.specs.declared.scope.Scope.{Scope}
 use Rattle.bb_compile_scope.specs.declared.scope.NamedLocal.{NamedLocal}
+use Rattle.bb_compile_scope.specs.LocalKinds.{is_free, kind_at}
 use Rattle.bb_compile_scope.specs.Scope.{name_of}
 use Rattle.bb_compile_scope.specs.Slots.{value_slot, link_slot}
 use Rattle.bb_compile_accepted.specs.Buffer.{Buffer}
@@ -33,7 +34,7 @@ use Rattle.bb_machine_state.specs.Spaces.{after_enter, after_leave}
 use Rattle.bb_machine_step.specs.Changing.{State, after_change}
 use Rattle.bb_machine_step.specs.Machine.{room}
 use Rattle.bb_machine_step.specs.Values.{Value}
-use Rattle.bb_compile_accepted.proofs.Laws.{Clean, Has, with_op, passed, never_noted, is_due, put_ok, put_clean, grown_op, has_before, clean_before, unit_ok}
+use Rattle.bb_compile_accepted.proofs.Laws.{Clean, Has, is_open, with_op, passed, never_noted, is_due, put_ok, put_clean, grown_op, has_before, clean_before, unit_ok}
 use Rattle.bb_compile_meaning.specs.Meaning.{Meaning, named}
 use Rattle.bb_compile_meaning.specs.Expressions.{value_of}
 use Rattle.bb_compile_meaning.specs.Statements as says
@@ -43,7 +44,7 @@ use Rattle.bb_compile_meaning.proofs.MeansLemmas.{Means}
 use Rattle.bb_compile_meaning.proofs.NameLemmas.{AreTaken}
 use Rattle.bb_compile_meaning.proofs.AtomLemmas.{Good, value_slot_ok, link_slot_ok, name_means}
 use Rattle.bb_compile_meaning.proofs.ExprLemmas.{expr_means}
-use Rattle.bb_compile_meaning.proofs.SceneLemmas.{AreApart, all_struck}
+use Rattle.bb_compile_meaning.proofs.SceneLemmas.{AreApart, struck_at, all_struck}
 use Rattle.bb_compile_meaning.proofs.ActLemmas.{IsTidy, Last, Acts, OneLeaf, last_grown, last_put, last_clean, two_act, one_act}
 use Rattle.bb_compile_meaning.proofs.LeafLemmas.{deletes, leaves_space, enters_space, sets, relinks}
 
@@ -82,7 +83,8 @@ module _ (schema : Schema) (sf : schemas.Fits schema) (code : Code) (start : Sta
           let m = unit_means v STACK_LIMIT s u (Some c) is (last_clean ops.Delete u t last clean) (has_before code u t (last_grown ops.Delete u t last) has) in
           let names_are : t.scope.names ≡ s.scope.names = ap (λ (x : Buffer). x.scope.names) all ∙ ap (λ (x : Scope). x.names) m.3.scope in
           let kinds_are : t.scope.kinds ≡ map (struck schema c) s.scope.kinds = ap (λ (x : Buffer). x.scope.kinds) all ∙ ap (λ (x : Scope). map (struck schema c) x.kinds) m.3.scope in
-          one_act code start ops.Delete (λ b. Unit {0}) s u t (Some m.0) (λ b names. named (name_of v) names) (λ sc w. says.deleted w sc) anything m.3 last names_are
+          one_act code start ops.Delete (λ b. Unit {0}) s u t (Some m.0) (λ b names. named (name_of v) names) (λ sc w. says.deleted w sc) anything m.3 last refl names_are
+          (λ i taken. subst (λ ks. is_free (kind_at ks i) ≡ false) (sym kinds_are) (struck_at schema c s.scope.kinds i taken))
           (λ tidy. record {
             taken = subst (λ ks. AreTaken ks t.scope.names) (sym kinds_are) (subst (AreTaken (map (struck schema c) s.scope.kinds)) (sym names_are) (all_struck schema c s.scope.names s.scope.kinds tidy.taken));
             apart = subst AreApart (sym names_are) tidy.apart;
@@ -90,11 +92,11 @@ module _ (schema : Schema) (sf : schemas.Fits schema) (code : Code) (start : Sta
           has (deletes code start s.scope.names)
 
   -- an op behind a unit
-  unit_act : (op : Op) (P : Board → Type 0) (v : Variable) (s u t : Buffer) (class : Option ℕ) (f : Scene → Value → Meaning Scene) → ((n : ℕ) (st : State) → Comes code start n (Ok st) → P st.1) → MeansUnit v s u class → t ≡ with_op op u → Has code t
+  unit_act : (op : Op) (P : Board → Type 0) (v : Variable) (s u t : Buffer) (class : Option ℕ) (f : Scene → Value → Meaning Scene) → ((n : ℕ) (st : State) → Comes code start n (Ok st) → P st.1) → MeansUnit v s u class → t ≡ with_op op u → is_open op ≡ false → Has code t
       → ((ns : List NamedLocal) → OneLeaf code start ns op P f) → Does s t (λ scene. named (name_of v) scene.names >>= f scene)
-  unit_act op P v s u t class f right m is has leaf =
+  unit_act op P v s u t class f right m is closed has leaf =
       let scope : t.scope ≡ s.scope = ap (λ (x : Buffer). x.scope) is ∙ m.3.scope in
-      one_act code start op P s u t (Some m.0) (λ b names. named (name_of v) names) f right m.3 (last_put op u t is) (ap (λ (x : Scope). x.names) scope) (λ tidy. subst IsTidy (sym scope) tidy) has (leaf s.scope.names)
+      one_act code start op P s u t (Some m.0) (λ b names. named (name_of v) names) f right m.3 (last_put op u t is) closed (ap (λ (x : Scope). x.names) scope) (λ i taken. subst (λ (x : Scope). is_free (kind_at x.kinds i) ≡ false) (sym scope) taken) (λ tidy. subst IsTidy (sym scope) tidy) has (leaf s.scope.names)
 
   pub enter_does : (v : Variable) (space : List ℕ) (s t : Buffer) → enter_code schema v space s ≡ Ok t → Clean t → Has code t → Does s t (acted (actions.Enter v space))
   unfolding enter_code acted
@@ -109,7 +111,7 @@ module _ (schema : Schema) (sf : schemas.Fits schema) (code : Code) (start : Sta
       by_names (Some c) u (Some k) at is h =
           let put_is = put_clean (ops.Enter k) u (space_noted schema k c u) t (λ free. (passed (allowed schema k c) Space u free).1) h clean in
           let m = unit_means v STACK_LIMIT s u (Some c) is (clean_before (ops.Enter k) u t put_is clean) (has_before code u t (grown_op (ops.Enter k) u t put_is) has) in
-          unit_act (ops.Enter k) (Good schema) v s u t (Some c) (λ sc w. moved (after_enter sc.board.schema) space w sc) good m put_is has (λ ns. enters_space code start ns schema space k at)
+          unit_act (ops.Enter k) (Good schema) v s u t (Some c) (λ sc w. moved (after_enter sc.board.schema) space w sc) good m put_is refl has (λ ns. enters_space code start ns schema space k at)
 
   pub leave_does : (v : Variable) (space : List ℕ) (s t : Buffer) → leave_code schema v space s ≡ Ok t → Clean t → Has code t → Does s t (acted (actions.Leave v space))
   unfolding leave_code acted
@@ -122,7 +124,7 @@ module _ (schema : Schema) (sf : schemas.Fits schema) (code : Code) (start : Sta
       by_space class u (Some k) at is h =
           let put_is = put_ok (ops.Leave k) u t h in
           let m = unit_means v STACK_LIMIT s u class is (clean_before (ops.Leave k) u t put_is clean) (has_before code u t (grown_op (ops.Leave k) u t put_is) has) in
-          unit_act (ops.Leave k) (Good schema) v s u t class (λ sc w. moved after_leave space w sc) good m put_is has (λ ns. leaves_space code start ns schema space k at)
+          unit_act (ops.Leave k) (Good schema) v s u t class (λ sc w. moved after_leave space w sc) good m put_is refl has (λ ns. leaves_space code start ns schema space k at)
 
   -- ---- set
 
@@ -142,7 +144,7 @@ module _ (schema : Schema) (sf : schemas.Fits schema) (code : Code) (start : Sta
           let second = expr_means schema sf code start good e (STACK_LIMIT - 1) u w made value (clean_before (ops.Set p.0) w t put_is clean) own in
           let first = unit_means v STACK_LIMIT s u class is second.clean (has_before code u w second.grown own) in
           two_act code start (ops.Set p.0) (Good schema) s u w t (Some first.0) made (λ b names. named (name_of v) names) (λ b names. value_of b names e) (λ sc x y. set_to x slot y sc) good first.3 second
-          (last_put (ops.Set p.0) w t put_is) (ap (λ (x : Buffer). x.scope) put_is) has (sets code start s.scope.names schema sf c p.0 slot (value_slot_ok schema c slot p at).0)
+          (last_put (ops.Set p.0) w t put_is) refl (ap (λ (x : Buffer). x.scope) put_is) has (sets code start s.scope.names schema sf c p.0 slot (value_slot_ok schema c slot p at).0)
 
       by_class : (class : Option ℕ) (u : Buffer) (made : Made) (w : Buffer) → unit_code v STACK_LIMIT s ≡ Ok (class, u) → expr_code schema (STACK_LIMIT - 1) e u ≡ Ok (made, w) → set_in schema class slot made w ≡ Ok t → Does s t (acted (actions.Set v slot e))
       by_class None u made w is value h =
@@ -175,7 +177,7 @@ module _ (schema : Schema) (sf : schemas.Fits schema) (code : Code) (start : Sta
           let second = unit_means other (STACK_LIMIT - 1) u w of also (clean_before (ops.Relink change p.0) w t put_is clean) own in
           let first = unit_means v STACK_LIMIT s u class is second.3.clean (has_before code u w second.3.grown own) in
           two_act code start (ops.Relink change p.0) (Good schema) s u w t (Some first.0) (Some second.0) (λ b names. named (name_of v) names) (λ b names. named (name_of other) names) (λ sc x y. relinked (after_change change sc.board.schema) slot x y sc) good first.3 second.3
-          (last_put (ops.Relink change p.0) w t put_is) (ap (λ (x : Buffer). x.scope) put_is) has (relinks code start s.scope.names schema sf c p.0 slot (link_slot_ok schema c slot p at) change)
+          (last_put (ops.Relink change p.0) w t put_is) refl (ap (λ (x : Buffer). x.scope) put_is) has (relinks code start s.scope.names schema sf c p.0 slot (link_slot_ok schema c slot p at) change)
 
       by_class : (class : Option ℕ) (u : Buffer) (of : Option ℕ) (w : Buffer) → unit_code v STACK_LIMIT s ≡ Ok (class, u) → unit_code other (STACK_LIMIT - 1) u ≡ Ok (of, w) → relinked_in schema change class slot of w ≡ Ok t → Does s t (λ scene. named (name_of v) scene.names >>= λ x. named (name_of other) scene.names >>= λ y. relinked (after_change change scene.board.schema) slot x y scene)
       by_class None u of w is also h =

@@ -1,9 +1,11 @@
--- Sources whose parts are run through once, and what it is that the verifier accepts the codes of a source.
-use Rattle.std.specs.Prelude.{◌≡◌, ℕ, Bool, true, ◌&&◌, List, Option, Some, None, IfSome, Ok}
+-- Sources whose parts have no `with` and no `for`, what it is that the verifier accepts the codes of a source, and what
+-- it is that they mean its text.
+use Rattle.std.specs.Prelude.{◌≡◌, ◌≤◌, ℕ, Bool, true, ◌&&◌, List, length, Option, Some, None, IfSome, Ok}
 use Rattle.bb_schema.specs.Schema.{Schema, class_named}
 use Rattle.bb_code.specs.Code.{Code}
 use Rattle.bb_lang.specs.ActText.{ActText}
 use Rattle.bb_lang.specs.ActText.TheVariants as acts
+use Rattle.bb_lang.specs.Blocks.{BlockTree}
 use Rattle.bb_lang.specs.PartText.{PartText}
 use Rattle.bb_lang.specs.ReactionText.{ReactionText}
 use Rattle.bb_lang.specs.SourceText.{SourceText}
@@ -15,26 +17,32 @@ use Rattle.bb_verify.specs.FrameType.{Frame}
 use Rattle.bb_verify.specs.PartType.{Part}
 use Rattle.bb_verify.specs.PartType.TheVariants.{Require, Obviate, Retrigger, Revalidate, Do}
 use Rattle.bb_verify.specs.Accepted.{checked}
-use Rattle.bb_compile_meaning.specs.Plain.{is_plain}
+use Rattle.bb_machine_state.specs.Board.{Board}
+use Rattle.bb_machine_step.specs.Activation.{activation}
+use Rattle.bb_machine_step.specs.Entry.{Entry}
+use Rattle.bb_machine.specs.NeverWrong.{EntryFits}
+use Rattle.bb_compile_meaning.specs.Parts.{meaning}
+use Rattle.bb_compile_meaning.specs.Branched.{is_branched}
+use Rattle.bb_compile_meaning.specs.Told.{IsTold}
 
--- ---- no part has a statement with blocks
+-- ---- no part has a `with` or a `for`
 
-abbrev pub part_is_plain : Option PartText → Bool
-part_is_plain None = true
-part_is_plain (Some text) = is_plain text.block
+abbrev pub part_is_branched : Option PartText → Bool
+part_is_branched None = true
+part_is_branched (Some text) = is_branched text.block
 
-abbrev pub reaction_is_plain : Option ReactionText → Bool
-reaction_is_plain None = true
-reaction_is_plain (Some text) = is_plain text.block
+abbrev pub reaction_is_branched : Option ReactionText → Bool
+reaction_is_branched None = true
+reaction_is_branched (Some text) = is_branched text.block
 
-abbrev pub act_is_plain : ActText → Bool
-act_is_plain acts.Native = true
-act_is_plain (acts.Do text) = is_plain text.block
+abbrev pub act_is_branched : ActText → Bool
+act_is_branched acts.Native = true
+act_is_branched (acts.Do text) = is_branched text.block
 
-abbrev pub is_plain_source : SourceText → Bool
-is_plain_source text =
-    part_is_plain text.parts.require && (reaction_is_plain text.parts.obviate
-    && (reaction_is_plain text.parts.retrigger && (part_is_plain text.parts.revalidate && act_is_plain text.act)))
+abbrev pub is_branched_source : SourceText → Bool
+is_branched_source text =
+    part_is_branched text.parts.require && (reaction_is_branched text.parts.obviate
+    && (reaction_is_branched text.parts.retrigger && (part_is_branched text.parts.revalidate && act_is_branched text.act)))
 
 -- ---- each code is accepted for its part
 
@@ -60,3 +68,50 @@ pub record AreAccepted (s : Schema) (draft : SourceDraft Code) : Type 0 where
   pub retrigger : IfSome draft.parts.retrigger (IsAcceptedFor s (Retrigger class))
   pub revalidate : IfSome draft.parts.revalidate (IsAccepted s (Revalidate class))
   pub act : IsAcceptedAct s class draft.act
+
+-- ---- each code means the text of its part, on a blackboard
+
+-- where an execution of the code begins with units that fit the part, and may make as many steps as the code has ops, it
+-- comes to what the block means
+abbrev pub IsMeant : Board → Part → BlockTree → Code → Type 0
+IsMeant b part block code =
+    (entry : Entry) (limit : ℕ) → EntryFits b.schema b.world part entry → length code.ops ≤ limit
+    → IsTold (meaning part block entry b) (activation limit code entry b)
+
+-- a part is there exactly where its text is
+abbrev pub IsMeantIf : Board → Part → Option PartText → Option Code → Type 0
+IsMeantIf b part None None = Unit {0}
+IsMeantIf b part (Some text) (Some code) = IsMeant b part text.block code
+IsMeantIf b part _ _ = ⊥
+
+-- a reaction has the class and the clauses of its text, and its code is for events of that class
+pub record IsMeantFor (b : Board) (part : (of : ℕ) → Part) (text : ReactionText) (r : ReactionDraft Code) : Type 0 where
+  pub of : ℕ
+  pub named : class_named b.schema text.class ≡ Some of
+  pub class : r.class ≡ text.class
+  pub clauses : r.clauses ≡ text.clauses
+  pub code : IsMeant b (part of) text.block r.code
+
+abbrev pub IsMeantReaction : Board → ((of : ℕ) → Part) → Option ReactionText → Option (ReactionDraft Code) → Type 0
+IsMeantReaction b part None None = Unit {0}
+IsMeantReaction b part (Some text) (Some r) = IsMeantFor b part text r
+IsMeantReaction b part _ _ = ⊥
+
+abbrev pub IsMeantAct : Board → (class : ℕ) → ActText → ActDraft Code → Type 0
+IsMeantAct b class acts.Native drafts.Native = Unit {0}
+IsMeantAct b class (acts.Do text) (drafts.Do code) = IsMeant b (Do class) text.block code
+IsMeantAct b class _ _ = ⊥
+
+-- a source has the name, the class, the rate, the clauses and the parts of its text, and each of its codes means its part
+pub record AreMeant (b : Board) (text : SourceText) (draft : SourceDraft Code) : Type 0 where
+  pub name : draft.header.name ≡ text.header.name
+  pub class : draft.header.class ≡ text.header.class
+  pub rate : draft.header.rate ≡ text.rate
+  pub triggers : draft.header.triggers ≡ text.clauses
+  pub of : ℕ
+  pub named : class_named b.schema text.header.class ≡ Some of
+  pub require : IsMeantIf b (Require of) text.parts.require draft.parts.require
+  pub obviate : IsMeantReaction b (Obviate of) text.parts.obviate draft.parts.obviate
+  pub retrigger : IsMeantReaction b (Retrigger of) text.parts.retrigger draft.parts.retrigger
+  pub revalidate : IsMeantIf b (Revalidate of) text.parts.revalidate draft.parts.revalidate
+  pub act : IsMeantAct b of text.act draft.act

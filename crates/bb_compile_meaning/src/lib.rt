@@ -4,4 +4,6 @@
 
 mod laws;
 
-pub use laws::{compiled_code_means_its_text, compiled_source_is_accepted};
+pub use laws::{
+    compiled_code_means_its_text, compiled_source_is_accepted, compiled_source_means_its_text,
+};

@@ -233,7 +233,7 @@ fn each_is_closed_once_in_order(rt: HostRuntime) -> Result<(), Fail> {
     natives.push(Teller::new(1, &told)?)?;
     natives.push(Teller::new(2, &told)?)?;
     natives.push(Teller::new(3, &told)?)?;
-    // Whether a roster is made or refused: `rt try --test --fail-alloc` refuses it.
+    // Whether a roster is made or refused: `tools/refuse` refuses it.
     if let Ok(roster) = Roster::new(alloc, natives) {
         drop(roster.close_all());
     }

@@ -70,6 +70,53 @@ fn foci_on_the_agenda(rt: HostRuntime) -> Result<(), Fail> {
     Ok(())
 }
 
+// Makes one of eight changes, and returns whether it was made.
+fn is_changed(alloc: Global, agenda: &mut Agenda, turn: u32) -> Result<bool, Fail> {
+    let focus = echo_on_things(alloc)?;
+    Ok(match turn {
+        0 => agenda.add(0, 1, 100).is_ok(),
+        1 => agenda.add(1, 2, 50).is_ok(),
+        2 => agenda.rerate(1, 70).is_ok(),
+        3 => agenda.focus_set(9, focus).is_ok(),
+        4 => agenda.obviate(1).is_ok(),
+        5 => agenda.focus_gone(9).is_ok(),
+        6 => agenda.executed(2).is_ok(),
+        _ => agenda.add(0, 3, 1).is_ok(),
+    })
+}
+
+// What an agenda answers of its first two activations.
+fn answers(agenda: &Agenda) -> (usize, Option<u64>, Option<Status>, Option<Status>) {
+    (
+        agenda.pending().len(),
+        agenda.choose(0),
+        agenda.status(1),
+        agenda.status(2),
+    )
+}
+
+// No change is made after one to which memory is refused, and what is read answers as before. Here memory suffices for
+// all; `tools/refuse` runs this test once for each request for memory, which is refused then.
+#[test]
+fn no_change_after_a_refused_one(rt: HostRuntime) -> Result<(), Fail> {
+    let alloc = rt.alloc();
+    let mut agenda = agenda(alloc)?;
+    let mut refused = false;
+    for turn in 0..8 {
+        let before = answers(&agenda);
+        if is_changed(alloc, &mut agenda, turn)? {
+            assert!(rt; !refused, "change {turn} after a refused one");
+        } else {
+            assert!(rt; answers(&agenda) == before, "change {turn}");
+            refused = true;
+        }
+    }
+    let obviated = Some(Status::Obviated);
+    let executed = Some(Status::Executed);
+    assert!(rt; refused || answers(&agenda) == (1, Some(3), obviated, executed));
+    Ok(())
+}
+
 // An agenda as plain lists, which are walked for each answer.
 #[derive(Drop)]
 struct Plain {

@@ -1,0 +1,94 @@
+//! What lies next to a code: its fronts, and the bytes that differ from its own in one. Cases of codes ask for it.
+
+use crate::executions::add_on_scene;
+use bb_cases_format::{Code, CodeFault, Fault, Scene};
+use bb_cases_machines::Asked;
+use bb_schema::Schema;
+use bb_verify::{Flaw, Part, VerifyFault, verify};
+use std::alloc::Global;
+use std::fmt::Write;
+
+/// How bytes that are a code are tried: verified for a part, and executed on a scene.
+#[derive(Clone, Copy)]
+pub(crate) struct Bending<'a> {
+    pub alloc: Global,
+    pub schema: &'a Schema,
+    pub scene: &'a Scene,
+    pub part: Part,
+    pub asked: Asked,
+}
+
+impl Bending<'_> {
+    /// Appends how many fronts a code has and how many other values its bytes, and before that a line for each front that
+    /// is not too short, and for each other value that something else comes of than should.
+    pub fn add(self, text: &mut String, code: &Code) -> Result<(), Fault> {
+        let bytes = code.encode(self.alloc)?;
+        let mut others = 0u64;
+        for place in 0..bytes.len() {
+            let front = Code::decode(self.alloc, &bytes[..place]).err();
+            if front != Some(CodeFault::Short) {
+                writeln!(text, "the front of {place} bytes is not Short")?;
+            }
+            others = others.saturating_add(self.add_others(text, &bytes, place)?);
+        }
+        let fronts = bytes.len();
+        writeln!(text, "{fronts} fronts, {others} with another byte")?;
+        Ok(())
+    }
+
+    // Tries each other value of the byte at a place, and returns how many there are.
+    fn add_others(self, text: &mut String, bytes: &[u8], place: usize) -> Result<u64, Fault> {
+        let mut bent = bytes.to_vec(self.alloc)?;
+        let mut others = 0u64;
+        for byte in 0..=255u8 {
+            if bytes.get(place).copied() == Some(byte) {
+                continue;
+            }
+            if place < bent.len() {
+                bent[place] = byte;
+            }
+            let mut lines = String::new(self.alloc);
+            self.add_wrong(&mut lines, &bent)?;
+            for line in lines.lines() {
+                writeln!(text, "byte {place} as {byte}: {line}")?;
+            }
+            others = others.saturating_add(1);
+        }
+        Ok(others)
+    }
+
+    // Appends what may not come of bytes: they are no code, or spell the code that they are read as; and an accepted code
+    // is never stuck, and both machines execute it alike.
+    fn add_wrong(self, lines: &mut String, bytes: &[u8]) -> Result<(), Fault> {
+        let code = match Code::decode(self.alloc, bytes) {
+            Ok(code) => code,
+            Err(CodeFault::Memory) => return Err(Fault::Memory),
+            Err(_) => return Ok(()),
+        };
+        if code.encode(self.alloc)?.as_slice() != bytes {
+            lines.push_str("it is spelled otherwise\n")?;
+        }
+        match verify(self.alloc, self.schema, self.part, code) {
+            Ok(checked) => self.add_wrong_ends(lines, checked.code()),
+            Err(
+                VerifyFault {
+                    place: _,
+                    flaw: Flaw::Memory,
+                },
+            ) => Err(Fault::Memory),
+            Err(_) => Ok(()),
+        }
+    }
+
+    // Appends the lines of an execution that none of an accepted code has.
+    fn add_wrong_ends(self, lines: &mut String, code: &Code) -> Result<(), Fault> {
+        let mut ended = String::new(self.alloc);
+        add_on_scene(self.alloc, &mut ended, self.scene, code, self.asked)?;
+        for line in ended.lines() {
+            if line.starts_with("stuck ") || line.starts_with("verified code gives ") {
+                writeln!(lines, "{line}")?;
+            }
+        }
+        Ok(())
+    }
+}

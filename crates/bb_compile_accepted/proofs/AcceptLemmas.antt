@@ -1,0 +1,135 @@
+-- Statements without `with` and `for`, one after another, lead the verifier to what stands behind them.
+use Rattle.std.proofs.Common.{◌≡◌, ◌⊎◌, inl, inr, ℕ, Bool, true, false, ◌||◌, [], ◌++◌, length, Option, None, Ok, refl, subst, sym, arith}
+use Rattle.bb_basis.proofs.BoolLemmas.{and_first, and_second}
+use Rattle.bb_basis.proofs.ResultLemmas.{bind_ok}
+use Rattle.bb_schema.specs.Schema.{Schema}
+use Rattle.bb_schema.specs.Fits as schemas
+use Rattle.bb_verify_frame.specs.Code.{Code}
+use Rattle.bb_lang.specs.Blocks.{BlockTree, StatementTree, no_statement, before_others, action, if_of, with_of, for_of, absent, otherwise}
+use Rattle.bb_lang.specs.Trees.{ExprTree}
+use Rattle.bb_compile_emit.specs.declared.exits.Exits.{Exits}
+use Rattle.bb_compile_buffer.specs.Buffers.{leave}
+use Rattle.bb_compile_scope.specs.Scope.{mark_of}
+use Rattle.bb_compile_scope.specs.Ending.{ends}
+use Rattle.bb_compile_scope.specs.Place.{Place}
+use Rattle.bb_compile_scope.specs.declared.fault.TextFlaw.TheVariants.{NoEnd}
+use Rattle.bb_compile_buffer.specs.declared.buffer.Buffer.{Buffer}
+use Rattle.bb_compile_emit.specs.Statements.{after_end, statement_code, statements_code}
+use Rattle.bb_verify.specs.FrameType.{Frame}
+use Rattle.bb_verify.specs.PartType.{Part}
+use Rattle.bb_compile_accepted.specs.Branched.{is_branched, is_branched_statement}
+use Rattle.bb_compile_accepted.proofs.BufferLemmas.{never_noted, grown_none, grown_on, count_of}
+use Rattle.bb_compile_accepted.proofs.PutLemmas.{pair_ok}
+use Rattle.bb_compile_accepted.proofs.PatternLemmas.{AreSmall}
+use Rattle.bb_compile_accepted.proofs.ActionLemmas.{action_does}
+use Rattle.bb_compile_accepted.proofs.BranchLemmas.{TestLaid, ElseEnded, ElseOn, if_absent, if_else}
+use Rattle.bb_compile_accepted.proofs.BlockLemmas.{Lays as LaysBlock, stated, block_lays, statement_lays}
+use Rattle.bb_compile_accepted.proofs.MoveLemmas.{moves_same, moves_on}
+use Rattle.bb_compile_accepted.proofs.WalkLemmas.{Walks, walks_on}
+use Rattle.bb_compile_accepted.proofs.JoinLemmas.{Sound, Agrees, agrees_before}
+use Rattle.bb_compile_accepted.proofs.GoesLemmas.{After, Goes, action_goes}
+use Rattle.bb_compile_accepted.proofs.BranchGoes.{absent_goes, ended_goes, on_goes}
+
+module _ (schema : Schema) (sf : schemas.Fits schema) (part : Part) (code : Code) (no_loops : code.loops ≡ []) (small : AreSmall schema sf part code) where
+  abbrev GoesHere : Buffer → Buffer → Bool → Type 0
+  GoesHere s t now = Goes schema sf part code no_loops s t now
+
+  abbrev IsSound : Buffer → Type 0
+  IsSound t = Sound schema sf part code no_loops t
+
+  abbrev AgreesHere : Buffer → Type 0
+  AgreesHere t = Agrees schema sf part code no_loops t
+
+  -- behind a statement that ends there is no other
+  abbrev Block : (was now : Bool) → Buffer → Buffer → Type 0
+  Block true now s t = (s ≡ t) × (now ≡ true)
+  Block false now s t = GoesHere s t now
+
+  goes_none : (s t : Buffer) → s ≡ t → IsSound s → GoesHere s t false
+  unfolding grown_none
+  goes_none s t same sound =
+      subst (λ u. GoesHere s u false) same
+      (record {
+        grown = grown_none s s refl refl refl;
+        moves = moves_same schema sf s s refl refl;
+        sound = sound;
+        unlabelled = λ e. absurd cc;
+        right = λ e. absurd cc;
+        more = λ joins. (joins refl, λ next arrives. (next, arrives, refl));
+      })
+
+  goes_on : (now : Bool) (s t u : Buffer) → GoesHere s t false → GoesHere t u now → GoesHere s u now
+  unfolding grown_on
+  goes_on now s t u first then = record {
+    grown = grown_on s t u first.grown then.grown;
+    moves = moves_on schema sf s t u first.moves then.moves;
+    sound = then.sound;
+    unlabelled = then.unlabelled;
+    right = then.right;
+    more = λ joins.
+        let two = then.more joins in
+        let one = first.more (λ e. two.0) in
+        (one.0, λ next arrives. let x = one.1 next arrives in both now next x.0 x.2 (two.1 x.0 x.1));
+  }
+    where
+      both : (n : Bool) (next mid : Option Frame) → Walks schema part code no_loops (length s.ops) first.grown.ops next mid → After schema sf part code no_loops n (length t.ops) then.grown.ops mid u → After schema sf part code no_loops n (length s.ops) (first.grown.ops ++ then.grown.ops) next u
+      both true next mid walks after =
+          walks_on schema part code no_loops (length s.ops) first.grown.ops then.grown.ops next mid None walks (subst (λ p. Walks schema part code no_loops p then.grown.ops mid None) (count_of s t first.grown) after)
+      both false next mid walks after =
+          (after.0, after.1, walks_on schema part code no_loops (length s.ops) first.grown.ops then.grown.ops next mid after.0 walks (subst (λ p. Walks schema part code no_loops p then.grown.ops mid after.0) (count_of s t first.grown) after.2))
+
+  joined : (e now : Bool) (s t u : Buffer) → GoesHere s t e → Block e now t u → GoesHere s u now
+  joined true now s t u first rest = subst (λ b. GoesHere s u b) (sym rest.1) (subst (λ x. GoesHere s x true) rest.0 first)
+  joined false now s t u first rest = goes_on now s t u first rest
+
+  by_end : (test : ExprTree) (first b : BlockTree) (loops : ℕ) (s t : Buffer) (now : Bool) (u v : Buffer) (exits : Exits) (l : TestLaid schema test s u exits) → LaysBlock u v → (ended : Bool) → IsSound s → AgreesHere t → (IsSound u → AgreesHere v → GoesHere u v ended)
+      → ((d : Bool) (x y : Buffer) → statements_code schema part loops false b x ≡ Ok (d, y) → LaysBlock x y) → ((d : Bool) (x y : Buffer) → statements_code schema part loops false b x ≡ Ok (d, y) → IsSound x → AgreesHere y → GoesHere x y d)
+      → (let w = leave (mark_of u.scope) (leave (mark_of u.scope) v) in
+      ((ended ≡ true) × ElseEnded schema part loops (mark_of u.scope) (length l.behind.ops) b w t now) ⊎ ((ended ≡ false) × ElseOn schema part loops (mark_of u.scope) (length l.behind.ops) b w t now)) → GoesHere s t now
+  by_end test first b loops s t now u v exits l lays ended sound agrees own more second (inl (e, el)) =
+      ended_goes schema sf part code no_loops small test s u v exits l lays loops b t now sound agrees el (more now el.inner el.end el.block_is) (λ a c. subst (λ d. GoesHere u v d) e (own a c)) (second now el.inner el.end el.block_is)
+  by_end test first b loops s t now u v exits l lays ended sound agrees own more second (inr (e, el)) =
+      on_goes schema sf part code no_loops small test s u v exits l lays loops b t now sound agrees el (more el.ended el.inner el.end el.block_is) (λ a c. subst (λ d. GoesHere u v d) e (own a c)) (second el.ended el.inner el.end el.block_is)
+
+  mutual
+    unfolding statements_code statement_code
+
+    pub block_goes : (b : BlockTree) (loops : ℕ) (was now : Bool) (s t : Buffer) → is_branched b ≡ true → statements_code schema part loops was b s ≡ Ok (now, t) → IsSound s → AgreesHere t → Block was now s t
+    block_goes no_statement loops true now s t ok h sound agrees = let same = pair_ok true now s t h in (same.1, sym same.0)
+    block_goes no_statement loops false now s t ok h sound agrees = let same = pair_ok false now s t h in subst (λ b. GoesHere s t b) same.0 (goes_none s t same.1 sound)
+    block_goes (before_others place x others) loops true now s t ok h sound agrees =
+        let here = after_end true s in
+        let one = bind_ok (statement_code schema part loops place x here) (λ p. statements_code schema part loops (true || p.0) others p.1) (now, t) h in
+        never_noted NoEnd s (statement_lays schema part x loops place one.0.0 here one.0.1 (and_first (is_branched_statement x) (is_branched others) ok) one.1).clean
+    block_goes (before_others place x others) loops false now s t ok h sound agrees =
+        let one = bind_ok (statement_code schema part loops place x s) (λ p. statements_code schema part loops (false || p.0) others p.1) (now, t) h in
+        let own_ok = and_first (is_branched_statement x) (is_branched others) ok in
+        let rest_ok = and_second (is_branched_statement x) (is_branched others) ok in
+        let behind = block_lays schema part others loops one.0.0 now one.0.1 t rest_ok one.2 in
+        let agrees_here = agrees_before schema sf part code no_loops one.0.1 t behind.grown behind.locals (λ p lt. behind.marks p (omega (arith, lt)) (let count = count_of one.0.1 t behind.grown in omega (arith, lt, count))) agrees in
+        let first = statement_goes x loops place one.0.0 s one.0.1 own_ok one.1 sound agrees_here in
+        joined one.0.0 now s one.0.1 t first (block_goes others loops one.0.0 now one.0.1 t rest_ok one.2 first.sound agrees)
+
+    statement_goes : (x : StatementTree) (loops : ℕ) (place : Place) (now : Bool) (s t : Buffer) → is_branched_statement x ≡ true → statement_code schema part loops place x s ≡ Ok (now, t) → IsSound s → AgreesHere t → GoesHere s t now
+    statement_goes (action a) loops place now s t ok h sound agrees =
+        let is = stated schema part place a s t now h in
+        subst (λ e. GoesHere s t e) is.now_is (action_goes schema sf part code no_loops small (ends a) s t (action_does schema sf part code small a s t is.code_is is.clean agrees.has) sound agrees)
+    statement_goes (if_of test first absent) loops place now s t ok h sound agrees =
+        let p = if_absent schema part loops place test first s t now h in
+        let laid = p.0 in
+        let blocks = laid.blocks in
+        let own_ok = and_first (is_branched first) true ok in
+        let lays = block_lays schema part first loops false blocks.ended laid.inner blocks.end own_ok blocks.block_is in
+        absent_goes schema sf part code no_loops small test s laid.inner blocks.end laid.exits laid.test_is lays t blocks.ended now p.1 sound agrees
+        (λ sound agrees. block_goes first loops false blocks.ended laid.inner blocks.end own_ok blocks.block_is sound agrees)
+    statement_goes (if_of test first (otherwise b)) loops place now s t ok h sound agrees =
+        let p = if_else schema part loops place test first s t now b h in
+        let laid = p.0 in
+        let blocks = laid.blocks in
+        let own_ok = and_first (is_branched first) (is_branched b) ok in
+        let rest_ok = and_second (is_branched first) (is_branched b) ok in
+        let lays = block_lays schema part first loops false blocks.ended laid.inner blocks.end own_ok blocks.block_is in
+        by_end test first b loops s t now laid.inner blocks.end laid.exits laid.test_is lays blocks.ended sound agrees (λ sound agrees. block_goes first loops false blocks.ended laid.inner blocks.end own_ok blocks.block_is sound agrees)
+        (λ d x y is. block_lays schema part b loops false d x y rest_ok is) (λ d x y is sound agrees. block_goes b loops false d x y rest_ok is sound agrees) p.1
+    statement_goes (with_of binding first other) loops place now s t ok h sound agrees = absurd cc
+    statement_goes (for_of name sequence body) loops place now s t ok h sound agrees = absurd cc

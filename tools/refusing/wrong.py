@@ -1,0 +1,5 @@
+"""What a program did that it may not do."""
+
+
+class Wrong(Exception):
+    pass
