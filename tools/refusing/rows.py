@@ -1,5 +1,5 @@
-"""Inputs with their answers, which stand in pieces that are written whole, as docs/users/formats/trace.md has it: an empty line
-parts two of them. They were worked out by hand."""
+"""Inputs with their answers, which stand in pieces that are written whole, as docs/users/formats/trace.md has it: an empty
+line parts two of them. They were worked out by hand."""
 
 from dataclasses import dataclass
 
