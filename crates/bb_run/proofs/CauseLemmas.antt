@@ -1,12 +1,14 @@
 -- A run that ends full or stuck has a cause.
 use Rattle.std.proofs.Common.{◌≡◌, true, inl, inr, ℕ, zero, suc, ◌+◌, ℤ, List, [], ◌∷◌, length, slice_get, Option, Some, None, Result, Ok, Err, refl, sym, subst}
-use Rattle.std.specs.Prelude.{Contains, option_and_then}
+use Rattle.std.specs.Prelude.{Contains, nat_le, option_and_then}
+use Rattle.std.proofs.lemmas.Bool.{leb-true, or_cases}
 use Rattle.std.proofs.lemmas.Option.{get_or_from_slice_get}
 use Rattle.bb_basis.proofs.AppendLemmas.{some_within}
 use Rattle.bb_trace.specs.Event.{Event}
 use Rattle.bb_trace.specs.Event.TheVariants.{Quiescence as quiescence}
 use Rattle.bb_trace.specs.Board.{Board as Blackboard}
 use Rattle.bb_agenda.specs.Activation.{Activation}
+use Rattle.bb_agenda.specs.Agenda.{Agenda, is_full, pending_of}
 use Rattle.bb_verify.specs.Accepted.{Checked}
 use Rattle.bb_machine.specs.Answer.{Answer}
 use Rattle.bb_machine.specs.Answer.TheVariants as answers
@@ -37,7 +39,7 @@ use Rattle.bb_machine.proofs.Laws.{activation_full, activation_no_memory}
 use Rattle.bb_machine.specs.Units.{is_full as no_unit_left}
 use Rattle.bb_verify.specs.Budget.{budget}
 use Rattle.bb_verify.specs.declared.checked.TheConstants.{FOUND_LIMIT}
-use Rattle.bb_run.specs.Causes.{WasStopped, of_agenda, of_ask, of_units, of_execution, of_native, HasCause}
+use Rattle.bb_run.specs.Causes.{IsFull, WasStopped, of_agenda, of_ask, of_units, of_execution, of_native, HasCause}
 use Rattle.bb_run.proofs.AskRule.{HoldsOfAsks, asks_hold}
 use Rattle.bb_run.proofs.ResponseRule.{HoldsOfParts, OfPlan, holds}
 
@@ -45,6 +47,14 @@ use Rattle.bb_run.proofs.ResponseRule.{HoldsOfParts, OfPlan, holds}
 
 there_at : {X : Type 0} (xs : List X) (i : ℕ) (x : X) → slice_get xs i ≡ Some x → Contains xs x
 there_at xs i x is = (i, some_within xs i x is, get_or_from_slice_get xs i x x is)
+
+-- a full agenda is one by the numbers
+full_by : (agenda : Agenda) → is_full agenda ≡ true → IsFull agenda
+full_by agenda full =
+    elim (or_cases (nat_le 65536 (length (pending_of agenda))) (nat_le 9223372036854775807 (length agenda.given)) full) [
+      | inl many ↦ inl (leb-true 65536 (length (pending_of agenda)) many)
+      | inr last ↦ inr (leb-true 9223372036854775807 (length agenda.given) last)
+    ]
 
 module _ (plan : Plan) where
   -- a part of a run has a cause, if the run ends in it
@@ -80,10 +90,10 @@ module _ (plan : Plan) where
   response_parts : HoldsOfParts plan Caused
   response_parts = record {
     nothing = λ s. tt;
-    full = λ s is. of_agenda is;
+    full = λ s is. of_agenda (full_by s.agenda is);
     stopped = λ s code entry stop of came. by_stop (with_board s (attempt code.code entry s.board).1) stop (stopped_by code entry stop s.board of came);
     went_on = λ s code entry r of caused. caused;
-    triggered = λ s source unit base under. tt;
+    triggered = λ s source unit base under room. tt;
     declined = λ s source unit. tt;
     obviated = λ s number. tt;
     rebased = λ s number base. tt;

@@ -64,7 +64,7 @@ module _ (plan : Plan) where
     full = λ s is. refl;
     stopped = λ s code entry stop of came. refl;
     went_on = λ s code entry r of silent. silent;
-    triggered = λ s source unit base under. refl;
+    triggered = λ s source unit base under room. refl;
     declined = λ s source unit. refl;
     obviated = λ s number. refl;
     rebased = λ s number base. refl;

@@ -25,7 +25,7 @@ use Rattle.bb_run.proofs.OrderlyParts.{all_of_more, all_of_two}
 use Rattle.bb_run.proofs.OrderlyRuns.{run_is_counted, run_keeps_limit, run_chooses}
 use Rattle.bb_run.proofs.LimitLemmas.{BeginsByCycle, GoesFurther, run_goes_further}
 
-finish_is : (end : Option End) (natives : List Native) → all_of (finish_segments end natives) ≡ finish_by end natives
+pub finish_is : (end : Option End) (natives : List Native) → all_of (finish_segments end natives) ≡ finish_by end natives
 finish_is None natives = refl
 finish_is (Some end) natives = append-nil (finish end natives)
 
@@ -85,9 +85,15 @@ module _ (plan : Plan) where
       let count : length (chosen_in before ++ (a ∷ chosen_in after)) ≡ length (chosen_in before) + length (a ∷ chosen_in after) = length-append (chosen_in before) (a ∷ chosen_in after) in
       omega (arith, all, count)
 
+  -- what comes from a choice on: the segments that begin with its cycle, in the last state of the run up to it
+  pub record FromChoice (m number : ℕ) (a : Activation) (r : ℤ) (p : Stretch) (after : List Note) : Type 0 where
+    pub segments : List (List Note)
+    pub begins : BeginsByCycle plan (m + 1) p.state segments
+    pub tells : Chosen number a r ∷ after ≡ all_of segments
+
   -- a run that goes on where another one is over by its limit
   goes_on : (number m : ℕ) (a : Activation) (r : ℤ) (p q : Stretch) (before after : List Note) → number ≡ m + 1 → number ≡ length (chosen_in before) + 1 → length (chosen_in (notes_of p)) ≤ m → IsChosenAfter plan p before a r
-      → notes_of q ≡ before ++ Chosen number a r ∷ after → GoesFurther plan (m + 1) p q → IsFollowed plan p.state a after
+      → notes_of q ≡ before ++ Chosen number a r ∷ after → GoesFurther plan (m + 1) p q → FromChoice m number a r p after
   goes_on number m a r p q before after is counted few chosen told (inl same) =
       let more = chosen_more (notes_of p) before after number a r (ap notes_of (sym same) ∙ told) in
       absurd (omega (arith, is, counted, few, more))
@@ -98,11 +104,11 @@ module _ (plan : Plan) where
       let ends : all_of front ++ last ≡ before ++ last = sym (all_of_more front last) ∙ ap all_of (sym further.1.1.1.0) ∙ chosen.told in
       let same : all_of front ≡ before = append_cancel_right (all_of front) before last ends in
       let all : before ++ Chosen number a r ∷ after ≡ before ++ all_of rest = sym told ∙ ap all_of further.1.1.1.1.0 ∙ all_of_two front rest ∙ ap (λ l. l ++ all_of rest) same in
-      followed_by number (m + 1) a r p.state rest after chosen.source_there chosen.choice_is further.1.1.1.1.1 (append_cancel_left before (Chosen number a r ∷ after) (all_of rest) all)
+      record { segments = rest; begins = further.1.1.1.1.1; tells = append_cancel_left before (Chosen number a r ∷ after) (all_of rest) all }
 
-  pub run_is_followed : (board : Blackboard) (natives : List Native) (limit : ℕ) (before after : List Note) (number : ℕ) (a : Activation) (r : ℤ) → notes_of (run plan board natives limit) ≡ before ++ Chosen number a r ∷ after
-      → IsFollowed plan (run plan board natives (number - 1)).state a after
-  run_is_followed board natives limit before after number a r told =
+  pub from_choice : (board : Blackboard) (natives : List Native) (limit : ℕ) (before after : List Note) (number : ℕ) (a : Activation) (r : ℤ) → notes_of (run plan board natives limit) ≡ before ++ Chosen number a r ∷ after
+      → FromChoice (number - 1) number a r (run plan board natives (number - 1)) after
+  from_choice board natives limit before after number a r told =
       let m = number - 1 in
       let counted : number ≡ length (chosen_in before) + 1 = (run_is_counted plan board natives limit).cycles before number a r (after, told) in
       let within : length (chosen_in (notes_of (run plan board natives limit))) ≤ limit = (run_keeps_limit plan board natives limit).within in
@@ -111,3 +117,11 @@ module _ (plan : Plan) where
       let left : m + (limit - m) ≡ limit = omega (arith, counted, within, many) in
       let further : GoesFurther plan (m + 1) (run plan board natives m) (run plan board natives limit) = subst (λ n. GoesFurther plan (m + 1) (run plan board natives m) (run plan board natives n)) left (run_goes_further plan board natives m (limit - m)) in
       goes_on number m a r (run plan board natives m) (run plan board natives limit) before after one counted (run_keeps_limit plan board natives m).within (run_chooses plan board natives limit before number a r (after, told)) told further
+
+  pub run_is_followed : (board : Blackboard) (natives : List Native) (limit : ℕ) (before after : List Note) (number : ℕ) (a : Activation) (r : ℤ) → notes_of (run plan board natives limit) ≡ before ++ Chosen number a r ∷ after
+      → IsFollowed plan (run plan board natives (number - 1)).state a after
+  run_is_followed board natives limit before after number a r told =
+      let p = run plan board natives (number - 1) in
+      let from = from_choice board natives limit before after number a r told in
+      let chosen = run_chooses plan board natives limit before number a r (after, told) in
+      followed_by number (number - 1 + 1) a r p.state from.segments after chosen.source_there chosen.choice_is from.begins from.tells

@@ -76,3 +76,14 @@ pub mod ServeCycles
 pub mod VisitLemmas
 -- each event is processed in a state that is ready
 pub mod ProcessedLemmas
+-- the response to an event, by what was told before
+pub mod PastLemmas
+-- where events were told, the responses to them come next
+pub mod RespondLemmas
+pub mod RestLemmas
+-- what lasts from one cycle to the next
+pub mod ContinueLemmas
+-- no more activations are pending than may be
+pub mod FewLemmas
+-- what an execution and the call of a native tell and leave
+pub mod ActLemmas

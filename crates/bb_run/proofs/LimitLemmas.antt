@@ -13,14 +13,15 @@ use Rattle.bb_run.specs.Told.{Stretch, over, after_told, and_then, and_then_unle
 use Rattle.bb_run.specs.Run.{choice, wait, cycle, if_chosen, cycles, start, finish, finish_segments, with_finish, unfinished, run}
 use Rattle.bb_run.specs.Order.{Extends}
 
--- a stretch and its finish begin a stretch that goes on with it, and its finish
-first_tells : (end : Option End) (p : Stretch) (next : State → Stretch) → p.end ≡ end
+-- a stretch and its finish begin a stretch that goes on with it, and its finish; then comes what the next one tells
+pub first_tells : (end : Option End) (p : Stretch) (next : State → Stretch) → p.end ≡ end
     → (more : List (List Note)) × (let q = and_then_unless end p next in q.told ++ finish_segments q.end q.state.natives ≡ (p.told ++ finish_segments p.end p.state.natives) ++ more)
-first_tells (Some e) p next is = ([], sym (append-nil (p.told ++ finish_segments p.end p.state.natives)))
+    × (p.end ≡ None → (with_finish (next p.state)).told ≡ more)
+first_tells (Some e) p next is = ([], sym (append-nil (p.told ++ finish_segments p.end p.state.natives)), λ none. absurd (let no : Some e ≡ None = sym is ∙ none in cc))
 first_tells None p next is =
     let r = next p.state in
     let first : p.told ≡ p.told ++ finish_segments p.end p.state.natives = sym (append-nil p.told) ∙ ap (λ e. p.told ++ finish_segments e p.state.natives) (sym is) in
-    (r.told ++ finish_segments r.end r.state.natives, append_assoc p.told r.told (finish_segments r.end r.state.natives) ∙ ap (λ l. l ++ (r.told ++ finish_segments r.end r.state.natives)) first)
+    (r.told ++ finish_segments r.end r.state.natives, append_assoc p.told r.told (finish_segments r.end r.state.natives) ∙ ap (λ l. l ++ (r.told ++ finish_segments r.end r.state.natives)) first, λ none. refl)
 
 module _ (plan : Plan) where
   -- the segments begin with the cycle of what can be chosen in a state, and the finish if the run ends in it
@@ -29,6 +30,9 @@ module _ (plan : Plan) where
     pub choice_is : choice plan s ≡ Some chosen
     pub more : List (List Note)
     pub begins : let p = cycle plan number chosen s in segments ≡ (p.told ++ finish_segments p.end p.state.natives) ++ more
+    -- after the cycle the run goes on with others, unless it is over
+    pub left : ℕ
+    pub goes_on : let p = cycle plan number chosen s in p.end ≡ None → (with_finish (cycles plan number left p.state)).told ≡ more
 
   -- the second stretch is the first, or goes on by a cycle of this number where the first is over by the limit
   abbrev GoesOn : (number : ℕ) → Stretch → Stretch → Type 0
@@ -65,7 +69,7 @@ module _ (plan : Plan) where
       let c = cycle plan (made + 1) a t in
       let first = first_tells c.end c (cycles plan (made + 1) more) refl in
       let begins : BeginsByCycle (made + 1) t ((cycle_then made more t a).told ++ finish_segments (cycle_then made more t a).end (cycle_then made more t a).state.natives) =
-      record { chosen = a; choice_is = chosen; more = first.0; begins = first.1 } in
+      record { chosen = a; choice_is = chosen; more = first.0; begins = first.1; left = more; goes_on = first.2 } in
       inr (refl, ((cycle_then made more t a).told, (refl, subst (λ n. BeginsByCycle n t ((cycle_then made more t a).told ++ finish_segments (cycle_then made more t a).end (cycle_then made more t a).state.natives)) is begins)))
 
   cycles_go_on : (made left more number : ℕ) (s : State) → number ≡ made + left + 1 → GoesOn number (cycles plan made left s) (cycles plan made (left + more) s)

@@ -114,13 +114,15 @@ module _ (plan : Plan) (board : Blackboard) (natives : List Native) where
   executes code s (Ok o) past made stands = keeps_ended past made o.steps o.found (budget code o.found) s stands
   executes code s (Err stop) past made stands = keeps_board past (made + 1) made (made + 1) s (Some (end_by stop)) (early_end stop) (λ none. absurd cc) stands
 
+  -- the execution of an act
+  pub act_executes : (name : List ℕ) (act : Act) (a : Activation) (s : State) (past : List Note) (made : ℕ) → Agrees plan board natives past (made + 1) made s.agenda
+      → Responds plan board natives past (made + 1) (made + 1) (execution name act a s)
+  act_executes name (acts.Code body) a s past made stands = let e = attempt body.code (entry_of a.unit None) s.board in executes body.code (with_board s e.1) e.0 past made stands
+  act_executes name acts.Native a s past made stands = calls (place_of s.natives name) a s past made stands
+
   acts_by : (name : List ℕ) (act : Act) (a : Activation) (s : State) (past : List Note) (made : ℕ) → Agrees plan board natives past (made + 1) made s.agenda
       → Tells plan board natives past (made + 1) (made + 1) (reported plan (execution name act a s))
-  acts_by name (acts.Code body) a s past made stands =
-      let e = attempt body.code (entry_of a.unit None) s.board in
-      reports plan board natives past (made + 1) (made + 1) (answered body.code (with_board s e.1) e.0) (executes body.code (with_board s e.1) e.0 past made stands)
-  acts_by name acts.Native a s past made stands =
-      reports plan board natives past (made + 1) (made + 1) (calling (place_of s.natives name) a s) (calls (place_of s.natives name) a s past made stands)
+  acts_by name act a s past made stands = reports plan board natives past (made + 1) (made + 1) (execution name act a s) (act_executes name act a s past made stands)
 
   -- each place within a list has its item
   within_some : {X : Type 0} (xs : List X) (i : ℕ) → i < length xs → slice_get xs i ≡ None → ⊥

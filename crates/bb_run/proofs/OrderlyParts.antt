@@ -1,5 +1,5 @@
 -- Each part of a run goes on orderly after the notes before it.
-use Rattle.std.proofs.Common.{◌≡◌, ◌<◌, ℕ, ℤ, ◌+◌, ◌-◌, Bool, true, false, cond, List, [], ◌∷◌, ◌++◌, length, map, Option, Some, None, Result, Ok, Err, refl, sym, ap, subst, ◌∙◌, append_assoc, arith, length-append}
+use Rattle.std.proofs.Common.{◌≡◌, ◌<◌, ℕ, zero, ℤ, ◌+◌, ◌-◌, Bool, true, false, cond, List, [], ◌∷◌, ◌++◌, length, map, Option, Some, None, Result, Ok, Err, refl, sym, ap, subst, ◌∙◌, append_assoc, arith, length-append}
 use Rattle.std.specs.Prelude.{⊤, All, Contains, ◌≤ℤ◌}
 use Rattle.std.proofs.lemmas.List.{append-nil}
 use Rattle.std.proofs.lemmas.List.Concat.{flat_map-append}
@@ -37,7 +37,7 @@ use Rattle.bb_run.specs.State.{State, with_board, with_agenda}
 use Rattle.bb_run.specs.Told.{Response, Stretch, telling, idle, over, and_then, and_then_unless, segment}
 use Rattle.bb_run.specs.Asking.{attempt, asking, end_by, entry_of, reply_by, upon}
 use Rattle.bb_run.specs.Processing.{activating, events_in, if_triggered, obviated_by, processing, processing_all, reacting, reacting_to, reacting_to_each, reported, required_by, rerated_by, response, response_by, source_response, triggering}
-use Rattle.bb_run.specs.Run.{wait_for, run, validity, verdict_by, verdict_of}
+use Rattle.bb_run.specs.Run.{cycle, cycles, wait_for, run, validity, verdict_by, verdict_of}
 use Rattle.bb_run.specs.Order.{all_of, notes_of, triggered_in, chosen_in, gone_in, ends_in, is_among, pending_after, IsChosenAfter}
 use Rattle.bb_run.proofs.OrderLemmas.{Comes, comes_none, comes_one, comes_then}
 use Rattle.bb_run.proofs.PendingLemmas.{IsKnown, Stands, IsSilent, triggered_then, stands_silent, stands_triggered, stands_obviated, stands_rebased}
@@ -90,6 +90,9 @@ module _ (plan : Plan) (board : Blackboard) (natives : List Native) where
     pub enough : plan.floor ≤ℤ r
     pub in_turn : ends_in before ≡ length (chosen_in before)
     pub choice : IsChosenAfter plan (run plan board natives (number - 1)) before a r
+    pub stands : Stands (length plan.sources) before (number - 1) (number - 1) (run plan board natives (number - 1)).state.agenda
+    -- the run whose limit is the cycle's number makes the cycle in that state
+    pub goes_on : (run plan board natives number).state ≡ (and_then (cycle plan number a (run plan board natives (number - 1)).state) (cycles plan number zero)).state
 
   -- a note of a run may come after these, before it finishes
   abbrev pub May : List Note → Note → Type 0

@@ -24,7 +24,7 @@ use Rattle.bb_run.proofs.OrderLemmas.{Comes, ComesBefore, comes_before, comes_la
 use Rattle.bb_run.specs.Processing.{events_in}
 use Rattle.bb_run.specs.Asked.{asked_for, answered_in, IsAnswered, MayOwe}
 use Rattle.bb_run.proofs.AskedLemmas.{GoesOn, MayAsk, goes_then, reports_board, cycles_go}
-use Rattle.bb_run.proofs.PendingLemmas.{IsKnown, chosen_then, is_apart, stands_first}
+use Rattle.bb_run.proofs.PendingLemmas.{IsKnown, Stands, chosen_then, is_apart, stands_first}
 use Rattle.bb_run.proofs.OrderlyParts.{all_of_more, all_of_two, IsEarly, MayChoose, May, Agrees, Tells, reports, waits_for}
 use Rattle.bb_run.proofs.OrderlyCycles.{keeps_board, cycles_once}
 
@@ -103,13 +103,21 @@ module _ (plan : Plan) (board : Blackboard) (natives : List Native) where
       let p = wait plan s in
       let best = chosen_some (rating plan p.state) plan.floor (pending_of p.state.agenda) a chosen in
       let count : made + 1 - 1 ≡ made + zero = omega arith in
+      let one : made ≡ made + 1 - 1 = omega arith in
+      let ends = begins zero (made + 1 - 1) count ∙ ap (λ q. after_told told q) (limit_after made s a goes chosen) in
       record {
         counted = ap (λ n. n + 1) stands.cycles;
         pending = subst (λ l. Contains l a) stands.pending best.waits;
         once = is_apart (length plan.sources) (past ++ notes_of p) made made p.state.agenda stands a best.waits;
         enough = best.enough;
         in_turn = sym stands.executions ∙ stands.cycles;
-        choice = choice_after (unfinished plan board natives (made + 1 - 1)) past told p.told made p.state a (begins zero (made + 1 - 1) count ∙ ap (λ q. after_told told q) (limit_after made s a goes chosen)) before stands chosen;
+        choice = choice_after (unfinished plan board natives (made + 1 - 1)) past told p.told made p.state a ends before stands chosen;
+        stands =
+            subst (λ n. Stands (length plan.sources) (past ++ notes_of p) n n (run plan board natives (made + 1 - 1)).state.agenda) one
+            (subst (λ u. Stands (length plan.sources) (past ++ notes_of p) made made (with_finish u).state.agenda) (sym ends) stands);
+        goes_on =
+            ap (λ (u : Stretch). u.state) (begins (suc zero) (made + 1) refl ∙ ap (λ q. after_told told q) (cycle_after made s a goes chosen zero))
+            ∙ ap (λ t. (and_then (cycle plan (made + 1) a t) (cycles plan (made + 1) zero)).state) (sym (ap (λ (u : Stretch). u.state) ends));
       }
 
   -- ---- cycles up to the end
@@ -319,6 +327,15 @@ module _ (plan : Plan) (board : Blackboard) (natives : List Native) where
 
   pub run_chooses : (limit : ℕ) (before : List Note) (number : ℕ) (a : Activation) (r : ℤ) → At (notes_of (run plan board natives limit)) before (Chosen number a r) → IsChosenAfter plan (run plan board natives (number - 1)) before a r
   run_chooses limit before number a r at = (may_choose_at limit before number a r at).choice
+
+  -- at a choice the agenda is what is pending by the notes
+  pub run_stands : (limit : ℕ) (before : List Note) (number : ℕ) (a : Activation) (r : ℤ) → At (notes_of (run plan board natives limit)) before (Chosen number a r) → Stands (length plan.sources) before (number - 1) (number - 1) (run plan board natives (number - 1)).state.agenda
+  run_stands limit before number a r at = (may_choose_at limit before number a r at).stands
+
+  -- and a run with one cycle more makes that of the choice
+  pub run_goes_on : (limit : ℕ) (before : List Note) (number : ℕ) (a : Activation) (r : ℤ) → At (notes_of (run plan board natives limit)) before (Chosen number a r)
+      → (run plan board natives number).state ≡ (and_then (cycle plan number a (run plan board natives (number - 1)).state) (cycles plan number zero)).state
+  run_goes_on limit before number a r at = (may_choose_at limit before number a r at).goes_on
 
   -- ---- what the events ask for
 

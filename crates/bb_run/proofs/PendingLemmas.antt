@@ -68,7 +68,7 @@ gone_then xs ys = flat_map-append gone_by xs ys
 ends_then : (xs ys : List Note) → ends_in (xs ++ ys) ≡ ends_in xs + ends_in ys
 ends_then xs ys = sum_by-append (λ note. cond (is_end note) 1 0) xs ys
 
-pending_then : (xs ys : List Note) → pending_after (xs ++ ys) ≡ fold after_note (pending_after xs) ys
+pub pending_then : (xs ys : List Note) → pending_after (xs ++ ys) ≡ fold after_note (pending_after xs) ys
 pending_then xs ys = fold-append after_note [] xs ys
 
 -- ---- the agenda and the notes

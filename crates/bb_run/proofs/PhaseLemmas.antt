@@ -13,7 +13,7 @@ use Rattle.bb_agenda.specs.Agenda.{Agenda, no_activations, pending_of}
 use Rattle.bb_trace.specs.Board.{Board as Blackboard}
 use Rattle.bb_agenda.specs.Foci.{Foci, Setting}
 use Rattle.bb_agenda.specs.Changes.{new_activation, other_than, with_activation, with_base, with_obviated}
-use Rattle.bb_agenda.proofs.Laws.{chosen_some, pending_added, pending_executed, pending_obviated, pending_rebased}
+use Rattle.bb_agenda.proofs.Laws.{chosen_some, given_executed, given_obviated, pending_added, pending_executed, pending_obviated, pending_rebased}
 use Rattle.bb_code.specs.Code.{Code}
 use Rattle.bb_verify.specs.Budget.{budget}
 use Rattle.bb_machine.specs.Outcome.{Outcome}
@@ -38,7 +38,7 @@ use Rattle.bb_run.specs.Asking.{attempt, end_by, entry_of}
 use Rattle.bb_run.specs.Processing.{events_in, processing, processing_all, reported, response}
 use Rattle.bb_run.specs.Run.{rating, choice, wait, wait_for, quiet, with_notes_taken, answered, calling, each_applied, execution, acting, validity, chosen_with, if_valid, cycle, if_chosen, cycles}
 use Rattle.bb_run.specs.Foci.{with_foci}
-use Rattle.bb_run.specs.Order.{all_of, notes_of, chosen_in, after_note, pending_after, without}
+use Rattle.bb_run.specs.Order.{all_of, notes_of, chosen_in, after_note, triggered_in, without}
 use Rattle.bb_run.specs.Phases.{Phase, outside, rested, inside, after_in, phase_after, IsQuiet}
 use Rattle.bb_run.proofs.AskRule.{HoldsOfAsks, asks_hold}
 use Rattle.bb_run.proofs.OrderLemmas.{Comes, comes_none, comes_one, comes_then}
@@ -47,6 +47,7 @@ use Rattle.bb_run.proofs.PendingLemmas.{All-last, all_rebased, chosen_then}
 use Rattle.bb_run.proofs.ResponseRule.{HoldsOfParts, holds}
 use Rattle.bb_run.proofs.OrderlyRuns.{Begins, begins_next}
 use Rattle.bb_run.proofs.CountLemmas.{cycle_chooses, wait_silent}
+use Rattle.bb_run.proofs.PastLemmas.{IsBy, by_changed, by_foci, by_obviated, by_rebased, by_silent, by_triggered}
 
 module _ (plan : Plan) (board : Blackboard) (natives : List Native) where
   -- ---- where a run is
@@ -57,19 +58,27 @@ module _ (plan : Plan) (board : Blackboard) (natives : List Native) where
   -- after these notes a run is in this phase, the agenda is what is pending by them, and each is of one of the sources
   pub record IsAt (past : List Note) (phase : Phase) (agenda : Agenda) : Type 0 where
     pub phase_is : phase_after past ≡ phase
-    pub pending : pending_of agenda ≡ pending_after past
+    pub by : IsBy past agenda
     pub known : All IsOne (pending_of agenda)
 
   pub at_first : (setting : Setting) (foci : Foci) → IsAt [] outside (with_foci (no_activations setting) foci)
-  at_first setting foci = record { phase_is = refl; pending = refl; known = All-nil IsOne }
+  at_first setting foci = record { phase_is = refl; by = record { pending = refl; numbers = refl }; known = All-nil IsOne }
 
   -- one note more
-  at_next : (past : List Note) (phase : Phase) (before after : Agenda) (note : Note) → IsAt past phase before → pending_of after ≡ after_note (pending_of before) note → All IsOne (pending_of after) → IsAt (past ++ note ∷ []) (after_in phase note) after
-  at_next past phase before after note at left known = record {
+  at_next : (past : List Note) (phase : Phase) (before after : Agenda) (note : Note) → IsAt past phase before → IsBy (past ++ note ∷ []) after → All IsOne (pending_of after) → IsAt (past ++ note ∷ []) (after_in phase note) after
+  at_next past phase before after note at by known = record {
     phase_is = fold-append after_in outside past (note ∷ []) ∙ ap (λ p. after_in p note) at.phase_is;
-    pending = left ∙ ap (λ l. after_note l note) at.pending ∙ sym (fold-append after_note [] past (note ∷ []));
+    by = by;
     known = known;
   }
+
+  -- after a note that tells of no activation
+  at_silent : (past : List Note) (phase : Phase) (agenda : Agenda) (note : Note) → IsAt past phase agenda → triggered_in (note ∷ []) ≡ [] → ((pending : List Activation) → after_note pending note ≡ pending) → IsAt (past ++ note ∷ []) (after_in phase note) agenda
+  at_silent past phase agenda note at none same = at_next past phase agenda agenda note at (by_silent past (note ∷ []) agenda none same at.by) at.known
+
+  -- foci change nothing of it
+  at_foci : (past : List Note) (phase : Phase) (agenda : Agenda) (foci : Foci) → IsAt past phase agenda → IsAt past phase (with_foci agenda foci)
+  at_foci past phase agenda foci at = record { phase_is = at.phase_is; by = by_foci past agenda at.by foci; known = at.known }
 
   -- without the one of a number
   known_left : (before after : Agenda) (number : ℕ) → pending_of after ≡ without number (pending_of before) → All IsOne (pending_of before) → All IsOne (pending_of after)
@@ -138,22 +147,22 @@ module _ (plan : Plan) (board : Blackboard) (natives : List Native) where
     full = λ s is past phase at. moves_none past phase s (Some finishes.Full) tt at;
     stopped = λ s code entry stop of came past phase at. moves_none past phase (with_board s (attempt code.code entry s.board).1) (Some (end_by stop)) (early_end stop) at;
     went_on = λ s code entry r of stays. stays;
-    triggered = λ s source unit base under past phase at.
+    triggered = λ s source unit base under room past phase at.
         let a = new_activation s.agenda source unit base in
         let later = with_activation s.agenda source unit base in
         let grown = pending_added s.agenda source unit base in
         moves_one past (Triggered a) phase (with_agenda s later) tt
-        (at_next past phase s.agenda later (Triggered a) at grown (subst (All IsOne) (sym grown) (All-last IsOne (pending_of s.agenda) a at.known under)));
-    declined = λ s source unit past phase at. moves_one past (Declined source unit) phase s tt (at_next past phase s.agenda s.agenda (Declined source unit) at refl at.known);
+        (at_next past phase s.agenda later (Triggered a) at (by_triggered past s.agenda at.by source unit base) (subst (All IsOne) (sym grown) (All-last IsOne (pending_of s.agenda) a at.known under)));
+    declined = λ s source unit past phase at. moves_one past (Declined source unit) phase s tt (at_silent past phase s.agenda (Declined source unit) at refl (λ pending. refl));
     obviated = λ s number past phase at.
         let later = with_obviated s.agenda number in
         let left = pending_obviated s.agenda number in
-        moves_one past (Obviated number) phase (with_agenda s later) tt (at_next past phase s.agenda later (Obviated number) at left (known_left s.agenda later number left at.known));
+        moves_one past (Obviated number) phase (with_agenda s later) tt (at_next past phase s.agenda later (Obviated number) at (by_obviated past s.agenda at.by number) (known_left s.agenda later number left at.known));
     rebased = λ s number base past phase at.
         let later = with_base s.agenda number base in
         let left = pending_rebased s.agenda number base in
         moves_one past (Retriggered number base) phase (with_agenda s later) tt
-        (at_next past phase s.agenda later (Retriggered number base) at left (subst (All IsOne) (sym left) (all_rebased IsOne (λ a b one. one) number base (pending_of s.agenda) at.known)));
+        (at_next past phase s.agenda later (Retriggered number base) at (by_rebased past s.agenda at.by number base) (subst (All IsOne) (sym left) (all_rebased IsOne (λ a b one. one) number base (pending_of s.agenda) at.known)));
     further = λ s r next first rest. stays_then s r next r.end refl first rest;
   }
 
@@ -181,12 +190,12 @@ module _ (plan : Plan) (board : Blackboard) (natives : List Native) where
   board_comes : (past : List Note) (notes : List BoardNote) (agenda : Agenda) → IsAt past inside agenda → Comes MayStand past (map Board notes)
   unfolding Comes
   board_comes past [] agenda at = tt
-  board_comes past (note ∷ notes) agenda at = (inl at.phase_is, board_comes (past ++ Board note ∷ []) notes agenda (at_next past inside agenda agenda (Board note) at refl at.known))
+  board_comes past (note ∷ notes) agenda at = (inl at.phase_is, board_comes (past ++ Board note ∷ []) notes agenda (at_silent past inside agenda (Board note) at refl (λ pending. refl)))
 
   board_leaves : (past : List Note) (notes : List BoardNote) (agenda : Agenda) → IsAt past inside agenda → IsAt (past ++ map Board notes) inside agenda
   board_leaves past [] agenda at = subst (λ l. IsAt l inside agenda) (sym (append-nil past)) at
   board_leaves past (note ∷ notes) agenda at =
-      subst (λ l. IsAt l inside agenda) (append_assoc past (Board note ∷ []) (map Board notes)) (board_leaves (past ++ Board note ∷ []) notes agenda (at_next past inside agenda agenda (Board note) at refl at.known))
+      subst (λ l. IsAt l inside agenda) (append_assoc past (Board note ∷ []) (map Board notes)) (board_leaves (past ++ Board note ∷ []) notes agenda (at_silent past inside agenda (Board note) at refl (λ pending. refl)))
 
   executes : (code : Code) (s : State) (r : Result Outcome Stop) (past : List Note) → IsAt past inside s.agenda → let q = answered code s r in Moves past q.told outside q.state q.end
   executes code s (Ok o) past at =
@@ -194,7 +203,7 @@ module _ (plan : Plan) (board : Blackboard) (natives : List Native) where
       let note : Note = Ended o.steps o.found (budget code o.found) in
       let there = board_leaves past notes s.agenda at in
       moves_more past (map Board notes) (note ∷ []) outside (with_notes_taken s) None (board_comes past notes s.agenda at)
-      (moves_one (past ++ map Board notes) note outside (with_notes_taken s) there.phase_is (at_next (past ++ map Board notes) inside s.agenda (with_notes_taken s).agenda note there refl there.known))
+      (moves_one (past ++ map Board notes) note outside (with_notes_taken s) there.phase_is (at_foci ((past ++ map Board notes) ++ note ∷ []) outside s.agenda (with_notes_taken s).agenda.foci (at_silent (past ++ map Board notes) inside s.agenda note there refl (λ pending. refl))))
   executes code s (Err stop) past at =
       let notes = map Board s.board.world.notes in
       subst (λ l. Moves past l outside (with_notes_taken s) (Some (end_by stop))) (sym (append-nil notes))
@@ -219,13 +228,13 @@ module _ (plan : Plan) (board : Blackboard) (natives : List Native) where
       let notes = map Board s.board.world.notes in
       let there = board_leaves past s.board.world.notes s.agenda at in
       subst (λ l. Moves past l inside (with_notes_taken s) None) (sym (append-nil notes))
-      (record { comes = board_comes past s.board.world.notes s.agenda at; leaves = λ none. record { phase_is = there.phase_is; pending = there.pending; known = there.known }; early = tt })
+      (record { comes = board_comes past s.board.world.notes s.agenda at; leaves = λ none. at_foci (past ++ notes) inside s.agenda (with_notes_taken s).agenda.foci there; early = tt })
 
   ask_parts : (asks : List Ask) → HoldsOfAsks asks Inside
   ask_parts asks = record {
     nothing = λ s past at. moves_none past inside s None tt at;
     changed = λ s ask b is past at. noted_inside (with_board s b) past at;
-    refused = λ s number refusal past at. moves_one past (Refused number refusal) inside s at.phase_is (at_next past inside s.agenda s.agenda (Refused number refusal) at refl at.known);
+    refused = λ s number refusal past at. moves_one past (Refused number refusal) inside s at.phase_is (at_silent past inside s.agenda (Refused number refusal) at refl (λ pending. refl));
     full = λ s ask there is past at. moves_none past inside s (Some finishes.Full) tt at;
     no_memory = λ s ask is past at. moves_none past inside s (Some finishes.Full) tt at;
     further = λ s r next first rest past at. inside_then r next inside r.end refl past (first past at) (rest (past ++ r.told));
@@ -240,7 +249,7 @@ module _ (plan : Plan) (board : Blackboard) (natives : List Native) where
       let r = each_applied 1 asks t in
       let note : Note = NativeEnded (length asks) in
       inside_then r (λ u. telling (note ∷ []) u None) outside r.end refl past (asks_hold asks Inside (ask_parts asks) t past at)
-      (λ there. moves_one (past ++ r.told) note outside r.state there.phase_is (at_next (past ++ r.told) inside r.state.agenda r.state.agenda note there refl there.known))
+      (λ there. moves_one (past ++ r.told) note outside r.state there.phase_is (at_silent (past ++ r.told) inside r.state.agenda note there refl (λ pending. refl)))
 
   acts_by : (name : List ℕ) (act : Act) (a : Activation) (s : State) (past : List Note) → IsAt past inside s.agenda → TellsTo past outside (reported plan (execution name act a s))
   acts_by name (acts.Code body) a s past at =
@@ -267,20 +276,20 @@ module _ (plan : Plan) (board : Blackboard) (natives : List Native) where
     choosing = Chosen number a r
 
     -- the choice, after which it is no longer pending
-    chosen_at : (later : Agenda) → pending_of later ≡ without a.number (pending_of s.agenda) → IsAt (past ++ choosing ∷ []) inside later
-    chosen_at later left = at_next past phase s.agenda later choosing at left (known_left s.agenda later a.number left at.known)
+    chosen_at : (later : Agenda) → pending_of later ≡ without a.number (pending_of s.agenda) → length later.given ≡ length s.agenda.given → IsAt (past ++ choosing ∷ []) inside later
+    chosen_at later left same = at_next past phase s.agenda later choosing at (by_changed past s.agenda at.by choosing later refl left same) (known_left s.agenda later a.number left at.known)
 
     chosen_by_verdict : (source : Option Source) (v : Verdict) → IsEarlyVerdict v → slice_get plan.sources a.source ≡ source → TellsTo past outside (and_then (segment (chosen_with number a r v s)) (acting plan (if_valid v source) a))
     chosen_by_verdict source verdicts.Valid early is =
         let t = (chosen_with number a r verdicts.Valid s).state in
         let p = acting plan source a t in
         moves_more past (choosing ∷ []) (notes_of p) outside p.state p.end (comes_one MayStand past choosing free)
-        (acts_at source a t (past ++ choosing ∷ []) is one (chosen_at t.agenda (pending_executed s.agenda a.number)))
+        (acts_at source a t (past ++ choosing ∷ []) is one (chosen_at t.agenda (pending_executed s.agenda a.number) (given_executed s.agenda a.number)))
     chosen_by_verdict source verdicts.Invalid early is =
         let t = (chosen_with number a r verdicts.Invalid s).state in
-        let told = chosen_at t.agenda (pending_obviated s.agenda a.number) in
+        let told = chosen_at t.agenda (pending_obviated s.agenda a.number) (given_obviated s.agenda a.number) in
         moves_more past (choosing ∷ []) (Invalid a.number ∷ []) outside t None (comes_one MayStand past choosing free)
-        (moves_one (past ++ choosing ∷ []) (Invalid a.number) outside t told.phase_is (at_next (past ++ choosing ∷ []) inside t.agenda t.agenda (Invalid a.number) told refl told.known))
+        (moves_one (past ++ choosing ∷ []) (Invalid a.number) outside t told.phase_is (at_silent (past ++ choosing ∷ []) inside t.agenda (Invalid a.number) told refl (λ pending. refl)))
     chosen_by_verdict source (verdicts.Over end) early is = record { comes = comes_one MayStand past choosing free; leaves = λ none. absurd cc; early = early end refl }
 
   cycle_moves : (number : ℕ) (a : Activation) (s : State) (past : List Note) (phase : Phase) → IsFree past → IsAt past phase s.agenda → choice plan s ≡ Some a → TellsTo past outside (cycle plan number a s)
@@ -355,7 +364,8 @@ module _ (plan : Plan) (board : Blackboard) (natives : List Native) where
     there = λ left.
         begins left (length (chosen_in past) + left) (ap (λ n. n + left) far.count)
         ∙ ap (λ n. after_told told (cycles plan n left s)) (sym far.count);
-    pending = at.pending;
+    pending = at.by.pending;
+    next = at.by.numbers;
     nothing = none;
   }
 
@@ -364,7 +374,7 @@ module _ (plan : Plan) (board : Blackboard) (natives : List Native) where
       let note : Note = Board (happened quiescence) in
       let r = response plan quiescence s in
       moves_segment past (note ∷ r.told) rested r.state r.end
-      (moves_more past (note ∷ []) r.told rested r.state r.end (comes_one MayStand past note (inr may)) (responds quiescence s (past ++ note ∷ []) rested (at_next past outside s.agenda s.agenda note at refl at.known)))
+      (moves_more past (note ∷ []) r.told rested r.state r.end (comes_one MayStand past note (inr may)) (responds quiescence s (past ++ note ∷ []) rested (at_silent past outside s.agenda note at refl (λ pending. refl))))
 
   -- what comes of a choice after the wait in a state, by what follows one
   module _ (s : State) (past : List Note) (follows : Activation → State → Stretch)

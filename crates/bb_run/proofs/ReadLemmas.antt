@@ -45,7 +45,7 @@ module _ (plan : Plan) where
     full = λ s is. refl;
     stopped = λ s code entry stop of came. refl;
     went_on = λ s code entry r of same. same;
-    triggered = λ s source unit base under. refl;
+    triggered = λ s source unit base under room. refl;
     declined = λ s source unit. refl;
     obviated = λ s number. refl;
     rebased = λ s number base. refl;
@@ -73,7 +73,7 @@ module _ (plan : Plan) (reading : AsksByReading plan) where
     full = λ s is. refl;
     stopped = λ s code entry stop of came. asked_leaves code entry s.board of;
     went_on = λ s code entry r of leaves. leaves ∙ asked_leaves code entry s.board of;
-    triggered = λ s source unit base under. refl;
+    triggered = λ s source unit base under room. refl;
     declined = λ s source unit. refl;
     obviated = λ s number. refl;
     rebased = λ s number base. refl;

@@ -37,7 +37,7 @@ module _ (plan : Plan) (Holds : State → Response → Type 0) where
     pub stopped : (s : State) (code : Checked) (entry : Entry) (stop : Stop) → OfPlan code → (attempt code.code entry s.board).0 ≡ Err stop
         → Holds s (over (end_by stop) (with_board s (attempt code.code entry s.board).1))
     pub went_on : (s : State) (code : Checked) (entry : Entry) (r : Response) → OfPlan code → Holds (with_board s (attempt code.code entry s.board).1) r → Holds s r
-    pub triggered : (s : State) (source unit : ℕ) (base : ℤ) → source < length plan.sources
+    pub triggered : (s : State) (source unit : ℕ) (base : ℤ) → source < length plan.sources → is_full s.agenda ≡ false
         → Holds s (telling (Triggered (new_activation s.agenda source unit base) ∷ []) (with_agenda s (with_activation s.agenda source unit base)) None)
     pub declined : (s : State) (source unit : ℕ) → Holds s (telling (Declined source unit ∷ []) s None)
     pub obviated : (s : State) (number : ℕ) → Holds s (telling (Obviated number ∷ []) (with_agenda s (with_obviated s.agenda number)) None)
@@ -46,9 +46,9 @@ module _ (plan : Plan) (Holds : State → Response → Type 0) where
 
   module _ (parts : HoldsOfParts) where
     -- by a test
-    either : (s : State) (b : Bool) (p q : Response) → (b ≡ true → Holds s p) → Holds s q → Holds s (cond b p q)
+    either : (s : State) (b : Bool) (p q : Response) → (b ≡ true → Holds s p) → (b ≡ false → Holds s q) → Holds s (cond b p q)
     either s true p q yes' no' = yes' refl
-    either s false p q yes' no' = no'
+    either s false p q yes' no' = no' refl
 
     -- a code is asked
     replied : (s : State) (code : Checked) (entry : Entry) (next : Answer → State → Response) (r : Result Outcome Stop) → OfPlan code → (attempt code.code entry s.board).0 ≡ r
@@ -88,14 +88,14 @@ module _ (plan : Plan) (Holds : State → Response → Type 0) where
       reacts_if place None s of = parts.nothing s
       reacts_if place (Some reaction) s of =
           either s (any_match plan.schema reaction.clauses event) (reacting_to_each event by reaction (pending_for s.agenda place) s) (idle s)
-          (λ is. reacts_each reaction (pending_for s.agenda place) s (of reaction refl)) (parts.nothing s)
+          (λ is. reacts_each reaction (pending_for s.agenda place) s (of reaction refl)) (λ not. parts.nothing s)
 
     -- what triggers a source
     activates : (event : Event) (place : ℕ) (base : ℤ) (s : State) → place < length plan.sources → Holds s (activating event place base s)
     activates event place base s under =
         either s (is_full s.agenda) (over finishes.Full s)
         (telling (Triggered (new_activation s.agenda place (unit_of event) base) ∷ []) (with_agenda s (with_activation s.agenda place (unit_of event) base)) None)
-        (parts.full s) (parts.triggered s place (unit_of event) base under)
+        (parts.full s) (λ room. parts.triggered s place (unit_of event) base under room)
 
     requires_by : (event : Event) (place : ℕ) → place < length plan.sources → (answer : Answer) (t : State) → Holds t (required_by event place answer t)
     requires_by event place under (answers.Rated base) t = activates event place base t under
@@ -118,7 +118,7 @@ module _ (plan : Plan) (Holds : State → Response → Type 0) where
         (parts.further first.state second (if_triggered plan.schema event place source)
         (reacts_if event rerated_by rerates place source.retrigger first.state (λ x is. (source, there, inr (inr (inr (ap (option_map code_of) is))))))
         (either second.state (any_match plan.schema source.triggers event) (triggering event place source.rate source.require second.state) (idle second.state)
-        (λ is. triggers event place source.rate source.require second.state under (λ x same. (source, there, inl same))) (parts.nothing second.state)))
+        (λ is. triggers event place source.rate source.require second.state under (λ x same. (source, there, inl same))) (λ not. parts.nothing second.state)))
 
     responds_by : (event : Event) (place : ℕ) (sources : List Source) (s : State) → place + length sources ≡ length plan.sources → All (Contains plan.sources) sources → Holds s (response_by plan.schema event place sources s)
     unfolding response_by

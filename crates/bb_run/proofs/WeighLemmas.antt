@@ -239,7 +239,7 @@ module _ (plan : Plan) where
     full = λ s is. (refl, refl);
     stopped = λ s code entry stop of came. (refl, refl);
     went_on = λ s code entry r of same. same;
-    triggered = λ s source unit base under. (refl, refl);
+    triggered = λ s source unit base under room. (refl, refl);
     declined = λ s source unit. (refl, refl);
     obviated = λ s number. (refl, refl);
     rebased = λ s number base. (refl, refl);

@@ -1,6 +1,6 @@
 -- Why a run ends full or stuck.
-use Rattle.std.specs.Prelude.{◌≡◌, ◌⊎◌, ℕ, ⊤, true, Contains, List, Option, Some, None, Err, option_map}
-use Rattle.bb_agenda.specs.Agenda.{is_full}
+use Rattle.std.specs.Prelude.{◌≡◌, ◌⊎◌, ◌≤◌, ◌-◌, ◌^◌, ℕ, ⊤, true, Contains, List, length, Option, Some, None, Err, option_map}
+use Rattle.bb_agenda.specs.Agenda.{Agenda, pending_of}
 use Rattle.bb_verify.specs.Accepted.{Checked}
 use Rattle.bb_machine.specs.Entry.{Entry}
 use Rattle.bb_machine.specs.Stop.{Stop}
@@ -74,10 +74,18 @@ LacksNative plan natives =
     (source : Source) × Contains plan.sources source × (source.act ≡ acts.Native)
     × (place_of natives source.name ≡ None)
 
+-- as many activations are pending as may be, or the last number was given
+abbrev pub IsFull : Agenda → Type 0
+IsFull agenda = (65536 ≤ length (pending_of agenda)) ⊎ (2 ^ 63 - 1 ≤ length agenda.given)
+
+-- no more are pending than may be
+abbrev pub HasFew : Agenda → Type 0
+HasFew agenda = length (pending_of agenda) ≤ 65536
+
 -- why a run ends in this state
 pub data Cause (plan : Plan) (s : State) : End → Type 0 where
   -- the run is full: its agenda is
-  of_agenda : is_full s.agenda ≡ true → Cause plan s ends.Full
+  of_agenda : IsFull s.agenda → Cause plan s ends.Full
   -- the run is full: no unit can be created, and its last execution was stopped for that
   of_units : (steps found : ℕ) → WasStopped plan s.board (stops.Full steps found)
       → no_unit_left s.board.world.units ≡ true → Cause plan s ends.Full

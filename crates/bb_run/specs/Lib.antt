@@ -26,6 +26,14 @@ pub mod Processed
 pub mod Unstuck
 -- what leaves the blackboard as it was
 pub mod Reads
+-- what the sources tell in response to events
+pub mod Responses
+-- what comes in a run where events were told
+pub mod Responds
+-- what the act of a source tells and leaves
+pub mod Acts
+-- what lasts from one cycle to the next
+pub mod Continues
 -- the foci that a run rates by
 pub mod Weighed
 -- the end of a run by what `run` returns, and what was written where it was cut short

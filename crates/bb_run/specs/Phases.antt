@@ -2,7 +2,7 @@
 use Rattle.std.specs.Prelude.{◌≡◌, ◌⊎◌, ℕ, ◌+◌, ℤ, None, List, ◌∷◌, ◌++◌, length, map}
 use Rattle.std.specs.List.{fold}
 use Rattle.bb_agenda.specs.Activation.{Activation}
-use Rattle.bb_agenda.specs.Agenda.{pending_of}
+use Rattle.bb_agenda.specs.Agenda.{next_number, pending_of}
 use Rattle.bb_trace.specs.Event.TheVariants.{Quiescence as quiescence}
 use Rattle.bb_trace.specs.Board.{Board as Blackboard}
 use Rattle.bb_trace.specs.BoardNote.{Note as BoardNote}
@@ -16,7 +16,7 @@ use Rattle.bb_run_plan.specs.Plan.{Plan}
 use Rattle.bb_run.specs.State.{State}
 use Rattle.bb_run.specs.Told.{Stretch, after_told}
 use Rattle.bb_run.specs.Run.{choice, cycles, unfinished}
-use Rattle.bb_run.specs.Order.{At, all_of, chosen_in, pending_after}
+use Rattle.bb_run.specs.Order.{At, all_of, chosen_in, pending_after, triggered_in}
 
 -- where a run is
 pub data Phase : Type 0 where
@@ -65,6 +65,8 @@ pub record IsQuiet (plan : Plan) (board : Blackboard) (natives : List Native) (b
   pub there : Reaches plan board natives told (length (chosen_in before)) state
   -- what is pending in it is what is pending by the notes, and none of that can be chosen
   pub pending : pending_of state.agenda ≡ pending_after before
+  -- the next activation has the number after those that the notes tell
+  pub next : next_number state.agenda ≡ length (triggered_in before) + 1
   pub nothing : choice plan state ≡ None
 
 -- what the blackboard had noted is told first; after that the run goes by its phases

@@ -1,6 +1,6 @@
 //! What holds of every run. No code calls it: it says what the runs are like that `run_texts` writes.
 
-ghost use Rattle.std.specs.Prelude.{◌≡◌, ℕ, ◌+◌, ◌-◌, ℤ, All, List, ◌∷◌, ◌++◌};
+ghost use Rattle.std.specs.Prelude.{◌≡◌, ℕ, ◌+◌, ◌-◌, ℤ, All, List, ◌∷◌, ◌++◌, Some};
 ghost use Rattle.bb_agenda.specs.Activation.{Activation};
 ghost use Rattle.bb_trace.specs.Board.{Board};
 ghost use Rattle.bb_trace.specs.Event.{Event};
@@ -8,15 +8,21 @@ ghost use Rattle.bb_trace.specs.declared.note.Note.{Note};
 ghost use Rattle.bb_trace.specs.declared.note.Note.TheVariants.{Chosen};
 ghost use Rattle.bb_trace.specs.Law.{HasSoundCodes};
 ghost use Rattle.bb_trace.specs.Native.{Native};
+ghost use Rattle.bb_trace.specs.Roster.{place_of};
+ghost use Rattle.bb_trace.specs.Act.TheVariants as acts;
+ghost use Rattle.bb_verify.specs.Accepted.{Checked};
 ghost use Rattle.bb_run_plan.specs.Plan.{Plan};
 ghost use Rattle.bb_run.specs.State.{State};
-ghost use Rattle.bb_run.specs.Run.{run};
+ghost use Rattle.bb_run.specs.Run.{execution, run};
+ghost use Rattle.bb_run.specs.Acts.{IsCall, IsExecution};
+ghost use Rattle.bb_run.specs.Continues.{Continues};
 ghost use Rattle.bb_run.specs.Order.{notes_of, At, IsCounted, ActsOnPending, ExecutesInTurn, IsFinished, KeepsLimit};
 ghost use Rattle.bb_run.specs.Order.{ClosesEach, Extends, IsChosenAfter};
 ghost use Rattle.bb_run.specs.Asked.{IsAnswered};
 ghost use Rattle.bb_run.specs.Executed.{IsFollowed};
 ghost use Rattle.bb_run.specs.Phases.{GoesByPhases};
-ghost use Rattle.bb_run.specs.Causes.{HasCause, LacksNative};
+ghost use Rattle.bb_run.specs.Responds.{Responds};
+ghost use Rattle.bb_run.specs.Causes.{HasCause, HasFew, LacksNative};
 ghost use Rattle.bb_run.specs.Reads.{AsksByReading, LeavesBoard};
 ghost use Rattle.bb_run.specs.Weighed.{KnowsFoci, NumbersGiven};
 ghost use Rattle.bb_run.specs.Processed.{processed_in, ProcessesTold};
@@ -37,9 +43,11 @@ ghost use Rattle.bb_run.specs.Unstuck.{KeepsBudget, NotStuck};
 /// - `finish`: a run has an end, which it tells once, and after it nothing but the closings of its natives.
 /// - `closed`: each native that was handed in is closed once, in order, as the run left it: the same but for what it
 ///   holds.
-/// - `causes`: a run is full only where its agenda is full in its last state, or where no unit can be created there and
-///   its last execution was stopped for that, or its last native asked for one; it is stuck only where its last
-///   execution was, or where a source has a native for its act and there is none of its name.
+/// - `causes`: a run is full only where 65,536 activations are pending in its last state, or the last number was given,
+///   or where no unit can be created there and its last execution was stopped for that, or its last native asked for
+///   one; it is stuck only where its last execution was, or where a source has a native for its act and there is none
+///   of its name.
+/// - `few`: no more than 65,536 activations are pending in the last state of a run, and so at each choice.
 /// - `limit`: a run makes no more cycles than its limit. Where it ends by that it made as many, and something can
 ///   still be chosen; where it ends in quiescence nothing can be chosen.
 /// - `answered`: sources are triggered as the events ask for it. At each choice, and at a finish by quiescence or by
@@ -58,6 +66,20 @@ ghost use Rattle.bb_run.specs.Unstuck.{KeepsBudget, NotStuck};
 ///   blackboard and with the natives of that last state: what the blackboard notes, and the end of the execution, or
 ///   the finish; of a native what each of its asks brings about, in order, with its number where it is refused, and
 ///   how many there were. Where the source's revalidation says no there, it is that the activation is invalid.
+/// - `responds`: right after events are told the sources respond to them: to what the blackboard had noted, to what is
+///   told upon a choice, and to quiescence. To one event after another, source by source, they tell what their codes
+///   answer on the blackboard as it is then. First each activation that waits for the source is obviated
+///   if the code of `obviate` says yes about it; then each that still waits gets the base that the code of `retrigger`
+///   rates; then, if the event triggers the source, it gets an activation, with the base that its requirement rates, or
+///   its rate if it requires nothing, or declines. After the responses comes quiescence, a choice or the finish. Where
+///   the run is full or stuck, the first of the responses come, and the finish.
+/// - `continues`: the blackboard and the natives of a choice are those that the execution before it left, and of the
+///   first choice those that were handed in. This and `responds` are of plans whose codes write nothing where a source
+///   asks them: of all plans, by `asked`.
+/// - `executes`: a code that is executed tells what the blackboard noted in it, and then its steps, the units that it
+///   found and its budget, where it comes to an answer; else the run is over.
+/// - `calls`: of a native that is called each ask is told, from number 1 on: what the blackboard noted, or that the ask
+///   was refused. Each is applied to the blackboard that those before it left.
 /// - `weighed`: in the last state of a run, and so at each choice, the agenda was told of the foci that the blackboard
 ///   then has, by which activations are rated, where no code that a source asks writes.
 ///
@@ -89,6 +111,8 @@ pub fn runs_are_orderly()
         ClosesEach natives (run plan board natives limit) }
     ensures causes { (plan : Plan) (board : Board) (natives : List Native) (limit : ℕ) →
         HasCause plan (run plan board natives limit).state (run plan board natives limit).end }
+    ensures few { (plan : Plan) (board : Board) (natives : List Native) (limit : ℕ) →
+        HasFew (run plan board natives limit).state.agenda }
     ensures limit { (plan : Plan) (board : Board) (natives : List Native) (limit : ℕ) →
         KeepsLimit plan limit (run plan board natives limit) }
     ensures answered { (plan : Plan) (board : Board) (natives : List Native) (limit : ℕ) →
@@ -107,6 +131,14 @@ pub fn runs_are_orderly()
         (before after : List Note) (cycle : ℕ) (a : Activation) (r : ℤ) →
         notes_of (run plan board natives limit) ≡ before ++ Chosen cycle a r ∷ after →
         IsFollowed plan (run plan board natives (cycle - 1)).state a after }
+    ensures responds { (plan : Plan) (board : Board) (natives : List Native) (limit : ℕ) →
+        AsksByReading plan → Responds plan board natives limit }
+    ensures continues { (plan : Plan) (board : Board) (natives : List Native) (limit : ℕ) →
+        AsksByReading plan → Continues plan board natives limit }
+    ensures executes { (s : State) (name : List ℕ) (body : Checked) (a : Activation) →
+        IsExecution s body.code a (execution name (acts.Code body) a s) }
+    ensures calls { (s : State) (name : List ℕ) (place : ℕ) (a : Activation) →
+        place_of s.natives name ≡ Some place → IsCall s place a (execution name acts.Native a s) }
     ensures weighed { (plan : Plan) (board : Board) (natives : List Native) (limit : ℕ) →
         AsksByReading plan → NumbersGiven board →
         KnowsFoci plan (run plan board natives limit).state }

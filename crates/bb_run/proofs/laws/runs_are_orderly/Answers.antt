@@ -9,6 +9,11 @@ use Rattle.bb_run.proofs.UnstuckRuns.{run_begins, run_keeps_budgets, run_not_stu
 use Rattle.bb_run.proofs.ProcessedLemmas.{run_processes}
 use Rattle.bb_run.proofs.VisitLemmas.{run_processes_told}
 use Rattle.bb_run.proofs.WeighLemmas.{run_knows_foci}
+use Rattle.bb_run.proofs.RespondLemmas.{run_answers}
+use Rattle.bb_run.proofs.RestLemmas.{run_answers_first, run_answers_quiescence}
+use Rattle.bb_run.proofs.ContinueLemmas.{run_begins_with, run_continues}
+use Rattle.bb_run.proofs.ActLemmas.{code_is_executed, native_is_called}
+use Rattle.bb_run.proofs.FewLemmas.{run_has_few}
 use Rattle.bb_run.proofs.laws.runs_are_orderly.Goals as goal
 
 pub returns : goal.returns
@@ -20,6 +25,7 @@ returns c = record {
   finish = run_finishes;
   closed = run_closes_each;
   causes = run_has_cause;
+  few = run_has_few;
   limit = run_keeps_limit;
   answered = run_is_answered;
   reads = run_reads;
@@ -28,6 +34,17 @@ returns c = record {
   longer = λ plan board natives limit more. run_extends plan board natives limit more;
   choices = run_chooses;
   followed = run_is_followed;
+  responds = λ plan board natives limit reading. record {
+    first = run_answers_first plan reading board natives limit;
+    choices = run_answers plan reading board natives limit;
+    quiet = λ before after here told. run_answers_quiescence plan reading board natives limit before after told here;
+  };
+  continues = λ plan board natives limit reading. record {
+    first = let left = run_begins_with plan reading board natives in record { board = left.board; natives = left.natives };
+    cycles = λ before cycle a r source at is. run_continues plan reading board natives limit before cycle a r source is at;
+  };
+  executes = code_is_executed;
+  calls = native_is_called;
   weighed = λ plan board natives limit reading given. run_knows_foci plan reading board natives limit given;
   unstuck = λ plan board natives limit made fits given. run_not_stuck plan made natives board limit fits given;
   budgets = λ plan board natives limit made fits. run_keeps_budgets plan made natives board limit fits;

@@ -1,0 +1,82 @@
+-- What comes in a run where events were told: the responses of the sources to them, and then its next turn.
+use Rattle.std.specs.Prelude.{◌≡◌, ℕ, ◌-◌, ℤ, List, [], ◌∷◌, ◌++◌, length, map, Some, None, slice_get}
+use Rattle.bb_agenda.specs.Activation.{Activation}
+use Rattle.bb_trace.specs.Board.{Board as Blackboard, with_world}
+use Rattle.bb_trace.specs.World.{after_take}
+use Rattle.bb_trace.specs.BoardNote.TheVariants.{Event as happened}
+use Rattle.bb_trace.specs.Event.{Event}
+use Rattle.bb_trace.specs.Event.TheVariants.{Quiescence as quiescence}
+use Rattle.bb_trace.specs.Native.{Native}
+use Rattle.bb_trace.specs.Source.{Source}
+use Rattle.bb_trace.specs.End.{End}
+use Rattle.bb_trace.specs.End as ends
+use Rattle.bb_trace.specs.declared.note.Note.{Note}
+use Rattle.bb_trace.specs.declared.note.Note.TheVariants.{Board, Chosen, Finished}
+use Rattle.bb_run_plan.specs.Plan.{Plan}
+use Rattle.bb_run.specs.State.{State}
+use Rattle.bb_run.specs.Executed.{upon_choice}
+use Rattle.bb_run.specs.Processing.{events_in}
+use Rattle.bb_run.specs.Responses.{responses}
+use Rattle.bb_run.specs.Run.{run}
+use Rattle.bb_run.specs.Order.{chosen_in, notes_of}
+use Rattle.bb_run.specs.Phases.{outside, phase_after}
+
+-- what a blackboard had noted, as notes of a run
+abbrev pub noted_on : Blackboard → List Note
+noted_on board = map Board board.world.notes
+
+-- a blackboard after its notes were taken
+abbrev pub taken : Blackboard → Blackboard
+taken board = with_world board (after_take board.world)
+
+-- a run with this end may leave out these responses: none, unless it is full or stuck
+abbrev pub MayOmit : End → List Note → Type 0
+MayOmit ends.Quiescence left = left ≡ []
+MayOmit ends.Limit left = left ≡ []
+MayOmit _ left = Unit {0}
+
+-- the note may come after responses of which these are left out: the finish, or, where none is, quiescence or a choice
+abbrev pub MayFollow : (left : List Note) → Note → Type 0
+MayFollow left (Finished end) = MayOmit end left
+MayFollow left (Chosen cycle a r) = left ≡ []
+MayFollow left (Board note) = (left ≡ []) × (note ≡ happened quiescence)
+MayFollow left _ = ⊥
+
+-- these notes may
+abbrev pub MayComeNext : (left : List Note) → List Note → Type 0
+MayComeNext left [] = ⊥
+MayComeNext left (note ∷ more) = MayFollow left note
+
+-- events were told last of what is past: the responses to them come next, and then the finish, quiescence or a choice
+pub record Answers (plan : Plan) (board : Blackboard) (events : List Event) (past after : List Note) : Type 0 where
+  pub told : List Note
+  pub left : List Note
+  pub rest : List Note
+  pub comes : after ≡ told ++ rest
+  -- all responses are told, but for those that are left out
+  pub all : told ++ left ≡ responses plan board events past
+  pub next : MayComeNext left rest
+
+-- an activation was chosen in this state: after what is told upon the choice come the responses to the events of that,
+-- unless the run is over
+abbrev pub AnswersChoice : Plan → State → Activation → (past after : List Note) → Type 0
+AnswersChoice plan s a past after =
+    (source : Source) (more : List Note) → slice_get plan.sources a.source ≡ Some source →
+    let told = upon_choice source a s in told.end ≡ None → after ≡ told.told ++ more
+    → Answers plan told.state.board (events_in told.told) (past ++ told.told) more
+
+-- the sources respond to what is told in a run where it is told
+pub record Responds (plan : Plan) (board : Blackboard) (natives : List Native) (limit : ℕ) : Type 0 where
+  -- what the blackboard had noted comes first, and then the responses to its events
+  pub first : (after : List Note) → notes_of (run plan board natives limit) ≡ noted_on board ++ after
+      → Answers plan (taken board) (events_in (noted_on board)) (noted_on board) after
+  -- what is told upon a choice comes after it, and then the responses to the events of that
+  pub choices : (before after : List Note) (cycle : ℕ) (a : Activation) (r : ℤ)
+      → notes_of (run plan board natives limit) ≡ before ++ Chosen cycle a r ∷ after
+      → AnswersChoice plan (run plan board natives (cycle - 1)).state a (before ++ Chosen cycle a r ∷ []) after
+  -- quiescence is told between cycles, and then the responses to it, on the blackboard as it is after so many cycles
+  pub quiet : (before after : List Note) → phase_after before ≡ outside
+      → let past = noted_on board ++ before in
+      notes_of (run plan board natives limit) ≡ past ++ Board (happened quiescence) ∷ after
+      → Answers plan (run plan board natives (length (chosen_in before))).state.board (quiescence ∷ [])
+      (past ++ Board (happened quiescence) ∷ []) after
