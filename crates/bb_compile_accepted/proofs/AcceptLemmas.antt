@@ -1,4 +1,4 @@
--- Statements without `with` and `for`, one after another, lead the verifier to what stands behind them.
+-- Statements without `for`, one after another, lead the verifier to what stands behind them.
 use Rattle.std.proofs.Common.{◌≡◌, ◌⊎◌, inl, inr, ℕ, Bool, true, false, ◌||◌, [], ◌++◌, length, Option, None, Ok, refl, subst, sym, arith}
 use Rattle.bb_basis.proofs.BoolLemmas.{and_first, and_second}
 use Rattle.bb_basis.proofs.ResultLemmas.{bind_ok}
@@ -6,9 +6,6 @@ use Rattle.bb_schema.specs.Schema.{Schema}
 use Rattle.bb_schema.specs.Fits as schemas
 use Rattle.bb_verify_frame.specs.Code.{Code}
 use Rattle.bb_lang.specs.Blocks.{BlockTree, StatementTree, no_statement, before_others, action, if_of, with_of, for_of, absent, otherwise}
-use Rattle.bb_lang.specs.Trees.{ExprTree}
-use Rattle.bb_compile_emit.specs.declared.exits.Exits.{Exits}
-use Rattle.bb_compile_buffer.specs.Buffers.{leave}
 use Rattle.bb_compile_scope.specs.Scope.{mark_of}
 use Rattle.bb_compile_scope.specs.Ending.{ends}
 use Rattle.bb_compile_scope.specs.Place.{Place}
@@ -17,17 +14,22 @@ use Rattle.bb_compile_buffer.specs.declared.buffer.Buffer.{Buffer}
 use Rattle.bb_compile_emit.specs.Statements.{after_end, statement_code, statements_code}
 use Rattle.bb_verify.specs.FrameType.{Frame}
 use Rattle.bb_verify.specs.PartType.{Part}
-use Rattle.bb_compile_accepted.specs.Branched.{is_branched, is_branched_statement}
-use Rattle.bb_compile_accepted.proofs.BufferLemmas.{never_noted, grown_none, grown_on, count_of}
+use Rattle.bb_compile_accepted.specs.Loopless.{is_loopless, is_loopless_statement}
+use Rattle.bb_compile_accepted.proofs.BufferLemmas.{Has, never_noted, grown_none, grown_on, count_of}
 use Rattle.bb_compile_accepted.proofs.PutLemmas.{pair_ok}
 use Rattle.bb_compile_accepted.proofs.PatternLemmas.{AreSmall}
 use Rattle.bb_compile_accepted.proofs.ActionLemmas.{action_does}
-use Rattle.bb_compile_accepted.proofs.BranchLemmas.{TestLaid, ElseEnded, ElseOn, if_absent, if_else}
+use Rattle.bb_compile_accepted.proofs.BranchLemmas.{ElseEnded, ElseOn, if_laid, with_laid}
+use Rattle.bb_compile_accepted.proofs.HeadLemmas.{binding_laid}
+use Rattle.bb_compile_accepted.proofs.GuardLemmas.{Branches, if_branches, with_branches, behind_first, branches_absent, branches_else}
 use Rattle.bb_compile_accepted.proofs.BlockLemmas.{Lays as LaysBlock, stated, block_lays, statement_lays}
 use Rattle.bb_compile_accepted.proofs.MoveLemmas.{moves_same, moves_on}
 use Rattle.bb_compile_accepted.proofs.WalkLemmas.{Walks, walks_on}
 use Rattle.bb_compile_accepted.proofs.JoinLemmas.{Sound, Agrees, agrees_before}
 use Rattle.bb_compile_accepted.proofs.GoesLemmas.{After, Goes, action_goes}
+use Rattle.bb_compile_accepted.proofs.GuideLemmas.{Guides}
+use Rattle.bb_compile_accepted.proofs.TestGoes.{test_guides}
+use Rattle.bb_compile_accepted.proofs.HeadGoes.{head_guides}
 use Rattle.bb_compile_accepted.proofs.BranchGoes.{absent_goes, ended_goes, on_goes}
 
 module _ (schema : Schema) (sf : schemas.Fits schema) (part : Part) (code : Code) (no_loops : code.loops ≡ []) (small : AreSmall schema sf part code) where
@@ -82,54 +84,78 @@ module _ (schema : Schema) (sf : schemas.Fits schema) (part : Part) (code : Code
   joined true now s t u first rest = subst (λ b. GoesHere s u b) (sym rest.1) (subst (λ x. GoesHere s x true) rest.0 first)
   joined false now s t u first rest = goes_on now s t u first rest
 
-  by_end : (test : ExprTree) (first b : BlockTree) (loops : ℕ) (s t : Buffer) (now : Bool) (u v : Buffer) (exits : Exits) (l : TestLaid schema test s u exits) → LaysBlock u v → (ended : Bool) → IsSound s → AgreesHere t → (IsSound u → AgreesHere v → GoesHere u v ended)
-      → ((d : Bool) (x y : Buffer) → statements_code schema part loops false b x ≡ Ok (d, y) → LaysBlock x y) → ((d : Bool) (x y : Buffer) → statements_code schema part loops false b x ≡ Ok (d, y) → IsSound x → AgreesHere y → GoesHere x y d)
-      → (let w = leave (mark_of u.scope) (leave (mark_of u.scope) v) in
-      ((ended ≡ true) × ElseEnded schema part loops (mark_of u.scope) (length l.behind.ops) b w t now) ⊎ ((ended ≡ false) × ElseOn schema part loops (mark_of u.scope) (length l.behind.ops) b w t now)) → GoesHere s t now
-  by_end test first b loops s t now u v exits l lays ended sound agrees own more second (inl (e, el)) =
-      ended_goes schema sf part code no_loops small test s u v exits l lays loops b t now sound agrees el (more now el.inner el.end el.block_is) (λ a c. subst (λ d. GoesHere u v d) e (own a c)) (second now el.inner el.end el.block_is)
-  by_end test first b loops s t now u v exits l lays ended sound agrees own more second (inr (e, el)) =
-      on_goes schema sf part code no_loops small test s u v exits l lays loops b t now sound agrees el (more el.ended el.inner el.end el.block_is) (λ a c. subst (λ d. GoesHere u v d) e (own a c)) (second el.ended el.inner el.end el.block_is)
+  -- a test and the blocks behind it
+  module _ (loops : ℕ) (first : BlockTree) (s t : Buffer) (now : Bool) (sound : IsSound s) (agrees : AgreesHere t)
+      (lays : (e : Bool) (x y : Buffer) → statements_code schema part loops false first x ≡ Ok (e, y) → LaysBlock x y) (goes : (e : Bool) (x y : Buffer) → statements_code schema part loops false first x ≡ Ok (e, y) → IsSound x → AgreesHere y → GoesHere x y e) where
+    one_goes : (br : Branches schema part loops first absent s t now) → (Has code br.guard.behind → Guides schema sf part code no_loops s br.inner br.exits br.guard) → GoesHere s t now
+    one_goes br guides =
+        let blocks = br.blocks in
+        absent_goes schema sf part code no_loops s br.inner blocks.end br.exits br.guard guides (lays blocks.ended br.inner blocks.end blocks.block_is) t blocks.ended now (branches_absent schema part loops first s t now br) sound agrees
+        (goes blocks.ended br.inner blocks.end blocks.block_is)
+
+    both_go : (b : BlockTree) → ((d : Bool) (x y : Buffer) → statements_code schema part loops false b x ≡ Ok (d, y) → LaysBlock x y) → ((d : Bool) (x y : Buffer) → statements_code schema part loops false b x ≡ Ok (d, y) → IsSound x → AgreesHere y → GoesHere x y d)
+        → (br : Branches schema part loops first (otherwise b) s t now) → (Has code br.guard.behind → Guides schema sf part code no_loops s br.inner br.exits br.guard) → GoesHere s t now
+    both_go b more second br guides = by_end (branches_else schema part loops first b s t now br)
+      where
+        by_end : (let w = behind_first schema part loops first (otherwise b) s t now br in
+            ((br.blocks.ended ≡ true) × ElseEnded schema part loops (mark_of br.guard.tested.scope) (length br.guard.behind.ops) (length br.guard.es) b w t now)
+            ⊎ ((br.blocks.ended ≡ false) × ElseOn schema part loops (mark_of br.guard.tested.scope) (length br.guard.behind.ops) (length br.guard.es) b w t now)) → GoesHere s t now
+        by_end (inl (e, el)) =
+            let blocks = br.blocks in
+            ended_goes schema sf part code no_loops s br.inner blocks.end br.exits br.guard guides (lays blocks.ended br.inner blocks.end blocks.block_is) loops b t now sound agrees el (more now el.inner el.end el.block_is)
+            (λ a c. subst (λ d. GoesHere br.inner blocks.end d) e (goes blocks.ended br.inner blocks.end blocks.block_is a c)) (second now el.inner el.end el.block_is)
+        by_end (inr (e, el)) =
+            let blocks = br.blocks in
+            on_goes schema sf part code no_loops s br.inner blocks.end br.exits br.guard guides (lays blocks.ended br.inner blocks.end blocks.block_is) loops b t now sound agrees el (more el.ended el.inner el.end el.block_is)
+            (λ a c. subst (λ d. GoesHere br.inner blocks.end d) e (goes blocks.ended br.inner blocks.end blocks.block_is a c)) (second el.ended el.inner el.end el.block_is)
 
   mutual
-    unfolding statements_code statement_code
+    unfolding statements_code statement_code if_branches with_branches
 
-    pub block_goes : (b : BlockTree) (loops : ℕ) (was now : Bool) (s t : Buffer) → is_branched b ≡ true → statements_code schema part loops was b s ≡ Ok (now, t) → IsSound s → AgreesHere t → Block was now s t
+    pub block_goes : (b : BlockTree) (loops : ℕ) (was now : Bool) (s t : Buffer) → is_loopless b ≡ true → statements_code schema part loops was b s ≡ Ok (now, t) → IsSound s → AgreesHere t → Block was now s t
     block_goes no_statement loops true now s t ok h sound agrees = let same = pair_ok true now s t h in (same.1, sym same.0)
     block_goes no_statement loops false now s t ok h sound agrees = let same = pair_ok false now s t h in subst (λ b. GoesHere s t b) same.0 (goes_none s t same.1 sound)
     block_goes (before_others place x others) loops true now s t ok h sound agrees =
         let here = after_end true s in
         let one = bind_ok (statement_code schema part loops place x here) (λ p. statements_code schema part loops (true || p.0) others p.1) (now, t) h in
-        never_noted NoEnd s (statement_lays schema part x loops place one.0.0 here one.0.1 (and_first (is_branched_statement x) (is_branched others) ok) one.1).clean
+        never_noted NoEnd s (statement_lays schema part x loops place one.0.0 here one.0.1 (and_first (is_loopless_statement x) (is_loopless others) ok) one.1).clean
     block_goes (before_others place x others) loops false now s t ok h sound agrees =
         let one = bind_ok (statement_code schema part loops place x s) (λ p. statements_code schema part loops (false || p.0) others p.1) (now, t) h in
-        let own_ok = and_first (is_branched_statement x) (is_branched others) ok in
-        let rest_ok = and_second (is_branched_statement x) (is_branched others) ok in
+        let own_ok = and_first (is_loopless_statement x) (is_loopless others) ok in
+        let rest_ok = and_second (is_loopless_statement x) (is_loopless others) ok in
         let behind = block_lays schema part others loops one.0.0 now one.0.1 t rest_ok one.2 in
         let agrees_here = agrees_before schema sf part code no_loops one.0.1 t behind.grown behind.locals (λ p lt. behind.marks p (omega (arith, lt)) (let count = count_of one.0.1 t behind.grown in omega (arith, lt, count))) agrees in
         let first = statement_goes x loops place one.0.0 s one.0.1 own_ok one.1 sound agrees_here in
         joined one.0.0 now s one.0.1 t first (block_goes others loops one.0.0 now one.0.1 t rest_ok one.2 first.sound agrees)
 
-    statement_goes : (x : StatementTree) (loops : ℕ) (place : Place) (now : Bool) (s t : Buffer) → is_branched_statement x ≡ true → statement_code schema part loops place x s ≡ Ok (now, t) → IsSound s → AgreesHere t → GoesHere s t now
+    statement_goes : (x : StatementTree) (loops : ℕ) (place : Place) (now : Bool) (s t : Buffer) → is_loopless_statement x ≡ true → statement_code schema part loops place x s ≡ Ok (now, t) → IsSound s → AgreesHere t → GoesHere s t now
     statement_goes (action a) loops place now s t ok h sound agrees =
         let is = stated schema part place a s t now h in
         subst (λ e. GoesHere s t e) is.now_is (action_goes schema sf part code no_loops small (ends a) s t (action_does schema sf part code small a s t is.code_is is.clean agrees.has) sound agrees)
     statement_goes (if_of test first absent) loops place now s t ok h sound agrees =
-        let p = if_absent schema part loops place test first s t now h in
-        let laid = p.0 in
-        let blocks = laid.blocks in
-        let own_ok = and_first (is_branched first) true ok in
-        let lays = block_lays schema part first loops false blocks.ended laid.inner blocks.end own_ok blocks.block_is in
-        absent_goes schema sf part code no_loops small test s laid.inner blocks.end laid.exits laid.test_is lays t blocks.ended now p.1 sound agrees
-        (λ sound agrees. block_goes first loops false blocks.ended laid.inner blocks.end own_ok blocks.block_is sound agrees)
+        let laid = if_laid schema part loops place test first absent s t now h in
+        let own_ok = and_first (is_loopless first) true ok in
+        one_goes loops first s t now sound agrees (λ e x y is. block_lays schema part first loops false e x y own_ok is) (λ e x y is sound agrees. block_goes first loops false e x y own_ok is sound agrees)
+        (if_branches schema part loops test first absent s t now laid) (λ has. test_guides schema sf part code no_loops small test s laid.inner laid.exits laid.test_is has)
     statement_goes (if_of test first (otherwise b)) loops place now s t ok h sound agrees =
-        let p = if_else schema part loops place test first s t now b h in
-        let laid = p.0 in
-        let blocks = laid.blocks in
-        let own_ok = and_first (is_branched first) (is_branched b) ok in
-        let rest_ok = and_second (is_branched first) (is_branched b) ok in
-        let lays = block_lays schema part first loops false blocks.ended laid.inner blocks.end own_ok blocks.block_is in
-        by_end test first b loops s t now laid.inner blocks.end laid.exits laid.test_is lays blocks.ended sound agrees (λ sound agrees. block_goes first loops false blocks.ended laid.inner blocks.end own_ok blocks.block_is sound agrees)
-        (λ d x y is. block_lays schema part b loops false d x y rest_ok is) (λ d x y is sound agrees. block_goes b loops false d x y rest_ok is sound agrees) p.1
-    statement_goes (with_of binding first other) loops place now s t ok h sound agrees = absurd cc
+        let laid = if_laid schema part loops place test first (otherwise b) s t now h in
+        let own_ok = and_first (is_loopless first) (is_loopless b) ok in
+        let rest_ok = and_second (is_loopless first) (is_loopless b) ok in
+        both_go loops first s t now sound agrees (λ e x y is. block_lays schema part first loops false e x y own_ok is) (λ e x y is sound agrees. block_goes first loops false e x y own_ok is sound agrees) b
+        (λ d x y is. block_lays schema part b loops false d x y rest_ok is) (λ d x y is sound agrees. block_goes b loops false d x y rest_ok is sound agrees)
+        (if_branches schema part loops test first (otherwise b) s t now laid) (λ has. test_guides schema sf part code no_loops small test s laid.inner laid.exits laid.test_is has)
+    statement_goes (with_of binding first absent) loops place now s t ok h sound agrees =
+        let laid = with_laid schema part loops place binding first absent s t now h in
+        let head = binding_laid schema binding place s laid.inner laid.exits laid.test_is in
+        let own_ok = and_first (is_loopless first) true ok in
+        one_goes loops first s t now sound agrees (λ e x y is. block_lays schema part first loops false e x y own_ok is) (λ e x y is sound agrees. block_goes first loops false e x y own_ok is sound agrees)
+        (with_branches schema part loops binding place first absent s t now laid) (λ has. head_guides schema sf part code no_loops small binding s laid.inner laid.exits head.0 head.1)
+    statement_goes (with_of binding first (otherwise b)) loops place now s t ok h sound agrees =
+        let laid = with_laid schema part loops place binding first (otherwise b) s t now h in
+        let head = binding_laid schema binding place s laid.inner laid.exits laid.test_is in
+        let own_ok = and_first (is_loopless first) (is_loopless b) ok in
+        let rest_ok = and_second (is_loopless first) (is_loopless b) ok in
+        both_go loops first s t now sound agrees (λ e x y is. block_lays schema part first loops false e x y own_ok is) (λ e x y is sound agrees. block_goes first loops false e x y own_ok is sound agrees) b
+        (λ d x y is. block_lays schema part b loops false d x y rest_ok is) (λ d x y is sound agrees. block_goes b loops false d x y rest_ok is sound agrees)
+        (with_branches schema part loops binding place first (otherwise b) s t now laid) (λ has. head_guides schema sf part code no_loops small binding s laid.inner laid.exits head.0 head.1)
     statement_goes (for_of name sequence body) loops place now s t ok h sound agrees = absurd cc

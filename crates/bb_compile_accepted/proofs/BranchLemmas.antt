@@ -1,19 +1,16 @@
--- What an `if` lays out, taken from what the compiler answers: its test, its blocks, and the jumps around them, which are
--- aimed after they were put.
-use Rattle.std.proofs.Common.{◌≡◌, ◌⊎◌, inl, inr, ℕ, zero, suc, Bool, true, false, cond, ◌&&◌, List, [], ◌∷◌, ◌++◌, length, Option, Some, None, Ok, refl, subst, sym, ap, ◌∙◌, append_assoc}
-use Rattle.std.specs.Prelude.{slice_get}
-use Rattle.std.proofs.Math.Seq.{set-append_seam}
+-- What an `if` and a `with` lay out, taken from what the compiler answers: the test, the blocks, and the jumps around them,
+-- which are aimed after they were put.
+use Rattle.std.proofs.Common.{◌≡◌, ◌⊎◌, inl, inr, ℕ, Bool, true, false, cond, ◌&&◌, List, length, Option, Some, None, Ok, refl, subst, sym, ap, ◌∙◌}
 use Rattle.bb_basis.specs.Results.{◌>>=◌}
 use Rattle.bb_basis.proofs.ResultLemmas.{bind_ok}
-use Rattle.bb_code.specs.Code.{Code}
 use Rattle.bb_code.specs.Limits.{STACK_LIMIT}
 use Rattle.bb_verify_frame.specs.declared.part.Part.{Part}
 use Rattle.bb_verify_frame.specs.Kind.{Kind}
 use Rattle.bb_verify_frame.specs.Kind.TheVariants.{Bool as Truth}
-use Rattle.bb_verify_frame.specs.Op.{Op}
 use Rattle.bb_verify_frame.specs.Op.TheVariants as ops
 use Rattle.bb_verify_frame.specs.Schema.{Schema}
-use Rattle.bb_lang.specs.Blocks.{BlockTree, OtherwiseTree, if_of, absent, otherwise}
+use Rattle.bb_lang.specs.Binding.{Binding}
+use Rattle.bb_lang.specs.Blocks.{BlockTree, OtherwiseTree, if_of, with_of, absent, otherwise}
 use Rattle.bb_lang.specs.Trees.{ExprTree}
 use Rattle.bb_compile_scope.specs.Place.{Place}
 use Rattle.bb_compile_scope.specs.declared.fault.TextFlaw.{TextFlaw}
@@ -21,49 +18,20 @@ use Rattle.bb_compile_scope.specs.declared.scope.Mark.{Mark}
 use Rattle.bb_compile_scope.specs.LocalKinds.{kinds_met}
 use Rattle.bb_compile_scope.specs.Scope.{mark_of, back_to}
 use Rattle.bb_compile_buffer.specs.declared.buffer.Buffer.{Buffer}
-use Rattle.bb_compile_buffer.specs.Buffers.{due, settled, refused_at, put, aimed, with_aimed, aimed_at, aim, kept, labelled, with_kinds, leave, met}
+use Rattle.bb_compile_buffer.specs.Buffers.{due, settled, refused_at, put, aim, kept, labelled, with_kinds, leave, met}
 use Rattle.bb_compile_buffer.specs.Operations.{Made}
 use Rattle.bb_compile_emit.specs.declared.branches.Branch.{Branch}
 use Rattle.bb_compile_emit.specs.declared.exits.Exits.{Exits}
-use Rattle.bb_compile_emit.specs.Bindings.{one_exit}
+use Rattle.bb_compile_emit.specs.Bindings.{one_exit, exits_aimed}
 use Rattle.bb_compile_emit.specs.Expressions.{expr_code}
-use Rattle.bb_compile_emit.specs.Statements.{if_code, left, else_begun, else_ended, if_ended, statement_code, otherwise_code, statements_code}
-use Rattle.bb_compile_accepted.proofs.BufferLemmas.{Clean, Grown, Has, is_open, with_op, is_due, put_ok, seam}
+use Rattle.bb_compile_emit.specs.Statements.{if_code, with_code, left, else_begun, else_ended, if_ended, statement_code, otherwise_code, statements_code}
+use Rattle.bb_compile_accepted.proofs.BufferLemmas.{Clean, with_op, is_due, put_ok}
 use Rattle.bb_compile_accepted.proofs.PutLemmas.{pair_ok, clean_before}
+use Rattle.bb_compile_accepted.proofs.AimLemmas.{aims_on}
 
 pub settled_clean : (place : Place) (o : Option TextFlaw) (u : Unit {0}) → refused_at place o ≡ Ok u → o ≡ None
 settled_clean place None u h = refl
 settled_clean place (Some flaw) u h = absurd cc
-
--- ---- an op that is aimed
-
-pub aimed_seam : (xs ys : List Op) (op : Op) → aimed_at (length xs) (xs ++ op ∷ ys) ≡ xs ++ aimed op (length (xs ++ op ∷ ys)) ∷ ys
-aimed_seam xs ys op =
-    ap (with_aimed (xs ++ op ∷ ys) (length xs)) (seam xs ys op) ∙ set-append_seam xs op ys (aimed op (length (xs ++ op ∷ ys)))
-
--- where an open op is aimed and others come behind, each op that is not open stays at its place
-pub closed_stays : (xs ys zs : List Op) (o p : Op) (i : ℕ) (op : Op) → is_open o ≡ true → slice_get (xs ++ o ∷ ys) i ≡ Some op → is_open op ≡ false → slice_get (xs ++ p ∷ (ys ++ zs)) i ≡ Some op
-closed_stays [] ys zs o p zero op opens at closed = absurd (let e : o ≡ op = cc in let no : true ≡ false = sym opens ∙ (ap is_open e ∙ closed) in cc)
-closed_stays [] [] zs o p (suc i) op opens at closed = absurd cc
-closed_stays [] (y ∷ ys) zs o p (suc zero) op opens at closed = at
-closed_stays [] (y ∷ ys) zs o p (suc (suc i)) op opens at closed = stays ys i at
-  where
-    stays : (ys : List Op) (i : ℕ) → slice_get ys i ≡ Some op → slice_get (ys ++ zs) i ≡ Some op
-    stays [] i at = absurd cc
-    stays (y ∷ ys) zero at = at
-    stays (y ∷ ys) (suc i) at = stays ys i at
-closed_stays (x ∷ xs) ys zs o p zero op opens at closed = at
-closed_stays (x ∷ xs) ys zs o p (suc i) op opens at closed = closed_stays xs ys zs o p i op opens at closed
-
--- a code has what a buffer has, where one of the buffer's ops is aimed later
-pub has_aimed : (code : Code) (v t : Buffer) (xs ys zs : List Op) (o p : Op) → is_open o ≡ true → v.ops ≡ xs ++ o ∷ ys → t.ops ≡ xs ++ p ∷ (ys ++ zs) → Grown v (record t { ops = v.ops }) → Has code t → Has code v
-has_aimed code v t xs ys zs o p opens was is g h = record {
-  ops = λ i op at closed. h.ops i op (ap (λ l. slice_get l i) is ∙ closed_stays xs ys zs o p i op opens (ap (λ l. slice_get l i) (sym was) ∙ at) closed) closed;
-  texts = g.texts ++ h.texts;
-  texts_are = h.texts_are ∙ (ap (λ l. l ++ h.texts) g.texts_are ∙ append_assoc v.texts g.texts h.texts);
-  queries = g.queries ++ h.queries;
-  queries_are = h.queries_are ∙ (ap (λ l. l ++ h.queries) g.queries_are ∙ append_assoc v.queries g.queries h.queries);
-}
 
 -- ---- the test of an `if`
 
@@ -114,29 +82,42 @@ module _ (schema : Schema) (part : Part) (loops : ℕ) where
     pub test_is : TestLaid schema test s inner exits
     pub blocks : BlocksLaid (mark_of inner.scope) exits first other inner t now
 
+  -- behind the name that a `with` declares
+  pub record WithLaid (binding : Binding) (place : Place) (first : BlockTree) (other : OtherwiseTree) (s t : Buffer) (now : Bool) : Type 0 where
+    pub exits : Exits
+    pub inner : Buffer
+    pub test_is : with_code schema binding place s ≡ Ok (exits, inner)
+    pub blocks : BlocksLaid (mark_of s.scope) exits first other inner t now
+
+  -- the blocks behind a test, before which the scope had this mark
+  blocks_laid : (before : Mark) (exits : Exits) (first : BlockTree) (other : OtherwiseTree) (u t : Buffer) (now : Bool)
+      → ((statements_code schema part loops false first u >>= left (mark_of u.scope)) >>= λ q. otherwise_code schema part loops (record { before = before; exits = exits; ended = q.0 }) other (leave before q.1)) ≡ Ok (now, t)
+      → BlocksLaid before exits first other u t now
+  blocks_laid before exits first other u t now h =
+      let two = bind_ok (statements_code schema part loops false first u >>= left (mark_of u.scope)) (λ q. otherwise_code schema part loops (record { before = before; exits = exits; ended = q.0 }) other (leave before q.1)) (now, t) h in
+      let three = bind_ok (statements_code schema part loops false first u) (left (mark_of u.scope)) two.0 two.1 in
+      let same = pair_ok three.0.0 two.0.0 (leave (mark_of u.scope) three.0.1) two.0.1 three.2 in
+      record {
+        ended = three.0.0;
+        end = three.0.1;
+        block_is = three.1;
+        rest = ap (λ w. otherwise_code schema part loops (record { before = before; exits = exits; ended = three.0.0 }) other (leave before w)) same.1
+            ∙ (ap (λ e. otherwise_code schema part loops (record { before = before; exits = exits; ended = e }) other (leave before two.0.1)) same.0 ∙ two.2);
+      }
+
   pub if_laid : (place : Place) (test : ExprTree) (first : BlockTree) (other : OtherwiseTree) (s t : Buffer) (now : Bool) → statement_code schema part loops place (if_of test first other) s ≡ Ok (now, t) → IfLaid test first other s t now
   unfolding statement_code
   if_laid place test first other s t now h =
       let one = bind_ok (if_code schema test place s)
       (λ p. (statements_code schema part loops false first p.1 >>= left (mark_of p.1.scope)) >>= λ q. otherwise_code schema part loops (record { before = mark_of p.1.scope; exits = p.0; ended = q.0 }) other (leave (mark_of p.1.scope) q.1)) (now, t) h in
-      let exits = one.0.0 in
-      let u = one.0.1 in
-      let two = bind_ok (statements_code schema part loops false first u >>= left (mark_of u.scope))
-      (λ q. otherwise_code schema part loops (record { before = mark_of u.scope; exits = exits; ended = q.0 }) other (leave (mark_of u.scope) q.1)) (now, t) one.2 in
-      let three = bind_ok (statements_code schema part loops false first u) (left (mark_of u.scope)) two.0 two.1 in
-      let same = pair_ok three.0.0 two.0.0 (leave (mark_of u.scope) three.0.1) two.0.1 three.2 in
-      record {
-        exits = exits;
-        inner = u;
-        test_is = test_laid schema test place s u exits one.1;
-        blocks = record {
-          ended = three.0.0;
-          end = three.0.1;
-          block_is = three.1;
-          rest = ap (λ w. otherwise_code schema part loops (record { before = mark_of u.scope; exits = exits; ended = three.0.0 }) other (leave (mark_of u.scope) w)) same.1
-              ∙ (ap (λ e. otherwise_code schema part loops (record { before = mark_of u.scope; exits = exits; ended = e }) other (leave (mark_of u.scope) two.0.1)) same.0 ∙ two.2);
-        };
-      }
+      record { exits = one.0.0; inner = one.0.1; test_is = test_laid schema test place s one.0.1 one.0.0 one.1; blocks = blocks_laid (mark_of one.0.1.scope) one.0.0 first other one.0.1 t now one.2 }
+
+  pub with_laid : (place : Place) (binding : Binding) (first : BlockTree) (other : OtherwiseTree) (s t : Buffer) (now : Bool) → statement_code schema part loops place (with_of binding first other) s ≡ Ok (now, t) → WithLaid binding place first other s t now
+  unfolding statement_code
+  with_laid place binding first other s t now h =
+      let one = bind_ok (with_code schema binding place s)
+      (λ p. (statements_code schema part loops false first p.1 >>= left (mark_of p.1.scope)) >>= λ q. otherwise_code schema part loops (record { before = mark_of s.scope; exits = p.0; ended = q.0 }) other (leave (mark_of s.scope) q.1)) (now, t) h in
+      record { exits = one.0.0; inner = one.0.1; test_is = one.1; blocks = blocks_laid (mark_of s.scope) one.0.0 first other one.0.1 t now one.2 }
 
 -- ---- what is laid out last
 
@@ -149,14 +130,18 @@ pub record Alike (s t : Buffer) : Type 0 where
   pub locals : t.locals ≡ s.locals
   pub flaw : t.flaw ≡ s.flaw
 
--- one exit, without `else`: the exit goes to the end
-pub record AbsentLaid (before : Mark) (at : ℕ) (ended : Bool) (w t : Buffer) (now : Bool) : Type 0 where
+-- ops from a place on are the exits of a test
+abbrev pub AreExits : Exits → (at count : ℕ) → Type 0
+AreExits exits at count = (w : Buffer) → exits_aimed exits w ≡ aims_on at count w
+
+-- without `else` the exits go to the end
+pub record AbsentLaid (before : Mark) (at count : ℕ) (ended : Bool) (w t : Buffer) (now : Bool) : Type 0 where
   pub now_is : now ≡ false
-  pub alike : Alike (aim at w) t
+  pub alike : Alike (aims_on at count w) t
   pub names : t.scope.names ≡ w.scope.names
   pub kinds : t.scope.kinds ≡ cond ended before.kinds (kinds_met before.kinds w.scope.kinds)
-  pub labels : t.labels ≡ kept w.labels w.last (length (aim at w).ops)
-  pub last : t.last ≡ Some (record { place = length (aim at w).ops; kinds = t.scope.kinds })
+  pub labels : t.labels ≡ kept w.labels w.last (length (aims_on at count w).ops)
+  pub last : t.last ≡ Some (record { place = length (aims_on at count w).ops; kinds = t.scope.kinds })
 
 -- an `else`, before it is known whether the first block ended
 pub record ElseLaid (schema : Schema) (part : Part) (loops : ℕ) (branch : Branch) (b : BlockTree) (w t : Buffer) (now : Bool) : Type 0 where
@@ -170,15 +155,16 @@ pub record ElseLaid (schema : Schema) (part : Part) (loops : ℕ) (branch : Bran
   pub is : t ≡ else_ended branch jump w.scope.kinds ended (leave (mark_of inner.scope) end)
 
 module _ (schema : Schema) (part : Part) (loops : ℕ) where
-  pub absent_laid : (before : Mark) (at : ℕ) (ended : Bool) (w t : Buffer) (now : Bool) → otherwise_code schema part loops (record { before = before; exits = one_exit at; ended = ended }) absent w ≡ Ok (now, t) → AbsentLaid before at ended w t now
+  pub absent_laid : (before : Mark) (exits : Exits) (at count : ℕ) → AreExits exits at count → (ended : Bool) (w t : Buffer) (now : Bool) → otherwise_code schema part loops (record { before = before; exits = exits; ended = ended }) absent w ≡ Ok (now, t)
+      → AbsentLaid before at count ended w t now
   unfolding otherwise_code if_ended met labelled
-  absent_laid before at true w t now h =
-      let same = pair_ok false now (labelled (with_kinds before.kinds (aim at w))) t h in
-      subst (λ x. AbsentLaid before at true w x now) same.1
+  absent_laid before exits at count are true w t now h =
+      let same = pair_ok false now (labelled (with_kinds before.kinds (exits_aimed exits w))) t h in
+      subst (λ x. AbsentLaid before at count true w x now) (ap (λ x. labelled (with_kinds before.kinds x)) (sym (are w)) ∙ same.1)
       (record { now_is = sym same.0; alike = record { ops = refl; texts = refl; queries = refl; loops = refl; locals = refl; flaw = refl }; names = refl; kinds = refl; labels = refl; last = refl })
-  absent_laid before at false w t now h =
-      let same = pair_ok false now (labelled (with_kinds (kinds_met before.kinds w.scope.kinds) (aim at w))) t h in
-      subst (λ x. AbsentLaid before at false w x now) same.1
+  absent_laid before exits at count are false w t now h =
+      let same = pair_ok false now (labelled (with_kinds (kinds_met before.kinds (exits_aimed exits w).scope.kinds) (exits_aimed exits w))) t h in
+      subst (λ x. AbsentLaid before at count false w x now) (ap (λ (x : Buffer). labelled (with_kinds (kinds_met before.kinds x.scope.kinds) x)) (sym (are w)) ∙ same.1)
       (record { now_is = sym same.0; alike = record { ops = refl; texts = refl; queries = refl; loops = refl; locals = refl; flaw = refl }; names = refl; kinds = refl; labels = refl; last = refl })
 
   pub else_laid : (branch : Branch) (b : BlockTree) (w t : Buffer) (now : Bool) → otherwise_code schema part loops branch (otherwise b) w ≡ Ok (now, t) → ElseLaid schema part loops branch b w t now
@@ -201,11 +187,11 @@ module _ (schema : Schema) (part : Part) (loops : ℕ) where
         is = sym same.1 ∙ (ap (λ e. else_ended branch one.0.0 w.scope.kinds e two.0.1) (sym left_is.0) ∙ ap (else_ended branch one.0.0 w.scope.kinds three.0.0) (sym left_is.1));
       }
 
--- an `else` after a block that ended: it begins where the exit goes
-pub record ElseEnded (schema : Schema) (part : Part) (loops : ℕ) (before : Mark) (at : ℕ) (b : BlockTree) (w t : Buffer) (now : Bool) : Type 0 where
+-- an `else` after a block that ended: it begins where the exits go
+pub record ElseEnded (schema : Schema) (part : Part) (loops : ℕ) (before : Mark) (at count : ℕ) (b : BlockTree) (w t : Buffer) (now : Bool) : Type 0 where
   pub inner : Buffer
   pub end : Buffer
-  pub begun : Alike (aim at w) inner
+  pub begun : Alike (aims_on at count w) inner
   pub names : inner.scope.names ≡ w.scope.names
   pub kinds : inner.scope.kinds ≡ before.kinds
   pub labels : inner.labels ≡ kept w.labels w.last (length inner.ops)
@@ -218,11 +204,11 @@ pub record ElseEnded (schema : Schema) (part : Part) (loops : ℕ) (before : Mar
   pub last_after : t.last ≡ end.last
 
 -- and after one that goes on: a jump over it comes first
-pub record ElseOn (schema : Schema) (part : Part) (loops : ℕ) (before : Mark) (at : ℕ) (b : BlockTree) (w t : Buffer) (now : Bool) : Type 0 where
+pub record ElseOn (schema : Schema) (part : Part) (loops : ℕ) (before : Mark) (at count : ℕ) (b : BlockTree) (w t : Buffer) (now : Bool) : Type 0 where
   pub inner : Buffer
   pub ended : Bool
   pub end : Buffer
-  pub begun : Alike (aim at (with_op (ops.Jump 0) w)) inner
+  pub begun : Alike (aims_on at count (with_op (ops.Jump 0) w)) inner
   pub names : inner.scope.names ≡ w.scope.names
   pub kinds : inner.scope.kinds ≡ before.kinds
   pub labels : inner.labels ≡ kept w.labels w.last (length inner.ops)
@@ -243,19 +229,19 @@ labelled_as kinds s x is =
     subst (λ (y : Buffer). Alike s y × (y.scope.names ≡ s.scope.names) × (y.scope.kinds ≡ kinds) × (y.labels ≡ kept s.labels s.last (length y.ops)) × (y.last ≡ Some (record { place = length y.ops; kinds = y.scope.kinds }))) (sym is)
     (record { ops = refl; texts = refl; queries = refl; loops = refl; locals = refl; flaw = refl }, refl, refl, refl, refl)
 
-module _ (schema : Schema) (part : Part) (loops : ℕ) (before : Mark) (at : ℕ) (b : BlockTree) where
-  ended_by : (jump : ℕ) (w inner end t : Buffer) (d now : Bool) → else_begun (record { before = before; exits = one_exit at; ended = true }) w ≡ Ok (jump, inner) → statements_code schema part loops false b inner ≡ Ok (d, end) → now ≡ d
-      → t ≡ else_ended (record { before = before; exits = one_exit at; ended = true }) jump w.scope.kinds d (leave (mark_of inner.scope) end) → ElseEnded schema part loops before at b w t now
+module _ (schema : Schema) (part : Part) (loops : ℕ) (before : Mark) (exits : Exits) (at count : ℕ) (are : AreExits exits at count) (b : BlockTree) where
+  ended_by : (jump : ℕ) (w inner end t : Buffer) (d now : Bool) → else_begun (record { before = before; exits = exits; ended = true }) w ≡ Ok (jump, inner) → statements_code schema part loops false b inner ≡ Ok (d, end) → now ≡ d
+      → t ≡ else_ended (record { before = before; exits = exits; ended = true }) jump w.scope.kinds d (leave (mark_of inner.scope) end) → ElseEnded schema part loops before at count b w t now
   unfolding else_begun else_ended met
   ended_by jump w inner end t d now begun block now_is is =
-      subst (λ x. ElseEnded schema part loops before at b w x now) (sym is) (subst (λ n. ElseEnded schema part loops before at b w (met d w.scope.kinds true (leave (mark_of inner.scope) end)) n) (sym now_is) (by_end d block))
+      subst (λ x. ElseEnded schema part loops before at count b w x now) (sym is) (subst (λ n. ElseEnded schema part loops before at count b w (met d w.scope.kinds true (leave (mark_of inner.scope) end)) n) (sym now_is) (by_end d block))
     where
-      begin_is : inner ≡ labelled (with_kinds before.kinds (aim at w))
-      begin_is = sym (pair_ok (length w.ops) jump (labelled (with_kinds before.kinds (aim at w))) inner begun).1
+      begin_is : inner ≡ labelled (with_kinds before.kinds (aims_on at count w))
+      begin_is = sym (pair_ok (length w.ops) jump (labelled (with_kinds before.kinds (exits_aimed exits w))) inner begun).1 ∙ ap (λ x. labelled (with_kinds before.kinds x)) (are w)
 
-      by_end : (d : Bool) → statements_code schema part loops false b inner ≡ Ok (d, end) → ElseEnded schema part loops before at b w (met d w.scope.kinds true (leave (mark_of inner.scope) end)) d
+      by_end : (d : Bool) → statements_code schema part loops false b inner ≡ Ok (d, end) → ElseEnded schema part loops before at count b w (met d w.scope.kinds true (leave (mark_of inner.scope) end)) d
       by_end true block =
-          let first = labelled_as before.kinds (aim at w) inner begin_is in
+          let first = labelled_as before.kinds (aims_on at count w) inner begin_is in
           record {
             inner = inner;
             end = end;
@@ -272,7 +258,7 @@ module _ (schema : Schema) (part : Part) (loops : ℕ) (before : Mark) (at : ℕ
             last_after = refl;
           }
       by_end false block =
-          let first = labelled_as before.kinds (aim at w) inner begin_is in
+          let first = labelled_as before.kinds (aims_on at count w) inner begin_is in
           record {
             inner = inner;
             end = end;
@@ -289,20 +275,21 @@ module _ (schema : Schema) (part : Part) (loops : ℕ) (before : Mark) (at : ℕ
             last_after = refl;
           }
 
-  on_by : (jump : ℕ) (w inner end t : Buffer) (d now : Bool) → else_begun (record { before = before; exits = one_exit at; ended = false }) w ≡ Ok (jump, inner) → statements_code schema part loops false b inner ≡ Ok (d, end) → now ≡ false
-      → t ≡ else_ended (record { before = before; exits = one_exit at; ended = false }) jump w.scope.kinds d (leave (mark_of inner.scope) end) → ElseOn schema part loops before at b w t now
+  on_by : (jump : ℕ) (w inner end t : Buffer) (d now : Bool) → else_begun (record { before = before; exits = exits; ended = false }) w ≡ Ok (jump, inner) → statements_code schema part loops false b inner ≡ Ok (d, end) → now ≡ false
+      → t ≡ else_ended (record { before = before; exits = exits; ended = false }) jump w.scope.kinds d (leave (mark_of inner.scope) end) → ElseOn schema part loops before at count b w t now
   unfolding else_begun else_ended met labelled
   on_by jump w inner end t d now begun block now_is is =
-      let one = bind_ok (put (ops.Jump 0) w) (λ p. Ok (length w.ops, labelled (with_kinds before.kinds (aim at p)))) (jump, inner) begun in
+      let one = bind_ok (put (ops.Jump 0) w) (λ p. Ok (length w.ops, labelled (with_kinds before.kinds (exits_aimed exits p)))) (jump, inner) begun in
       let put_is = put_ok (ops.Jump 0) w one.0 one.1 in
-      let same = pair_ok (length w.ops) jump (labelled (with_kinds before.kinds (aim at one.0))) inner one.2 in
-      let begin_is : inner ≡ labelled (with_kinds before.kinds (aim at (with_op (ops.Jump 0) w))) = sym same.1 ∙ ap (λ p. labelled (with_kinds before.kinds (aim at p))) put_is in
-      subst (λ x. ElseOn schema part loops before at b w x now) (sym (is ∙ ap (λ n. labelled (aim n (met d w.scope.kinds false (leave (mark_of inner.scope) end)))) (sym same.0)))
-      (by_end d block (labelled_as before.kinds (aim at (with_op (ops.Jump 0) w)) inner begin_is))
+      let same = pair_ok (length w.ops) jump (labelled (with_kinds before.kinds (exits_aimed exits one.0))) inner one.2 in
+      let begin_is : inner ≡ labelled (with_kinds before.kinds (aims_on at count (with_op (ops.Jump 0) w))) =
+      sym same.1 ∙ (ap (λ p. labelled (with_kinds before.kinds (exits_aimed exits p))) put_is ∙ ap (λ x. labelled (with_kinds before.kinds x)) (are (with_op (ops.Jump 0) w))) in
+      subst (λ x. ElseOn schema part loops before at count b w x now) (sym (is ∙ ap (λ n. labelled (aim n (met d w.scope.kinds false (leave (mark_of inner.scope) end)))) (sym same.0)))
+      (by_end d block (labelled_as before.kinds (aims_on at count (with_op (ops.Jump 0) w)) inner begin_is))
     where
       by_end : (d : Bool) → statements_code schema part loops false b inner ≡ Ok (d, end)
-          → (let from = aim at (with_op (ops.Jump 0) w) in Alike from inner × (inner.scope.names ≡ from.scope.names) × (inner.scope.kinds ≡ before.kinds) × (inner.labels ≡ kept from.labels from.last (length inner.ops)) × (inner.last ≡ Some (record { place = length inner.ops; kinds = inner.scope.kinds })))
-          → ElseOn schema part loops before at b w (labelled (aim (length w.ops) (met d w.scope.kinds false (leave (mark_of inner.scope) end)))) now
+          → (let from = aims_on at count (with_op (ops.Jump 0) w) in Alike from inner × (inner.scope.names ≡ from.scope.names) × (inner.scope.kinds ≡ before.kinds) × (inner.labels ≡ kept from.labels from.last (length inner.ops)) × (inner.last ≡ Some (record { place = length inner.ops; kinds = inner.scope.kinds })))
+          → ElseOn schema part loops before at count b w (labelled (aim (length w.ops) (met d w.scope.kinds false (leave (mark_of inner.scope) end)))) now
       by_end true block first = record {
         inner = inner;
         ended = true;
@@ -339,40 +326,11 @@ module _ (schema : Schema) (part : Part) (loops : ℕ) (before : Mark) (at : ℕ
       }
 
   -- an `else`, by whether the first block ended
-  pub else_by : (ended : Bool) (w t : Buffer) (now : Bool) → otherwise_code schema part loops (record { before = before; exits = one_exit at; ended = ended }) (otherwise b) w ≡ Ok (now, t)
-      → ((ended ≡ true) × ElseEnded schema part loops before at b w t now) ⊎ ((ended ≡ false) × ElseOn schema part loops before at b w t now)
+  pub else_by : (ended : Bool) (w t : Buffer) (now : Bool) → otherwise_code schema part loops (record { before = before; exits = exits; ended = ended }) (otherwise b) w ≡ Ok (now, t)
+      → ((ended ≡ true) × ElseEnded schema part loops before at count b w t now) ⊎ ((ended ≡ false) × ElseOn schema part loops before at count b w t now)
   else_by true w t now h =
-      let laid = else_laid schema part loops (record { before = before; exits = one_exit at; ended = true }) b w t now h in
+      let laid = else_laid schema part loops (record { before = before; exits = exits; ended = true }) b w t now h in
       inl (refl, ended_by laid.jump w laid.inner laid.end t laid.ended now laid.begun laid.block_is laid.now_is laid.is)
   else_by false w t now h =
-      let laid = else_laid schema part loops (record { before = before; exits = one_exit at; ended = false }) b w t now h in
+      let laid = else_laid schema part loops (record { before = before; exits = exits; ended = false }) b w t now h in
       inr (refl, on_by laid.jump w laid.inner laid.end t laid.ended now laid.begun laid.block_is laid.now_is laid.is)
-
--- ---- an `if`
-
-module _ (schema : Schema) (part : Part) (loops : ℕ) (place : Place) (test : ExprTree) (first : BlockTree) (s t : Buffer) (now : Bool) where
-  -- the buffer behind the first block, where its names are forgotten
-  abbrev pub behind_first : {other : OtherwiseTree} → IfLaid schema part loops test first other s t now → Buffer
-  behind_first laid = leave (mark_of laid.inner.scope) (leave (mark_of laid.inner.scope) laid.blocks.end)
-
-  pub if_absent : statement_code schema part loops place (if_of test first absent) s ≡ Ok (now, t)
-      → (laid : IfLaid schema part loops test first absent s t now) × AbsentLaid (mark_of laid.inner.scope) (length laid.test_is.behind.ops) laid.blocks.ended (behind_first laid) t now
-  if_absent h =
-      let laid = if_laid schema part loops place test first absent s t now h in
-      let before = mark_of laid.inner.scope in (
-        laid,
-        absent_laid schema part loops before (length laid.test_is.behind.ops) laid.blocks.ended (behind_first laid) t now
-            (subst (λ e. otherwise_code schema part loops (record { before = before; exits = e; ended = laid.blocks.ended }) absent (behind_first laid) ≡ Ok (now, t)) laid.test_is.exits_are laid.blocks.rest),
-      )
-
-  pub if_else : (b : BlockTree) → statement_code schema part loops place (if_of test first (otherwise b)) s ≡ Ok (now, t)
-      → (laid : IfLaid schema part loops test first (otherwise b) s t now)
-      × (((laid.blocks.ended ≡ true) × ElseEnded schema part loops (mark_of laid.inner.scope) (length laid.test_is.behind.ops) b (behind_first laid) t now)
-      ⊎ ((laid.blocks.ended ≡ false) × ElseOn schema part loops (mark_of laid.inner.scope) (length laid.test_is.behind.ops) b (behind_first laid) t now))
-  if_else b h =
-      let laid = if_laid schema part loops place test first (otherwise b) s t now h in
-      let before = mark_of laid.inner.scope in (
-        laid,
-        else_by schema part loops before (length laid.test_is.behind.ops) b laid.blocks.ended (behind_first laid) t now
-            (subst (λ e. otherwise_code schema part loops (record { before = before; exits = e; ended = laid.blocks.ended }) (otherwise b) (behind_first laid) ≡ Ok (now, t)) laid.test_is.exits_are laid.blocks.rest),
-      )

@@ -1,8 +1,7 @@
--- What holds of a buffer behind an `if`: its labels, its names and what is known of the locals.
+-- What holds of a buffer behind an `if` or a `with`: its labels, its names and what is known of the locals.
 use Rattle.std.proofs.Common.{◌≡◌, ◌⊎◌, inl, inr, ℕ, ◌+◌, ◌≤◌, Bool, true, false, cond, List, [], ◌++◌, length, Option, Some, None, refl, subst, sym, ap, ◌∙◌}
 use Rattle.std.specs.Prelude.{take}
 use Rattle.std.proofs.Math.Seq.{take-append_seam}
-use Rattle.std.proofs.lemmas.List.{append-nil}
 use Rattle.std.proofs.lemmas.Bool.{eq-eqb}
 use Rattle.bb_schema.specs.Schema.{Schema}
 use Rattle.bb_schema.specs.Fits as schemas
@@ -85,18 +84,18 @@ module _ (schema : Schema) (sf : schemas.Fits schema) (part : Part) (code : Code
       let was = left_taken u.scope.kinds v.scope.kinds i taken in
       (was.0, subst (IsGood schema sf) (sym was.1) (tidy.good i (ap is_free (sym was.1) ∙ taken)))
 
-  pub twice_good : (u v : Buffer) → Tidy schema sf v → (i : ℕ) → is_free (kind_at (kinds_left u.scope.kinds (kinds_left u.scope.kinds v.scope.kinds)) i) ≡ false
-      → (is_free (kind_at u.scope.kinds i) ≡ false) × IsGood schema sf (kind_at (kinds_left u.scope.kinds (kinds_left u.scope.kinds v.scope.kinds)) i)
-  twice_good u v tidy i taken =
-      let was = left_taken u.scope.kinds (kinds_left u.scope.kinds v.scope.kinds) i taken in
+  pub twice_good : (r u v : Buffer) → Tidy schema sf v → (i : ℕ) → is_free (kind_at (kinds_left r.scope.kinds (kinds_left u.scope.kinds v.scope.kinds)) i) ≡ false
+      → (is_free (kind_at r.scope.kinds i) ≡ false) × IsGood schema sf (kind_at (kinds_left r.scope.kinds (kinds_left u.scope.kinds v.scope.kinds)) i)
+  twice_good r u v tidy i taken =
+      let was = left_taken r.scope.kinds (kinds_left u.scope.kinds v.scope.kinds) i taken in
       (was.0, subst (IsGood schema sf) (sym was.1) (left_good u v tidy i (ap is_free (sym was.1) ∙ taken)).1)
 
   -- the names that a block declared are forgotten
   pub names_left : (u v : Buffer) → Moves schema sf u v → (back_to (mark_of u.scope) v.scope).names ≡ u.scope.names
   names_left u v moves = ap (take (length u.scope.names)) moves.names ∙ take-append_seam u.scope.names moves.more
 
-  pub names_twice : (u v : Buffer) → Moves schema sf u v → (back_to (mark_of u.scope) (back_to (mark_of u.scope) v.scope)).names ≡ u.scope.names
-  names_twice u v moves = ap (take (length u.scope.names)) (names_left u v moves) ∙ (ap (take (length u.scope.names)) (sym (append-nil u.scope.names)) ∙ take-append_seam u.scope.names [])
+  pub names_twice : (r u v : Buffer) → Moves schema sf r u → Moves schema sf u v → (back_to (mark_of r.scope) (back_to (mark_of u.scope) v.scope)).names ≡ r.scope.names
+  names_twice r u v first then = ap (take (length r.scope.names)) (names_left u v then) ∙ names_left r u first
 
   -- what comes behind a block, in a buffer behind which a label stands
   pub block_rest : (place : ℕ) (v t : Buffer) (listed : List Op) → IsSound v → here t ≡ Some t.scope.kinds → (ended : Bool) → (ended ≡ false → (f : Frame) → Fitting f v.scope.kinds → Fitting f t.scope.kinds) → (next : Option Frame) → AfterHere ended place listed next v

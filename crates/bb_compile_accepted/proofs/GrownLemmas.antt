@@ -131,7 +131,7 @@ pushed_grows op gives room s = made_on (Some gives) op s (cond (room == 0) (note
 
 -- ---- expressions without parts
 
-variable_grows : (v : Variable) (room : ℕ) (s : Buffer) → Grows behind s (variable_code v room s)
+pub variable_grows : (v : Variable) (room : ℕ) (s : Buffer) → Grows behind s (variable_code v room s)
 unfolding variable_code put_value
 variable_grows v room s = by_local (local_of s.scope (name_of v))
   where

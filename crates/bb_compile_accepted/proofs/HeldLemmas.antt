@@ -1,5 +1,5 @@
 -- A slot that a name means in a class is one of each class below, and holds the same there.
-use Rattle.std.proofs.Common.{◌≡◌, ℕ, Bool, true, false, ◌||◌, ◌<◌, cond, List, [], ◌∷◌, length, Option, Some, None, Result, Ok, refl, subst, sym, ap, ◌∙◌}
+use Rattle.std.proofs.Common.{◌≡◌, ℕ, Bool, true, false, ◌||◌, ◌<◌, cond, List, [], ◌∷◌, length, Option, Some, None, Result, Ok, Err, refl, subst, sym, ap, ◌∙◌}
 use Rattle.std.specs.Prelude.{slice_get, find, option_map, ◌==◌}
 use Rattle.std.specs.List.{list_any}
 use Rattle.std.specs.Option.{option_map_or}
@@ -7,7 +7,7 @@ use Rattle.std.specs.Str.{bytes_eq}
 use Rattle.std.proofs.lemmas.Bool.{eq-eqb}
 use Rattle.std.proofs.lemmas.Option.{slice_get_within}
 use Rattle.std.proofs.lemmas.Slice.Eq.{bytes_eq-Decides}
-use Rattle.bb_basis.specs.Results.{ok_or}
+use Rattle.bb_basis.specs.Results.{◌>>=◌, ok_or}
 use Rattle.bb_basis.proofs.ResultLemmas.{bind_ok, same_ok, ok_or_ok}
 use Rattle.bb_schema_classes.specs.declared.class.Class.{Class}
 use Rattle.bb_schema_classes.specs.declared.kind.Kind.{Kind as SlotKind}
@@ -18,11 +18,13 @@ use Rattle.bb_schema_slots.specs.declared.slot.Slot.{Slot}
 use Rattle.bb_schema.specs.Schema.{Schema, slot_named, slots_of, kind_of_slot, owner_of, descends}
 use Rattle.bb_schema_slots.specs.Slots.{has_name}
 use Rattle.bb_schema.specs.Fits as schemas
+use Rattle.bb_verify_frame.specs.Flaw.{Flaw as CodeFlaw}
+use Rattle.bb_verify_frame.specs.Flaw.TheVariants as flaws
 use Rattle.bb_verify_frame.specs.Kind.{Kind}
 use Rattle.bb_verify_frame.specs.Kind.TheVariants as kinds
 use Rattle.bb_compile_scope.specs.declared.fault.TextFlaw.{TextFlaw}
-use Rattle.bb_compile_scope.specs.declared.fault.TextFlaw.TheVariants.{Unknown}
-use Rattle.bb_compile_scope.specs.Slots.{with_kind, slot_of, value_in, link_in, value_slot, link_slot}
+use Rattle.bb_compile_scope.specs.declared.fault.TextFlaw.TheVariants.{Unknown, Kind as WrongKind}
+use Rattle.bb_compile_scope.specs.Slots.{with_kind, slot_of, value_in, link_in, partner_in, value_slot, link_slot, partner_slot}
 use Rattle.bb_verify.specs.Due as due
 use Rattle.bb_compile_accepted.proofs.UnderLemmas.{IsUnder, descends_on}
 
@@ -62,7 +64,7 @@ class_within s c slot h = by_class (slice_get s.classes c) refl h
 -- ---- what slots hold
 
 module _ (s : Schema) (sf : schemas.Fits s) (c : ℕ) (name : List ℕ) where
-  named_kind : (p : ℕ × SlotKind) → slot_of s c name ≡ Ok p → (slot_named s c name ≡ Some p.0) × (kind_of_slot s p.0 ≡ Some p.1)
+  pub named_kind : (p : ℕ × SlotKind) → slot_of s c name ≡ Ok p → (slot_named s c name ≡ Some p.0) × (kind_of_slot s p.0 ≡ Some p.1)
   unfolding slot_of
   named_kind p h =
       let one = bind_ok (ok_or (slot_named s c name) Unknown) (λ slot. ok_or (with_kind s slot) Unknown) p h in
@@ -126,6 +128,23 @@ module _ (s : Schema) (sf : schemas.Fits s) (c : ℕ) (name : List ℕ) where
         by_kind slot held.Bool h = absurd cc
         by_kind slot (held.Label set) h = absurd cc
         by_kind slot held.Interval h = absurd cc
+
+    -- a link slot that holds one unit at most
+    pub single_below : (q : ℕ × ℕ) → partner_slot s c name ≡ Ok q → (link : Link) × (due.single_slot s b q.0 ≡ Ok link) × (link.to ≡ q.1)
+    unfolding partner_slot due.single_slot
+    single_below q h =
+        let one = bind_ok (link_slot s c name) (λ p. partner_in p.0 p.1) q h in
+        by_many one.0.0 one.0.1 one.0.1.many refl (link_below one.0 one.1) one.2
+      where
+        by_many : (slot : ℕ) (link : Link) (m : Bool) → link.many ≡ m → due.link_slot s b slot ≡ Ok link → (let r : Result (ℕ × ℕ) TextFlaw = cond m (Err WrongKind) (Ok (slot, link.to)) in r) ≡ Ok q → (link : Link) × (due.single_slot s b q.0 ≡ Ok link) × (link.to ≡ q.1)
+        by_many slot link true is there h = absurd cc
+        by_many slot link false is there h =
+            let e = same_ok (slot, link.to) q h in (
+              link,
+              ap (λ (p : ℕ × ℕ). due.single_slot s b p.0) (sym e)
+                  ∙ (ap (λ (r : Result Link CodeFlaw). r >>= λ l. cond l.many (Err flaws.Slot) (Ok l)) there ∙ ap (λ m. (let r : Result Link CodeFlaw = cond m (Err flaws.Slot) (Ok link) in r)) is),
+              ap (λ (p : ℕ × ℕ). p.1) e,
+            )
 
   -- the kind of what an ordinary slot holds is that of a value
   pub value_known : (p : ℕ × Kind) → value_slot s c name ≡ Ok p → IsUnder s sf p.1 p.1

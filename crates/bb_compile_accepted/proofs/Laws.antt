@@ -5,7 +5,9 @@ pub use Rattle.bb_compile_accepted.proofs.HeldLemmas.{find_sound, named_slot}
 pub use Rattle.bb_compile_accepted.proofs.ExprLemmas.{class_there}
 pub use Rattle.bb_compile_accepted.proofs.StoreLemmas.{declared_on, declare_is}
 pub use Rattle.bb_compile_accepted.proofs.PartLemmas.{part_accepted}
-pub use Rattle.bb_compile_accepted.proofs.BranchedLemmas.{branched_accepted}
-pub use Rattle.bb_compile_accepted.proofs.BranchLemmas.{TestLaid, AbsentLaid, ElseEnded, ElseOn, if_absent, if_else}
-pub use Rattle.bb_compile_accepted.proofs.AimLemmas.{no_place, same_more, more_after, block_count, aims_grown, aims_count, aims_has, aims_there, aimed_behind, aimed_before, jump_count, open_is, closed_is, end_count, open_has, jump_there}
-pub use Rattle.bb_compile_accepted.proofs.BlockLemmas.{stated, plain_branched, block_clean, statement_clean, block_now, block_grown}
+pub use Rattle.bb_compile_accepted.proofs.LooplessLemmas.{loopless_accepted}
+pub use Rattle.bb_compile_accepted.proofs.BranchLemmas.{TestLaid, AbsentLaid, ElseEnded, ElseOn, if_laid}
+pub use Rattle.bb_compile_accepted.proofs.GuardLemmas.{Guard, Branches, branches_absent, branches_else}
+unfoldable pub use Rattle.bb_compile_accepted.proofs.GuardLemmas.{test_guard, if_branches}
+pub use Rattle.bb_compile_accepted.proofs.AimLemmas.{AreAimed, same_more, more_after, block_count, aims_grown, aims_count, aims_has, aims_there, aimed_behind, aimed_before, jump_count, open_is, closed_is, end_count, open_has, jump_there}
+pub use Rattle.bb_compile_accepted.proofs.BlockLemmas.{stated, plain_loopless, block_clean, statement_clean, block_now, block_grown}

@@ -46,25 +46,35 @@ pub mod MoveLemmas
 pub mod WalkLemmas
 -- what is found where a label stands
 pub mod JoinLemmas
--- an `if`, its blocks and the jumps around them
-pub mod BranchLemmas
--- where the ops of an `if` stand
+-- where the ops of a test and of its blocks stand
 pub mod AimLemmas
+-- an `if` and a `with`, their blocks and the jumps around them
+pub mod BranchLemmas
+-- the test of a `with`
+pub mod HeadLemmas
 -- expressions without parts only add
 pub mod GrownLemmas
 -- all expressions, and statements without blocks, only add
 pub mod MoreLemmas
+-- what stands before a first block
+pub mod GuardLemmas
 -- flaws and ends of blocks
 pub mod BlockLemmas
 -- kinds behind two branches
 pub mod MergeLemmas
 -- statements without blocks, where labels stand before
 pub mod GoesLemmas
--- scopes behind an `if`
+-- scopes behind an `if` or a `with`
 pub mod BranchScopes
+-- tests, for the verifier
+pub mod GuideLemmas
 -- the test of an `if`, for the verifier
 pub mod TestGoes
--- an `if`, for the verifier
+-- the ops of the test of a `with`, for the verifier
+pub mod HeadVisits
+-- the test of a `with`, for the verifier
+pub mod HeadGoes
+-- an `if` and a `with`, for the verifier
 pub mod BranchGoes
 -- statements of all kinds
 pub mod AcceptLemmas
@@ -72,7 +82,7 @@ pub mod AcceptLemmas
 pub mod WholeLemmas
 -- whole parts
 pub mod PartLemmas
--- whole parts with `if`
-pub mod BranchedLemmas
+-- whole parts with `if` and `with`
+pub mod LooplessLemmas
 -- what crates above use
 pub mod Laws

@@ -22,7 +22,7 @@ use Rattle.bb_compile_emit.specs.Statements.{if_code, if_ended, otherwise_code, 
 use Rattle.bb_compile_emit.specs.Parts.{version_for, part_code}
 use Rattle.bb_compile_scope.specs.Ending.{block_ends, always_ends}
 use Rattle.bb_verify.specs.PartType.TheVariants.{Require, Do}
-use Rattle.bb_compile_accepted.specs.Branched.{is_branched}
+use Rattle.bb_compile_accepted.specs.Loopless.{is_loopless}
 use Rattle.bb_compile_accepted.proofs.StraightLemmas.{straight_code}
 
 module _ (schema : Schema) (place : Place) where
@@ -43,7 +43,7 @@ module _ (schema : Schema) (place : Place) where
   chosen : BlockTree
   chosen = before_others place (if_of (atom (atoms.Bool true)) (before_others place (action (Rate (atom (atoms.Int (pos 1))))) no_statement) absent) (before_others place (action Decline) no_statement)
 
-  admitted : is_branched chosen ≡ true
+  admitted : is_loopless chosen ≡ true
   unfolding chosen
   admitted = refl
 

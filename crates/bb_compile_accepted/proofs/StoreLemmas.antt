@@ -105,7 +105,7 @@ module _ (schema : Schema) (sf : schemas.Fits schema) (part : Part) (code : Code
 
   -- ---- a value becomes that of a local
 
-  store_gives : (l : ℕ) (k : Kind) (f : Frame) → l < code.locals → Gives schema part code (ops.Store l) (with_stack (k ∷ f.stack) f) (with_local l k f)
+  pub store_gives : (l : ℕ) (k : Kind) (f : Frame) → l < code.locals → Gives schema part code (ops.Store l) (with_stack (k ∷ f.stack) f) (with_local l k f)
   unfolding effect in_tables store_local pop
   store_gives l k f within = record { straight = refl; tables = rw (lt-ltb l code.locals within) refl; gives = refl }
 
@@ -145,6 +145,16 @@ module _ (schema : Schema) (sf : schemas.Fits schema) (part : Part) (code : Code
             );
       }
 
+  -- what is known of the locals once a name is declared
+  pub declared_known : (name : List ℕ) (kind : Kind) (u : Buffer) (local : ℕ) (locals : List Kind) (k : Kind) → position is_free u.scope.kinds ≡ Some local → local < length locals → IsUnder schema sf k kind → AreKnown schema sf locals u.scope.kinds u.scope.names
+      → (let scope : Scope = (declared_on name local kind u).scope in AreKnown schema sf (set locals local k) scope.kinds scope.names)
+  declared_known name kind u local locals k free within own known =
+      let lt = position_within is_free u.scope.kinds local free in
+      let n : NamedLocal = record { name = name; local = local } in
+      subst (λ ks. AreKnown schema sf (set locals local k) ks (u.scope.names ++ n ∷ [])) (sym (set_twice u.scope.kinds local kind))
+      (known_more schema sf (set locals local k) (set u.scope.kinds local kind) u.scope.names n (known_set schema sf locals u.scope.kinds u.scope.names local k kind within lt own known)
+      (subst (λ m. local < m) (sym (length-set locals local k)) within) (set_here schema sf locals u.scope.kinds local k kind within lt own))
+
   -- a name is declared
   declares : (name : List ℕ) (kind : Kind) (s u t : Buffer) (m : Lays schema sf part code STACK_LIMIT s u (Some kind)) → (Tidy schema sf s → IsGood schema sf kind) → declare name kind u ≡ Ok t → Does false s t
   declares name kind s u t m good h =
@@ -156,18 +166,11 @@ module _ (schema : Schema) (sf : schemas.Fits schema) (part : Part) (code : Code
       declared_moves schema sf u t name d.0 kind d.1 (λ tidy. good ((moves_same schema sf u s (sym same_scope) (sym same_locals)).tidy tidy)) (ap (λ (x : Buffer). x.scope.names) d.2) (ap (λ (x : Buffer). x.scope.kinds) d.2) (ap (λ (x : Buffer). x.locals) d.2) in
       stores s u t (Some kind) d.0 (max u.locals (d.0 + 1)) scope m d.2 (le-max_left u.locals (d.0 + 1)) (moves_on schema sf s u t (moves_same schema sf s u same_scope same_locals) last)
       (λ f k known under few.
-      let lt = position_within is_free u.scope.kinds d.0 d.1 in
       let high = le-max_right u.locals (d.0 + 1) in
       let count = known.0 in
       let within : d.0 < length f.locals = omega (arith, high, few, count) in
       let kind_is : m.kind ≡ kind = (let e = m.made_is in cc) in
-      let own : IsUnder schema sf k kind = subst (IsUnder schema sf k) kind_is under in
-      let n : NamedLocal = record { name = name; local = d.0 } in (
-        within,
-        subst (λ ks. AreKnown schema sf (set f.locals d.0 k) ks scope.names) (sym (set_twice u.scope.kinds d.0 kind))
-            (known_more schema sf (set f.locals d.0 k) (set u.scope.kinds d.0 kind) u.scope.names n (known_set schema sf f.locals u.scope.kinds u.scope.names d.0 k kind within lt own known.1)
-            (subst (λ m. d.0 < m) (sym (length-set f.locals d.0 k)) within) (set_here schema sf f.locals u.scope.kinds d.0 k kind within lt own)),
-      ))
+      (within, declared_known name kind u d.0 f.locals k d.1 within (subst (IsUnder schema sf k) kind_is under) known.1))
 
   -- ---- let
 

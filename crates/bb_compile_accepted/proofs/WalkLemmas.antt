@@ -36,7 +36,7 @@ straight_target count place (ops.Next l target) h = absurd cc
 straight_target count place (ops.Back target) h = absurd cc
 straight_target count place _ h = refl
 
-goes_ahead : (count place target : ℕ) → place < target → target < count → ahead count place target ≡ Ok tt
+pub goes_ahead : (count place target : ℕ) → place < target → target < count → ahead count place target ≡ Ok tt
 unfolding ahead
 goes_ahead count place target low high = rw (lt-ltb place target low, lt-ltb target count high) refl
 
@@ -91,7 +91,7 @@ module _ (s : Schema) (part : Part) (code : Code) (no_loops : code.loops ≡ [])
 
   -- ---- ops that go nowhere else
 
-  straight_visit : (place : ℕ) (op : Op) (f g : Frame) (next : Option Frame) → frame_at (At place) next ≡ Ok f → Gives s part code op f g → place + 1 < length code.ops → on_due s (Some g) (At (place + 1)) ≡ Ok tt → Visits place op next (Some g)
+  pub straight_visit : (place : ℕ) (op : Op) (f g : Frame) (next : Option Frame) → frame_at (At place) next ≡ Ok f → Gives s part code op f g → place + 1 < length code.ops → on_due s (Some g) (At (place + 1)) ≡ Ok tt → Visits place op next (Some g)
   straight_visit place op f g next here gives lt on = record {
     tables = gives.tables;
     jumps = straight_target (length code.ops) place op gives.straight;
@@ -125,7 +125,7 @@ module _ (s : Schema) (part : Part) (code : Code) (no_loops : code.loops ≡ [])
   abbrev pub Undeclared : (from to : ℕ) → Type 0
   Undeclared from to = (i : ℕ) → from < i → i ≤ to → At i ≡ None
 
-  undeclared_on : (g : Frame) (o : Option Frame) → o ≡ None → (on_due s (Some g) o ≡ Ok tt) × (frame_at o (Some g) ≡ Ok g)
+  pub undeclared_on : (g : Frame) (o : Option Frame) → o ≡ None → (on_due s (Some g) o ≡ Ok tt) × (frame_at o (Some g) ≡ Ok g)
   undeclared_on g o none = rw none (refl, refl)
 
   -- ops that lead from frame to frame, and what comes behind them

@@ -29,7 +29,7 @@ use Rattle.bb_verify.specs.Jumps.{check_target, jump_at, jumps}
 use Rattle.bb_verify.specs.Loops.{op_due, place_due, loop_at, rising, lowest_outside, loops}
 use Rattle.bb_verify.specs.Places.{entry_frame, on_due, frames_of}
 use Rattle.bb_verify.specs.Tables.{in_tables, table_at, known_frame, known_kind, places_rise, enough_locals, frames_in_order, fit_version, tables}
-use Rattle.bb_compile_accepted.specs.Branched.{HasClass, HasClasses}
+use Rattle.bb_compile_accepted.specs.Loopless.{HasClass, HasClasses}
 use Rattle.bb_compile_accepted.proofs.StraightLemmas.{each_range}
 use Rattle.bb_compile_accepted.proofs.UnderLemmas.{descends_same}
 use Rattle.bb_compile_accepted.proofs.KnowLemmas.{HasLocal, AllTaken}

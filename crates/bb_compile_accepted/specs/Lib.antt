@@ -1,7 +1,7 @@
 -- texts without branches and loops
 pub mod Plain
--- texts without `with` and `for`
-pub mod Branched
+-- texts without `for`
+pub mod Loopless
 -- what the compiler lays out, for crates above
 pub use Rattle.bb_compile_buffer.specs.declared.buffer.Buffer
 pub use Rattle.bb_compile_buffer.specs.Buffers

@@ -10,26 +10,26 @@ ghost use Rattle.bb_verify.specs.Accepted.{checked};
 ghost use Rattle.bb_verify.specs.FrameType.{Frame};
 ghost use Rattle.bb_verify.specs.PartType.{Part};
 ghost use Rattle.bb_compile_accepted.specs.Plain.{is_plain};
-ghost use Rattle.bb_compile_accepted.specs.Branched.{is_branched, HasClasses};
+ghost use Rattle.bb_compile_accepted.specs.Loopless.{is_loopless, HasClasses};
 
 use bb_verify_frame::Schema;
 
-/// The code of a part that has no `with` and no `for` is accepted for that part, whatever its expressions are.
+/// The code of a part that has no `for` is accepted for that part, whatever its expressions are.
 ///
 /// - `accepted`: for any schema and any classes the verifier takes each code that the compiler gives for a part that
-///   has no `if` either, with a frame for each of its places.
-/// - `branches`: it takes each code that the compiler gives for a part with `if`, `else` and chains of them, where the
-///   classes of the part are classes of the schema: a declared frame says the kind of each local, and a kind that
-///   names another class is refused.
+///   has no `if` and no `with` either, with a frame for each of its places.
+/// - `branches`: it takes each code that the compiler gives for a part with `if`, `with`, `else` and chains of them,
+///   where the classes of the part are classes of the schema: a declared frame says the kind of each local, and a kind
+///   that names another class is refused.
 ///
-/// It says nothing of texts with `with` or `for`.
+/// It says nothing of texts with `for`.
 pub fn compiled_code_is_accepted(schema: &Schema)
     ensures accepted { (part : Part) (place : Place) (block : BlockTree) (code : AnyCode) →
         is_plain block ≡ true → part_code schema.now part place block ≡ Ok code →
         (frames : List Frame) ×
         (checked schema.now part code ≡ Ok (record { code = code; part = part; frames = frames })) }
     ensures branches { (part : Part) (place : Place) (block : BlockTree) (code : AnyCode) →
-        is_branched block ≡ true → HasClasses schema.now part → part_code schema.now part place block ≡ Ok code →
+        is_loopless block ≡ true → HasClasses schema.now part → part_code schema.now part place block ≡ Ok code →
         (frames : List Frame) ×
         (checked schema.now part code ≡ Ok (record { code = code; part = part; frames = frames })) }
 {

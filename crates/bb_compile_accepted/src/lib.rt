@@ -1,5 +1,5 @@
-//! The verifier accepts compiled code, as far as it is proved: a theorem on the code of parts without `with`
-//! and `for`. No code calls it.
+//! The verifier accepts compiled code, as far as it is proved: a theorem on the code of parts without `for`. No code
+//! calls it.
 #![tactic(auto)]
 
 mod acceptance;

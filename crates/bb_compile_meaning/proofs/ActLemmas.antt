@@ -22,11 +22,11 @@ use Rattle.bb_machine_step.specs.Step.{step, keeps}
 use Rattle.bb_machine_step.specs.Stuck.TheVariants as reasons
 use Rattle.bb_machine_step.specs.Value.{stuck}
 use Rattle.bb_machine_step.specs.Values.{Value}
-use Rattle.bb_compile_accepted.proofs.Laws.{Clean, Grown, Has, is_open, with_op, grown_on, seam, declare_is}
+use Rattle.bb_compile_accepted.proofs.Laws.{Clean, Grown, Has, is_open, with_op, grown_on, count_of, seam, declare_is}
 use Rattle.bb_compile_meaning.specs.Meaning.{Meaning, Name}
 use Rattle.bb_compile_meaning.specs.Meaning as names
 use Rattle.bb_compile_meaning.specs.Statements.{Scene, where_named}
-use Rattle.bb_compile_meaning.proofs.ComeLemmas.{Leaves, done_on, Comes, Gets, gets_op}
+use Rattle.bb_compile_meaning.proofs.ComeLemmas.{Leaves, done_on, Comes, Gets, gets_as, gets_op}
 use Rattle.bb_compile_meaning.proofs.MeansLemmas.{Means, part_gets, Value₀}
 use Rattle.bb_compile_meaning.proofs.NameLemmas.{AreHeld, AreTaken}
 use Rattle.bb_compile_meaning.proofs.OpLemmas.{Pushed}
@@ -134,20 +134,27 @@ module _ (code : Code) (start : State) where
     pub stack : st.0.stack ≡ v ∷ []
     pub board : st.1 ≡ scene.board
 
-  -- an expression, and what comes of its value
-  pub act_one : (s t u : Buffer) (made : Option Kind) (value : Value₀) (f : Scene → Value → Meaning Scene) → Means code start s t made value → Grown t u
-      → ((st : State) (scene : Scene) (v : Value) → Comes code start (length t.ops) (Ok st) → Holds (length t.ops) s.scope.names scene v st → Gets code start (IsScene (length u.ops) u.scope.names) (f scene v) (length u.ops))
-      → (st : State) (scene : Scene) → Comes code start (length s.ops) (Ok st) → IsScene (length s.ops) s.scope.names scene st
-      → Gets code start (IsScene (length u.ops) u.scope.names) (value scene.board scene.names >>= f scene) (length u.ops)
-  act_one s t u made value f m g next st scene c is =
-      part_gets code start t u (Pushed (length t.ops) st) (IsScene (length u.ops) u.scope.names) (value scene.board scene.names) (f scene) g
+  -- an expression, and what comes of its value in a scene
+  pub act_in : (s t u : Buffer) (made : Option Kind) (value : Value₀) (st : State) (scene : Scene) (f : Value → Meaning Scene) → Means code start s t made value → Grown t u → Comes code start (length s.ops) (Ok st) → IsScene (length s.ops) s.scope.names scene st
+      → ((after : State) (v : Value) → value scene.board scene.names ≡ Ok v → Comes code start (length t.ops) (Ok after) → Holds (length t.ops) s.scope.names scene v after → Gets code start (IsScene (length u.ops) u.scope.names) (f v) (length u.ops))
+      → Gets code start (IsScene (length u.ops) u.scope.names) (value scene.board scene.names >>= f) (length u.ops)
+  act_in s t u made value st scene f m g c is next =
+      let count = count_of t u g in
+      gets_as code start (Pushed (length t.ops) st) (IsScene (length u.ops) u.scope.names) (value scene.board scene.names) f (length t.ops) (length u.ops) (omega (arith, count))
       (subst (λ b. Gets code start (Pushed (length t.ops) st) (value b scene.names) (length t.ops)) is.board (m.gets st scene.names c is.held))
-      (λ v after here p. next after scene v here (record {
+      (λ v after same here p. next after v same here (record {
         place = p.place;
         held = subst (λ l. AreHeld l s.scope.names scene.names) (sym p.locals) is.held;
         stack = p.stack ∙ ap (λ l. v ∷ l) is.stack;
         board = p.board ∙ is.board;
       }))
+
+  -- and in each
+  pub act_one : (s t u : Buffer) (made : Option Kind) (value : Value₀) (f : Scene → Value → Meaning Scene) → Means code start s t made value → Grown t u
+      → ((st : State) (scene : Scene) (v : Value) → Comes code start (length t.ops) (Ok st) → Holds (length t.ops) s.scope.names scene v st → Gets code start (IsScene (length u.ops) u.scope.names) (f scene v) (length u.ops))
+      → (st : State) (scene : Scene) → Comes code start (length s.ops) (Ok st) → IsScene (length s.ops) s.scope.names scene st
+      → Gets code start (IsScene (length u.ops) u.scope.names) (value scene.board scene.names >>= f scene) (length u.ops)
+  act_one s t u made value f m g next st scene c is = act_in s t u made value st scene (f scene) m g c is (λ after v same here h. next after scene v here h)
 
   -- ---- a value becomes that of a local
 

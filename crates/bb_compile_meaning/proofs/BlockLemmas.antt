@@ -1,19 +1,16 @@
 -- Blocks without `with` and `for` do what they mean.
-use Rattle.std.proofs.Common.{◌≡◌, ◌⊎◌, inl, inr, ℕ, ◌+◌, ◌≤◌, Bool, true, false, cond, ◌||◌, List, [], ◌∷◌, ◌++◌, length, Some, Ok, refl, subst, sym, ap, ◌∙◌, arith}
-use Rattle.std.specs.Prelude.{slice_get, take}
+use Rattle.std.proofs.Common.{◌≡◌, ◌⊎◌, inl, inr, ℕ, ◌≤◌, Bool, true, false, cond, ◌||◌, List, [], ◌∷◌, length, Option, Ok, refl, subst, sym, ap, ◌∙◌, arith}
+use Rattle.std.specs.Prelude.{take}
 use Rattle.bb_basis.specs.Results.{◌>>=◌}
 use Rattle.bb_basis.proofs.BoolLemmas.{and_first, and_second}
 use Rattle.bb_basis.proofs.ResultLemmas.{bind_ok}
 use Rattle.bb_code.specs.Code.{Code}
 use Rattle.bb_verify_frame.specs.declared.part.Part.{Part}
 use Rattle.bb_verify_frame.specs.Kind.{Kind}
-use Rattle.bb_verify_frame.specs.Op.{Op}
 use Rattle.bb_verify_frame.specs.Op.TheVariants as ops
-use Rattle.bb_code.specs.Limits.{STACK_LIMIT}
 use Rattle.bb_schema.specs.Schema.{Schema}
 use Rattle.bb_schema.specs.Fits as schemas
 use Rattle.bb_lang.specs.Blocks.{BlockTree, StatementTree, no_statement, before_others, action, if_of, with_of, for_of, absent, otherwise}
-use Rattle.bb_lang.specs.Trees.{ExprTree}
 use Rattle.bb_compile_scope.specs.Place.{Place}
 use Rattle.bb_compile_scope.specs.declared.fault.TextFlaw.TheVariants.{NoEnd}
 use Rattle.bb_compile_scope.specs.declared.scope.Scope.{Scope}
@@ -25,24 +22,25 @@ use Rattle.bb_compile_accepted.specs.Buffer.{Buffer}
 use Rattle.bb_compile_accepted.specs.Buffers.{leave}
 use Rattle.bb_compile_accepted.specs.Exits.{Exits}
 use Rattle.bb_compile_meaning.specs.Branched.{is_branched, is_branched_statement}
+use Rattle.bb_compile_meaning.specs.Loopless.{is_loopless}
 use Rattle.bb_compile_accepted.specs.Statements.{after_end, statement_code, statements_code}
 use Rattle.bb_machine_step.specs.Changing.{State}
-use Rattle.bb_compile_accepted.proofs.Laws.{Clean, Grown, Has, TestLaid, AbsentLaid, ElseEnded, ElseOn, not_failed, grown_none, grown_on, has_before, pair_ok, stated, if_absent, if_else, no_place, same_more, more_after, block_count, aims_grown, aims_count, aims_has, aims_there, aimed_behind, aimed_before, jump_count, open_is, closed_is, end_count, open_has, jump_there, statement_clean, block_clean, block_now, block_grown, count_of, count_op}
+use Rattle.bb_compile_accepted.proofs.Laws.{Clean, Grown, Has, AreAimed, AbsentLaid, ElseEnded, ElseOn, Guard, Branches, not_failed, grown_none, grown_on, has_before, pair_ok, stated, if_laid, if_branches, branches_absent, branches_else, same_more, more_after, block_count, aims_grown, aims_count, aims_has, aims_there, aimed_behind, aimed_before, jump_count, open_is, closed_is, end_count, open_has, jump_there, statement_clean, block_clean, block_now, block_grown, count_of}
 use Rattle.bb_compile_meaning.specs.Meaning.{Meaning}
 use Rattle.bb_compile_meaning.specs.Expressions.{value_of}
-use Rattle.bb_compile_meaning.specs.Values.{truth}
 use Rattle.bb_compile_meaning.specs.Statements.{Scene, left, otherwise_done, statement, statements}
 use Rattle.bb_compile_meaning.proofs.ComeLemmas.{Comes, Gets, gets_none}
-use Rattle.bb_compile_meaning.proofs.MeansLemmas.{Means, part_gets}
+use Rattle.bb_compile_meaning.proofs.MeansLemmas.{part_gets}
 use Rattle.bb_compile_meaning.proofs.NameLemmas.{AreTaken}
 use Rattle.bb_compile_meaning.proofs.AtomLemmas.{Good}
-use Rattle.bb_compile_meaning.proofs.ExprLemmas.{expr_means}
 use Rattle.bb_compile_meaning.proofs.SceneLemmas.{AreApart}
 use Rattle.bb_compile_meaning.proofs.KeepLemmas.{Keeps, Moves, moves_same, moves_kept, moves_on, moves_left, names_left, keeps_met, taken_kept, held_count}
-use Rattle.bb_compile_meaning.proofs.ActLemmas.{IsTidy, IsScene, Acts, act_one}
+use Rattle.bb_compile_meaning.proofs.ActLemmas.{IsTidy, IsScene, Acts}
 use Rattle.bb_compile_meaning.proofs.ActionLemmas.{action_does}
 use Rattle.bb_compile_meaning.proofs.EndLemmas.{block_never}
-use Rattle.bb_compile_meaning.proofs.BranchLemmas.{after_test, left_gets, jump_gets, never_gets}
+use Rattle.bb_compile_meaning.proofs.BranchLemmas.{left_gets, jump_gets, never_gets}
+use Rattle.bb_compile_meaning.proofs.BranchedLemmas.{branched_loopless, statement_loopless}
+use Rattle.bb_compile_meaning.proofs.TestLemmas.{Tests, chosen, where_true, if_tests, if_means}
 
 -- a scope with the names of another, of whose locals none became free, is as tidy
 tidy_kept : (s t : Scope) → t.names ≡ s.names → Keeps s.kinds t.kinds → IsTidy s → IsTidy t
@@ -60,12 +58,12 @@ either_keeps : (ks one other now : List Kind) (ended : Bool) → Keeps ks one �
 either_keeps ks one other now true first second is = subst (Keeps ks) (sym is) first
 either_keeps ks one other now false first second is = subst (Keeps ks) (sym is) second
 
--- where the names of a block are forgotten twice
-twice_left : (s t : Scope) → Moves s t → Moves s (back_to (mark_of s) (back_to (mark_of s) t))
-twice_left s t moves = moves_left s (back_to (mark_of s) t) (moves_left s t moves)
+-- where the names of a block are forgotten, and that which a test declared before it
+twice_left : (r u v : Scope) → Moves r u → Moves u v → Moves r (back_to (mark_of r) (back_to (mark_of u) v))
+twice_left r u v first then = moves_left r (back_to (mark_of u) v) (moves_on r u (back_to (mark_of u) v) first (moves_left u v then))
 
-names_twice : (s t : Scope) → Moves s t → (back_to (mark_of s) (back_to (mark_of s) t)).names ≡ s.names
-names_twice s t moves = names_left s (back_to (mark_of s) t) (moves_left s t moves)
+names_twice : (r u v : Scope) → Moves r u → Moves u v → (back_to (mark_of r) (back_to (mark_of u) v)).names ≡ r.names
+names_twice r u v first then = names_left r (back_to (mark_of u) v) (moves_on r u (back_to (mark_of u) v) first (moves_left u v then))
 
 module _ (schema : Schema) (sf : schemas.Fits schema) (part : Part) (code : Code) (start : State) (good : (n : ℕ) (st : State) → Comes code start n (Ok st) → Good schema st.1) where
   abbrev GetsAt : ℕ → List NamedLocal → Meaning Scene → Type 0
@@ -74,93 +72,88 @@ module _ (schema : Schema) (sf : schemas.Fits schema) (part : Part) (code : Code
   placed_as : (n m : ℕ) (ns ks : List NamedLocal) (r : Meaning Scene) → n ≡ m → ns ≡ ks → GetsAt n ns r → GetsAt m ks r
   placed_as n m ns ks r place names g = subst (λ k. GetsAt m k r) names (subst (λ i. GetsAt i ns r) place g)
 
-  -- ---- an `if`: its test, and the first block behind it
+  -- ---- a test, and the first block behind it
 
-  module _ (test : ExprTree) (first : BlockTree) (loops : ℕ) (s u v : Buffer) (exits : Exits) (l : TestLaid schema test s u exits) (g : Grown u v) (own : Has code v → Acts code start u v (statements first)) where
+  module _ (test : Scene → Meaning (Option Scene)) (first : BlockTree) (loops : ℕ) (s u v : Buffer) (exits : Exits) (gd : Guard s u exits) (g : Grown u v) (tests : Has code gd.behind → Tests code start s u exits gd test) (own : Has code v → Acts code start u v (statements first)) where
     abbrev a : Buffer
-    a = l.behind
+    a = gd.behind
 
-    abbrev o : Op
-    o = ops.Unless 0
+    -- behind the test, before a name is declared
+    abbrev r : Buffer
+    r = gd.tested
 
     abbrev w : Buffer
-    w = leave (mark_of u.scope) (leave (mark_of u.scope) v)
+    w = leave (mark_of r.scope) (leave (mark_of u.scope) v)
 
-    put_ops : u.ops ≡ a.ops ++ o ∷ []
-    put_ops = ap (λ (x : Buffer). x.ops) l.put_is
+    abbrev whole : Grown r v
+    whole = grown_on r u v gd.named g
 
-    put_texts : u.texts ≡ a.texts
-    put_texts = ap (λ (x : Buffer). x.texts) l.put_is
+    long : length u.ops ≤ length v.ops
+    long = let e = count_of u v g in omega (arith, e)
 
-    put_queries : u.queries ≡ a.queries
-    put_queries = ap (λ (x : Buffer). x.queries) l.put_is
+    short : length r.ops ≤ length u.ops
+    short = let e = count_of r u gd.named in omega (arith, e)
 
-    put_count : length u.ops ≡ length a.ops + 1
-    put_count = count_op a u o l.put_is
-
-    test_means : Has code a → Means code start s a l.made (λ b names. value_of b names test)
-    test_means has = expr_means schema sf code start good test STACK_LIMIT s a l.made l.code_is (sym (ap (λ (x : Buffer). x.flaw) l.put_is) ∙ l.clean) has
-
-    module _ (t : Buffer) (grown : Grown a t) (m : Means code start s a l.made (λ b names. value_of b names test)) (block : Acts code start u v (statements first)) where
-      scope : u.scope ≡ s.scope
-      scope = ap (λ (x : Buffer). x.scope) l.put_is ∙ m.scope
+    module _ (t : Buffer) (grown : Grown a t) (m : Tests code start s u exits gd test) (block : Acts code start u v (statements first)) where
+      tidy_before : IsTidy s.scope → IsTidy r.scope
+      tidy_before tidy = subst IsTidy (sym m.scope) tidy
 
       tidy_inner : IsTidy s.scope → IsTidy u.scope
-      tidy_inner tidy = subst IsTidy (sym scope) tidy
+      tidy_inner tidy = m.tidy (tidy_before tidy)
 
       -- what the blocks come to, where one of them is chosen
-      branches_get : (at : ℕ) (other : Scene → Meaning Scene) → slice_get code.ops (length a.ops) ≡ Some (ops.Unless at) → length a.ops + 1 ≤ at → at ≤ length t.ops
-          → ((scene : Scene) → length scene.names ≡ length u.scope.names → GetsAt (length v.ops) v.scope.names (statements first scene) → GetsAt (length t.ops) t.scope.names (left scene (statements first scene)))
-          → ((scene : Scene) (st : State) → Comes code start at (Ok st) → IsScene at u.scope.names scene st → GetsAt (length t.ops) t.scope.names (other scene))
+      branches_get : (at : ℕ) (other : Scene → Meaning Scene) → AreAimed code at (length a.ops) gd.es → Has code u → length r.ops ≤ at → at ≤ length t.ops → length u.ops ≤ length t.ops
+          → ((scene after : Scene) → length scene.names ≡ length r.scope.names → GetsAt (length v.ops) v.scope.names (statements first after) → GetsAt (length t.ops) t.scope.names (left scene (statements first after)))
+          → ((scene : Scene) (st : State) → Comes code start at (Ok st) → IsScene at r.scope.names scene st → GetsAt (length t.ops) t.scope.names (other scene))
           → IsTidy s.scope → (st : State) (scene : Scene) → Comes code start (length s.ops) (Ok st) → IsScene (length s.ops) s.scope.names scene st
-          → GetsAt (length t.ops) t.scope.names (value_of scene.board scene.names test >>= λ x. truth x >>= λ b. cond b (left scene (statements first scene)) (other scene))
-      branches_get at other there ahead within onward elsewhere tidy st scene c here =
-          act_one code start s a t l.made (λ b names. value_of b names test) (λ sc x. truth x >>= λ b. cond b (left sc (statements first sc)) (other sc)) m grown
-          (λ st' sc x c' h.
-          after_test code start (IsScene (length t.ops) t.scope.names) (λ b. cond b (left sc (statements first sc)) (other sc)) s.scope.names (length a.ops) at (length t.ops) sc st' ahead within x c' h there
-          (λ next c'' is.
-          let names : u.scope.names ≡ s.scope.names = ap (λ (c : Scope). c.names) scope in
-          let own_is : IsScene (length u.ops) u.scope.names sc next = subst (λ n. IsScene n u.scope.names sc next) (sym put_count) (subst (λ ns. IsScene (length a.ops + 1) ns sc next) (sym names) is) in
-          onward sc (held_count next.0.locals u.scope.names sc.names own_is.held) (block.gets (tidy_inner tidy) next sc (subst (λ n. Comes code start n (Ok next)) (sym put_count) c'') own_is))
-          (λ next c'' is. elsewhere sc next c'' (subst (λ ns. IsScene at ns sc next) (sym (ap (λ (c : Scope). c.names) scope)) is)))
-          st scene c here
+          → GetsAt (length t.ops) t.scope.names (test scene >>= chosen (statements first) other scene)
+      branches_get at other aimed has_u low high le onward elsewhere tidy st scene c here =
+          let names : r.scope.names ≡ s.scope.names = ap (λ (c : Scope). c.names) m.scope in
+          m.gets t (chosen (statements first) other scene) at grown aimed has_u tidy low high le st scene c here
+          (λ after next c' is. onward scene after (held_count st.0.locals s.scope.names scene.names here.held ∙ ap length (sym names)) (block.gets (tidy_inner tidy) next after c' is))
+          (λ next c' is. elsewhere scene next c' (subst (λ ns. IsScene at ns scene next) (sym names) is))
 
-      -- the first block goes on behind its names
-      first_left : IsTidy s.scope → (scene : Scene) → length scene.names ≡ length u.scope.names → GetsAt (length v.ops) v.scope.names (statements first scene) → GetsAt (length v.ops) u.scope.names (left scene (statements first scene))
-      first_left tidy scene count got =
-          let moves = block.moves (tidy_inner tidy) in
-          left_gets code start u.scope.names moves.more (length v.ops) scene (statements first scene) count (subst (λ ns. GetsAt (length v.ops) ns (statements first scene)) moves.names got)
+      -- the first block goes on behind its names, and behind that of the test
+      first_left : IsTidy s.scope → (scene after : Scene) → length scene.names ≡ length r.scope.names → GetsAt (length v.ops) v.scope.names (statements first after) → GetsAt (length v.ops) r.scope.names (left scene (statements first after))
+      first_left tidy scene after count got =
+          let moves = moves_on r.scope u.scope v.scope m.moves (block.moves (tidy_inner tidy)) in
+          left_gets code start r.scope.names moves.more (length v.ops) scene (statements first after) count (subst (λ ns. GetsAt (length v.ops) ns (statements first after)) moves.names got)
 
       -- a scope with the names that there were before, of whose locals none became free
-      behind_moves : IsTidy s.scope → t.scope.names ≡ u.scope.names → Keeps u.scope.kinds t.scope.kinds → Moves s.scope t.scope
-      behind_moves tidy names keeps = subst (λ c. Moves c t.scope) scope (moves_kept u.scope t.scope names keeps)
+      behind_moves : IsTidy s.scope → t.scope.names ≡ r.scope.names → Keeps r.scope.kinds t.scope.kinds → Moves s.scope t.scope
+      behind_moves tidy names keeps = subst (λ c. Moves c t.scope) m.scope (moves_kept r.scope t.scope names keeps)
+
+      behind_tidy : IsTidy s.scope → t.scope.names ≡ r.scope.names → Keeps r.scope.kinds t.scope.kinds → IsTidy t.scope
+      behind_tidy tidy names keeps = tidy_kept r.scope t.scope names keeps (tidy_before tidy)
 
     -- ---- without `else`
 
-    absent_acts : (t : Buffer) (ended now : Bool) → AbsentLaid (mark_of u.scope) (length l.behind.ops) ended w t now → Has code t → Acts code start s t (statement (if_of test first absent))
-    unfolding statement otherwise_done
+    absent_acts : (t : Buffer) (ended now : Bool) → AbsentLaid (mark_of r.scope) (length a.ops) (length gd.es) ended w t now → Has code t → Acts code start s t (λ scene. test scene >>= chosen (statements first) (λ sc. Ok sc) scene)
     absent_acts t ended now al has =
-        let all = al.alike.ops ∙ aimed_behind a u v o put_ops put_texts put_queries g in
+        let all = al.alike.ops ∙ aimed_behind a r v gd.es gd.some gd.ops gd.texts gd.queries whole in
         let more = same_more v t al.alike.texts al.alike.queries in
-        let long = block_count a u v o put_ops put_texts put_queries g in
-        let grown = aims_grown a u v o put_ops put_texts put_queries g t (length v.ops) [] all more in
-        let count = aims_count a u v o put_ops put_texts put_queries g t (length v.ops) [] all more in
+        let le_v = long in
+        let le_u = short in
+        let some = block_count a r v gd.es gd.some gd.ops gd.texts gd.queries whole in
+        let grown = aims_grown a r v gd.es gd.some gd.ops gd.texts gd.queries whole t (length v.ops) [] all more in
+        let count = aims_count a r v gd.es gd.some gd.ops gd.texts gd.queries whole t (length v.ops) [] all more in
         let same_count : length t.ops ≡ length v.ops = omega (arith, count) in
-        let there = aims_there a u v o put_ops put_texts put_queries g t (length v.ops) [] all more code (no_place (length v.ops) (omega (arith, long))) has in
-        let block = own (aims_has a u v o put_ops put_texts put_queries g t (length v.ops) [] all more code refl has) in
-        let m = test_means (has_before code a t grown has) in
-        let names_are : IsTidy s.scope → t.scope.names ≡ u.scope.names = λ tidy. al.names ∙ names_twice u.scope v.scope (block.moves (tidy_inner t grown m block tidy)) in
-        let keeps : IsTidy s.scope → Keeps u.scope.kinds t.scope.kinds =
-        λ tidy. met_keeps u.scope.kinds u.scope.kinds w.scope.kinds t.scope.kinds ended (λ i taken. taken) (twice_left u.scope v.scope (block.moves (tidy_inner t grown m block tidy))).keeps al.kinds in
+        let there = aims_there a r v gd.es gd.some gd.ops gd.texts gd.queries whole t (length v.ops) [] all more code (omega (arith, some)) gd.opens has in
+        let has_v = aims_has a r v gd.es gd.some gd.ops gd.texts gd.queries whole t (length v.ops) [] all more code gd.opens has in
+        let block = own has_v in
+        let m = tests (has_before code a t grown has) in
+        let names_are : IsTidy s.scope → t.scope.names ≡ r.scope.names = λ tidy. al.names ∙ names_twice r.scope u.scope v.scope m.moves (block.moves (tidy_inner t grown m block tidy)) in
+        let keeps : IsTidy s.scope → Keeps r.scope.kinds t.scope.kinds =
+        λ tidy. met_keeps r.scope.kinds r.scope.kinds w.scope.kinds t.scope.kinds ended (λ i taken. taken) (twice_left r.scope u.scope v.scope m.moves (block.moves (tidy_inner t grown m block tidy))).keeps al.kinds in
         record {
           grown = grown_on s a t m.grown grown;
-          clean = m.clean;
-          tidy = λ tidy. tidy_kept u.scope t.scope (names_are tidy) (keeps tidy) (tidy_inner t grown m block tidy);
+          clean = gd.adds.clean gd.clean_behind;
+          tidy = λ tidy. behind_tidy t grown m block tidy (names_are tidy) (keeps tidy);
           moves = λ tidy. behind_moves t grown m block tidy (names_are tidy) (keeps tidy);
           gets = λ tidy st scene c here.
-              branches_get t grown m block (length v.ops) (λ sc. Ok sc) there long (omega (arith, same_count))
-              (λ sc size got. placed_as (length v.ops) (length t.ops) u.scope.names t.scope.names (left sc (statements first sc)) (sym same_count) (sym (names_are tidy)) (first_left t grown m block tidy sc size got))
-              (λ sc next c' is. placed_as (length v.ops) (length t.ops) u.scope.names t.scope.names (Ok sc) (sym same_count) (sym (names_are tidy)) (gets_none code start (IsScene (length v.ops) u.scope.names) sc (length v.ops) next c' is))
+              branches_get t grown m block (length v.ops) (λ sc. Ok sc) there (has_before code u v g has_v) (omega (arith, le_u, le_v)) (omega (arith, same_count)) (omega (arith, le_v, same_count))
+              (λ sc after size got. placed_as (length v.ops) (length t.ops) r.scope.names t.scope.names (left sc (statements first after)) (sym same_count) (sym (names_are tidy)) (first_left t grown m block tidy sc after size got))
+              (λ sc next c' is. placed_as (length v.ops) (length t.ops) r.scope.names t.scope.names (Ok sc) (sym same_count) (sym (names_are tidy)) (gets_none code start (IsScene (length v.ops) r.scope.names) sc (length v.ops) next c' is))
               tidy st scene c here;
         }
 
@@ -175,43 +168,45 @@ module _ (schema : Schema) (sf : schemas.Fits schema) (part : Part) (code : Code
           left_gets code start x.scope.names moves.more (length y.ops) scene (statements b scene) (held_count st.0.locals x.scope.names scene.names is.held)
           (subst (λ ns. GetsAt (length y.ops) ns (statements b scene)) moves.names (block.gets tidy st scene c is))
 
-      ended_acts : (el : ElseEnded schema part loops (mark_of u.scope) (length l.behind.ops) b w t now) → block_ends first ≡ true → Grown el.inner el.end → (Has code el.end → Acts code start el.inner el.end (statements b))
-          → Acts code start s t (statement (if_of test first (otherwise b)))
-      unfolding statement otherwise_done
+      ended_acts : (el : ElseEnded schema part loops (mark_of r.scope) (length a.ops) (length gd.es) b w t now) → block_ends first ≡ true → Grown el.inner el.end → (Has code el.end → Acts code start el.inner el.end (statements b))
+          → Acts code start s t (λ scene. test scene >>= chosen (statements first) (λ sc. left sc (statements b sc)) scene)
       ended_acts el first_ends h second =
           let x = el.inner in
           let y = el.end in
-          let all = aimed_before a u v o put_ops put_texts put_queries g x y el.begun.ops h in
+          let all = aimed_before a r v gd.es gd.some gd.ops gd.texts gd.queries whole x y el.begun.ops h in
           let has_y = has_before code y t (grown_none y t el.alike.ops el.alike.texts el.alike.queries) has in
           let more_y = more_after v x y y el.begun.texts el.begun.queries h refl refl in
           let more = more_after v x y t el.begun.texts el.begun.queries h el.alike.texts el.alike.queries in
-          let long = block_count a u v o put_ops put_texts put_queries g in
-          let grown = aims_grown a u v o put_ops put_texts put_queries g t (length v.ops) h.ops (el.alike.ops ∙ all) more in
-          let count = aims_count a u v o put_ops put_texts put_queries g t (length v.ops) h.ops (el.alike.ops ∙ all) more in
-          let begin_is = el.begun.ops ∙ aimed_behind a u v o put_ops put_texts put_queries g in
-          let begin = aims_count a u v o put_ops put_texts put_queries g x (length v.ops) [] begin_is (same_more v x el.begun.texts el.begun.queries) in
+          let le_v = long in
+          let le_u = short in
+          let some = block_count a r v gd.es gd.some gd.ops gd.texts gd.queries whole in
+          let grown = aims_grown a r v gd.es gd.some gd.ops gd.texts gd.queries whole t (length v.ops) h.ops (el.alike.ops ∙ all) more in
+          let count = aims_count a r v gd.es gd.some gd.ops gd.texts gd.queries whole t (length v.ops) h.ops (el.alike.ops ∙ all) more in
+          let begin_is = el.begun.ops ∙ aimed_behind a r v gd.es gd.some gd.ops gd.texts gd.queries whole in
+          let begin = aims_count a r v gd.es gd.some gd.ops gd.texts gd.queries whole x (length v.ops) [] begin_is (same_more v x el.begun.texts el.begun.queries) in
           let begin_count : length v.ops ≡ length x.ops = omega (arith, begin) in
           let end_is : length t.ops ≡ length y.ops = ap length el.alike.ops in
-          let there = aims_there a u v o put_ops put_texts put_queries g y (length v.ops) h.ops all more_y code (no_place (length v.ops) (omega (arith, long))) has_y in
-          let block = own (aims_has a u v o put_ops put_texts put_queries g y (length v.ops) h.ops all more_y code refl has_y) in
+          let there = aims_there a r v gd.es gd.some gd.ops gd.texts gd.queries whole y (length v.ops) h.ops all more_y code (omega (arith, some)) gd.opens has_y in
+          let has_v = aims_has a r v gd.es gd.some gd.ops gd.texts gd.queries whole y (length v.ops) h.ops all more_y code gd.opens has_y in
+          let block = own has_v in
           let other = second has_y in
-          let m = test_means (has_before code a t grown has) in
-          let in_names : IsTidy s.scope → x.scope.names ≡ u.scope.names = λ tidy. el.names ∙ names_twice u.scope v.scope (block.moves (tidy_inner t grown m block tidy)) in
-          let in_keeps : Keeps u.scope.kinds x.scope.kinds = λ i taken. subst (λ ks. is_free (kind_at ks i) ≡ false) (sym el.kinds) taken in
-          let in_tidy : IsTidy s.scope → IsTidy x.scope = λ tidy. tidy_kept u.scope x.scope (in_names tidy) in_keeps (tidy_inner t grown m block tidy) in
+          let m = tests (has_before code a t grown has) in
+          let in_names : IsTidy s.scope → x.scope.names ≡ r.scope.names = λ tidy. el.names ∙ names_twice r.scope u.scope v.scope m.moves (block.moves (tidy_inner t grown m block tidy)) in
+          let in_keeps : Keeps r.scope.kinds x.scope.kinds = λ i taken. subst (λ ks. is_free (kind_at ks i) ≡ false) (sym el.kinds) taken in
+          let in_tidy : IsTidy s.scope → IsTidy x.scope = λ tidy. tidy_kept r.scope x.scope (in_names tidy) in_keeps (tidy_before t grown m block tidy) in
           let names_are : IsTidy s.scope → t.scope.names ≡ x.scope.names = λ tidy. el.names_after ∙ names_left x.scope y.scope (other.moves (in_tidy tidy)) in
-          let keeps : IsTidy s.scope → Keeps u.scope.kinds t.scope.kinds =
-          λ tidy. either_keeps u.scope.kinds w.scope.kinds (back_to (mark_of x.scope) y.scope).kinds t.scope.kinds now (twice_left u.scope v.scope (block.moves (tidy_inner t grown m block tidy))).keeps
+          let keeps : IsTidy s.scope → Keeps r.scope.kinds t.scope.kinds =
+          λ tidy. either_keeps r.scope.kinds w.scope.kinds (back_to (mark_of x.scope) y.scope).kinds t.scope.kinds now (twice_left r.scope u.scope v.scope m.moves (block.moves (tidy_inner t grown m block tidy))).keeps
           (λ i taken. (moves_left x.scope y.scope (other.moves (in_tidy tidy))).keeps i (in_keeps i taken)) el.kinds_after in
           record {
             grown = grown_on s a t m.grown grown;
-            clean = m.clean;
-            tidy = λ tidy. tidy_kept u.scope t.scope (names_are tidy ∙ in_names tidy) (keeps tidy) (tidy_inner t grown m block tidy);
+            clean = gd.adds.clean gd.clean_behind;
+            tidy = λ tidy. behind_tidy t grown m block tidy (names_are tidy ∙ in_names tidy) (keeps tidy);
             moves = λ tidy. behind_moves t grown m block tidy (names_are tidy ∙ in_names tidy) (keeps tidy);
             gets = λ tidy st scene c here.
-                branches_get t grown m block (length v.ops) (λ sc. left sc (statements b sc)) there long (omega (arith, count))
-                (λ sc size got.
-                never_gets code start (IsScene (length v.ops) v.scope.names) (IsScene (length t.ops) t.scope.names) (length v.ops) (length t.ops) (statements first sc) (λ q. Ok (record { names = take (length sc.names) q.names; board = q.board })) (omega (arith, count)) (block_never first sc first_ends) got)
+                branches_get t grown m block (length v.ops) (λ sc. left sc (statements b sc)) there (has_before code u v g has_v) (omega (arith, le_u, le_v)) (omega (arith, count)) (omega (arith, le_v, count))
+                (λ sc after size got.
+                never_gets code start (IsScene (length v.ops) v.scope.names) (IsScene (length t.ops) t.scope.names) (length v.ops) (length t.ops) (statements first after) (λ q. Ok (record { names = take (length sc.names) q.names; board = q.board })) (omega (arith, count)) (block_never first after first_ends) got)
                 (λ sc next c' is.
                 placed_as (length y.ops) (length t.ops) x.scope.names t.scope.names (left sc (statements b sc)) (sym end_is) (sym (names_are tidy))
                 (second_gets x y other (in_tidy tidy) sc next (subst (λ n. Comes code start n (Ok next)) begin_count c')
@@ -219,43 +214,44 @@ module _ (schema : Schema) (sf : schemas.Fits schema) (part : Part) (code : Code
                 tidy st scene c here;
           }
 
-      on_acts : (el : ElseOn schema part loops (mark_of u.scope) (length l.behind.ops) b w t now) → Grown el.inner el.end → (Has code el.end → Acts code start el.inner el.end (statements b)) → Acts code start s t (statement (if_of test first (otherwise b)))
-      unfolding statement otherwise_done
+      on_acts : (el : ElseOn schema part loops (mark_of r.scope) (length a.ops) (length gd.es) b w t now) → Grown el.inner el.end → (Has code el.end → Acts code start el.inner el.end (statements b)) → Acts code start s t (λ scene. test scene >>= chosen (statements first) (λ sc. left sc (statements b sc)) scene)
       on_acts el h second =
           let x = el.inner in
           let y = el.end in
-          let begin_is = open_is a u v o put_ops put_texts put_queries g x y t el.begun.ops h el.alike.ops in
-          let all = closed_is a u v o put_ops put_texts put_queries g x y t el.begun.ops h el.alike.ops in
-          let jumped = jump_count a u v o put_ops put_texts put_queries g x y t el.begun.ops h el.alike.ops in
-          let end_is = end_count a u v o put_ops put_texts put_queries g x y t el.begun.ops h el.alike.ops in
-          let has_y = open_has a u v o put_ops put_texts put_queries g x y t el.begun.ops h el.alike.ops code (same_more y t el.alike.texts el.alike.queries) has in
-          let jump = jump_there a u v o put_ops put_texts put_queries g x y t el.begun.ops h el.alike.ops code has in
+          let begin_is = open_is a r v gd.es gd.some gd.ops gd.texts gd.queries whole x y t el.begun.ops h el.alike.ops in
+          let all = closed_is a r v gd.es gd.some gd.ops gd.texts gd.queries whole x y t el.begun.ops h el.alike.ops in
+          let jumped = jump_count a r v gd.es gd.some gd.ops gd.texts gd.queries whole x y t el.begun.ops h el.alike.ops in
+          let end_is = end_count a r v gd.es gd.some gd.ops gd.texts gd.queries whole x y t el.begun.ops h el.alike.ops in
+          let has_y = open_has a r v gd.es gd.some gd.ops gd.texts gd.queries whole x y t el.begun.ops h el.alike.ops code (same_more y t el.alike.texts el.alike.queries) has in
+          let jump = jump_there a r v gd.es gd.some gd.ops gd.texts gd.queries whole x y t el.begun.ops h el.alike.ops code has in
           let more_y = more_after v x y y el.begun.texts el.begun.queries h refl refl in
           let more = more_after v x y t el.begun.texts el.begun.queries h el.alike.texts el.alike.queries in
-          let long = block_count a u v o put_ops put_texts put_queries g in
+          let le_v = long in
+          let le_u = short in
           let rest = count_of x y h in
-          let grown = aims_grown a u v o put_ops put_texts put_queries g t (length x.ops) (ops.Jump (length y.ops) ∷ h.ops) all more in
-          let there = aims_there a u v o put_ops put_texts put_queries g t (length x.ops) (ops.Jump (length y.ops) ∷ h.ops) all more code (no_place (length x.ops) (omega (arith, jumped))) has in
-          let block = own (aims_has a u v o put_ops put_texts put_queries g y (length x.ops) (ops.Jump 0 ∷ h.ops) begin_is more_y code refl has_y) in
+          let grown = aims_grown a r v gd.es gd.some gd.ops gd.texts gd.queries whole t (length x.ops) (ops.Jump (length y.ops) ∷ h.ops) all more in
+          let there = aims_there a r v gd.es gd.some gd.ops gd.texts gd.queries whole t (length x.ops) (ops.Jump (length y.ops) ∷ h.ops) all more code (omega (arith, jumped)) gd.opens has in
+          let has_v = aims_has a r v gd.es gd.some gd.ops gd.texts gd.queries whole y (length x.ops) (ops.Jump 0 ∷ h.ops) begin_is more_y code gd.opens has_y in
+          let block = own has_v in
           let other = second has_y in
-          let m = test_means (has_before code a t grown has) in
-          let in_names : IsTidy s.scope → x.scope.names ≡ u.scope.names = λ tidy. el.names ∙ names_twice u.scope v.scope (block.moves (tidy_inner t grown m block tidy)) in
-          let in_keeps : Keeps u.scope.kinds x.scope.kinds = λ i taken. subst (λ ks. is_free (kind_at ks i) ≡ false) (sym el.kinds) taken in
-          let in_tidy : IsTidy s.scope → IsTidy x.scope = λ tidy. tidy_kept u.scope x.scope (in_names tidy) in_keeps (tidy_inner t grown m block tidy) in
+          let m = tests (has_before code a t grown has) in
+          let in_names : IsTidy s.scope → x.scope.names ≡ r.scope.names = λ tidy. el.names ∙ names_twice r.scope u.scope v.scope m.moves (block.moves (tidy_inner t grown m block tidy)) in
+          let in_keeps : Keeps r.scope.kinds x.scope.kinds = λ i taken. subst (λ ks. is_free (kind_at ks i) ≡ false) (sym el.kinds) taken in
+          let in_tidy : IsTidy s.scope → IsTidy x.scope = λ tidy. tidy_kept r.scope x.scope (in_names tidy) in_keeps (tidy_before t grown m block tidy) in
           let names_are : IsTidy s.scope → t.scope.names ≡ x.scope.names = λ tidy. el.names_after ∙ names_left x.scope y.scope (other.moves (in_tidy tidy)) in
-          let keeps : IsTidy s.scope → Keeps u.scope.kinds t.scope.kinds =
-          λ tidy. met_keeps u.scope.kinds w.scope.kinds (back_to (mark_of x.scope) y.scope).kinds t.scope.kinds el.ended (twice_left u.scope v.scope (block.moves (tidy_inner t grown m block tidy))).keeps
+          let keeps : IsTidy s.scope → Keeps r.scope.kinds t.scope.kinds =
+          λ tidy. met_keeps r.scope.kinds w.scope.kinds (back_to (mark_of x.scope) y.scope).kinds t.scope.kinds el.ended (twice_left r.scope u.scope v.scope m.moves (block.moves (tidy_inner t grown m block tidy))).keeps
           (λ i taken. (moves_left x.scope y.scope (other.moves (in_tidy tidy))).keeps i (in_keeps i taken)) el.kinds_after in
           record {
             grown = grown_on s a t m.grown grown;
-            clean = m.clean;
-            tidy = λ tidy. tidy_kept u.scope t.scope (names_are tidy ∙ in_names tidy) (keeps tidy) (tidy_inner t grown m block tidy);
+            clean = gd.adds.clean gd.clean_behind;
+            tidy = λ tidy. behind_tidy t grown m block tidy (names_are tidy ∙ in_names tidy) (keeps tidy);
             moves = λ tidy. behind_moves t grown m block tidy (names_are tidy ∙ in_names tidy) (keeps tidy);
             gets = λ tidy st scene c here.
-                branches_get t grown m block (length x.ops) (λ sc. left sc (statements b sc)) there (omega (arith, long, jumped)) (omega (arith, end_is, rest))
-                (λ sc size got.
-                placed_as (length y.ops) (length t.ops) u.scope.names t.scope.names (left sc (statements first sc)) (sym end_is) (sym (names_are tidy ∙ in_names tidy))
-                (jump_gets code start u.scope.names (length v.ops) (length y.ops) (left sc (statements first sc)) (omega (arith, jumped, rest)) jump (first_left t grown m block tidy sc size got)))
+                branches_get t grown m block (length x.ops) (λ sc. left sc (statements b sc)) there (has_before code u v g has_v) (omega (arith, le_u, le_v, jumped)) (omega (arith, end_is, rest)) (omega (arith, le_v, jumped, end_is, rest))
+                (λ sc after size got.
+                placed_as (length y.ops) (length t.ops) r.scope.names t.scope.names (left sc (statements first after)) (sym end_is) (sym (names_are tidy ∙ in_names tidy))
+                (jump_gets code start r.scope.names (length v.ops) (length y.ops) (left sc (statements first after)) (omega (arith, jumped, rest)) jump (first_left t grown m block tidy sc after size got)))
                 (λ sc next c' is.
                 placed_as (length y.ops) (length t.ops) x.scope.names t.scope.names (left sc (statements b sc)) (sym end_is) (sym (names_are tidy))
                 (second_gets x y other (in_tidy tidy) sc next c' (subst (λ ns. IsScene (length x.ops) ns sc next) (sym (in_names tidy)) is)))
@@ -266,8 +262,8 @@ module _ (schema : Schema) (sf : schemas.Fits schema) (part : Part) (code : Code
     else_acts : (b : BlockTree) (t : Buffer) (now : Bool) → Has code t → (ended : Bool) → ended ≡ block_ends first
         → ((d : Bool) (x y : Buffer) → Clean x → statements_code schema part loops false b x ≡ Ok (d, y) → Has code y → Acts code start x y (statements b))
         → ((d : Bool) (x y : Buffer) → statements_code schema part loops false b x ≡ Ok (d, y) → Grown x y) → Clean v
-        → (((ended ≡ true) × ElseEnded schema part loops (mark_of u.scope) (length l.behind.ops) b w t now) ⊎ ((ended ≡ false) × ElseOn schema part loops (mark_of u.scope) (length l.behind.ops) b w t now))
-        → Acts code start s t (statement (if_of test first (otherwise b)))
+        → (((ended ≡ true) × ElseEnded schema part loops (mark_of r.scope) (length a.ops) (length gd.es) b w t now) ⊎ ((ended ≡ false) × ElseOn schema part loops (mark_of r.scope) (length a.ops) (length gd.es) b w t now))
+        → Acts code start s t (λ scene. test scene >>= chosen (statements first) (λ sc. left sc (statements b sc)) scene)
     else_acts b t now has ended ends_so second more clean (inl (e, el)) =
         ended_acts b t now has el (sym ends_so ∙ e) (more now el.inner el.end el.block_is) (second now el.inner el.end (el.begun.flaw ∙ clean) el.block_is)
     else_acts b t now has ended ends_so second more clean (inr (e, el)) =
@@ -297,8 +293,34 @@ module _ (schema : Schema) (sf : schemas.Fits schema) (part : Part) (code : Code
         gets = λ tidy st scene c here. gets_none code start (IsScene (length s.ops) s.scope.names) scene (length s.ops) st c here;
       })
 
+  -- an equal meaning
+  acts_same : (s t : Buffer) (f f' : Scene → Meaning Scene) → ((scene : Scene) → f scene ≡ f' scene) → Acts code start s t f → Acts code start s t f'
+  acts_same s t f f' same acts = record {
+    grown = acts.grown;
+    clean = acts.clean;
+    tidy = acts.tidy;
+    moves = acts.moves;
+    gets = λ tidy st scene c here. subst (GetsAt (length t.ops) t.scope.names) (same scene) (acts.gets tidy st scene c here);
+  }
+
+  -- a test and the blocks behind it
+  module _ (test : Scene → Meaning (Option Scene)) (first : BlockTree) (loops : ℕ) (s t : Buffer) (now : Bool) where
+    one_does : (br : Branches schema part loops first absent s t now) → (Has code br.guard.behind → Tests code start s br.inner br.exits br.guard test) → Grown br.inner br.blocks.end → (Has code br.blocks.end → Acts code start br.inner br.blocks.end (statements first)) → Has code t
+        → Acts code start s t (λ scene. test scene >>= chosen (statements first) (λ sc. Ok sc) scene)
+    one_does br tests g own has = absent_acts test first loops s br.inner br.blocks.end br.exits br.guard g tests own t br.blocks.ended now (branches_absent schema part loops first s t now br) has
+
+    both_do : is_loopless first ≡ true → (b : BlockTree) → (br : Branches schema part loops first (otherwise b) s t now) → (Has code br.guard.behind → Tests code start s br.inner br.exits br.guard test) → (Has code br.blocks.end → Acts code start br.inner br.blocks.end (statements first))
+        → ((d : Bool) (x y : Buffer) → Clean x → statements_code schema part loops false b x ≡ Ok (d, y) → Has code y → Acts code start x y (statements b)) → ((d : Bool) (x y : Buffer) → statements_code schema part loops false b x ≡ Ok (d, y) → Grown x y) → Has code t
+        → Acts code start s t (λ scene. test scene >>= chosen (statements first) (λ sc. left sc (statements b sc)) scene)
+    both_do ok b br tests own second more has =
+        let blocks = br.blocks in
+        let g = block_grown schema part first loops false blocks.ended br.inner blocks.end ok blocks.block_is in
+        let clean = block_clean schema part first loops false blocks.ended br.inner blocks.end ok br.guard.clean blocks.block_is in
+        let ends_so = block_now schema part first loops false blocks.ended br.inner blocks.end ok blocks.block_is in
+        else_acts test first loops s br.inner blocks.end br.exits br.guard g tests own b t now has blocks.ended ends_so second more clean (branches_else schema part loops first b s t now br)
+
   mutual
-    unfolding statements_code statement_code statements statement
+    unfolding statements_code statement_code statements statement otherwise_done if_branches
 
     pub block_does : (b : BlockTree) (loops : ℕ) (was now : Bool) (s t : Buffer) → is_branched b ≡ true → Clean s → statements_code schema part loops was b s ≡ Ok (now, t) → Has code t → Acts code start s t (statements b)
     block_does no_statement loops was now s t ok clean h has = acts_none s t (pair_ok was now s t h).1 clean
@@ -307,31 +329,31 @@ module _ (schema : Schema) (sf : schemas.Fits schema) (part : Part) (code : Code
         let one = bind_ok (statement_code schema part loops place x here) (λ p. statements_code schema part loops (was || p.0) others p.1) (now, t) h in
         let own_ok = and_first (is_branched_statement x) (is_branched others) ok in
         let rest_ok = and_second (is_branched_statement x) (is_branched others) ok in
-        let behind = block_grown schema part others loops (was || one.0.0) now one.0.1 t rest_ok one.2 in
+        let behind = block_grown schema part others loops (was || one.0.0) now one.0.1 t (branched_loopless others rest_ok) one.2 in
         let first = statement_does x loops place one.0.0 here one.0.1 own_ok one.1 (has_before code one.0.1 t behind has) in
-        let rest = block_does others loops (was || one.0.0) now one.0.1 t rest_ok (statement_clean schema part x loops place one.0.0 here one.0.1 own_ok one.1) one.2 has in
+        let rest = block_does others loops (was || one.0.0) now one.0.1 t rest_ok (statement_clean schema part x loops place one.0.0 here one.0.1 (statement_loopless x own_ok) one.1) one.2 has in
         let free = not_failed was NoEnd s first.clean in
         acts_on s one.0.1 t (statement x) (statements others) (subst (λ y. Acts code start y one.0.1 (statement x)) free.1 first) rest
 
     statement_does : (x : StatementTree) (loops : ℕ) (place : Place) (now : Bool) (s t : Buffer) → is_branched_statement x ≡ true → statement_code schema part loops place x s ≡ Ok (now, t) → Has code t → Acts code start s t (statement x)
     statement_does (action a) loops place now s t ok h has = let is = stated schema part place a s t now h in action_does schema sf code start good part a s t is.code_is is.clean has
     statement_does (if_of test first absent) loops place now s t ok h has =
-        let p = if_absent schema part loops place test first s t now h in
-        let laid = p.0 in
-        let blocks = laid.blocks in
+        let laid = if_laid schema part loops place test first absent s t now h in
+        let br = if_branches schema part loops test first absent s t now laid in
+        let tests = if_tests code start schema sf good test s laid.inner laid.exits laid.test_is in
         let own_ok = and_first (is_branched first) true ok in
-        let g = block_grown schema part first loops false blocks.ended laid.inner blocks.end own_ok blocks.block_is in
-        absent_acts test first loops s laid.inner blocks.end laid.exits laid.test_is g (λ has. block_does first loops false blocks.ended laid.inner blocks.end own_ok laid.test_is.clean blocks.block_is has) t blocks.ended now p.1 has
+        acts_same s t (λ scene. where_true code start test scene >>= chosen (statements first) (λ sc. Ok sc) scene) (statement (if_of test first absent)) (λ scene. if_means scene (value_of scene.board scene.names test) (statements first) (λ sc. Ok sc))
+        (one_does (where_true code start test) first loops s t now br tests (block_grown schema part first loops false br.blocks.ended br.inner br.blocks.end (branched_loopless first own_ok) br.blocks.block_is)
+        (λ has. block_does first loops false br.blocks.ended br.inner br.blocks.end own_ok br.guard.clean br.blocks.block_is has) has)
     statement_does (if_of test first (otherwise b)) loops place now s t ok h has =
-        let p = if_else schema part loops place test first s t now b h in
-        let laid = p.0 in
-        let blocks = laid.blocks in
+        let laid = if_laid schema part loops place test first (otherwise b) s t now h in
+        let br = if_branches schema part loops test first (otherwise b) s t now laid in
+        let tests = if_tests code start schema sf good test s laid.inner laid.exits laid.test_is in
         let own_ok = and_first (is_branched first) (is_branched b) ok in
         let rest_ok = and_second (is_branched first) (is_branched b) ok in
-        let g = block_grown schema part first loops false blocks.ended laid.inner blocks.end own_ok blocks.block_is in
-        let v_clean = block_clean schema part first loops false blocks.ended laid.inner blocks.end own_ok laid.test_is.clean blocks.block_is in
-        let ends_so = block_now schema part first loops false blocks.ended laid.inner blocks.end own_ok blocks.block_is in
-        else_acts test first loops s laid.inner blocks.end laid.exits laid.test_is g (λ has. block_does first loops false blocks.ended laid.inner blocks.end own_ok laid.test_is.clean blocks.block_is has) b t now has blocks.ended ends_so
-        (λ d x y clean is. block_does b loops false d x y rest_ok clean is) (λ d x y is. block_grown schema part b loops false d x y rest_ok is) v_clean p.1
+        acts_same s t (λ scene. where_true code start test scene >>= chosen (statements first) (λ sc. left sc (statements b sc)) scene) (statement (if_of test first (otherwise b)))
+        (λ scene. if_means scene (value_of scene.board scene.names test) (statements first) (λ sc. left sc (statements b sc)))
+        (both_do (where_true code start test) first loops s t now (branched_loopless first own_ok) b br tests (λ has. block_does first loops false br.blocks.ended br.inner br.blocks.end own_ok br.guard.clean br.blocks.block_is has)
+        (λ d x y clean is. block_does b loops false d x y rest_ok clean is) (λ d x y is. block_grown schema part b loops false d x y (branched_loopless b rest_ok) is) has)
     statement_does (with_of binding first other) loops place now s t ok h has = absurd cc
     statement_does (for_of name sequence body) loops place now s t ok h has = absurd cc

@@ -75,14 +75,18 @@ module _ (code : Code) (start : State) where
   Gets P r n = (came : Came) × Comes n came × Leaves P r came
 
   gets_by : {X Y : Type 0} (P : X → State → Type 0) (Q : Y → State → Type 0) (r : Meaning X) (f : X → Meaning Y) (n m : ℕ) (came : Came) → n ≤ m → Comes n came → Leaves P r came
-      → ((x : X) (st : State) → Comes n (Ok st) → P x st → Gets Q (f x) m) → Gets Q (r >>= f) m
-  gets_by P Q r f n m (Ok st) le c h next = subst (λ r. Gets Q (r >>= f) m) (sym h.1) (next h.0 st c h.2)
+      → ((x : X) (st : State) → r ≡ Ok x → Comes n (Ok st) → P x st → Gets Q (f x) m) → Gets Q (r >>= f) m
+  gets_by P Q r f n m (Ok st) le c h next = subst (λ r. Gets Q (r >>= f) m) (sym h.1) (next h.0 st h.1 c h.2)
   gets_by P Q r f n m (Err e) le c h next = (Err e, ended_by n m e le c, leaves_on P Q r f e h)
 
-  -- one part after another
+  -- one part after another, which may ask what the first came to
+  pub gets_as : {X Y : Type 0} (P : X → State → Type 0) (Q : Y → State → Type 0) (r : Meaning X) (f : X → Meaning Y) (n m : ℕ) → n ≤ m → Gets P r n
+      → ((x : X) (st : State) → r ≡ Ok x → Comes n (Ok st) → P x st → Gets Q (f x) m) → Gets Q (r >>= f) m
+  gets_as P Q r f n m le g next = gets_by P Q r f n m g.0 le g.1 g.2 next
+
   pub gets_then : {X Y : Type 0} (P : X → State → Type 0) (Q : Y → State → Type 0) (r : Meaning X) (f : X → Meaning Y) (n m : ℕ) → n ≤ m → Gets P r n
       → ((x : X) (st : State) → Comes n (Ok st) → P x st → Gets Q (f x) m) → Gets Q (r >>= f) m
-  gets_then P Q r f n m le g next = gets_by P Q r f n m g.0 le g.1 g.2 next
+  gets_then P Q r f n m le g next = gets_as P Q r f n m le g (λ x st is c p. next x st c p)
 
   placed_by : {X : Type 0} (P : X → State → Type 0) (r : Meaning X) (n : ℕ) (b : Board) (given : Result State Halt) → ((x : X) (next : State) → P x next → next.0.place ≡ n) → Leaves P r (done_on b given) → IsPlaced n given
   placed_by P r n b (Ok next) place h = place h.0 next h.2

@@ -38,6 +38,10 @@ pub mod KeepLemmas
 pub mod EndLemmas
 -- an `if`
 pub mod BranchLemmas
+-- tests before a first block
+pub mod TestLemmas
+-- texts without `with` and `for`
+pub mod BranchedLemmas
 -- blocks
 pub mod BlockLemmas
 -- whole parts

@@ -47,19 +47,21 @@ use Rattle.bb_machine_step.specs.Stuck.TheVariants as reasons
 use Rattle.bb_machine_step.proofs.Laws.{activation_schema, by_op}
 use Rattle.bb_machine.specs.NeverWrong.{Begins, EntryFits, NeverStuck}
 use Rattle.bb_machine.proofs.Laws.{activation_fits, activation_never_stuck}
-use Rattle.bb_compile_accepted.proofs.Laws.{Grown, Has, put_ok, grown_none, grown_on, grown_op, has_before, op_at, pair_ok, plain_branched, part_accepted, branched_accepted}
+use Rattle.bb_compile_accepted.proofs.Laws.{Grown, Has, put_ok, grown_none, grown_on, grown_op, has_before, op_at, pair_ok, part_accepted, loopless_accepted}
 use Rattle.bb_verify.proofs.Laws.{checked_facts}
 use Rattle.bb_compile_meaning.specs.Meaning.{End, Meaning, Name, meaningless}
 use Rattle.bb_compile_meaning.specs.Meaning as comes
 use Rattle.bb_compile_meaning.specs.Statements.{Scene, statements}
 use Rattle.bb_compile_meaning.specs.Parts.{first_names, first_scene, ended, meaning}
 use Rattle.bb_compile_meaning.specs.Plain.{is_plain}
-use Rattle.bb_compile_meaning.specs.Branched.{is_branched, HasClasses}
+use Rattle.bb_compile_meaning.specs.Branched.{is_branched}
+use Rattle.bb_compile_meaning.specs.Loopless.{HasClasses}
 use Rattle.bb_compile_meaning.specs.Told.{IsTold}
 use Rattle.bb_compile_meaning.proofs.ComeLemmas.{Came, Leaves, Comes, Gets, comes_on}
 use Rattle.bb_compile_meaning.proofs.NameLemmas.{AreHeld}
 use Rattle.bb_compile_meaning.proofs.AtomLemmas.{Good}
 use Rattle.bb_compile_meaning.proofs.ActLemmas.{IsTidy, IsScene}
+use Rattle.bb_compile_meaning.proofs.BranchedLemmas.{branched_loopless, plain_branched}
 use Rattle.bb_compile_meaning.proofs.BlockLemmas.{block_does}
 
 -- ---- what a part begins with
@@ -270,5 +272,5 @@ plain_told part code entry b is sf fits place block limit plain code_is entry_fi
 pub branched_told : (part : Part) (code : Code) (entry : Entry) (b : Board) → IsCode code → schemas.Fits b.schema → Fits b.schema b.world → (place : Place) (block : BlockTree) (limit : ℕ) → is_branched block ≡ true → HasClasses b.schema part → part_code b.schema part place block ≡ Ok code
     → EntryFits b.schema b.world part entry → length code.ops ≤ limit → IsTold (meaning part block entry b) (activation limit code entry b)
 branched_told part code entry b is sf fits place block limit branched classes code_is entry_fits enough =
-    let it = branched_accepted b.schema sf part classes place block branched code code_is in
+    let it = loopless_accepted b.schema sf part classes place block (branched_loopless block branched) code code_is in
     accepted_told part code it.0 entry b is sf fits place block limit branched code_is it.1 entry_fits enough

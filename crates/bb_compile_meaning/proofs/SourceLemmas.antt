@@ -33,11 +33,13 @@ use Rattle.bb_compile_accepted.specs.Within.{is_within}
 use Rattle.bb_compile_accepted.specs.Statements.{block_code}
 use Rattle.bb_compile_accepted.specs.Parts.{has_no_end, done, version_for, part_code}
 use Rattle.bb_compile_accepted.specs.PartLimits.{LOOP_NESTING}
-use Rattle.bb_compile_accepted.proofs.Laws.{class_there, branched_accepted}
-use Rattle.bb_compile_meaning.specs.Branched.{is_branched, HasClass, HasClasses}
+use Rattle.bb_compile_accepted.proofs.Laws.{class_there, loopless_accepted}
+use Rattle.bb_compile_meaning.specs.Branched.{is_branched}
+use Rattle.bb_compile_meaning.specs.Loopless.{HasClass, HasClasses}
 use Rattle.bb_compile_meaning.specs.Sources.{part_is_branched, reaction_is_branched, act_is_branched, is_branched_source, IsAccepted, IsAcceptedFor, IsAcceptedAct, AreAccepted, IsMeant, IsMeantIf, IsMeantReaction, IsMeantAct, AreMeant}
 use Rattle.bb_compile_meaning.proofs.CodeLemmas.{within_code}
 use Rattle.bb_compile_meaning.proofs.MadeLemmas.{IsMade, IsMadeReaction, IsMadeAct, source_made}
+use Rattle.bb_compile_meaning.proofs.BranchedLemmas.{branched_loopless}
 use Rattle.bb_compile_meaning.proofs.PartLemmas.{branched_told}
 
 -- no part has a `with` or a `for`
@@ -72,7 +74,7 @@ module _ (schema : Schema) (sf : schemas.Fits schema) where
   part_ok part None None branched classes made = tt
   part_ok part None (Some code) branched classes made = absurd made
   part_ok part (Some text) None branched classes made = absurd made
-  part_ok part (Some text) (Some code) branched classes made = branched_accepted schema sf part classes text.place text.block branched code made
+  part_ok part (Some text) (Some code) branched classes made = loopless_accepted schema sf part classes text.place text.block (branched_loopless text.block branched) code made
 
   reaction_ok : (part : (of : ℕ) → Part) (o : Option ReactionText) (r : Option (ReactionDraft Code)) → reaction_is_branched o ≡ true → ((of : ℕ) → HasClass schema of → HasClasses schema (part of)) → IsMadeReaction schema part o r → IfSome r (IsAcceptedFor schema part)
   reaction_ok part None None branched classes made = tt
@@ -80,13 +82,13 @@ module _ (schema : Schema) (sf : schemas.Fits schema) where
   reaction_ok part (Some text) None branched classes made = absurd made
   reaction_ok part (Some text) (Some r) branched classes made =
       let there = classes made.of (class_there schema text.class made.of made.named) in
-      (made.of, ap (class_named schema) made.class ∙ made.named, branched_accepted schema sf (part made.of) there text.place text.block branched r.code made.code)
+      (made.of, ap (class_named schema) made.class ∙ made.named, loopless_accepted schema sf (part made.of) there text.place text.block (branched_loopless text.block branched) r.code made.code)
 
   act_ok : (class : ℕ) (text : ActText) (act : ActDraft Code) → act_is_branched text ≡ true → HasClass schema class → IsMadeAct schema class text act → IsAcceptedAct schema class act
   act_ok class acts.Native drafts.Native branched there made = tt
   act_ok class acts.Native (drafts.Do code) branched there made = absurd made
   act_ok class (acts.Do text) drafts.Native branched there made = absurd made
-  act_ok class (acts.Do text) (drafts.Do code) branched there made = branched_accepted schema sf (Do class) there text.place text.block branched code made
+  act_ok class (acts.Do text) (drafts.Do code) branched there made = loopless_accepted schema sf (Do class) there text.place text.block (branched_loopless text.block branched) code made
 
   pub source_accepted : (text : SourceText) (draft : SourceDraft Code) → is_branched_source text ≡ true → compiled schema text ≡ Ok draft → AreAccepted schema draft
   source_accepted text draft branched h =

@@ -1,4 +1,4 @@
--- The code of a part without `with` and `for` is accepted, where the classes of the part are of the schema.
+-- The code of a part without `for` is accepted, where the classes of the part are of the schema.
 use Rattle.std.proofs.Common.{◌≡◌, inl, ℕ, ◌+◌, ◌<◌, ◌≤◌, Bool, true, false, cond, ◌&&◌, not, [], ◌∷◌, ◌++◌, length, Some, None, Result, Ok, Err, refl, subst, sym, ap, ◌∙◌, arith, length-append}
 use Rattle.std.specs.Prelude.{slice_get, is_ok, option_map}
 use Rattle.std.proofs.lemmas.List.{append-nil}
@@ -31,7 +31,7 @@ use Rattle.bb_verify.specs.PartType.{Part}
 use Rattle.bb_verify.specs.PartType.TheVariants.{Require, Obviate, Retrigger, Revalidate, Do}
 use Rattle.bb_verify.specs.Places.{entry_frame}
 use Rattle.bb_verify.specs.Tables.{in_tables}
-use Rattle.bb_compile_accepted.specs.Branched.{is_branched, HasClasses}
+use Rattle.bb_compile_accepted.specs.Loopless.{is_loopless, HasClasses}
 use Rattle.bb_compile_accepted.proofs.StraightLemmas.{Ends, nothing_follows}
 use Rattle.bb_compile_accepted.proofs.BufferLemmas.{Has, with_op, put_ok, count_of, front}
 use Rattle.bb_compile_accepted.proofs.PutLemmas.{pair_ok}
@@ -45,7 +45,7 @@ use Rattle.bb_compile_accepted.proofs.AcceptLemmas.{block_goes}
 use Rattle.bb_compile_accepted.proofs.WholeLemmas.{IsAccepted, rises_unlabelled, walked_accepted, begin_sound}
 use Rattle.bb_compile_accepted.proofs.PartLemmas.{begin_known, begin_count, all_at, query_limits, queries_within, version_fits}
 
-module _ (schema : Schema) (sf : schemas.Fits schema) (part : Part) (classes : HasClasses schema part) (place : Place) (block : BlockTree) (branched : is_branched block ≡ true) where
+module _ (schema : Schema) (sf : schemas.Fits schema) (part : Part) (classes : HasClasses schema part) (place : Place) (block : BlockTree) (loopless : is_loopless block ≡ true) where
   abbrev first : Buffer
   first = empty_buffer part place
 
@@ -62,7 +62,7 @@ module _ (schema : Schema) (sf : schemas.Fits schema) (part : Part) (classes : H
     small i q at = query_limits q (all_at query_within u.queries i q (queries_within code within) at)
 
     lays : Lays first t
-    lays = block_lays schema part block LOOP_NESTING false now first t branched h
+    lays = block_lays schema part block LOOP_NESTING false now first t loopless h
 
     no_loops : code.loops ≡ []
     no_loops = loops ∙ lays.loops
@@ -80,7 +80,7 @@ module _ (schema : Schema) (sf : schemas.Fits schema) (part : Part) (classes : H
     sound = begin_sound schema sf part place code no_loops classes
 
     goes : Goes schema sf part code no_loops first t now
-    goes = block_goes schema sf part code no_loops small block LOOP_NESTING false now first t branched h sound agrees
+    goes = block_goes schema sf part code no_loops small block LOOP_NESTING false now first t loopless h sound agrees
 
     few : length (units_of part) ≤ code.locals
     few = let grows = lays.locals in let e = locals in omega (arith, grows, e)
@@ -179,16 +179,16 @@ module _ (schema : Schema) (sf : schemas.Fits schema) (part : Part) (classes : H
   by_end : (b : Bool) (now : Bool) (t u : Buffer) → is_ok (ends_done part) ≡ b → (not b && not (block_ends block)) ≡ false → statements_code schema part LOOP_NESTING false block first ≡ Ok (now, t)
       → (let r : Result Buffer CompileFault = cond b (put ops.Done (leave (mark_of first.scope) t)) (Ok (leave (mark_of first.scope) t)) in r) ≡ Ok u → is_within (code_of (version_for schema) u) ≡ true → Accepted (code_of (version_for schema) u)
   by_end true now t u ends_so no_end h last within = do_whole now t u ends_so within h last
-  by_end false now t u other no_end h last within = ends_whole now t u (block_now schema part block LOOP_NESTING false now first t branched h ∙ ended (block_ends block) no_end) within h (same_ok (leave (mark_of first.scope) t) u last)
+  by_end false now t u other no_end h last within = ends_whole now t u (block_now schema part block LOOP_NESTING false now first t loopless h ∙ ended (block_ends block) no_end) within h (same_ok (leave (mark_of first.scope) t) u last)
     where
       ended : (b : Bool) → not b ≡ false → b ≡ true
       ended true h = refl
       ended false h = absurd cc
 
   -- the code of a part is accepted for it
-  pub branched_accepted : (code : Code) → part_code schema part place block ≡ Ok code → Accepted code
+  pub loopless_accepted : (code : Code) → part_code schema part place block ≡ Ok code → Accepted code
   unfolding part_code if_within
-  branched_accepted code h =
+  loopless_accepted code h =
       let body = guard_ok (has_no_end part block) (Fault NoEnd place) (block_code schema part LOOP_NESTING block first >>= λ p. done part p.1 >>= λ u. if_within u.start (code_of (version_for schema) u)) code h in
       let one = bind_ok (block_code schema part LOOP_NESTING block first) (λ p. done part p.1 >>= λ u. if_within u.start (code_of (version_for schema) u)) code body.1 in
       let two = bind_ok (statements_code schema part LOOP_NESTING false block first) (left (mark_of first.scope)) one.0 one.1 in
