@@ -42,7 +42,7 @@ abbrev pub AreOpen : List Op → Type 0
 AreOpen [] = Unit {0}
 AreOpen (o ∷ es) = (is_open o ≡ true) × AreOpen es
 
-same_aimed : (es : List Op) (at : ℕ) → length es ≡ length (all_aimed es at)
+pub same_aimed : (es : List Op) (at : ℕ) → length es ≡ length (all_aimed es at)
 same_aimed [] at = refl
 same_aimed (o ∷ es) at = ap suc (same_aimed es at)
 

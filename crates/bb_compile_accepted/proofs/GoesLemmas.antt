@@ -16,6 +16,7 @@ use Rattle.bb_compile_accepted.proofs.StoreLemmas.{Does, After as DoesAfter}
 use Rattle.bb_compile_accepted.proofs.LabelLemmas.{listed, labels_of, label_at, found_past, Rises, rises_weaker, HasLast, AllLabels, frame_by}
 use Rattle.bb_compile_accepted.proofs.MoveLemmas.{Tidy, Moves}
 use Rattle.bb_compile_accepted.proofs.WalkLemmas.{Walks, leads_walk, runs_walk, At}
+use Rattle.bb_compile_accepted.proofs.TraceLemmas.{Traced}
 use Rattle.bb_compile_accepted.proofs.JoinLemmas.{here, kinds_here, HasFrame, AreGood, Sound, Agrees, Joins, Arrives, arrive, joins_own, known_there, knows_there}
 use Rattle.bb_compile_accepted.proofs.BlockLemmas.{same_labels}
 
@@ -40,14 +41,15 @@ module _ (schema : Schema) (sf : schemas.Fits schema) (part : Part) (code : Code
   After true place listed next t = WalksHere place listed next None
   After false place listed next t = (out : Option Frame) × ArrivesHere out t × WalksHere place listed next out
 
-  pub record Goes (s t : Buffer) (now : Bool) : Type 0 where
+  -- S is what it tells of the frames that the verifier finds
+  pub record Goes (s t : Buffer) (now : Bool) (S : List Frame → Type 0) : Type 0 where
     pub grown : Grown s t
     pub moves : Moves schema sf s t
     pub sound : IsSound t
     pub unlabelled : now ≡ true → here t ≡ None
     -- a part that ends so does not end by itself
     pub right : now ≡ true → is_ok (ends_done part) ≡ false
-    pub more : (now ≡ false → JoinsHere t) → JoinsHere s × ((next : Option Frame) → ArrivesHere next s → After now (length s.ops) grown.ops next t)
+    pub more : (now ≡ false → JoinsHere t) → JoinsHere s × ((next : Option Frame) → ArrivesHere next s → After now (length s.ops) grown.ops next t × ((frames : List Frame) → Traced schema part code no_loops frames (length s.ops) next → S frames))
 
   -- ---- a buffer behind which no label was put
 
@@ -73,7 +75,7 @@ module _ (schema : Schema) (sf : schemas.Fits schema) (part : Part) (code : Code
   module _ (small : AreSmall schema sf part code) where
     -- ---- statements without blocks
 
-    pub action_goes : (ended : Bool) (s t : Buffer) → Does schema sf part code small ended s t → IsSound s → AgreesHere t → Goes s t ended
+    pub action_goes : (ended : Bool) (s t : Buffer) → Does schema sf part code small ended s t → IsSound s → AgreesHere t → Goes s t ended (λ frames. Unit {0})
     action_goes ended s t d sound agrees =
         let labels : t.labels ≡ s.labels = ap (λ (x : Buffer). x.labels) d.same in
         let last : t.last ≡ s.last = ap (λ (x : Buffer). x.last) d.same in
@@ -90,7 +92,7 @@ module _ (schema : Schema) (sf : schemas.Fits schema) (part : Part) (code : Code
           right = d.right;
           more = λ joins. (
             joins_own schema sf part code no_loops s sound (let le = agrees.within in omega (arith, lt, le)) (agrees.frames (length s.ops) lt ∙ ap (λ ls. option_map (frame_by code.locals) (label_at ls (length s.ops))) same),
-            λ next arrives. walk ended refl after joins next (arrive schema sf part code no_loops s next sound (let l = d.locals in let le = agrees.locals in omega (arith, l, le)) (agrees.frames (length s.ops) lt ∙ ap (λ ls. option_map (frame_by code.locals) (label_at ls (length s.ops))) same) arrives),
+            λ next arrives. (walk ended refl after joins next (arrive schema sf part code no_loops s next sound (let l = d.locals in let le = agrees.locals in omega (arith, l, le)) (agrees.frames (length s.ops) lt ∙ ap (λ ls. option_map (frame_by code.locals) (label_at ls (length s.ops))) same) arrives), λ frames traced. tt),
           );
         }
       where

@@ -1,6 +1,7 @@
 -- A test before a first block guides the verifier: it goes on to the block, with the name that the test declares, or
 -- elsewhere as it was before the test.
-use Rattle.std.proofs.Common.{◌≡◌, ℕ, ◌+◌, ◌<◌, ◌≤◌, Bool, true, false, List, [], ◌++◌, length, Option, Some, None, Ok, subst, sym, ap, ◌∙◌, arith, length-append}
+use Rattle.std.proofs.Common.{◌≡◌, ℕ, ◌+◌, ◌<◌, ◌≤◌, Bool, true, false, List, [], ◌++◌, length, Option, Some, None, Ok, refl, subst, sym, ap, ◌∙◌, arith, append_assoc, length-append}
+use Rattle.std.proofs.lemmas.List.{append-nil}
 use Rattle.bb_schema.specs.Schema.{Schema}
 use Rattle.bb_schema.specs.Fits as schemas
 use Rattle.bb_verify_frame.specs.Code.{Code}
@@ -11,12 +12,14 @@ use Rattle.bb_compile_emit.specs.declared.exits.Exits.{Exits}
 use Rattle.bb_verify.specs.FrameType.{Frame}
 use Rattle.bb_verify.specs.PartType.{Part}
 use Rattle.bb_verify.specs.Places.{frame_at, on_due, target_due}
-use Rattle.bb_compile_accepted.proofs.BufferLemmas.{Grown, count_of}
-use Rattle.bb_compile_accepted.proofs.AimLemmas.{all_aimed}
+use Rattle.bb_compile_accepted.proofs.BufferLemmas.{Grown, Has, count_of}
+use Rattle.bb_compile_accepted.proofs.AimLemmas.{all_aimed, same_aimed}
 use Rattle.bb_compile_accepted.proofs.GuardLemmas.{Guard}
+use Rattle.bb_compile_accepted.proofs.KnowLemmas.{Knows, Finds}
 use Rattle.bb_compile_accepted.proofs.LabelLemmas.{listed, labels_of, label_at, found_past}
 use Rattle.bb_compile_accepted.proofs.MoveLemmas.{Moves, moves_same, moves_on}
 use Rattle.bb_compile_accepted.proofs.WalkLemmas.{Walks, At}
+use Rattle.bb_compile_accepted.proofs.TraceLemmas.{Traced, traced_walk, traced_here}
 use Rattle.bb_compile_accepted.proofs.JoinLemmas.{here, kinds_here, HasFrame, Sound}
 use Rattle.bb_compile_accepted.proofs.BlockLemmas.{Lays as LaysBlock, same_labels}
 use Rattle.bb_compile_accepted.proofs.GoesLemmas.{After, plain_here, plain_sound}
@@ -90,3 +93,31 @@ module _ (schema : Schema) (sf : schemas.Fits schema) (part : Part) (code : Code
       → AfterHere now (length s.ops) (grown.ops ++ (all_aimed gd.es at ++ listed)) next t
   led_after s u exits gd grown f own led at rest listed next true t is found none low high lt on target behind = led at rest listed next None is found none low high lt on target behind
   led_after s u exits gd grown f own led at rest listed next false t is found none low high lt on target behind = (behind.0, behind.1, led at rest listed next behind.0 is found none low high lt on target behind.2)
+
+  -- the verifier comes to the first block, where it comes to the test
+  pub led_traced : (s u : Buffer) (exits : Exits) (gd : Guard s u exits) (grown : Grown s gd.behind) (f own : Frame) → Led s u exits gd grown f own → (frames : List Frame) (t : Buffer) → Has code t → (at : ℕ) (block more : List Op) (next : Option Frame)
+      → t.ops ≡ s.ops ++ (grown.ops ++ (all_aimed gd.es at ++ ((gd.named.ops ++ block) ++ more))) → frame_at (At schema part code no_loops (length s.ops)) next ≡ Ok f
+      → ((p : ℕ) → length s.ops < p → p < length u.ops → At schema part code no_loops p ≡ None) → length gd.tested.ops ≤ at → at < length code.ops → length u.ops < length code.ops
+      → on_due schema (Some own) (At schema part code no_loops (length u.ops)) ≡ Ok tt → target_due schema (Some f) (At schema part code no_loops at) ≡ Ok tt → Traced schema part code no_loops frames (length s.ops) next
+      → Traced schema part code no_loops frames (length u.ops) (Some own)
+  led_traced s u exits gd grown f own led frames t has at block more next is found none low high lt on target traced =
+      let listed = grown.ops ++ (all_aimed gd.es at ++ gd.named.ops) in
+      let walks : WalksHere (length s.ops) listed next (Some own) = led at [] gd.named.ops next (Some own) (sym (append-nil gd.named.ops)) found none low high lt on target refl in
+      let put = put_count s u exits gd in
+      let behind = count_of s gd.behind grown in
+      let tests : length (all_aimed gd.es at) ≡ length gd.es = sym (same_aimed gd.es at) in
+      let named : length (all_aimed gd.es at ++ gd.named.ops) ≡ length (all_aimed gd.es at) + length gd.named.ops = length-append (all_aimed gd.es at) gd.named.ops in
+      let whole : length listed ≡ length grown.ops + length (all_aimed gd.es at ++ gd.named.ops) = length-append grown.ops (all_aimed gd.es at ++ gd.named.ops) in
+      subst (λ n. Traced schema part code no_loops frames n (Some own)) (let e : length s.ops + length listed ≡ length u.ops = omega (arith, put, behind, tests, named, whole) in e)
+      (traced_walk schema part code no_loops frames t has (length s.ops) s.ops listed (block ++ more) next (Some own) refl (is ∙ ap (λ l. s.ops ++ l) (regroup grown.ops (all_aimed gd.es at) gd.named.ops block more)) walks traced)
+    where
+      regroup : (m aims n g r : List Op) → m ++ (aims ++ ((n ++ g) ++ r)) ≡ (m ++ (aims ++ n)) ++ (g ++ r)
+      regroup m aims n g r =
+          ap (λ l. m ++ (aims ++ l)) (append_assoc n g r) ∙ (ap (λ l. m ++ l) (sym (append_assoc aims n (g ++ r))) ∙ sym (append_assoc m (aims ++ n) (g ++ r)))
+
+  -- the frame that is found where a test begins is the one of its walk
+  pub known_so : (frames : List Frame) (s : Buffer) (next : Option Frame) (f : Frame) → length s.ops < length code.ops → frame_at (At schema part code no_loops (length s.ops)) next ≡ Ok f → Fitting f s.scope.kinds → Traced schema part code no_loops frames (length s.ops) next
+      → Finds schema sf frames (length s.ops) s.scope.kinds
+  known_so frames s next f lt here has traced g at =
+      let same : f ≡ g = (let e : Some f ≡ Some g = sym (traced_here schema part code no_loops frames (length s.ops) next f lt here traced) ∙ at in cc) in
+      subst (λ (x : Frame). Knows schema sf x.locals s.scope.kinds) same has.2

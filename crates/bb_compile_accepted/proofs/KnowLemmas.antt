@@ -1,6 +1,7 @@
 -- What is known of all locals of a code, those of names and others: between statements, behind a block, and where two
 -- branches meet.
-use Rattle.std.proofs.Common.{◌≡◌, ◌⊎◌, inl, inr, ℕ, zero, suc, ◌+◌, ◌<◌, Bool, true, false, cond, List, [], ◌∷◌, length, map, refl, subst, sym, ap, ◌∙◌, arith}
+use Rattle.std.proofs.Common.{◌≡◌, ◌⊎◌, inl, inr, ℕ, zero, suc, ◌+◌, ◌<◌, Bool, true, false, cond, List, [], ◌∷◌, length, map, Some, refl, subst, sym, ap, ◌∙◌, arith}
+use Rattle.std.specs.Prelude.{slice_get}
 use Rattle.std.specs.Cmp.Lexicographic.{pointwise}
 use Rattle.std.specs.List.{range_with_len}
 use Rattle.std.proofs.lemmas.Bool.{eq-eqb}
@@ -91,6 +92,10 @@ module _ (s : Schema) (sf : schemas.Fits s) where
 
   abbrev pub Knows : List Kind → (thought : List Kind) → Type 0
   Knows locals thought = (i : ℕ) → IsHeld (kind_at locals i) (kind_at thought i)
+
+  -- the frame that is found at a place is known so
+  abbrev pub Finds : List Frame → (place : ℕ) → (thought : List Kind) → Type 0
+  Finds frames place thought = (f : Frame) → slice_get frames place ≡ Some f → Knows f.locals thought
 
   -- ---- from the locals of names to all, and back
 

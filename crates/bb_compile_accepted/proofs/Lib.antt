@@ -44,6 +44,8 @@ pub mod ValueLemmas
 pub mod MoveLemmas
 -- ops that go ahead, and frames that are declared
 pub mod WalkLemmas
+-- frames that are found
+pub mod TraceLemmas
 -- what is found where a label stands
 pub mod JoinLemmas
 -- where the ops of a test and of its blocks stand
@@ -76,6 +78,10 @@ pub mod HeadVisits
 pub mod HeadGoes
 -- an `if` and a `with`, for the verifier
 pub mod BranchGoes
+-- and with `else`
+pub mod ElseGoes
+-- what holds before statements with blocks
+pub mod BeforeLemmas
 -- statements of all kinds
 pub mod AcceptLemmas
 -- what a part begins with, and a code that is walked

@@ -1,5 +1,5 @@
 -- The code of a part without `for` is accepted, where the classes of the part are of the schema.
-use Rattle.std.proofs.Common.{◌≡◌, inl, ℕ, ◌+◌, ◌<◌, ◌≤◌, Bool, true, false, cond, ◌&&◌, not, [], ◌∷◌, ◌++◌, length, Some, None, Result, Ok, Err, refl, subst, sym, ap, ◌∙◌, arith, length-append}
+use Rattle.std.proofs.Common.{◌≡◌, inl, ℕ, ◌+◌, ◌<◌, ◌≤◌, Bool, true, false, cond, ◌&&◌, not, List, [], ◌∷◌, ◌++◌, length, Some, None, Result, Ok, Err, refl, subst, sym, ap, ◌∙◌, arith, length-append}
 use Rattle.std.specs.Prelude.{slice_get, is_ok, option_map}
 use Rattle.std.proofs.lemmas.List.{append-nil}
 use Rattle.bb_basis.specs.Results.{◌>>=◌}
@@ -29,7 +29,8 @@ use Rattle.bb_verify.specs.FrameType.{Frame}
 use Rattle.bb_verify.specs.Part.{units_of, ends_done}
 use Rattle.bb_verify.specs.PartType.{Part}
 use Rattle.bb_verify.specs.PartType.TheVariants.{Require, Obviate, Retrigger, Revalidate, Do}
-use Rattle.bb_verify.specs.Places.{entry_frame}
+use Rattle.bb_verify.specs.Accepted.{checked}
+use Rattle.bb_verify.specs.Places.{entry_frame, on_due}
 use Rattle.bb_verify.specs.Tables.{in_tables}
 use Rattle.bb_compile_accepted.specs.Loopless.{is_loopless, HasClasses}
 use Rattle.bb_compile_accepted.proofs.StraightLemmas.{Ends, nothing_follows}
@@ -38,19 +39,53 @@ use Rattle.bb_compile_accepted.proofs.PutLemmas.{pair_ok}
 use Rattle.bb_compile_accepted.proofs.PatternLemmas.{AreSmall}
 use Rattle.bb_compile_accepted.proofs.BlockLemmas.{Lays, same_labels, block_now, block_lays}
 use Rattle.bb_compile_accepted.proofs.LabelLemmas.{listed, labels_of, label_at, AllLabels, Rises, frame_by, declared_is}
-use Rattle.bb_compile_accepted.proofs.WalkLemmas.{Walks, walks_on, end_visit, At}
+use Rattle.bb_compile_accepted.proofs.KnowLemmas.{Finds}
+use Rattle.bb_compile_accepted.proofs.WalkLemmas.{Walks, walked_frames, walks_on, end_visit, At}
+use Rattle.bb_compile_accepted.proofs.TraceLemmas.{Traced, traced_first}
+use Rattle.bb_compile_accepted.proofs.BeforeLemmas.{InBlock}
 use Rattle.bb_compile_accepted.proofs.JoinLemmas.{here, HasFrame, AreGood, Sound, Agrees, Arrives, arrive, joins_own, knows_there}
 use Rattle.bb_compile_accepted.proofs.GoesLemmas.{After, Goes}
 use Rattle.bb_compile_accepted.proofs.AcceptLemmas.{block_goes}
-use Rattle.bb_compile_accepted.proofs.WholeLemmas.{IsAccepted, rises_unlabelled, walked_accepted, begin_sound}
+use Rattle.bb_compile_accepted.proofs.WholeLemmas.{rises_unlabelled, walked_accepted, begin_sound}
 use Rattle.bb_compile_accepted.proofs.PartLemmas.{begin_known, begin_count, all_at, query_limits, queries_within, version_fits}
+
+-- what is laid out for a part, taken from what the compiler answers
+pub record PartLaid (schema : Schema) (part : Part) (place : Place) (block : BlockTree) (code : Code) : Type 0 where
+  pub now : Bool
+  pub behind : Buffer
+  pub whole : Buffer
+  pub no_end : has_no_end part block ≡ false
+  pub block_is : statements_code schema part LOOP_NESTING false block (empty_buffer part place) ≡ Ok (now, behind)
+  pub last : done part (leave (mark_of (empty_buffer part place).scope) behind) ≡ Ok whole
+  pub within : is_within (code_of (version_for schema) whole) ≡ true
+  pub same : code_of (version_for schema) whole ≡ code
+
+pub part_laid : (schema : Schema) (part : Part) (place : Place) (block : BlockTree) (code : Code) → part_code schema part place block ≡ Ok code → PartLaid schema part place block code
+unfolding part_code if_within
+part_laid schema part place block code h =
+    let first = empty_buffer part place in
+    let body = guard_ok (has_no_end part block) (Fault NoEnd place) (block_code schema part LOOP_NESTING block first >>= λ p. done part p.1 >>= λ u. if_within u.start (code_of (version_for schema) u)) code h in
+    let one = bind_ok (block_code schema part LOOP_NESTING block first) (λ p. done part p.1 >>= λ u. if_within u.start (code_of (version_for schema) u)) code body.1 in
+    let two = bind_ok (statements_code schema part LOOP_NESTING false block first) (left (mark_of first.scope)) one.0 one.1 in
+    let three = bind_ok (done part one.0.1) (λ u. if_within u.start (code_of (version_for schema) u)) code one.2 in
+    let same = pair_ok two.0.0 one.0.0 (leave (mark_of first.scope) two.0.1) one.0.1 two.2 in
+    let is = within_same three.0 (is_within (code_of (version_for schema) three.0)) refl three.2 in
+    record { now = two.0.0; behind = two.0.1; whole = three.0; no_end = body.0; block_is = two.1; last = ap (done part) same.1 ∙ three.1; within = is.0; same = is.1 }
+  where
+    within_same : (u : Buffer) (b : Bool) → is_within (code_of (version_for schema) u) ≡ b → (let r : Result Code CompileFault = cond b (Ok (code_of (version_for schema) u)) (Err (Fault Limit u.start)) in r) ≡ Ok code → (is_within (code_of (version_for schema) u) ≡ true) × (code_of (version_for schema) u ≡ code)
+    within_same u true is h = (is, same_ok (code_of (version_for schema) u) code h)
+    within_same u false is h = absurd cc
 
 module _ (schema : Schema) (sf : schemas.Fits schema) (part : Part) (classes : HasClasses schema part) (place : Place) (block : BlockTree) (loopless : is_loopless block ≡ true) where
   abbrev first : Buffer
   first = empty_buffer part place
 
-  abbrev Accepted : Code → Type 0
-  Accepted code = IsAccepted schema sf part code
+  -- what the frames tell of the block
+  abbrev Told : (now : Bool) (t : Buffer) → statements_code schema part LOOP_NESTING false block first ≡ Ok (now, t) → List Frame → Type 0
+  Told now t h frames = InBlock schema part (λ s. Finds schema sf frames (length s.ops) s.scope.kinds) block LOOP_NESTING false now first t h
+
+  abbrev Accepted : Code → (now : Bool) (t : Buffer) → statements_code schema part LOOP_NESTING false block first ≡ Ok (now, t) → Type 0
+  Accepted code now t h = (frames : List Frame) × (checked schema part code ≡ Ok (record { code = code; part = part; frames = frames })) × Told now t h frames
 
   -- a buffer behind the block, and that of the whole code, which has an op more at most
   module _ (u t : Buffer) (now : Bool) (within : is_within (code_of (version_for schema) u) ≡ true) (h : statements_code schema part LOOP_NESTING false block first ≡ Ok (now, t))
@@ -79,7 +114,7 @@ module _ (schema : Schema) (sf : schemas.Fits schema) (part : Part) (classes : H
     sound : Sound schema sf part code no_loops first
     sound = begin_sound schema sf part place code no_loops classes
 
-    goes : Goes schema sf part code no_loops first t now
+    goes : Goes schema sf part code no_loops first t now (Told now t h)
     goes = block_goes schema sf part code no_loops small block LOOP_NESTING false now first t loopless h sound agrees
 
     few : length (units_of part) ≤ code.locals
@@ -97,16 +132,27 @@ module _ (schema : Schema) (sf : schemas.Fits schema) (part : Part) (classes : H
     ops_are : t.ops ≡ goes.grown.ops
     ops_are = goes.grown.ops_are
 
+    -- the frames that are found, and what they tell
+    told : Rises 0 (listed u.labels u.last) (length u.ops) → Walks schema part code no_loops 0 u.ops (Some entry) None → on_due schema (Some entry) (At schema part code no_loops 0) ≡ Ok tt → ((frames : List Frame) → Traced schema part code no_loops frames 0 (Some entry) → Told now t h frames)
+        → Accepted code now t h
+    told rises walks on tells =
+        let frames = walked_frames schema part code no_loops 0 u.ops (Some entry) None walks in (
+          frames,
+          walked_accepted schema sf part code no_loops u.labels u.last refl rises (subst (AllLabels (AreGood schema sf part code no_loops)) (sym labels_are) goes.sound.good) few (version_fits schema) None walks on,
+          tells frames (traced_first schema part code no_loops (Some entry) None walks),
+        )
+
     -- ---- a part that ends by its last statement
 
-    ends_accepted : now ≡ true → u.ops ≡ t.ops → Accepted code
+    ends_accepted : now ≡ true → u.ops ≡ t.ops → Accepted code now t h
     ends_accepted ends_so same =
         let m = goes.more (λ e. absurd (let no : true ≡ false = sym ends_so ∙ e in cc)) in
-        let walks : Walks schema part code no_loops 0 goes.grown.ops (Some entry) None = subst (λ b. After schema sf part code no_loops b 0 goes.grown.ops (Some entry) t) ends_so (m.1 (Some entry) arrives) in
+        let after = m.1 (Some entry) arrives in
+        let walks : Walks schema part code no_loops 0 u.ops (Some entry) None =
+        subst (λ l. Walks schema part code no_loops 0 l (Some entry) None) (sym (same ∙ ops_are)) (subst (λ b. After schema sf part code no_loops b 0 goes.grown.ops (Some entry) t) ends_so after.0) in
         let rises : Rises 0 (listed u.labels u.last) (length u.ops) =
         subst (λ ls. Rises 0 ls (length u.ops)) (sym labels_are) (subst (λ l. Rises 0 (labels_of t) (length l)) (sym same) (rises_unlabelled 0 (labels_of t) (length t.ops) (omega arith) goes.sound.rises (goes.unlabelled ends_so))) in
-        walked_accepted schema sf part code no_loops u.labels u.last refl rises (subst (AllLabels (AreGood schema sf part code no_loops)) (sym labels_are) goes.sound.good) few (version_fits schema) None
-        (subst (λ l. Walks schema part code no_loops 0 l (Some entry) None) (sym (same ∙ ops_are)) walks) (m.0.on entry entry_fits)
+        told rises walks (m.0.on entry entry_fits) after.1
 
     -- ---- a `do`
 
@@ -114,16 +160,16 @@ module _ (schema : Schema) (sf : schemas.Fits schema) (part : Part) (classes : H
     unfolding effect in_tables effects.done
     done_ends f may = record { straight = refl; tables = refl; ends = ap (λ (r : Result (Unit {0}) CodeFlaw). r >>= λ _. Ok nothing_follows) may }
 
-    do_accepted : ends_done part ≡ Ok tt → u.ops ≡ t.ops ++ ops.Done ∷ [] → Accepted code
+    do_accepted : ends_done part ≡ Ok tt → u.ops ≡ t.ops ++ ops.Done ∷ [] → Accepted code now t h
     do_accepted may all =
         let count : length u.ops ≡ length t.ops + 1 = ap length all ∙ length-append t.ops (ops.Done ∷ []) in
         let here_is = declared (length t.ops) (omega (arith, count)) in
         let joins = joins_own schema sf part code no_loops t goes.sound (omega (arith, count)) here_is in
         let m = goes.more (λ e. joins) in
         let rises : Rises 0 (listed u.labels u.last) (length u.ops) = subst (λ ls. Rises 0 ls (length u.ops)) (sym labels_are) (subst (λ n. Rises 0 (labels_of t) n) (sym count) goes.sound.rises) in
-        let walks = by_now now refl (m.1 (Some entry) arrives) here_is may in
-        walked_accepted schema sf part code no_loops u.labels u.last refl rises (subst (AllLabels (AreGood schema sf part code no_loops)) (sym labels_are) goes.sound.good) few (version_fits schema) None
-        (subst (λ l. Walks schema part code no_loops 0 l (Some entry) None) (sym (all ∙ ap (λ l. l ++ ops.Done ∷ []) ops_are)) walks) (m.0.on entry entry_fits)
+        let after = m.1 (Some entry) arrives in
+        let walks = by_now now refl after.0 here_is may in
+        told rises (subst (λ l. Walks schema part code no_loops 0 l (Some entry) None) (sym (all ∙ ap (λ l. l ++ ops.Done ∷ []) ops_are)) walks) (m.0.on entry entry_fits) after.1
       where
         by_now : (n : Bool) → now ≡ n → After schema sf part code no_loops n 0 goes.grown.ops (Some entry) t → At schema part code no_loops (length t.ops) ≡ option_map (frame_by code.locals) (here t) → ends_done part ≡ Ok tt
             → Walks schema part code no_loops 0 (goes.grown.ops ++ ops.Done ∷ []) (Some entry) None
@@ -143,7 +189,7 @@ module _ (schema : Schema) (sf : schemas.Fits schema) (part : Part) (classes : H
   may_end (Retrigger c of) h = absurd cc
   may_end (Revalidate c) h = absurd cc
 
-  do_whole : (now : Bool) (t u : Buffer) → is_ok (ends_done part) ≡ true → is_within (code_of (version_for schema) u) ≡ true → statements_code schema part LOOP_NESTING false block first ≡ Ok (now, t) → put ops.Done (leave (mark_of first.scope) t) ≡ Ok u → Accepted (code_of (version_for schema) u)
+  do_whole : (now : Bool) (t u : Buffer) → is_ok (ends_done part) ≡ true → is_within (code_of (version_for schema) u) ≡ true → (h : statements_code schema part LOOP_NESTING false block first ≡ Ok (now, t)) → put ops.Done (leave (mark_of first.scope) t) ≡ Ok u → Accepted (code_of (version_for schema) u) now t h
   do_whole now t u ends_so within h last =
       let put_is : u ≡ with_op ops.Done (leave (mark_of first.scope) t) = put_ok ops.Done (leave (mark_of first.scope) t) u last in
       let all : u.ops ≡ t.ops ++ ops.Done ∷ [] = ap (λ (x : Buffer). x.ops) put_is in
@@ -158,7 +204,7 @@ module _ (schema : Schema) (sf : schemas.Fits schema) (part : Part) (classes : H
       })
       (omega (arith, count)) (may_end part ends_so) all
 
-  ends_whole : (now : Bool) (t u : Buffer) → now ≡ true → is_within (code_of (version_for schema) u) ≡ true → statements_code schema part LOOP_NESTING false block first ≡ Ok (now, t) → leave (mark_of first.scope) t ≡ u → Accepted (code_of (version_for schema) u)
+  ends_whole : (now : Bool) (t u : Buffer) → now ≡ true → is_within (code_of (version_for schema) u) ≡ true → (h : statements_code schema part LOOP_NESTING false block first ≡ Ok (now, t)) → leave (mark_of first.scope) t ≡ u → Accepted (code_of (version_for schema) u) now t h
   ends_whole now t u ends_so within h last =
       let all : u.ops ≡ t.ops = ap (λ (x : Buffer). x.ops) (sym last) in
       let count : length u.ops ≡ length t.ops = ap length all in
@@ -172,12 +218,8 @@ module _ (schema : Schema) (sf : schemas.Fits schema) (part : Part) (classes : H
       })
       (omega (arith, count)) ends_so all
 
-  within_same : (u : Buffer) (b : Bool) (code : Code) → is_within (code_of (version_for schema) u) ≡ b → (let r : Result Code CompileFault = cond b (Ok (code_of (version_for schema) u)) (Err (Fault Limit u.start)) in r) ≡ Ok code → (is_within (code_of (version_for schema) u) ≡ true) × (code_of (version_for schema) u ≡ code)
-  within_same u true code is h = (is, same_ok (code_of (version_for schema) u) code h)
-  within_same u false code is h = absurd cc
-
-  by_end : (b : Bool) (now : Bool) (t u : Buffer) → is_ok (ends_done part) ≡ b → (not b && not (block_ends block)) ≡ false → statements_code schema part LOOP_NESTING false block first ≡ Ok (now, t)
-      → (let r : Result Buffer CompileFault = cond b (put ops.Done (leave (mark_of first.scope) t)) (Ok (leave (mark_of first.scope) t)) in r) ≡ Ok u → is_within (code_of (version_for schema) u) ≡ true → Accepted (code_of (version_for schema) u)
+  by_end : (b : Bool) (now : Bool) (t u : Buffer) → is_ok (ends_done part) ≡ b → (not b && not (block_ends block)) ≡ false → (h : statements_code schema part LOOP_NESTING false block first ≡ Ok (now, t))
+      → (let r : Result Buffer CompileFault = cond b (put ops.Done (leave (mark_of first.scope) t)) (Ok (leave (mark_of first.scope) t)) in r) ≡ Ok u → is_within (code_of (version_for schema) u) ≡ true → Accepted (code_of (version_for schema) u) now t h
   by_end true now t u ends_so no_end h last within = do_whole now t u ends_so within h last
   by_end false now t u other no_end h last within = ends_whole now t u (block_now schema part block LOOP_NESTING false now first t loopless h ∙ ended (block_ends block) no_end) within h (same_ok (leave (mark_of first.scope) t) u last)
     where
@@ -185,14 +227,7 @@ module _ (schema : Schema) (sf : schemas.Fits schema) (part : Part) (classes : H
       ended true h = refl
       ended false h = absurd cc
 
-  -- the code of a part is accepted for it
-  pub loopless_accepted : (code : Code) → part_code schema part place block ≡ Ok code → Accepted code
-  unfolding part_code if_within
-  loopless_accepted code h =
-      let body = guard_ok (has_no_end part block) (Fault NoEnd place) (block_code schema part LOOP_NESTING block first >>= λ p. done part p.1 >>= λ u. if_within u.start (code_of (version_for schema) u)) code h in
-      let one = bind_ok (block_code schema part LOOP_NESTING block first) (λ p. done part p.1 >>= λ u. if_within u.start (code_of (version_for schema) u)) code body.1 in
-      let two = bind_ok (statements_code schema part LOOP_NESTING false block first) (left (mark_of first.scope)) one.0 one.1 in
-      let three = bind_ok (done part one.0.1) (λ u. if_within u.start (code_of (version_for schema) u)) code one.2 in
-      let same = pair_ok two.0.0 one.0.0 (leave (mark_of first.scope) two.0.1) one.0.1 two.2 in
-      let is = within_same three.0 (is_within (code_of (version_for schema) three.0)) code refl three.2 in
-      subst Accepted is.1 (by_end (is_ok (ends_done part)) two.0.0 two.0.1 three.0 refl body.0 two.1 (ap (done part) same.1 ∙ three.1) is.0)
+  -- the code of a part is accepted for it, and its frames fit what the compiler knows
+  pub loopless_accepted : (made : Code) → (laid : PartLaid schema part place block made) → Accepted made laid.now laid.behind laid.block_is
+  loopless_accepted made laid =
+      subst (λ c. Accepted c laid.now laid.behind laid.block_is) laid.same (by_end (is_ok (ends_done part)) laid.now laid.behind laid.whole refl laid.no_end laid.block_is laid.last laid.within)

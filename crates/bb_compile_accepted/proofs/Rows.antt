@@ -1,15 +1,18 @@
 -- Worked codes: what the compiler gives for small texts, and that the verifier takes it, computed on the definitions.
-use Rattle.std.proofs.Common.{◌≡◌, true, [], ◌∷◌, Ok, refl}
+use Rattle.std.proofs.Common.{◌≡◌, ℕ, true, false, List, [], ◌∷◌, Ok, refl}
 use Rattle.std.specs.Prelude.{pos}
 use Rattle.bb_code.specs.Calculation.TheVariants.{Add}
 use Rattle.bb_schema.specs.Schema.{Schema}
 use Rattle.bb_verify_frame.specs.Kind.TheVariants as kinds
 use Rattle.bb_verify_frame.specs.Op.TheVariants as ops
-use Rattle.bb_lang.specs.Blocks.{BlockTree, no_statement, before_others, action, if_of, absent}
+use Rattle.bb_lang.specs.Blocks.{BlockTree, no_statement, before_others, action, if_of, with_of, for_of, absent, otherwise}
 use Rattle.bb_lang.specs.Atom.TheVariants as atoms
+use Rattle.bb_lang.specs.Binding.TheVariants.{As}
 use Rattle.bb_lang.specs.Operator.TheVariants.{Plus}
 use Rattle.bb_lang.specs.Action.TheVariants.{Rate, Decline}
 use Rattle.bb_lang.specs.Trees.{ExprTree, atom, chain, no_step, apply}
+use Rattle.bb_lang.specs.Sequence.{Sequence}
+use Rattle.bb_lang.specs.Variable.TheVariants.{It}
 use Rattle.bb_compile_scope.specs.Place.{Place}
 use Rattle.bb_compile_buffer.specs.Atoms.{pushed, atom_code}
 use Rattle.bb_compile_buffer.specs.Finish.{if_within}
@@ -46,6 +49,14 @@ module _ (schema : Schema) (place : Place) where
   admitted : is_loopless chosen ≡ true
   unfolding chosen
   admitted = refl
+
+  -- with a name for a unit of a class: decline; a text with a loop is another one
+  tested : (name class : List ℕ) → is_loopless (before_others place (with_of (As name It class) (before_others place (action Decline) no_statement) (otherwise chosen)) no_statement) ≡ true
+  unfolding chosen
+  tested name class = refl
+
+  looped : (name : List ℕ) (units : Sequence) → is_loopless (before_others place (for_of name units chosen) no_statement) ≡ false
+  looped name units = refl
 
   declared : part_code schema (Require 0) place chosen ≡ Ok (record {
     version = version_for schema;

@@ -3,6 +3,7 @@ use Rattle.std.proofs.Common.{◌≡◌, inl, inr, ℕ, zero, suc, ◌+◌, ◌<
 use Rattle.std.specs.Prelude.{slice_get}
 use Rattle.std.specs.List.{range_with_len}
 use Rattle.std.proofs.lemmas.Bool.{lt-leb, lt-ltb}
+use Rattle.std.proofs.lemmas.List.{append-nil}
 use Rattle.bb_basis.specs.Results.{◌>>=◌, try_fold}
 use Rattle.bb_schema.specs.Schema.{Schema}
 use Rattle.bb_verify_frame.specs.Code.{Code}
@@ -217,19 +218,20 @@ module _ (s : Schema) (part : Part) (code : Code) (no_loops : code.loops ≡ [])
   unfolding visit visit_op
   visit_is place op next mid fs at v = rw (at, visit, v.here, v.gives, v.there, v.on, v.target) (ap (λ n. Ok (record { frames = fs ++ v.frame ∷ []; next = n })) v.leaves)
 
-  pub visited : (before rest : List Op) (next out : Option Frame) (fs : List Frame) → code.ops ≡ before ++ rest → Walks (length before) rest next out
-      → (frames : List Frame) × (try_fold (visit s part code (declared_frames code)) (record { frames = fs; next = next }) (range_with_len (length before) (length rest)) ≡ Ok (record { frames = frames; next = out }))
+  -- the frames that are found
+  abbrev pub walked_frames : (place : ℕ) (listed : List Op) (next out : Option Frame) → Walks place listed next out → List Frame
+  walked_frames place [] next out walks = []
+  walked_frames place (op ∷ more) next out walks = walks.1.frame ∷ walked_frames (place + 1) more walks.0 out walks.2
+
+  pub visited : (place : ℕ) (before rest : List Op) (next out : Option Frame) (fs : List Frame) → length before ≡ place → code.ops ≡ before ++ rest → (walks : Walks place rest next out)
+      → try_fold (visit s part code (declared_frames code)) (record { frames = fs; next = next }) (range_with_len place (length rest)) ≡ Ok (record { frames = fs ++ walked_frames place rest next out walks; next = out })
   unfolding try_fold
-  visited before [] next out fs whole walks = (fs, ap (λ n. Ok (record { frames = fs; next = n })) walks)
-  visited before (op ∷ more) next out fs whole walks =
-      let there : slice_get code.ops (length before) ≡ Some op = ap (λ l. slice_get l (length before)) whole ∙ seam before more op in
-      let place : length (before ++ op ∷ []) ≡ length before + 1 = length-append before (op ∷ []) in
+  visited place before [] next out fs count whole walks = ap (λ n. Ok (record { frames = fs; next = n })) walks ∙ ap (λ l. Ok (record { frames = l; next = out })) (sym (append-nil fs))
+  visited place before (op ∷ more) next out fs count whole walks =
+      let there : slice_get code.ops place ≡ Some op = ap (λ l. slice_get l place) whole ∙ (ap (slice_get (before ++ op ∷ more)) (sym count) ∙ seam before more op) in
       let v = walks.1 in
-      let later = visited (before ++ op ∷ []) more walks.0 out (fs ++ v.frame ∷ []) (whole ∙ sym (append_assoc before (op ∷ []) more)) (subst (λ n. Walks n more walks.0 out) (sym place) walks.2) in (
-        later.0,
-        rw (visit_is (length before) op next walks.0 fs there v)
-            (ap (λ n. try_fold (visit s part code (declared_frames code)) (record { frames = fs ++ v.frame ∷ []; next = walks.0 }) (range_with_len n (length more))) (sym place) ∙ later.1),
-      )
+      let later = visited (place + 1) (before ++ op ∷ []) more walks.0 out (fs ++ v.frame ∷ []) (length-append before (op ∷ []) ∙ ap (λ n. n + 1) count) (whole ∙ sym (append_assoc before (op ∷ []) more)) walks.2 in
+      rw (visit_is place op next walks.0 fs there v) (later ∙ ap (λ l. Ok (record { frames = l; next = out })) (append_assoc fs (v.frame ∷ []) (walked_frames (place + 1) more walks.0 out walks.2)))
 
   -- what holds of the op at each place
   pub record IsFine (place : ℕ) (op : Op) : Type 0 where

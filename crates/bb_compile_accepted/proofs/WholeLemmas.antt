@@ -36,7 +36,7 @@ use Rattle.bb_compile_accepted.proofs.KnowLemmas.{HasLocal, AllTaken}
 use Rattle.bb_compile_accepted.proofs.LabelLemmas.{listed, label_at, found, AllLabels, AreKinds, Rises, rises_up, all_frames, rise_passes, frames_pass}
 use Rattle.bb_compile_accepted.proofs.ValueLemmas.{IsGood}
 use Rattle.bb_compile_accepted.proofs.MoveLemmas.{Tidy, one_or_other, at_other}
-use Rattle.bb_compile_accepted.proofs.WalkLemmas.{Walks, visited, fine_at, At}
+use Rattle.bb_compile_accepted.proofs.WalkLemmas.{Walks, walked_frames, visited, fine_at, At}
 use Rattle.bb_compile_accepted.proofs.JoinLemmas.{Sound}
 
 -- ---- the tables, the jumps and the loops of a code each of whose ops may stand where it does
@@ -98,9 +98,6 @@ rises_unlabelled from (l ∷ ls) n le r none = by_place (λ low h. rises_unlabel
 -- ---- a code that is walked is accepted
 
 module _ (s : Schema) (sf : schemas.Fits s) (part : Part) where
-  abbrev pub IsAccepted : Code → Type 0
-  IsAccepted code = (frames : List Frame) × (checked s part code ≡ Ok (record { code = code; part = part; frames = frames }))
-
   good_kinds : (ls : List Label) → AllLabels (λ ks. (i : ℕ) → is_free (kind_at ks i) ≡ false → IsGood s sf (kind_at ks i)) ls → AllLabels (AreKinds s) ls
   good_kinds [] all = tt
   good_kinds (l ∷ ls) all = ((λ i. by_free (kind_at l.kinds i) (all.0 i)), good_kinds ls all.1)
@@ -128,15 +125,15 @@ module _ (s : Schema) (sf : schemas.Fits s) (part : Part) where
   unfolding loops lowest_outside
   loops_pass code no_loops loop = rw (loop, no_loops) refl
 
-  frames_found : (code : Code) (no_loops : code.loops ≡ []) (out : Option Frame) → Walks s part code no_loops 0 code.ops (Some (entry_frame part code.locals)) out → on_due s (Some (entry_frame part code.locals)) (At s part code no_loops 0) ≡ Ok tt → (frames : List Frame) × (frames_of s part code ≡ Ok frames)
+  frames_found : (code : Code) (no_loops : code.loops ≡ []) (out : Option Frame) → (walks : Walks s part code no_loops 0 code.ops (Some (entry_frame part code.locals)) out) → on_due s (Some (entry_frame part code.locals)) (At s part code no_loops 0) ≡ Ok tt
+      → frames_of s part code ≡ Ok (walked_frames s part code no_loops 0 code.ops (Some (entry_frame part code.locals)) out walks)
   unfolding frames_of
-  frames_found code no_loops out walks on =
-      let w = visited s part code no_loops [] code.ops (Some (entry_frame part code.locals)) out [] refl walks in
-      (w.0, rw (on, w.1) refl)
+  frames_found code no_loops out walks on = rw (on, visited s part code no_loops 0 [] code.ops (Some (entry_frame part code.locals)) out [] refl refl walks) refl
 
   pub walked_accepted : (code : Code) (no_loops : code.loops ≡ []) (labels : List Label) (last : Option Label) → code.frames ≡ declared_of code.locals labels last → Rises 0 (listed labels last) (length code.ops)
       → AllLabels (λ ks. (i : ℕ) → is_free (kind_at ks i) ≡ false → IsGood s sf (kind_at ks i)) (listed labels last) → length (units_of part) ≤ code.locals → fit_version s code.version ≡ Ok tt
-      → (out : Option Frame) → Walks s part code no_loops 0 code.ops (Some (entry_frame part code.locals)) out → on_due s (Some (entry_frame part code.locals)) (At s part code no_loops 0) ≡ Ok tt → IsAccepted code
+      → (out : Option Frame) → (walks : Walks s part code no_loops 0 code.ops (Some (entry_frame part code.locals)) out) → on_due s (Some (entry_frame part code.locals)) (At s part code no_loops 0) ≡ Ok tt
+      → checked s part code ≡ Ok (record { code = code; part = part; frames = walked_frames s part code no_loops 0 code.ops (Some (entry_frame part code.locals)) out walks })
   unfolding checked accepted
   walked_accepted code no_loops labels last frames_are rises good enough fit out walks on =
       let all = frames_are ∙ all_frames code.locals labels last in
@@ -145,8 +142,7 @@ module _ (s : Schema) (sf : schemas.Fits s) (part : Part) where
       let table : each (table_at s code) (range_with_len 0 (length code.ops)) ≡ Ok tt = each_range (table_at s code) 0 (length code.ops) (λ i lt. table_fits s part code no_loops out walks i) in
       let jump : each (jump_at code) (range_with_len 0 (length code.ops)) ≡ Ok tt = each_range (jump_at code) 0 (length code.ops) (λ i lt. jump_fits s part code no_loops out walks i) in
       let loop : each (loop_at code) (range_with_len 0 (length code.ops)) ≡ Ok tt = each_range (loop_at code) 0 (length code.ops) (λ i lt. loop_fits s part code no_loops out walks i) in
-      let w = frames_found code no_loops out walks on in
-      (w.0, rw (tables_pass code table in_order known enough fit, jumps_pass code jump, loops_pass code no_loops loop, w.1) refl)
+      rw (tables_pass code table in_order known enough fit, jumps_pass code jump, loops_pass code no_loops loop, frames_found code no_loops out walks on) refl
 
 -- ---- what a part begins with
 

@@ -13,6 +13,7 @@ pub use Rattle.bb_compile_emit.specs.declared.asked.Asked
 pub use Rattle.bb_compile_emit.specs.declared.exits.Exits
 pub use Rattle.bb_compile_emit.specs.declared.part.TheConstants as PartLimits
 pub use Rattle.bb_compile_emit.specs.Queries
+pub use Rattle.bb_compile_emit.specs.Bindings
 pub use Rattle.bb_compile_emit.specs.Expressions
 pub use Rattle.bb_compile_emit.specs.Actions
 pub use Rattle.bb_compile_emit.specs.Statements

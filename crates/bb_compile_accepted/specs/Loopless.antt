@@ -1,5 +1,5 @@
--- Texts whose statements are run through at most once each, from the first to the last, where an `if` or a `with` leaves
--- some out.
+-- Texts whose statements are run through at most once each, from the first to the last, where an `if` or a `with`
+-- leaves some out.
 use Rattle.std.specs.Prelude.{◌<◌, ℕ, length, Bool, true, false, ◌&&◌}
 use Rattle.bb_schema.specs.Schema.{Schema}
 use Rattle.bb_verify_frame.specs.declared.part.Part.{Part}

@@ -1,5 +1,5 @@
 -- What comes of the ops of a code at its places, where each op goes on, or goes ahead.
-use Rattle.std.proofs.Common.{◌≡◌, ℕ, suc, ◌+◌, ◌≤◌, Some, Result, Ok, Err, refl, subst, sym, ap, ◌∙◌, arith}
+use Rattle.std.proofs.Common.{◌≡◌, ℕ, zero, suc, ◌+◌, ◌≤◌, Option, Some, None, Result, Ok, Err, refl, subst, sym, ap, ◌∙◌, arith}
 use Rattle.std.specs.Prelude.{slice_get}
 use Rattle.bb_basis.specs.Results.{◌>>=◌}
 use Rattle.bb_code.specs.Code.{Code}
@@ -12,6 +12,8 @@ use Rattle.bb_machine_step.specs.Halt.TheVariants as halts
 use Rattle.bb_machine_step.specs.Machine.{Machine, go_to}
 use Rattle.bb_machine_step.specs.Step.{step}
 use Rattle.bb_machine_step.proofs.Laws.{after_op, by_op}
+use Rattle.bb_machine.specs.NeverWrong.{after}
+use Rattle.bb_machine.proofs.Laws.{goes_on_from}
 use Rattle.bb_compile_meaning.specs.Meaning.{Meaning, answered, full}
 
 -- the state after some ops, or how the last of them ended, with the blackboard then
@@ -39,11 +41,54 @@ leaves_on P Q r f (halts.Full, b) h = ap (λ r. r >>= f) h
 leaves_on P Q r f (halts.Stuck reason, b) h = tt
 leaves_on P Q r f (halts.Memory, b) h = h
 
+-- ---- one step more
+
+-- what comes of what an op gave
+abbrev after_next : Code → ℕ → Result State Halt → Option State
+after_next code n (Ok next) = after n code next
+after_next code n (Err halt) = None
+
+-- what comes of the op at a place, if there is one
+abbrev after_by : Code → ℕ → Machine → Board → Option Op → Option State
+after_by code n m b None = None
+after_by code n m b (Some op) = after_next code n (step code op (go_to (m.place + 1) m, b))
+
+after_at : (code : Code) (n : ℕ) (m : Machine) (b : Board) (o : Option Op) → slice_get code.ops m.place ≡ o → after (suc n) code (m, b) ≡ after_by code n m b o
+unfolding after
+after_at code n m b o at = ap (after_by code n m b) at
+
+after_first : (code : Code) (st later : State) → after zero code st ≡ Some later → st ≡ later
+unfolding after
+after_first code st later h = cc
+
+result_more : (code : Code) (j : ℕ) (st next : State) (r : Result State Halt) → ((later : State) → after j code later ≡ Some st → after (j + 1) code later ≡ Some next) → after_next code j r ≡ Some st → after_next code (j + 1) r ≡ Some next
+result_more code j st next (Ok later) again h = again later h
+result_more code j st next (Err halt) again h = absurd cc
+
+by_more : (code : Code) (j : ℕ) (m : Machine) (b : Board) (st next : State) (o : Option Op) → ((later : State) → after j code later ≡ Some st → after (j + 1) code later ≡ Some next) → after_by code j m b o ≡ Some st → after_by code (j + 1) m b o ≡ Some next
+by_more code j m b st next None again h = absurd cc
+by_more code j m b st next (Some op) again h = result_more code j st next (step code op (go_to (m.place + 1) m, b)) again h
+
+more_after : (code : Code) (j : ℕ) (from st : State) (op : Op) (next : State) → after j code from ≡ Some st → slice_get code.ops st.0.place ≡ Some op → step code op (go_to (st.0.place + 1) st.0, st.1) ≡ Ok next → after (j + 1) code from ≡ Some next
+unfolding after
+more_after code zero from st op next h at is =
+    let one : zero + 1 ≡ suc zero = omega arith in
+    ap (λ n. after n code from) one ∙ (ap (after (suc zero) code) (after_first code from st h) ∙ (after_at code zero st.0 st.1 (Some op) at ∙ ap (after_next code zero) is))
+more_after code (suc j) from st op next h at is =
+    let more : suc j + 1 ≡ suc (j + 1) = omega arith in
+    let o = slice_get code.ops from.0.place in
+    ap (λ n. after n code from) more
+    ∙ (after_at code (j + 1) from.0 from.1 o refl ∙ by_more code j from.0 from.1 st next o (λ later there. more_after code j later st op next there at is) (sym (after_at code j from.0 from.1 o refl) ∙ h))
+
 module _ (code : Code) (start : State) where
-  -- what came at a place: no more steps were made than ops stand before it, and however many are still to come
+  -- what came at a place: no more steps were made than ops stand before it, and at an end however many are still to come
   abbrev pub Comes : ℕ → Came → Type 0
-  Comes n (Ok next) = (next.0.place ≡ n) × (j : ℕ) × (j ≤ n) × ((k : ℕ) → steps_from (j + k) 0 code start ≡ steps_from k j code next)
+  Comes n (Ok next) = (next.0.place ≡ n) × (j : ℕ) × (j ≤ n) × (after j code start ≡ Some next)
   Comes n (Err (halt, b)) = (steps : ℕ) × (found : ℕ) × (j : ℕ) × (j ≤ n) × ((k : ℕ) → steps_from (j + k) 0 code start ≡ (halted halt steps found, b))
+
+  -- the execution goes on from there
+  pub goes_there : (j k : ℕ) (next : State) → after j code start ≡ Some next → steps_from (j + k) 0 code start ≡ steps_from k j code next
+  goes_there j k next h = goes_on_from j k 0 code start next h ∙ ap (λ i. steps_from k i code next) (let e : 0 + j ≡ j = omega arith in e)
 
   -- where an execution ended it stays ended
   pub ended_by : (n m : ℕ) (e : Halt × Board) → n ≤ m → Comes n (Err e) → Comes m (Err e)
@@ -54,17 +99,18 @@ module _ (code : Code) (start : State) where
   IsPlaced n (Ok next) = next.0.place ≡ n
   IsPlaced n (Err halt) = Unit {0}
 
-  one_step : (n j k : ℕ) (m : Machine) (b : Board) (op : Op) (r : Result State Halt) → m.place ≡ n → ((k : ℕ) → steps_from (j + k) 0 code start ≡ steps_from k j code (m, b)) → slice_get code.ops n ≡ Some op → step code op (go_to (n + 1) m, b) ≡ r
+  one_step : (n j k : ℕ) (m : Machine) (b : Board) (op : Op) (r : Result State Halt) → m.place ≡ n → after j code start ≡ Some (m, b) → slice_get code.ops n ≡ Some op → step code op (go_to (n + 1) m, b) ≡ r
       → steps_from (j + 1 + k) 0 code start ≡ after_op k j code m b r
   one_step n j k m b op r place c at is =
       let more : j + 1 + k ≡ j + suc k = omega arith in
       let here : Some op ≡ slice_get code.ops m.place = sym at ∙ ap (slice_get code.ops) (sym place) in
-      ap (λ i. steps_from i 0 code start) more ∙ c (suc k) ∙ by_op k j code m b (Some op) here
+      ap (λ i. steps_from i 0 code start) more ∙ goes_there j (suc k) (m, b) c ∙ by_op k j code m b (Some op) here
       ∙ ap (λ i. after_op k j code m b (step code op (go_to (i + 1) m, b))) place ∙ ap (after_op k j code m b) is
 
   -- one op more, which goes on to the next place, or to one ahead
   pub comes_to : (n p : ℕ) (st : State) (op : Op) (r : Result State Halt) → n + 1 ≤ p → Comes n (Ok st) → slice_get code.ops n ≡ Some op → step code op (go_to (n + 1) st.0, st.1) ≡ r → IsPlaced p r → Comes p (done_on st.1 r)
-  comes_to n p st op (Ok next) le c at is place = let few = c.2 in (place, c.1 + 1, omega (arith, le, few), λ k. one_step n c.1 k st.0 st.1 op (Ok next) c.0 c.3 at is)
+  comes_to n p st op (Ok next) le c at is place =
+      let few = c.2 in (place, c.1 + 1, omega (arith, le, few), more_after code c.1 start st op next c.3 (ap (slice_get code.ops) c.0 ∙ at) (ap (λ i. step code op (go_to (i + 1) st.0, st.1)) c.0 ∙ is))
   comes_to n p st op (Err halt) le c at is place = let few = c.2 in (c.1 + 1, st.0.found, c.1 + 1, omega (arith, le, few), λ k. one_step n c.1 k st.0 st.1 op (Err halt) c.0 c.3 at is)
 
   pub comes_on : (n : ℕ) (st : State) (op : Op) (r : Result State Halt) → Comes n (Ok st) → slice_get code.ops n ≡ Some op → step code op (go_to (n + 1) st.0, st.1) ≡ r → IsPlaced (n + 1) r → Comes (n + 1) (done_on st.1 r)

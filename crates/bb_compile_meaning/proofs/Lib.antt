@@ -40,8 +40,12 @@ pub mod EndLemmas
 pub mod BranchLemmas
 -- tests before a first block
 pub mod TestLemmas
--- texts without `with` and `for`
-pub mod BranchedLemmas
+-- classes of units
+pub mod ClassLemmas
+-- ops of a test of a `with`
+pub mod TriedLemmas
+-- the test of a `with`
+pub mod HeadLemmas
 -- blocks
 pub mod BlockLemmas
 -- whole parts

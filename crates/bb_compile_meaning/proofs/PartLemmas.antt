@@ -1,10 +1,9 @@
 -- The code of a part does what its text means.
-use Rattle.std.proofs.Common.{◌≡◌, ℕ, zero, suc, ◌+◌, ◌-◌, ◌≤◌, Bool, true, false, cond, List, [], ◌∷◌, length, Option, Some, None, Result, Ok, Err, refl, subst, sym, ap, ◌∙◌, arith, length-append}
+use Rattle.std.proofs.Common.{◌≡◌, ℕ, zero, suc, ◌+◌, ◌-◌, ◌≤◌, Bool, true, false, List, [], ◌∷◌, length, Option, Some, None, Ok, Err, refl, subst, sym, ap, ◌∙◌, arith, length-append}
 use Rattle.std.specs.Prelude.{slice_get, nat_lt}
 use Rattle.std.proofs.lemmas.List.{append-nil}
 use Rattle.std.proofs.lemmas.Option.{slice_get_past}
-use Rattle.bb_basis.specs.Results.{◌>>=◌}
-use Rattle.bb_basis.proofs.ResultLemmas.{bind_ok, guard_ok, same_ok}
+use Rattle.bb_basis.proofs.ResultLemmas.{same_ok}
 use Rattle.bb_code.specs.Code.{Code, IsCode}
 use Rattle.bb_verify_frame.specs.declared.part.Part.{Part}
 use Rattle.bb_verify_frame.specs.declared.part.Part.TheVariants.{Require, Obviate, Retrigger, Revalidate, Do}
@@ -13,17 +12,13 @@ use Rattle.bb_schema.specs.Schema.{Schema}
 use Rattle.bb_schema.specs.Fits as schemas
 use Rattle.bb_lang.specs.Blocks.{BlockTree}
 use Rattle.bb_compile_scope.specs.Place.{Place}
-use Rattle.bb_compile_scope.specs.declared.fault.CompileFault.{CompileFault}
-use Rattle.bb_compile_scope.specs.declared.fault.CompileFault.TheVariants.{At}
-use Rattle.bb_compile_scope.specs.declared.fault.TextFlaw.TheVariants.{NoEnd, Limit}
 use Rattle.bb_compile_scope.specs.Ending.{ends}
 use Rattle.bb_compile_scope.specs.Scope.{begin_with, of_unit, of_event, mark_of}
 use Rattle.bb_compile_accepted.specs.Buffer.{Buffer}
 use Rattle.bb_compile_accepted.specs.Buffers.{put, leave}
-use Rattle.bb_compile_accepted.specs.Finish.{empty_buffer, code_of, if_within}
-use Rattle.bb_compile_accepted.specs.Within.{is_within}
-use Rattle.bb_compile_accepted.specs.Statements.{left, statements_code, block_code}
-use Rattle.bb_compile_accepted.specs.Parts.{has_no_end, done, version_for, part_code}
+use Rattle.bb_compile_accepted.specs.Finish.{empty_buffer}
+use Rattle.bb_compile_accepted.specs.Statements.{left}
+use Rattle.bb_compile_accepted.specs.Parts.{done, part_code}
 use Rattle.bb_compile_accepted.specs.PartLimits.{LOOP_NESTING}
 use Rattle.bb_machine_state.specs.Board.{Board}
 use Rattle.bb_machine_state.specs.Fits.{Fits}
@@ -45,23 +40,21 @@ use Rattle.bb_machine_step.specs.Stop.TheVariants as stops
 use Rattle.bb_machine_step.specs.Stuck.{Stuck}
 use Rattle.bb_machine_step.specs.Stuck.TheVariants as reasons
 use Rattle.bb_machine_step.proofs.Laws.{activation_schema, by_op}
-use Rattle.bb_machine.specs.NeverWrong.{Begins, EntryFits, NeverStuck}
-use Rattle.bb_machine.proofs.Laws.{activation_fits, activation_never_stuck}
-use Rattle.bb_compile_accepted.proofs.Laws.{Grown, Has, put_ok, grown_none, grown_on, grown_op, has_before, op_at, pair_ok, part_accepted, loopless_accepted}
+use Rattle.bb_machine.specs.NeverWrong.{Begins, EntryFits, NeverStuck, Stands, after}
+use Rattle.bb_machine.proofs.Laws.{activation_fits, activation_never_stuck, each_stands}
+use Rattle.bb_compile_accepted.proofs.Laws.{Grown, Has, put_ok, grown_none, grown_on, grown_op, has_before, op_at, plain_loopless, PartLaid, part_laid, Finds, InBlock, plain_before, part_accepted, loopless_accepted}
 use Rattle.bb_verify.proofs.Laws.{checked_facts}
 use Rattle.bb_compile_meaning.specs.Meaning.{End, Meaning, Name, meaningless}
 use Rattle.bb_compile_meaning.specs.Meaning as comes
 use Rattle.bb_compile_meaning.specs.Statements.{Scene, statements}
 use Rattle.bb_compile_meaning.specs.Parts.{first_names, first_scene, ended, meaning}
 use Rattle.bb_compile_meaning.specs.Plain.{is_plain}
-use Rattle.bb_compile_meaning.specs.Branched.{is_branched}
-use Rattle.bb_compile_meaning.specs.Loopless.{HasClasses}
+use Rattle.bb_compile_meaning.specs.Loopless.{is_loopless, HasClasses}
 use Rattle.bb_compile_meaning.specs.Told.{IsTold}
-use Rattle.bb_compile_meaning.proofs.ComeLemmas.{Came, Leaves, Comes, Gets, comes_on}
+use Rattle.bb_compile_meaning.proofs.ComeLemmas.{Came, Leaves, Comes, Gets, goes_there, comes_on}
 use Rattle.bb_compile_meaning.proofs.NameLemmas.{AreHeld}
 use Rattle.bb_compile_meaning.proofs.AtomLemmas.{Good}
 use Rattle.bb_compile_meaning.proofs.ActLemmas.{IsTidy, IsScene}
-use Rattle.bb_compile_meaning.proofs.BranchedLemmas.{branched_loopless, plain_branched}
 use Rattle.bb_compile_meaning.proofs.BlockLemmas.{block_does}
 
 -- ---- what a part begins with
@@ -130,7 +123,7 @@ module _ (part : Part) (frames : List Frame) (code : Code) (entry : Entry) (b : 
   good n st c =
       let j = c.1 in
       let plus : j ≡ j + 0 = omega arith in
-      let e : activation j code entry b ≡ (Err (stops.Stuck reasons.Turns j st.0.found), st.1) = as_steps j ∙ (ap (λ i. steps_from i 0 code start) plus ∙ (c.3 0 ∙ none_left j st.0 st.1)) in
+      let e : activation j code entry b ≡ (Err (stops.Stuck reasons.Turns j st.0.found), st.1) = as_steps j ∙ (ap (λ i. steps_from i 0 code start) plus ∙ (goes_there code start j 0 st c.3 ∙ none_left j st.0 st.1)) in
       record {
         schema = ap (λ (x : Execution). x.1.schema) (sym e) ∙ activation_schema j code entry b;
         fits = subst (λ (x : Execution). Fits b.schema x.1.world) e (activation_fits part frames code entry b j is sf fits begins);
@@ -174,103 +167,103 @@ module _ (part : Part) (frames : List Frame) (code : Code) (entry : Entry) (b : 
       let here : None ≡ slice_get code.ops st.0.place = sym past ∙ ap (slice_get code.ops) (sym c.0) in
       let k = budget code FOUND_LIMIT in
       let j = c.1 in
-      let e : activation (j + suc k) code entry b ≡ (Err (stops.Stuck reasons.Outside j st.0.found), st.1) = as_steps (j + suc k) ∙ (c.3 (suc k) ∙ by_op k j code st.0 st.1 None here) in
+      let e : activation (j + suc k) code entry b ≡ (Err (stops.Stuck reasons.Outside j st.0.found), st.1) = as_steps (j + suc k) ∙ (goes_there code start j (suc k) st c.3 ∙ by_op k j code st.0 st.1 None here) in
       absurd (not_stuck (j + suc k) reasons.Outside j st.0.found st.1 (omega arith) e)
 
   -- ---- the whole
 
-  module _ (place : Place) (block : BlockTree) (limit : ℕ) (enough_steps : length code.ops ≤ limit) (branched : is_branched block ≡ true) where
+  -- nothing was done at first
+  at_first : after 0 code start ≡ Some start
+  unfolding after
+  at_first = refl
+
+  -- each state that is met stands at its place
+  stands : (n : ℕ) (st : State) → Comes code start n (Ok st) → Stands b.schema code frames st
+  stands n st c = each_stands part frames code entry b 0 is sf fits begins c.1 st c.3
+
+  module _ (place : Place) (block : BlockTree) (limit : ℕ) (enough_steps : length code.ops ≤ limit) (loopless : is_loopless block ≡ true) (laid : PartLaid b.schema part place block code)
+      (before : InBlock b.schema part (λ s. Finds b.schema sf frames (length s.ops) s.scope.kinds) block LOOP_NESTING false laid.now (empty_buffer part place) laid.behind laid.block_is) where
     abbrev first : Buffer
     first = empty_buffer part place
 
-    block_gets : (now : Bool) (t : Buffer) → statements_code b.schema part LOOP_NESTING false block first ≡ Ok (now, t) → Has code t → Gets code start (IsScene (length t.ops) t.scope.names) (statements block (first_scene entry b)) (length t.ops)
-    block_gets now t h has =
-        (block_does b.schema sf part code start good block LOOP_NESTING false now first t branched refl h has).gets (begin_tidy part) start (first_scene entry b)
-        (refl, 0, omega arith, (λ k. let e : 0 + k ≡ k = omega arith in ap (λ i. steps_from i 0 code start) e))
+    abbrev t : Buffer
+    t = laid.behind
+
+    abbrev u : Buffer
+    u = laid.whole
+
+    block_gets : Has code t → Gets code start (IsScene (length t.ops) t.scope.names) (statements block (first_scene entry b)) (length t.ops)
+    block_gets has =
+        (block_does b.schema sf part code start good frames stands block LOOP_NESTING false laid.now first t loopless refl laid.block_is before has).gets (begin_tidy part) start (first_scene entry b)
+        (refl, 0, omega arith, at_first)
         (record { place = refl; held = begin_held b.schema b.world part code entry begins.units; stack = refl; board = refl })
 
     -- the code is that of a buffer
-    buffer_has : (u : Buffer) → code_of (version_for b.schema) u ≡ code → Has code u
-    buffer_has u same = record {
-      ops = λ i op at closed. ap (λ (c : Code). slice_get c.ops i) (sym same) ∙ at;
+    whole_has : Has code u
+    whole_has = record {
+      ops = λ i op at closed. ap (λ (c : Code). slice_get c.ops i) (sym laid.same) ∙ at;
       texts = [];
-      texts_are = ap (λ (c : Code). c.texts) (sym same) ∙ sym (append-nil u.texts);
+      texts_are = ap (λ (c : Code). c.texts) (sym laid.same) ∙ sym (append-nil u.texts);
       queries = [];
-      queries_are = ap (λ (c : Code). c.queries) (sym same) ∙ sym (append-nil u.queries);
+      queries_are = ap (λ (c : Code). c.queries) (sym laid.same) ∙ sym (append-nil u.queries);
     }
 
-    left_grown : (t : Buffer) → Grown t (leave (mark_of first.scope) t)
-    left_grown t = grown_none t (leave (mark_of first.scope) t) refl refl refl
+    left_grown : Grown t (leave (mark_of first.scope) t)
+    left_grown = grown_none t (leave (mark_of first.scope) t) refl refl refl
 
-    by_came : (t : Buffer) (class : ℕ) → part ≡ Do class → slice_get code.ops (length t.ops) ≡ Some ops.Done → length t.ops + 1 ≤ length code.ops → (came : Came) → Comes code start (length t.ops) came
+    by_came : (class : ℕ) → part ≡ Do class → slice_get code.ops (length t.ops) ≡ Some ops.Done → length t.ops + 1 ≤ length code.ops → (came : Came) → Comes code start (length t.ops) came
         → Leaves (IsScene (length t.ops) t.scope.names) (statements block (first_scene entry b)) came → IsTold (ended part (statements block (first_scene entry b))) (activation limit code entry b)
-    by_came t class part_is at le (Ok st) c l = told_done class (statements block (first_scene entry b)) t limit st l.0 part_is at (omega (arith, le, enough_steps)) c l.1 l.2.board
-    by_came t class part_is at le (Err (halt, left)) c l = told (statements block (first_scene entry b)) (IsScene (length t.ops) t.scope.names) (length t.ops) limit halt left (omega (arith, le, enough_steps)) c l
+    by_came class part_is at le (Ok st) c l = told_done class (statements block (first_scene entry b)) t limit st l.0 part_is at (omega (arith, le, enough_steps)) c l.1 l.2.board
+    by_came class part_is at le (Err (halt, left)) c l = told (statements block (first_scene entry b)) (IsScene (length t.ops) t.scope.names) (length t.ops) limit halt left (omega (arith, le, enough_steps)) c l
 
-    by_end : (t : Buffer) → length code.ops ≡ length t.ops → (came : Came) → Comes code start (length t.ops) came → Leaves (IsScene (length t.ops) t.scope.names) (statements block (first_scene entry b)) came
+    by_end : length code.ops ≡ length t.ops → (came : Came) → Comes code start (length t.ops) came → Leaves (IsScene (length t.ops) t.scope.names) (statements block (first_scene entry b)) came
         → IsTold (ended part (statements block (first_scene entry b))) (activation limit code entry b)
-    by_end t count (Ok st) c l = told_else (length t.ops) st (omega (arith, count)) c
-    by_end t count (Err (halt, left)) c l = told (statements block (first_scene entry b)) (IsScene (length t.ops) t.scope.names) (length t.ops) limit halt left (omega (arith, count, enough_steps)) c l
+    by_end count (Ok st) c l = told_else (length t.ops) st (omega (arith, count)) c
+    by_end count (Err (halt, left)) c l = told (statements block (first_scene entry b)) (IsScene (length t.ops) t.scope.names) (length t.ops) limit halt left (omega (arith, count, enough_steps)) c l
 
-    do_told : (now : Bool) (t u : Buffer) (class : ℕ) → part ≡ Do class → statements_code b.schema part LOOP_NESTING false block first ≡ Ok (now, t) → put ops.Done (leave (mark_of first.scope) t) ≡ Ok u → code_of (version_for b.schema) u ≡ code
-        → IsTold (ended part (statements block (first_scene entry b))) (activation limit code entry b)
-    do_told now t u class part_is h last same =
+    do_told : (class : ℕ) → part ≡ Do class → put ops.Done (leave (mark_of first.scope) t) ≡ Ok u → IsTold (ended part (statements block (first_scene entry b))) (activation limit code entry b)
+    do_told class part_is last =
         let was = leave (mark_of first.scope) t in
         let put_is = put_ok ops.Done was u last in
-        let has = buffer_has u same in
-        let own = has_before code t u (grown_on t was u (left_grown t) (grown_op ops.Done was u put_is)) has in
-        let at : slice_get code.ops (length t.ops) ≡ Some ops.Done = op_at code was u ops.Done put_is refl has in
-        let e : length code.ops ≡ length t.ops + 1 = ap (λ (c : Code). length c.ops) (sym same) ∙ (ap (λ (x : Buffer). length x.ops) put_is ∙ length-append t.ops (ops.Done ∷ [])) in
-        let g = block_gets now t h own in
-        by_came t class part_is at (omega (arith, e)) g.0 g.1 g.2
+        let own = has_before code t u (grown_on t was u left_grown (grown_op ops.Done was u put_is)) whole_has in
+        let at : slice_get code.ops (length t.ops) ≡ Some ops.Done = op_at code was u ops.Done put_is refl whole_has in
+        let e : length code.ops ≡ length t.ops + 1 = ap (λ (c : Code). length c.ops) (sym laid.same) ∙ (ap (λ (x : Buffer). length x.ops) put_is ∙ length-append t.ops (ops.Done ∷ [])) in
+        let g = block_gets own in
+        by_came class part_is at (omega (arith, e)) g.0 g.1 g.2
 
-    else_told : (now : Bool) (t u : Buffer) → statements_code b.schema part LOOP_NESTING false block first ≡ Ok (now, t) → leave (mark_of first.scope) t ≡ u → code_of (version_for b.schema) u ≡ code
-        → IsTold (ended part (statements block (first_scene entry b))) (activation limit code entry b)
-    else_told now t u h last same =
-        let has = buffer_has u same in
-        let own = has_before code t (leave (mark_of first.scope) t) (left_grown t) (subst (Has code) (sym last) has) in
-        let e : length code.ops ≡ length t.ops = ap (λ (c : Code). length c.ops) (sym same) ∙ ap (λ (x : Buffer). length x.ops) (sym last) in
-        let g = block_gets now t h own in
-        by_end t e g.0 g.1 g.2
+    else_told : leave (mark_of first.scope) t ≡ u → IsTold (ended part (statements block (first_scene entry b))) (activation limit code entry b)
+    else_told last =
+        let own = has_before code t (leave (mark_of first.scope) t) left_grown (subst (Has code) (sym last) whole_has) in
+        let e : length code.ops ≡ length t.ops = ap (λ (c : Code). length c.ops) (sym laid.same) ∙ ap (λ (x : Buffer). length x.ops) (sym last) in
+        let g = block_gets own in
+        by_end e g.0 g.1 g.2
 
-    by_part : (p : Part) → part ≡ p → (now : Bool) (t u : Buffer) → statements_code b.schema part LOOP_NESTING false block first ≡ Ok (now, t) → done p (leave (mark_of first.scope) t) ≡ Ok u → code_of (version_for b.schema) u ≡ code
-        → IsTold (ended part (statements block (first_scene entry b))) (activation limit code entry b)
-    by_part (Do class) part_is now t u h last same = do_told now t u class part_is h last same
-    by_part (Require c) part_is now t u h last same = else_told now t u h (same_ok (leave (mark_of first.scope) t) u last) same
-    by_part (Obviate c of) part_is now t u h last same = else_told now t u h (same_ok (leave (mark_of first.scope) t) u last) same
-    by_part (Retrigger c of) part_is now t u h last same = else_told now t u h (same_ok (leave (mark_of first.scope) t) u last) same
-    by_part (Revalidate c) part_is now t u h last same = else_told now t u h (same_ok (leave (mark_of first.scope) t) u last) same
+    by_part : (p : Part) → part ≡ p → done p (leave (mark_of first.scope) t) ≡ Ok u → IsTold (ended part (statements block (first_scene entry b))) (activation limit code entry b)
+    by_part (Do class) part_is last = do_told class part_is last
+    by_part (Require c) part_is last = else_told (same_ok (leave (mark_of first.scope) t) u last)
+    by_part (Obviate c of) part_is last = else_told (same_ok (leave (mark_of first.scope) t) u last)
+    by_part (Retrigger c of) part_is last = else_told (same_ok (leave (mark_of first.scope) t) u last)
+    by_part (Revalidate c) part_is last = else_told (same_ok (leave (mark_of first.scope) t) u last)
 
-    within_same : (u : Buffer) (c : Bool) → (let r : Result Code CompileFault = cond c (Ok (code_of (version_for b.schema) u)) (Err (At Limit u.start)) in r) ≡ Ok code → code_of (version_for b.schema) u ≡ code
-    within_same u true h = same_ok (code_of (version_for b.schema) u) code h
-    within_same u false h = absurd cc
+    pub part_told : IsTold (meaning part block entry b) (activation limit code entry b)
+    part_told = by_part part refl laid.last
 
-    pub part_told : part_code b.schema part place block ≡ Ok code → IsTold (meaning part block entry b) (activation limit code entry b)
-    unfolding part_code if_within
-    part_told h =
-        let body = guard_ok (has_no_end part block) (At NoEnd place) (block_code b.schema part LOOP_NESTING block first >>= λ p. done part p.1 >>= λ u. if_within u.start (code_of (version_for b.schema) u)) code h in
-        let one = bind_ok (block_code b.schema part LOOP_NESTING block first) (λ p. done part p.1 >>= λ u. if_within u.start (code_of (version_for b.schema) u)) code body.1 in
-        let two = bind_ok (statements_code b.schema part LOOP_NESTING false block first) (left (mark_of first.scope)) one.0 one.1 in
-        let three = bind_ok (done part one.0.1) (λ u. if_within u.start (code_of (version_for b.schema) u)) code one.2 in
-        let same = pair_ok two.0.0 one.0.0 (leave (mark_of first.scope) two.0.1) one.0.1 two.2 in
-        by_part part refl two.0.0 two.0.1 three.0 two.1 (ap (done part) same.1 ∙ three.1) (within_same three.0 (is_within (code_of (version_for b.schema) three.0)) three.2)
+-- ---- a code that is accepted does what its text means, and that of a part without `for` is accepted
 
--- ---- a code that is accepted does what its text means, and that of a part without `with` and `for` is accepted
-
-accepted_told : (part : Part) (code : Code) (frames : List Frame) (entry : Entry) (b : Board) → IsCode code → schemas.Fits b.schema → Fits b.schema b.world → (place : Place) (block : BlockTree) (limit : ℕ) → is_branched block ≡ true → part_code b.schema part place block ≡ Ok code
-    → checked b.schema part code ≡ Ok (record { code = code; part = part; frames = frames }) → EntryFits b.schema b.world part entry → length code.ops ≤ limit → IsTold (meaning part block entry b) (activation limit code entry b)
-accepted_told part code frames entry b is sf fits place block limit branched code_is accepted entry_fits enough =
-    let begins : Begins part frames code entry b = record { accepted = checked_facts b.schema part code (record { code = code; part = part; frames = frames }) accepted is.ops.some; units = entry_fits } in
-    part_told part frames code entry b is sf fits begins place block limit enough branched code_is
+begins_so : (part : Part) (code : Code) (frames : List Frame) (entry : Entry) (b : Board) → IsCode code → checked b.schema part code ≡ Ok (record { code = code; part = part; frames = frames }) → EntryFits b.schema b.world part entry → Begins part frames code entry b
+begins_so part code frames entry b is accepted entry_fits = record { accepted = checked_facts b.schema part code (record { code = code; part = part; frames = frames }) accepted is.ops.some; units = entry_fits }
 
 pub plain_told : (part : Part) (code : Code) (entry : Entry) (b : Board) → IsCode code → schemas.Fits b.schema → Fits b.schema b.world → (place : Place) (block : BlockTree) (limit : ℕ) → is_plain block ≡ true → part_code b.schema part place block ≡ Ok code
     → EntryFits b.schema b.world part entry → length code.ops ≤ limit → IsTold (meaning part block entry b) (activation limit code entry b)
 plain_told part code entry b is sf fits place block limit plain code_is entry_fits enough =
     let it = part_accepted b.schema sf part place block plain code code_is in
-    accepted_told part code it.0 entry b is sf fits place block limit (plain_branched block plain) code_is it.1 entry_fits enough
+    let laid = part_laid b.schema part place block code code_is in
+    part_told part it.0 code entry b is sf fits (begins_so part code it.0 entry b is it.1 entry_fits) place block limit enough (plain_loopless block plain) laid
+    (plain_before b.schema part (λ s. Finds b.schema sf it.0 (length s.ops) s.scope.kinds) block LOOP_NESTING false laid.now (empty_buffer part place) laid.behind plain laid.block_is)
 
-pub branched_told : (part : Part) (code : Code) (entry : Entry) (b : Board) → IsCode code → schemas.Fits b.schema → Fits b.schema b.world → (place : Place) (block : BlockTree) (limit : ℕ) → is_branched block ≡ true → HasClasses b.schema part → part_code b.schema part place block ≡ Ok code
+pub loopless_told : (part : Part) (code : Code) (entry : Entry) (b : Board) → IsCode code → schemas.Fits b.schema → Fits b.schema b.world → (place : Place) (block : BlockTree) (limit : ℕ) → is_loopless block ≡ true → HasClasses b.schema part → part_code b.schema part place block ≡ Ok code
     → EntryFits b.schema b.world part entry → length code.ops ≤ limit → IsTold (meaning part block entry b) (activation limit code entry b)
-branched_told part code entry b is sf fits place block limit branched classes code_is entry_fits enough =
-    let it = loopless_accepted b.schema sf part classes place block (branched_loopless block branched) code code_is in
-    accepted_told part code it.0 entry b is sf fits place block limit branched code_is it.1 entry_fits enough
+loopless_told part code entry b is sf fits place block limit loopless classes code_is entry_fits enough =
+    let laid = part_laid b.schema part place block code code_is in
+    let it = loopless_accepted b.schema sf part classes place block loopless code laid in
+    part_told part it.0 code entry b is sf fits (begins_so part code it.0 entry b is it.1 entry_fits) place block limit enough loopless laid it.2

@@ -72,22 +72,23 @@ unfolding step links
 links_on code b slot m = refl
 
 module _ (schema : Schema) (sf : schemas.Fits schema) (code : Code) where
+  -- the slot that the name means for a unit whose class has the link
+  pub linked_slot : (c slot : ℕ) (name : List ℕ) → slot_named schema c name ≡ Some slot → (b : Board) → Good schema b → (k : ℕ) → units.is_live b.world.units k ≡ true → has_link b.schema (class_at b.world k) slot ≡ true → texts.slot_of b k name ≡ Ok slot
+  linked_slot c slot name is b good k live has =
+      let own : has_link schema (class_at b.world k) slot ≡ true = ap (λ z. has_link z (class_at b.world k) slot) (sym good.schema) ∙ has in
+      let among = link_among schema b.world sf good.fits k slot live own in
+      let same = slot_same schema c (class_at b.world k) slot name sf (class_there schema b.world k good.fits live).1 is among in
+      ap (λ s. ok_or (slot_named s (class_at b.world k) name) meaningless) good.schema ∙ ap (λ o. ok_or o meaningless) same
+
   links_do : (c slot : ℕ) (name : List ℕ) → slot_named schema c name ≡ Some slot → OneOpOn (Good schema) code (ops.Links slot) (linked name)
   unfolding any_link
   links_do c slot name is n base m b v rest good stack like = subst (λ r. Leaves (Pushed n base) (linked name b v) (done_on b r)) (sym (links_on code b slot m)) (by_unit (live_cases m b v rest stack))
     where
-      named_there : (k : ℕ) → units.is_live b.world.units k ≡ true → has_link b.schema (class_at b.world k) slot ≡ true → texts.slot_of b k name ≡ Ok slot
-      named_there k live has =
-          let own : has_link schema (class_at b.world k) slot ≡ true = ap (λ z. has_link z (class_at b.world k) slot) (sym good.schema) ∙ has in
-          let among = link_among schema b.world sf good.fits k slot live own in
-          let same = slot_same schema c (class_at b.world k) slot name sf (class_there schema b.world k good.fits live).1 is among in
-          ap (λ s. ok_or (slot_named s (class_at b.world k) name) meaningless) good.schema ∙ ap (λ o. ok_or o meaningless) same
-
       by_link : (k : ℕ) (has : Bool) → has_link b.schema (class_at b.world k) slot ≡ has → units.is_live b.world.units k ≡ true
           → Leaves (Pushed n base) (linked name b (One k)) (done_on b (keeps b ((let r : Result (Unit {0}) Halt = cond has (Ok tt) (stuck reasons.Slot) in r) >>= λ _. push_found (ends b.world.links k slot) (with_stack rest m))))
       by_link k false has live = tt
       by_link k true has live =
-          let means : linked name b (One k) ≡ as_sequence (ends b.world.links k slot) = rw (live, named_there k live has) refl in
+          let means : linked name b (One k) ≡ as_sequence (ends b.world.links k slot) = rw (live, linked_slot c slot name is b good k live has) refl in
           subst (λ r. Leaves (Pushed n base) r (done_on b (keeps b (push_found (ends b.world.links k slot) (with_stack rest m))))) (sym means) (found_leaves (ends b.world.links k slot) n base (with_stack rest m) b like)
 
       by_unit : ((k : ℕ) × (v ≡ One k) × (units.is_live b.world.units k ≡ true) × (pop_live b m ≡ Ok (k, with_stack rest m))) ⊎ ((reason : Stuck) × (pop_live b m ≡ stuck reason))

@@ -1,9 +1,7 @@
--- The codes of a source of which no part has a `with` or a `for` are accepted, and mean its text.
-use Rattle.std.proofs.Common.{◌≡◌, ℕ, Bool, true, false, cond, ◌&&◌, Option, Some, None, Result, Ok, Err, refl, subst, ap, ◌∙◌}
+-- The codes of a source of which no part has a `for` are accepted, and mean its text.
+use Rattle.std.proofs.Common.{◌≡◌, ℕ, true, ◌&&◌, Option, Some, None, Ok, subst, ap, ◌∙◌}
 use Rattle.std.specs.Prelude.{IfSome}
 use Rattle.bb_basis.proofs.BoolLemmas.{and_first, and_second}
-use Rattle.bb_basis.specs.Results.{◌>>=◌}
-use Rattle.bb_basis.proofs.ResultLemmas.{bind_ok, guard_ok, same_ok}
 use Rattle.bb_schema.specs.Schema.{Schema, class_named}
 use Rattle.bb_schema.specs.Fits as schemas
 use Rattle.bb_code.specs.Code.{Code}
@@ -14,9 +12,6 @@ use Rattle.bb_lang.specs.PartText.{PartText}
 use Rattle.bb_lang.specs.ReactionText.{ReactionText}
 use Rattle.bb_lang.specs.SourceText.{SourceText}
 use Rattle.bb_compile_scope.specs.Place.{Place}
-use Rattle.bb_compile_scope.specs.declared.fault.CompileFault.{CompileFault}
-use Rattle.bb_compile_scope.specs.declared.fault.CompileFault.TheVariants.{At}
-use Rattle.bb_compile_scope.specs.declared.fault.TextFlaw.TheVariants.{NoEnd, Limit}
 use Rattle.bb_bundle.specs.declared.draft.ActDraft.{ActDraft}
 use Rattle.bb_bundle.specs.declared.draft.ActDraft.TheVariants as drafts
 use Rattle.bb_bundle.specs.declared.draft.Header.{Header}
@@ -27,73 +22,70 @@ use Rattle.bb_machine_state.specs.Board.{Board}
 use Rattle.bb_machine_state.specs.Fits.{Fits}
 use Rattle.bb_verify.specs.PartType.{Part}
 use Rattle.bb_verify.specs.PartType.TheVariants.{Require, Obviate, Retrigger, Revalidate, Do}
-use Rattle.bb_compile_accepted.specs.Buffer.{Buffer}
-use Rattle.bb_compile_accepted.specs.Finish.{empty_buffer, code_of, if_within}
 use Rattle.bb_compile_accepted.specs.Within.{is_within}
-use Rattle.bb_compile_accepted.specs.Statements.{block_code}
-use Rattle.bb_compile_accepted.specs.Parts.{has_no_end, done, version_for, part_code}
-use Rattle.bb_compile_accepted.specs.PartLimits.{LOOP_NESTING}
-use Rattle.bb_compile_accepted.proofs.Laws.{class_there, loopless_accepted}
-use Rattle.bb_compile_meaning.specs.Branched.{is_branched}
-use Rattle.bb_compile_meaning.specs.Loopless.{HasClass, HasClasses}
-use Rattle.bb_compile_meaning.specs.Sources.{part_is_branched, reaction_is_branched, act_is_branched, is_branched_source, IsAccepted, IsAcceptedFor, IsAcceptedAct, AreAccepted, IsMeant, IsMeantIf, IsMeantReaction, IsMeantAct, AreMeant}
+use Rattle.bb_compile_accepted.specs.Parts.{part_code}
+use Rattle.bb_compile_accepted.proofs.Laws.{class_there, part_laid, loopless_accepted}
+use Rattle.bb_compile_meaning.specs.Loopless.{is_loopless, HasClass, HasClasses}
+use Rattle.bb_compile_meaning.specs.Sources.{part_is_loopless, reaction_is_loopless, act_is_loopless, is_loopless_source, IsAccepted, IsAcceptedFor, IsAcceptedAct, AreAccepted, IsMeant, IsMeantIf, IsMeantReaction, IsMeantAct, AreMeant}
 use Rattle.bb_compile_meaning.proofs.CodeLemmas.{within_code}
 use Rattle.bb_compile_meaning.proofs.MadeLemmas.{IsMade, IsMadeReaction, IsMadeAct, source_made}
-use Rattle.bb_compile_meaning.proofs.BranchedLemmas.{branched_loopless}
-use Rattle.bb_compile_meaning.proofs.PartLemmas.{branched_told}
+use Rattle.bb_compile_meaning.proofs.PartLemmas.{loopless_told}
 
--- no part has a `with` or a `for`
-record AreBranched (text : SourceText) : Type 0 where
-  require : part_is_branched text.parts.require ≡ true
-  obviate : reaction_is_branched text.parts.obviate ≡ true
-  retrigger : reaction_is_branched text.parts.retrigger ≡ true
-  revalidate : part_is_branched text.parts.revalidate ≡ true
-  act : act_is_branched text.act ≡ true
+-- no part has a `for`
+record AreLoopless (text : SourceText) : Type 0 where
+  require : part_is_loopless text.parts.require ≡ true
+  obviate : reaction_is_loopless text.parts.obviate ≡ true
+  retrigger : reaction_is_loopless text.parts.retrigger ≡ true
+  revalidate : part_is_loopless text.parts.revalidate ≡ true
+  act : act_is_loopless text.act ≡ true
 
-are_branched : (text : SourceText) → is_branched_source text ≡ true → AreBranched text
-are_branched text branched =
+are_loopless : (text : SourceText) → is_loopless_source text ≡ true → AreLoopless text
+are_loopless text loopless =
     let p = text.parts in
-    let four = part_is_branched p.revalidate && act_is_branched text.act in
-    let three = reaction_is_branched p.retrigger && four in
-    let two = reaction_is_branched p.obviate && three in
-    let behind_one = and_second (part_is_branched p.require) two branched in
-    let behind_two = and_second (reaction_is_branched p.obviate) three behind_one in
-    let behind_three = and_second (reaction_is_branched p.retrigger) four behind_two in
+    let four = part_is_loopless p.revalidate && act_is_loopless text.act in
+    let three = reaction_is_loopless p.retrigger && four in
+    let two = reaction_is_loopless p.obviate && three in
+    let behind_one = and_second (part_is_loopless p.require) two loopless in
+    let behind_two = and_second (reaction_is_loopless p.obviate) three behind_one in
+    let behind_three = and_second (reaction_is_loopless p.retrigger) four behind_two in
     record {
-      require = and_first (part_is_branched p.require) two branched;
-      obviate = and_first (reaction_is_branched p.obviate) three behind_one;
-      retrigger = and_first (reaction_is_branched p.retrigger) four behind_two;
-      revalidate = and_first (part_is_branched p.revalidate) (act_is_branched text.act) behind_three;
-      act = and_second (part_is_branched p.revalidate) (act_is_branched text.act) behind_three;
+      require = and_first (part_is_loopless p.require) two loopless;
+      obviate = and_first (reaction_is_loopless p.obviate) three behind_one;
+      retrigger = and_first (reaction_is_loopless p.retrigger) four behind_two;
+      revalidate = and_first (part_is_loopless p.revalidate) (act_is_loopless text.act) behind_three;
+      act = and_second (part_is_loopless p.revalidate) (act_is_loopless text.act) behind_three;
     }
 
 -- ---- accepted
 
 module _ (schema : Schema) (sf : schemas.Fits schema) where
-  part_ok : (part : Part) (o : Option PartText) (code : Option Code) → part_is_branched o ≡ true → HasClasses schema part → IsMade schema part o code → IfSome code (IsAccepted schema part)
-  part_ok part None None branched classes made = tt
-  part_ok part None (Some code) branched classes made = absurd made
-  part_ok part (Some text) None branched classes made = absurd made
-  part_ok part (Some text) (Some code) branched classes made = loopless_accepted schema sf part classes text.place text.block (branched_loopless text.block branched) code made
+  accepted_so : (part : Part) → HasClasses schema part → (place : Place) (block : BlockTree) → is_loopless block ≡ true → (code : Code) → part_code schema part place block ≡ Ok code → IsAccepted schema part code
+  accepted_so part classes place block loopless code made = let it = loopless_accepted schema sf part classes place block loopless code (part_laid schema part place block code made) in (it.0, it.1)
 
-  reaction_ok : (part : (of : ℕ) → Part) (o : Option ReactionText) (r : Option (ReactionDraft Code)) → reaction_is_branched o ≡ true → ((of : ℕ) → HasClass schema of → HasClasses schema (part of)) → IsMadeReaction schema part o r → IfSome r (IsAcceptedFor schema part)
-  reaction_ok part None None branched classes made = tt
-  reaction_ok part None (Some r) branched classes made = absurd made
-  reaction_ok part (Some text) None branched classes made = absurd made
-  reaction_ok part (Some text) (Some r) branched classes made =
+  part_ok : (part : Part) (o : Option PartText) (code : Option Code) → part_is_loopless o ≡ true → HasClasses schema part → IsMade schema part o code → IfSome code (IsAccepted schema part)
+  part_ok part None None loopless classes made = tt
+  part_ok part None (Some code) loopless classes made = absurd made
+  part_ok part (Some text) None loopless classes made = absurd made
+  part_ok part (Some text) (Some code) loopless classes made = accepted_so part classes text.place text.block loopless code made
+
+  reaction_ok : (part : (of : ℕ) → Part) (o : Option ReactionText) (r : Option (ReactionDraft Code)) → reaction_is_loopless o ≡ true → ((of : ℕ) → HasClass schema of → HasClasses schema (part of)) → IsMadeReaction schema part o r → IfSome r (IsAcceptedFor schema part)
+  reaction_ok part None None loopless classes made = tt
+  reaction_ok part None (Some r) loopless classes made = absurd made
+  reaction_ok part (Some text) None loopless classes made = absurd made
+  reaction_ok part (Some text) (Some r) loopless classes made =
       let there = classes made.of (class_there schema text.class made.of made.named) in
-      (made.of, ap (class_named schema) made.class ∙ made.named, loopless_accepted schema sf (part made.of) there text.place text.block (branched_loopless text.block branched) r.code made.code)
+      (made.of, ap (class_named schema) made.class ∙ made.named, accepted_so (part made.of) there text.place text.block loopless r.code made.code)
 
-  act_ok : (class : ℕ) (text : ActText) (act : ActDraft Code) → act_is_branched text ≡ true → HasClass schema class → IsMadeAct schema class text act → IsAcceptedAct schema class act
-  act_ok class acts.Native drafts.Native branched there made = tt
-  act_ok class acts.Native (drafts.Do code) branched there made = absurd made
-  act_ok class (acts.Do text) drafts.Native branched there made = absurd made
-  act_ok class (acts.Do text) (drafts.Do code) branched there made = loopless_accepted schema sf (Do class) there text.place text.block (branched_loopless text.block branched) code made
+  act_ok : (class : ℕ) (text : ActText) (act : ActDraft Code) → act_is_loopless text ≡ true → HasClass schema class → IsMadeAct schema class text act → IsAcceptedAct schema class act
+  act_ok class acts.Native drafts.Native loopless there made = tt
+  act_ok class acts.Native (drafts.Do code) loopless there made = absurd made
+  act_ok class (acts.Do text) drafts.Native loopless there made = absurd made
+  act_ok class (acts.Do text) (drafts.Do code) loopless there made = accepted_so (Do class) there text.place text.block loopless code made
 
-  pub source_accepted : (text : SourceText) (draft : SourceDraft Code) → is_branched_source text ≡ true → compiled schema text ≡ Ok draft → AreAccepted schema draft
-  source_accepted text draft branched h =
+  pub source_accepted : (text : SourceText) (draft : SourceDraft Code) → is_loopless_source text ≡ true → compiled schema text ≡ Ok draft → AreAccepted schema draft
+  source_accepted text draft loopless h =
       let m = source_made schema text draft h in
-      let p = are_branched text branched in
+      let p = are_loopless text loopless in
       let there : HasClass schema m.of = class_there schema text.header.class m.of m.named in
       record {
         class = m.of;
@@ -109,46 +101,36 @@ module _ (schema : Schema) (sf : schemas.Fits schema) where
 
 -- what is laid out for a part is within the limits of codes
 part_within : (schema : Schema) (part : Part) (place : Place) (block : BlockTree) (code : Code) → part_code schema part place block ≡ Ok code → is_within code ≡ true
-unfolding part_code if_within
-part_within schema part place block code h =
-    let first = empty_buffer part place in
-    let body = guard_ok (has_no_end part block) (At NoEnd place) (block_code schema part LOOP_NESTING block first >>= λ p. done part p.1 >>= λ u. if_within u.start (code_of (version_for schema) u)) code h in
-    let one = bind_ok (block_code schema part LOOP_NESTING block first) (λ p. done part p.1 >>= λ u. if_within u.start (code_of (version_for schema) u)) code body.1 in
-    let two = bind_ok (done part one.0.1) (λ u. if_within u.start (code_of (version_for schema) u)) code one.2 in
-    by_test two.0 (is_within (code_of (version_for schema) two.0)) refl two.2
-  where
-    by_test : (u : Buffer) (b : Bool) → is_within (code_of (version_for schema) u) ≡ b → (let r : Result Code CompileFault = cond b (Ok (code_of (version_for schema) u)) (Err (At Limit u.start)) in r) ≡ Ok code → is_within code ≡ true
-    by_test u true is h = subst (λ c. is_within c ≡ true) (same_ok (code_of (version_for schema) u) code h) is
-    by_test u false is h = absurd cc
+part_within schema part place block code h = let laid = part_laid schema part place block code h in subst (λ c. is_within c ≡ true) laid.same laid.within
 
 module _ (b : Board) (sf : schemas.Fits b.schema) (fits : Fits b.schema b.world) where
-  code_meant : (part : Part) (place : Place) (block : BlockTree) (code : Code) → is_branched block ≡ true → HasClasses b.schema part → part_code b.schema part place block ≡ Ok code → IsMeant b part block code
-  code_meant part place block code branched classes made entry limit entry_fits enough = branched_told part code entry b (within_code code (part_within b.schema part place block code made)) sf fits place block limit branched classes made entry_fits enough
+  code_meant : (part : Part) (place : Place) (block : BlockTree) (code : Code) → is_loopless block ≡ true → HasClasses b.schema part → part_code b.schema part place block ≡ Ok code → IsMeant b part block code
+  code_meant part place block code loopless classes made entry limit entry_fits enough = loopless_told part code entry b (within_code code (part_within b.schema part place block code made)) sf fits place block limit loopless classes made entry_fits enough
 
-  part_meant : (part : Part) (o : Option PartText) (code : Option Code) → part_is_branched o ≡ true → HasClasses b.schema part → IsMade b.schema part o code → IsMeantIf b part o code
-  part_meant part None None branched classes made = tt
-  part_meant part None (Some code) branched classes made = made
-  part_meant part (Some text) None branched classes made = made
-  part_meant part (Some text) (Some code) branched classes made = code_meant part text.place text.block code branched classes made
+  part_meant : (part : Part) (o : Option PartText) (code : Option Code) → part_is_loopless o ≡ true → HasClasses b.schema part → IsMade b.schema part o code → IsMeantIf b part o code
+  part_meant part None None loopless classes made = tt
+  part_meant part None (Some code) loopless classes made = made
+  part_meant part (Some text) None loopless classes made = made
+  part_meant part (Some text) (Some code) loopless classes made = code_meant part text.place text.block code loopless classes made
 
-  reaction_meant : (part : (of : ℕ) → Part) (o : Option ReactionText) (r : Option (ReactionDraft Code)) → reaction_is_branched o ≡ true → ((of : ℕ) → HasClass b.schema of → HasClasses b.schema (part of)) → IsMadeReaction b.schema part o r → IsMeantReaction b part o r
-  reaction_meant part None None branched classes made = tt
-  reaction_meant part None (Some r) branched classes made = made
-  reaction_meant part (Some text) None branched classes made = made
-  reaction_meant part (Some text) (Some r) branched classes made =
+  reaction_meant : (part : (of : ℕ) → Part) (o : Option ReactionText) (r : Option (ReactionDraft Code)) → reaction_is_loopless o ≡ true → ((of : ℕ) → HasClass b.schema of → HasClasses b.schema (part of)) → IsMadeReaction b.schema part o r → IsMeantReaction b part o r
+  reaction_meant part None None loopless classes made = tt
+  reaction_meant part None (Some r) loopless classes made = made
+  reaction_meant part (Some text) None loopless classes made = made
+  reaction_meant part (Some text) (Some r) loopless classes made =
       let there = classes made.of (class_there b.schema text.class made.of made.named) in
-      record { of = made.of; named = made.named; class = made.class; clauses = made.clauses; code = code_meant (part made.of) text.place text.block r.code branched there made.code }
+      record { of = made.of; named = made.named; class = made.class; clauses = made.clauses; code = code_meant (part made.of) text.place text.block r.code loopless there made.code }
 
-  act_meant : (class : ℕ) (text : ActText) (act : ActDraft Code) → act_is_branched text ≡ true → HasClass b.schema class → IsMadeAct b.schema class text act → IsMeantAct b class text act
-  act_meant class acts.Native drafts.Native branched there made = tt
-  act_meant class acts.Native (drafts.Do code) branched there made = made
-  act_meant class (acts.Do text) drafts.Native branched there made = made
-  act_meant class (acts.Do text) (drafts.Do code) branched there made = code_meant (Do class) text.place text.block code branched there made
+  act_meant : (class : ℕ) (text : ActText) (act : ActDraft Code) → act_is_loopless text ≡ true → HasClass b.schema class → IsMadeAct b.schema class text act → IsMeantAct b class text act
+  act_meant class acts.Native drafts.Native loopless there made = tt
+  act_meant class acts.Native (drafts.Do code) loopless there made = made
+  act_meant class (acts.Do text) drafts.Native loopless there made = made
+  act_meant class (acts.Do text) (drafts.Do code) loopless there made = code_meant (Do class) text.place text.block code loopless there made
 
-  pub source_meant : (text : SourceText) (draft : SourceDraft Code) → is_branched_source text ≡ true → compiled b.schema text ≡ Ok draft → AreMeant b text draft
-  source_meant text draft branched h =
+  pub source_meant : (text : SourceText) (draft : SourceDraft Code) → is_loopless_source text ≡ true → compiled b.schema text ≡ Ok draft → AreMeant b text draft
+  source_meant text draft loopless h =
       let m = source_made b.schema text draft h in
-      let p = are_branched text branched in
+      let p = are_loopless text loopless in
       let there : HasClass b.schema m.of = class_there b.schema text.header.class m.of m.named in
       record {
         name = ap (λ (x : Header). x.name) m.header;

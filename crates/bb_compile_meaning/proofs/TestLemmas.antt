@@ -1,8 +1,9 @@
 -- A test before a first block does what it means: it goes on to the block, where a name may be declared, or elsewhere.
-use Rattle.std.proofs.Common.{◌≡◌, ℕ, ◌+◌, ◌≤◌, Bool, true, false, cond, length, Option, Some, None, Ok, Err, refl, subst, sym, ap, ◌∙◌, arith}
+use Rattle.std.proofs.Common.{◌≡◌, ℕ, ◌+◌, ◌≤◌, Bool, true, false, cond, List, length, Option, Some, None, Ok, Err, refl, subst, sym, ap, ◌∙◌, arith}
 use Rattle.bb_basis.specs.Results.{◌>>=◌}
 use Rattle.bb_code.specs.Code.{Code}
 use Rattle.bb_code.specs.Limits.{STACK_LIMIT}
+use Rattle.bb_verify_frame.specs.Op.{Op}
 use Rattle.bb_verify_frame.specs.Op.TheVariants as ops
 use Rattle.bb_schema.specs.Schema.{Schema}
 use Rattle.bb_schema.specs.Fits as schemas
@@ -30,17 +31,21 @@ chosen first other s None = other s
 chosen first other s (Some t) = left s (first t)
 
 module _ (code : Code) (start : State) where
-  -- from the scene before a test to the one behind it, or to the place of its exits
+  -- from the scene before a test to the one behind it, or to the place where its ops go that go elsewhere
+  abbrev pub Chooses : (s u behind tested : Buffer) → List Op → (test : Scene → Meaning (Option Scene)) → Type 0
+  Chooses s u behind tested es test =
+      (t : Buffer) (f : Option Scene → Meaning Scene) (at : ℕ) → Grown behind t → AreAimed code at (length behind.ops) es → Has code u → IsTidy s.scope → length tested.ops ≤ at → at ≤ length t.ops → length u.ops ≤ length t.ops
+      → (st : State) (scene : Scene) → Comes code start (length s.ops) (Ok st) → IsScene (length s.ops) s.scope.names scene st
+      → ((after : Scene) (next : State) → Comes code start (length u.ops) (Ok next) → IsScene (length u.ops) u.scope.names after next → Gets code start (IsScene (length t.ops) t.scope.names) (f (Some after)) (length t.ops))
+      → ((next : State) → Comes code start at (Ok next) → IsScene at s.scope.names scene next → Gets code start (IsScene (length t.ops) t.scope.names) (f None) (length t.ops))
+      → Gets code start (IsScene (length t.ops) t.scope.names) (test scene >>= f) (length t.ops)
+
   pub record Tests (s u : Buffer) (exits : Exits) (gd : Guard s u exits) (test : Scene → Meaning (Option Scene)) : Type 0 where
     pub grown : Grown s gd.behind
     pub scope : gd.tested.scope ≡ s.scope
     pub tidy : IsTidy gd.tested.scope → IsTidy u.scope
     pub moves : Moves gd.tested.scope u.scope
-    pub gets : (t : Buffer) (f : Option Scene → Meaning Scene) (at : ℕ) → Grown gd.behind t → AreAimed code at (length gd.behind.ops) gd.es → Has code u → IsTidy s.scope → length gd.tested.ops ≤ at → at ≤ length t.ops → length u.ops ≤ length t.ops
-        → (st : State) (scene : Scene) → Comes code start (length s.ops) (Ok st) → IsScene (length s.ops) s.scope.names scene st
-        → ((after : Scene) (next : State) → Comes code start (length u.ops) (Ok next) → IsScene (length u.ops) u.scope.names after next → Gets code start (IsScene (length t.ops) t.scope.names) (f (Some after)) (length t.ops))
-        → ((next : State) → Comes code start at (Ok next) → IsScene at s.scope.names scene next → Gets code start (IsScene (length t.ops) t.scope.names) (f None) (length t.ops))
-        → Gets code start (IsScene (length t.ops) t.scope.names) (test scene >>= f) (length t.ops)
+    pub gets : Chooses s u gd.behind gd.tested gd.es test
 
   -- ---- the test of an `if`
 

@@ -12,11 +12,9 @@ pub mod Statements
 pub mod Parts
 -- texts without branches and loops
 pub use Rattle.bb_compile_accepted.specs.Plain
--- texts without `with` and `for`
-pub mod Branched
 -- texts without `for`
 pub use Rattle.bb_compile_accepted.specs.Loopless
 -- what an execution comes to, by the text
 pub mod Told
--- sources without `with` and `for`, and what it is that their codes are accepted, and mean their text
+-- sources without `for`, and what it is that their codes are accepted, and mean their text
 pub mod Sources

@@ -1,5 +1,5 @@
--- Sources whose parts have no `with` and no `for`, what it is that the verifier accepts the codes of a source, and what
--- it is that they mean its text.
+-- Sources whose parts have no `for`, what it is that the verifier accepts the codes of a source, and what it is that
+-- they mean its text.
 use Rattle.std.specs.Prelude.{◌≡◌, ◌≤◌, ℕ, Bool, true, ◌&&◌, List, length, Option, Some, None, IfSome, Ok}
 use Rattle.bb_schema.specs.Schema.{Schema, class_named}
 use Rattle.bb_code.specs.Code.{Code}
@@ -22,27 +22,28 @@ use Rattle.bb_machine_step.specs.Activation.{activation}
 use Rattle.bb_machine_step.specs.Entry.{Entry}
 use Rattle.bb_machine.specs.NeverWrong.{EntryFits}
 use Rattle.bb_compile_meaning.specs.Parts.{meaning}
-use Rattle.bb_compile_meaning.specs.Branched.{is_branched}
+use Rattle.bb_compile_meaning.specs.Loopless.{is_loopless}
 use Rattle.bb_compile_meaning.specs.Told.{IsTold}
 
--- ---- no part has a `with` or a `for`
+-- ---- no part has a `for`
 
-abbrev pub part_is_branched : Option PartText → Bool
-part_is_branched None = true
-part_is_branched (Some text) = is_branched text.block
+abbrev pub part_is_loopless : Option PartText → Bool
+part_is_loopless None = true
+part_is_loopless (Some text) = is_loopless text.block
 
-abbrev pub reaction_is_branched : Option ReactionText → Bool
-reaction_is_branched None = true
-reaction_is_branched (Some text) = is_branched text.block
+abbrev pub reaction_is_loopless : Option ReactionText → Bool
+reaction_is_loopless None = true
+reaction_is_loopless (Some text) = is_loopless text.block
 
-abbrev pub act_is_branched : ActText → Bool
-act_is_branched acts.Native = true
-act_is_branched (acts.Do text) = is_branched text.block
+abbrev pub act_is_loopless : ActText → Bool
+act_is_loopless acts.Native = true
+act_is_loopless (acts.Do text) = is_loopless text.block
 
-abbrev pub is_branched_source : SourceText → Bool
-is_branched_source text =
-    part_is_branched text.parts.require && (reaction_is_branched text.parts.obviate
-    && (reaction_is_branched text.parts.retrigger && (part_is_branched text.parts.revalidate && act_is_branched text.act)))
+abbrev pub is_loopless_source : SourceText → Bool
+is_loopless_source text =
+    part_is_loopless text.parts.require && (reaction_is_loopless text.parts.obviate
+    && (reaction_is_loopless text.parts.retrigger
+    && (part_is_loopless text.parts.revalidate && act_is_loopless text.act)))
 
 -- ---- each code is accepted for its part
 

@@ -14,45 +14,45 @@ ghost use Rattle.bb_machine_step.specs.Activation.{activation};
 ghost use Rattle.bb_machine_step.specs.Entry.{Entry};
 ghost use Rattle.bb_machine.specs.NeverWrong.{EntryFits};
 ghost use Rattle.bb_compile_meaning.specs.Parts.{meaning};
-ghost use Rattle.bb_compile_meaning.specs.Branched.{is_branched};
-ghost use Rattle.bb_compile_meaning.specs.Loopless.{HasClasses};
+ghost use Rattle.bb_compile_meaning.specs.Loopless.{is_loopless, HasClasses};
 ghost use Rattle.bb_compile_meaning.specs.Plain.{is_plain};
-ghost use Rattle.bb_compile_meaning.specs.Sources.{is_branched_source, AreAccepted, AreMeant};
+ghost use Rattle.bb_compile_meaning.specs.Sources.{is_loopless_source, AreAccepted, AreMeant};
 ghost use Rattle.bb_compile_meaning.specs.Told.{IsTold};
 
 use bb_board::Board;
 use bb_code::Code;
 use bb_schema::Schema;
 
-/// The codes of a source of which no part has a `with` or a `for` are accepted.
+/// The codes of a source of which no part has a `for` are accepted.
 ///
 /// - `accepted`: what `compile` gives for the tree of such a source has its class and those of its reactions in the
 ///   schema, and the verifier takes each of its codes for its part and these classes. So it refuses no such text.
 pub fn compiled_source_is_accepted(schema: &Schema)
     ensures accepted { (text : SourceText) (draft : SourceDraft AnyCode) →
-        is_branched_source text ≡ true → compiled schema.now text ≡ Ok draft → AreAccepted schema.now draft }
+        is_loopless_source text ≡ true → compiled schema.now text ≡ Ok draft → AreAccepted schema.now draft }
 {
     // For the proof: what holds of every schema.
     schema.fits();
 }
 
-/// What the code of a part means, if the part has no `with` and no `for`, whatever its expressions are.
+/// What the code of a part means, if the part has no `for`, whatever its expressions are.
 ///
-/// - `means`: where the execution begins with units that fit the part, and the part has no `if` either, it gives the
-///   answer of the text and leaves the blackboard of the text, with its notes; it finds no room for one more unit
-///   exactly where the text finds none; it is never stuck; and as many steps as the code has ops are enough for that.
-/// - `branches`: so it is for a part with `if`, `else` and chains of them, where the classes of the part are classes of
-///   the schema.
+/// - `means`: where the execution begins with units that fit the part, and the part has no `if` and no `with` either,
+///   it gives the answer of the text and leaves the blackboard of the text, with its notes; it finds no room for one
+///   more unit exactly where the text finds none; it is never stuck; and as many steps as the code has ops are enough
+///   for that.
+/// - `branches`: so it is for a part with `if`, `with`, `else` and chains of them, where the classes of the part are
+///   classes of the schema.
 ///
 /// That the verifier accepts the code is no premise: it does (`compiled_code_is_accepted` of bb_compile_accepted). This
-/// says nothing of texts with `with` or `for`.
+/// says nothing of texts with `for`.
 pub fn compiled_code_means_its_text(code: &Code, board: &Board)
     ensures means { (part : Part) (place : Place) (block : BlockTree) (entry : Entry) (limit : ℕ) →
         is_plain block ≡ true → part_code board.now.schema part place block ≡ Ok code.now →
         EntryFits board.now.schema board.now.world part entry → length code.now.ops ≤ limit →
         IsTold (meaning part block entry board.now) (activation limit code.now entry board.now) }
     ensures branches { (part : Part) (place : Place) (block : BlockTree) (entry : Entry) (limit : ℕ) →
-        is_branched block ≡ true → HasClasses board.now.schema part →
+        is_loopless block ≡ true → HasClasses board.now.schema part →
         part_code board.now.schema part place block ≡ Ok code.now →
         EntryFits board.now.schema board.now.world part entry → length code.now.ops ≤ limit →
         IsTold (meaning part block entry board.now) (activation limit code.now entry board.now) }
@@ -63,7 +63,7 @@ pub fn compiled_code_means_its_text(code: &Code, board: &Board)
     board.fits();
 }
 
-/// What a compiled source means, if no part of its text has a `with` or a `for`.
+/// What a compiled source means, if no part of its text has a `for`.
 ///
 /// - `means`: what `compile` gives for the tree of such a source has the tree's name, class, rate and clauses, a part
 ///   exactly where the tree has one, for the classes that the tree names, and each of its codes means the part's text
@@ -72,7 +72,7 @@ pub fn compiled_code_means_its_text(code: &Code, board: &Board)
 /// That the codes are within the limits of codes is no premise: they are.
 pub fn compiled_source_means_its_text(board: &Board)
     ensures means { (text : SourceText) (draft : SourceDraft AnyCode) →
-        is_branched_source text ≡ true → compiled board.now.schema text ≡ Ok draft → AreMeant board.now text draft }
+        is_loopless_source text ≡ true → compiled board.now.schema text ≡ Ok draft → AreMeant board.now text draft }
 {
     // For the proof: what holds of every schema and blackboard.
     board.schema().fits();

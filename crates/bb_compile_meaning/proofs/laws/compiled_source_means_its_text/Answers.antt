@@ -5,5 +5,5 @@ use Rattle.bb_compile_meaning.proofs.laws.compiled_source_means_its_text.Goals a
 
 pub returns : goal.returns
 returns c = record {
-  means = λ text draft branched is. source_meant c.args.board.now (subst schemas.Fits c.schema.ensures c.fits.ensures) c.fits-2.ensures text draft branched is;
+  means = λ text draft loopless is. source_meant c.args.board.now (subst schemas.Fits c.schema.ensures c.fits.ensures) c.fits-2.ensures text draft loopless is;
 }
