@@ -36,13 +36,14 @@ const ON_THINGS: &str = "source asker on thing { when create thing; rate 1; nati
 
 const ON_NOTES: &str = "source asker on note { when create note; rate 1; native; }";
 
-// A native that counts its executions, and says how many there were when it is closed. It looks for the things in a
-// space, and leaves their number plus one in a cell.
+// A native that counts its executions, and says how many there were when it is closed, which it leaves in a cell too. It
+// looks for the things in a space, and leaves their number plus one in another.
 #[derive(Drop)]
 struct Asker {
     role: Role,
     text: Text,
     seen: Rc<Cell<u64>>,
+    said: Rc<Cell<i64>>,
     count: i64,
     is_open: bool,
 }
@@ -75,6 +76,7 @@ impl NativeSource for Asker {
 
     fn close(&mut self) -> i64 {
         self.is_open = false;
+        self.said.set(self.count);
         self.count
     }
 }
@@ -167,6 +169,7 @@ fn one_asker(
     role: Role,
     text: &str,
     seen: &Rc<Cell<u64>>,
+    said: &Rc<Cell<i64>>,
 ) -> Result<Vec<Asker>, Memory>
     ensures { IfOk result (λ natives. all_open (map ⟦<Asker as NativeSource>⟧.meaning natives.items) ≡ true) }
 {
@@ -175,6 +178,7 @@ fn one_asker(
         role,
         text: Text::from_str(alloc, text)?,
         seen: seen.clone()?,
+        said: said.clone()?,
         count: 0,
         is_open: true,
     })?;
@@ -185,8 +189,9 @@ fn one_asker(
 #[derive(Drop)]
 struct Ended {
     finish: Finish,
-    // What the asker left in its cell.
+    // What the asker left in its cells: -1 where it said no number.
     seen: u64,
+    said: i64,
     trace: Vec<u8>,
 }
 
@@ -200,7 +205,8 @@ struct Texts<'a> {
 
 fn run_asker(alloc: Global, texts: Texts<'_>, role: Role, text: &str) -> Result<Ended, Fail> {
     let seen = Rc::new(alloc, Cell::new(0u64))?;
-    let natives = one_asker(alloc, role, text, &seen)?;
+    let said = Rc::new(alloc, Cell::new(-1i64))?;
+    let natives = one_asker(alloc, role, text, &seen, &said)?;
     let mut out = Pipe::new(Vec::new(alloc));
     let finish = run_texts(
         alloc,
@@ -216,6 +222,7 @@ fn run_asker(alloc: Global, texts: Texts<'_>, role: Role, text: &str) -> Result<
     Ok(Ended {
         finish,
         seen: seen.get(),
+        said: said.get(),
         trace: out.into_inner(),
     })
 }
@@ -275,6 +282,7 @@ fn a_native_without_memory_ends_the_run(rt: HostRuntime) -> Result<(), Fail> {
     let ended = run_asker(rt.alloc(), THINGS, Role::HasNoMemory, "")?;
     assert!(rt; matches!(ended.finish, Finish::Memory));
     assert_eq!(rt; ended.seen, 0);
+    assert_eq!(rt; ended.said, 0);
     Ok(())
 }
 

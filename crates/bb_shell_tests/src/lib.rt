@@ -13,6 +13,8 @@ mod natives;
 #[cfg(test)]
 mod refusals;
 #[cfg(test)]
+mod refused;
+#[cfg(test)]
 mod reports;
 mod role;
 #[cfg(test)]
