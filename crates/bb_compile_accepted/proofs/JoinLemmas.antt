@@ -39,9 +39,9 @@ range_count : (n m : ℕ) → length (range_with_len n m) ≡ m
 range_count n zero = refl
 range_count n (suc m) = ap suc (range_count (n + 1) m)
 
-module _ (s : Schema) (sf : schemas.Fits s) (part : Part) (code : Code) (no_loops : code.loops ≡ []) where
+module _ (s : Schema) (sf : schemas.Fits s) (part : Part) (code : Code) where
   abbrev Declared : ℕ → Option Frame
-  Declared place = At s part code no_loops place
+  Declared place = At s part code place
 
   abbrev Frame₁ : List Kind → Frame
   Frame₁ ks = frame_by code.locals ks

@@ -41,14 +41,14 @@ use Rattle.bb_compile_accepted.proofs.JoinLemmas.{Sound}
 
 -- ---- the tables, the jumps and the loops of a code each of whose ops may stand where it does
 
-module _ (s : Schema) (part : Part) (code : Code) (no_loops : code.loops ≡ []) (out : Option Frame) (walks : Walks s part code no_loops 0 code.ops (Some (entry_frame part code.locals)) out) where
+module _ (s : Schema) (part : Part) (code : Code) (out : Option Frame) (walks : Walks s part code 0 code.ops (Some (entry_frame part code.locals)) out) where
   table_fits : (place : ℕ) → table_at s code place ≡ Ok tt
   unfolding table_at
   table_fits place = by_op (slice_get code.ops place) refl
     where
       by_op : (o : Option Op) → slice_get code.ops place ≡ o → (let r : Result (Unit {0}) VerifyFault = elim o [ None ↦ Ok tt | Some op ↦ map_err (fault_at place) (in_tables s code op) ] in r) ≡ Ok tt
       by_op None h = refl
-      by_op (Some op) h = rw (fine_at s part code no_loops code.ops 0 place op (Some (entry_frame part code.locals)) out walks h).tables refl
+      by_op (Some op) h = rw (fine_at s part code code.ops 0 place op (Some (entry_frame part code.locals)) out walks h).tables refl
 
   jump_fits : (place : ℕ) → jump_at code place ≡ Ok tt
   unfolding jump_at
@@ -57,20 +57,21 @@ module _ (s : Schema) (part : Part) (code : Code) (no_loops : code.loops ≡ [])
       by_op : (o : Option Op) → slice_get code.ops place ≡ o → (let r : Result (Unit {0}) VerifyFault = elim o [ None ↦ Ok tt | Some op ↦ map_err (fault_at place) (check_target (length code.ops) place op) ] in r) ≡ Ok tt
       by_op None h = refl
       by_op (Some op) h =
-          let fine = fine_at s part code no_loops code.ops 0 place op (Some (entry_frame part code.locals)) out walks h in
+          let fine = fine_at s part code code.ops 0 place op (Some (entry_frame part code.locals)) out walks h in
           let e : 0 + place ≡ place = omega arith in
           rw (subst (λ p. check_target (length code.ops) p op ≡ Ok tt) e fine.jumps) refl
 
-  loop_fits : (place : ℕ) → loop_at code place ≡ Ok tt
+  -- where there are no loops
+  loop_fits : code.loops ≡ [] → (place : ℕ) → loop_at code place ≡ Ok tt
   unfolding loop_at place_due rising each
-  loop_fits place = by_op (slice_get code.ops place) refl
+  loop_fits none place = by_op none (slice_get code.ops place) refl
     where
-      by_op : (o : Option Op) → slice_get code.ops place ≡ o → map_err (fault_at place) (place_due code place o) ≡ Ok tt
-      by_op None h = refl
-      by_op (Some op) h =
-          let fine = fine_at s part code no_loops code.ops 0 place op (Some (entry_frame part code.locals)) out walks h in
+      by_op : code.loops ≡ [] → (o : Option Op) → slice_get code.ops place ≡ o → map_err (fault_at place) (place_due code place o) ≡ Ok tt
+      by_op none None h = refl
+      by_op none (Some op) h =
+          let fine = fine_at s part code code.ops 0 place op (Some (entry_frame part code.locals)) out walks h in
           let e : 0 + place ≡ place = omega arith in
-          rw (subst (λ p. op_due code p op ≡ Ok tt) e fine.loops, no_loops) refl
+          rw (subst (λ p. op_due code p op ≡ Ok tt) e (fine.loops none), none) refl
 
 -- ---- declared frames that rise up to the end of a code
 
@@ -121,28 +122,30 @@ module _ (s : Schema) (sf : schemas.Fits s) (part : Part) where
   unfolding jumps
   jumps_pass code jump = rw (jump) refl
 
-  loops_pass : (code : Code) → code.loops ≡ [] → each (loop_at code) (range_with_len 0 (length code.ops)) ≡ Ok tt → loops code ≡ Ok tt
+  -- a code without loops
+  pub loops_pass : (code : Code) → code.loops ≡ [] → (out : Option Frame) → Walks s part code 0 code.ops (Some (entry_frame part code.locals)) out → loops code ≡ Ok tt
   unfolding loops lowest_outside
-  loops_pass code no_loops loop = rw (loop, no_loops) refl
+  loops_pass code none out walks =
+      let loop : each (loop_at code) (range_with_len 0 (length code.ops)) ≡ Ok tt = each_range (loop_at code) 0 (length code.ops) (λ i lt. loop_fits s part code out walks none i) in
+      rw (loop, none) refl
 
-  frames_found : (code : Code) (no_loops : code.loops ≡ []) (out : Option Frame) → (walks : Walks s part code no_loops 0 code.ops (Some (entry_frame part code.locals)) out) → on_due s (Some (entry_frame part code.locals)) (At s part code no_loops 0) ≡ Ok tt
-      → frames_of s part code ≡ Ok (walked_frames s part code no_loops 0 code.ops (Some (entry_frame part code.locals)) out walks)
+  frames_found : (code : Code) (out : Option Frame) → (walks : Walks s part code 0 code.ops (Some (entry_frame part code.locals)) out) → on_due s (Some (entry_frame part code.locals)) (At s part code 0) ≡ Ok tt
+      → frames_of s part code ≡ Ok (walked_frames s part code 0 code.ops (Some (entry_frame part code.locals)) out walks)
   unfolding frames_of
-  frames_found code no_loops out walks on = rw (on, visited s part code no_loops 0 [] code.ops (Some (entry_frame part code.locals)) out [] refl refl walks) refl
+  frames_found code out walks on = rw (on, visited s part code 0 [] code.ops (Some (entry_frame part code.locals)) out [] refl refl walks) refl
 
-  pub walked_accepted : (code : Code) (no_loops : code.loops ≡ []) (labels : List Label) (last : Option Label) → code.frames ≡ declared_of code.locals labels last → Rises 0 (listed labels last) (length code.ops)
-      → AllLabels (λ ks. (i : ℕ) → is_free (kind_at ks i) ≡ false → IsGood s sf (kind_at ks i)) (listed labels last) → length (units_of part) ≤ code.locals → fit_version s code.version ≡ Ok tt
-      → (out : Option Frame) → (walks : Walks s part code no_loops 0 code.ops (Some (entry_frame part code.locals)) out) → on_due s (Some (entry_frame part code.locals)) (At s part code no_loops 0) ≡ Ok tt
-      → checked s part code ≡ Ok (record { code = code; part = part; frames = walked_frames s part code no_loops 0 code.ops (Some (entry_frame part code.locals)) out walks })
+  pub walked_accepted : (code : Code) (labels : List Label) (last : Option Label) → code.frames ≡ declared_of code.locals labels last → Rises 0 (listed labels last) (length code.ops)
+      → AllLabels (λ ks. (i : ℕ) → is_free (kind_at ks i) ≡ false → IsGood s sf (kind_at ks i)) (listed labels last) → length (units_of part) ≤ code.locals → fit_version s code.version ≡ Ok tt → loops code ≡ Ok tt
+      → (out : Option Frame) → (walks : Walks s part code 0 code.ops (Some (entry_frame part code.locals)) out) → on_due s (Some (entry_frame part code.locals)) (At s part code 0) ≡ Ok tt
+      → checked s part code ≡ Ok (record { code = code; part = part; frames = walked_frames s part code 0 code.ops (Some (entry_frame part code.locals)) out walks })
   unfolding checked accepted
-  walked_accepted code no_loops labels last frames_are rises good enough fit out walks on =
+  walked_accepted code labels last frames_are rises good enough fit nested out walks on =
       let all = frames_are ∙ all_frames code.locals labels last in
       let in_order : places_rise 0 (length code.ops) code.frames ≡ Ok tt = ap (places_rise 0 (length code.ops)) all ∙ rise_passes code.locals 0 (listed labels last) (length code.ops) (length code.ops) rises (omega arith) in
       let known : each (known_frame s) code.frames ≡ Ok tt = ap (each (known_frame s)) all ∙ frames_pass s code.locals (listed labels last) (good_kinds (listed labels last) good) in
-      let table : each (table_at s code) (range_with_len 0 (length code.ops)) ≡ Ok tt = each_range (table_at s code) 0 (length code.ops) (λ i lt. table_fits s part code no_loops out walks i) in
-      let jump : each (jump_at code) (range_with_len 0 (length code.ops)) ≡ Ok tt = each_range (jump_at code) 0 (length code.ops) (λ i lt. jump_fits s part code no_loops out walks i) in
-      let loop : each (loop_at code) (range_with_len 0 (length code.ops)) ≡ Ok tt = each_range (loop_at code) 0 (length code.ops) (λ i lt. loop_fits s part code no_loops out walks i) in
-      rw (tables_pass code table in_order known enough fit, jumps_pass code jump, loops_pass code no_loops loop, frames_found code no_loops out walks on) refl
+      let table : each (table_at s code) (range_with_len 0 (length code.ops)) ≡ Ok tt = each_range (table_at s code) 0 (length code.ops) (λ i lt. table_fits s part code out walks i) in
+      let jump : each (jump_at code) (range_with_len 0 (length code.ops)) ≡ Ok tt = each_range (jump_at code) 0 (length code.ops) (λ i lt. jump_fits s part code out walks i) in
+      rw (tables_pass code table in_order known enough fit, jumps_pass code jump, nested, frames_found code out walks on) refl
 
 -- ---- what a part begins with
 
@@ -233,5 +236,5 @@ module _ (s : Schema) (sf : schemas.Fits s) where
   begin_tidy (Revalidate c) place has = unit_tidy (Revalidate c) place c has refl refl
   begin_tidy (Do c) place has = unit_tidy (Do c) place c has refl refl
 
-  pub begin_sound : (part : Part) (place : Place) (code : Code) (no_loops : code.loops ≡ []) → HasClasses s part → Sound s sf part code no_loops (empty_buffer part place)
-  begin_sound part place code no_loops has = record { tidy = begin_tidy part place has; rises = omega arith; last = refl; good = tt; strong = λ ks at. absurd cc }
+  pub begin_sound : (part : Part) (place : Place) (code : Code) → HasClasses s part → Sound s sf part code (empty_buffer part place)
+  begin_sound part place code has = record { tidy = begin_tidy part place has; rises = omega arith; last = refl; good = tt; strong = λ ks at. absurd cc }
