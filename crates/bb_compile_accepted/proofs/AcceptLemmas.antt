@@ -24,7 +24,8 @@ use Rattle.bb_compile_accepted.proofs.BranchLemmas.{ElseEnded, ElseOn, if_laid, 
 use Rattle.bb_compile_accepted.proofs.HeadLemmas.{binding_laid}
 use Rattle.bb_compile_accepted.proofs.GuardLemmas.{Branches, if_branches, with_branches, behind_first, branches_absent, branches_else}
 use Rattle.bb_compile_accepted.proofs.KnowLemmas.{Finds}
-use Rattle.bb_compile_accepted.proofs.BlockLemmas.{Lays as LaysBlock, stated, block_lays, statement_lays}
+use Rattle.bb_compile_accepted.proofs.BlockLemmas.{Lays as LaysBlock, stated}
+use Rattle.bb_compile_accepted.proofs.TextLays.{block_lays, statement_lays}
 use Rattle.bb_compile_accepted.proofs.MoveLemmas.{moves_same, moves_on}
 use Rattle.bb_compile_accepted.proofs.WalkLemmas.{Walks, walks_on}
 use Rattle.bb_compile_accepted.proofs.JoinLemmas.{Sound, Agrees, agrees_before}
@@ -159,12 +160,12 @@ module _ (schema : Schema) (sf : schemas.Fits schema) (part : Part) (code : Code
     block_goes (before_others place x others) loops true now s t ok h sound agrees =
         let here = after_end true s in
         let one = bind_ok (statement_code schema part loops place x here) (λ p. statements_code schema part loops (true || p.0) others p.1) (now, t) h in
-        never_noted NoEnd s (statement_lays schema part x loops place one.0.0 here one.0.1 (and_first (is_loopless_statement x) (is_loopless others) ok) one.1).clean
+        never_noted NoEnd s (statement_lays schema part x loops place one.0.0 here one.0.1 one.1).clean
     block_goes (before_others place x others) loops false now s t ok h sound agrees =
         let one = bind_ok (statement_code schema part loops place x s) (λ p. statements_code schema part loops (false || p.0) others p.1) (now, t) h in
         let own_ok = and_first (is_loopless_statement x) (is_loopless others) ok in
         let rest_ok = and_second (is_loopless_statement x) (is_loopless others) ok in
-        let behind = block_lays schema part others loops one.0.0 now one.0.1 t rest_ok one.2 in
+        let behind = block_lays schema part others loops one.0.0 now one.0.1 t one.2 in
         let agrees_here = agrees_before schema sf part code one.0.1 t behind.grown behind.locals (λ p lt. behind.marks p (omega (arith, lt)) (let count = count_of one.0.1 t behind.grown in omega (arith, lt, count))) agrees in
         let first = statement_goes x loops place one.0.0 s one.0.1 own_ok one.1 sound agrees_here in
         joined one.0.0 now s one.0.1 t (λ frames. InStatement schema part (Found frames) x loops place one.0.0 s one.0.1 one.1) (Told others loops one.0.0 now one.0.1 t one.2) agrees_here.has first (block_goes others loops one.0.0 now one.0.1 t rest_ok one.2 first.sound agrees)
@@ -176,27 +177,27 @@ module _ (schema : Schema) (sf : schemas.Fits schema) (part : Part) (code : Code
     statement_goes (if_of test first absent) loops place now s t ok h sound agrees =
         let laid = if_laid schema part loops place test first absent s t now h in
         let own_ok = and_first (is_loopless first) true ok in
-        one_goes loops first s t now sound agrees (λ e x y is. Told first loops false e x y is) (λ e x y is. block_lays schema part first loops false e x y own_ok is) (λ e x y is sound agrees. block_goes first loops false e x y own_ok is sound agrees)
+        one_goes loops first s t now sound agrees (λ e x y is. Told first loops false e x y is) (λ e x y is. block_lays schema part first loops false e x y is) (λ e x y is sound agrees. block_goes first loops false e x y own_ok is sound agrees)
         (if_branches schema part loops test first absent s t now laid) (λ has. test_guides schema sf part code small test s laid.inner laid.exits laid.test_is has)
     statement_goes (if_of test first (otherwise b)) loops place now s t ok h sound agrees =
         let laid = if_laid schema part loops place test first (otherwise b) s t now h in
         let own_ok = and_first (is_loopless first) (is_loopless b) ok in
         let rest_ok = and_second (is_loopless first) (is_loopless b) ok in
-        both_go loops first s t now sound agrees (λ e x y is. Told first loops false e x y is) (λ e x y is. block_lays schema part first loops false e x y own_ok is) (λ e x y is sound agrees. block_goes first loops false e x y own_ok is sound agrees) b (λ d x y is. Told b loops false d x y is)
-        (λ d x y is. block_lays schema part b loops false d x y rest_ok is) (λ d x y is sound agrees. block_goes b loops false d x y rest_ok is sound agrees)
+        both_go loops first s t now sound agrees (λ e x y is. Told first loops false e x y is) (λ e x y is. block_lays schema part first loops false e x y is) (λ e x y is sound agrees. block_goes first loops false e x y own_ok is sound agrees) b (λ d x y is. Told b loops false d x y is)
+        (λ d x y is. block_lays schema part b loops false d x y is) (λ d x y is sound agrees. block_goes b loops false d x y rest_ok is sound agrees)
         (if_branches schema part loops test first (otherwise b) s t now laid) (λ has. test_guides schema sf part code small test s laid.inner laid.exits laid.test_is has)
     statement_goes (with_of binding first absent) loops place now s t ok h sound agrees =
         let laid = with_laid schema part loops place binding first absent s t now h in
         let head = binding_laid schema binding place s laid.inner laid.exits laid.test_is in
         let own_ok = and_first (is_loopless first) true ok in
-        one_goes loops first s t now sound agrees (λ e x y is. Told first loops false e x y is) (λ e x y is. block_lays schema part first loops false e x y own_ok is) (λ e x y is sound agrees. block_goes first loops false e x y own_ok is sound agrees)
+        one_goes loops first s t now sound agrees (λ e x y is. Told first loops false e x y is) (λ e x y is. block_lays schema part first loops false e x y is) (λ e x y is sound agrees. block_goes first loops false e x y own_ok is sound agrees)
         (with_branches schema part loops binding place first absent s t now laid) (λ has. head_guides schema sf part code small binding s laid.inner laid.exits head.0 head.1)
     statement_goes (with_of binding first (otherwise b)) loops place now s t ok h sound agrees =
         let laid = with_laid schema part loops place binding first (otherwise b) s t now h in
         let head = binding_laid schema binding place s laid.inner laid.exits laid.test_is in
         let own_ok = and_first (is_loopless first) (is_loopless b) ok in
         let rest_ok = and_second (is_loopless first) (is_loopless b) ok in
-        both_go loops first s t now sound agrees (λ e x y is. Told first loops false e x y is) (λ e x y is. block_lays schema part first loops false e x y own_ok is) (λ e x y is sound agrees. block_goes first loops false e x y own_ok is sound agrees) b (λ d x y is. Told b loops false d x y is)
-        (λ d x y is. block_lays schema part b loops false d x y rest_ok is) (λ d x y is sound agrees. block_goes b loops false d x y rest_ok is sound agrees)
+        both_go loops first s t now sound agrees (λ e x y is. Told first loops false e x y is) (λ e x y is. block_lays schema part first loops false e x y is) (λ e x y is sound agrees. block_goes first loops false e x y own_ok is sound agrees) b (λ d x y is. Told b loops false d x y is)
+        (λ d x y is. block_lays schema part b loops false d x y is) (λ d x y is sound agrees. block_goes b loops false d x y rest_ok is sound agrees)
         (with_branches schema part loops binding place first (otherwise b) s t now laid) (λ has. head_guides schema sf part code small binding s laid.inner laid.exits head.0 head.1)
     statement_goes (for_of name sequence body) loops place now s t ok h sound agrees = absurd cc

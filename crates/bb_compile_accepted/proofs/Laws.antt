@@ -16,4 +16,5 @@ pub use Rattle.bb_compile_accepted.proofs.GuardLemmas.{Puts, exits_of, tested_pu
 unfoldable pub use Rattle.bb_compile_accepted.proofs.GuardLemmas.{test_guard, named_guard, head_guard, if_branches, with_branches}
 pub use Rattle.bb_compile_accepted.proofs.HeadLemmas.{OfClass, IsAlive, IsBoth, Tested, AsLaid, LinkLaid, HeadLaid, binding_laid}
 pub use Rattle.bb_compile_accepted.proofs.AimLemmas.{AreAimed, same_more, more_after, block_count, aims_grown, aims_count, aims_has, aims_there, aimed_behind, aimed_before, jump_count, open_is, closed_is, end_count, open_has, jump_there}
-pub use Rattle.bb_compile_accepted.proofs.BlockLemmas.{stated, plain_loopless, block_clean, statement_clean, block_now, block_grown}
+pub use Rattle.bb_compile_accepted.proofs.BlockLemmas.{stated, plain_loopless}
+pub use Rattle.bb_compile_accepted.proofs.TextLays.{block_clean, statement_clean, block_now, block_grown}

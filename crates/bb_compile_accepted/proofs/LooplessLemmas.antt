@@ -37,7 +37,8 @@ use Rattle.bb_compile_accepted.proofs.StraightLemmas.{Ends, nothing_follows}
 use Rattle.bb_compile_accepted.proofs.BufferLemmas.{Has, with_op, put_ok, count_of, front}
 use Rattle.bb_compile_accepted.proofs.PutLemmas.{pair_ok}
 use Rattle.bb_compile_accepted.proofs.PatternLemmas.{AreSmall}
-use Rattle.bb_compile_accepted.proofs.BlockLemmas.{Lays, same_labels, block_now, block_lays}
+use Rattle.bb_compile_accepted.proofs.BlockLemmas.{Lays, same_labels}
+use Rattle.bb_compile_accepted.proofs.TextLays.{block_now, block_lays, block_loops}
 use Rattle.bb_compile_accepted.proofs.LabelLemmas.{listed, labels_of, label_at, AllLabels, Rises, frame_by, declared_is}
 use Rattle.bb_compile_accepted.proofs.KnowLemmas.{Finds}
 use Rattle.bb_compile_accepted.proofs.WalkLemmas.{Walks, walked_frames, walks_on, end_visit, At}
@@ -97,10 +98,10 @@ module _ (schema : Schema) (sf : schemas.Fits schema) (part : Part) (classes : H
     small i q at = query_limits q (all_at query_within u.queries i q (queries_within code within) at)
 
     lays : Lays first t
-    lays = block_lays schema part block LOOP_NESTING false now first t loopless h
+    lays = block_lays schema part block LOOP_NESTING false now first t h
 
     no_loops : code.loops ≡ []
-    no_loops = loops ∙ lays.loops
+    no_loops = loops ∙ block_loops schema part block LOOP_NESTING false now first t loopless h
 
     labels_are : listed u.labels u.last ≡ labels_of t
     labels_are = same_labels t u labels last
@@ -221,7 +222,7 @@ module _ (schema : Schema) (sf : schemas.Fits schema) (part : Part) (classes : H
   by_end : (b : Bool) (now : Bool) (t u : Buffer) → is_ok (ends_done part) ≡ b → (not b && not (block_ends block)) ≡ false → (h : statements_code schema part LOOP_NESTING false block first ≡ Ok (now, t))
       → (let r : Result Buffer CompileFault = cond b (put ops.Done (leave (mark_of first.scope) t)) (Ok (leave (mark_of first.scope) t)) in r) ≡ Ok u → is_within (code_of (version_for schema) u) ≡ true → Accepted (code_of (version_for schema) u) now t h
   by_end true now t u ends_so no_end h last within = do_whole now t u ends_so within h last
-  by_end false now t u other no_end h last within = ends_whole now t u (block_now schema part block LOOP_NESTING false now first t loopless h ∙ ended (block_ends block) no_end) within h (same_ok (leave (mark_of first.scope) t) u last)
+  by_end false now t u other no_end h last within = ends_whole now t u (block_now schema part block LOOP_NESTING false now first t h ∙ ended (block_ends block) no_end) within h (same_ok (leave (mark_of first.scope) t) u last)
     where
       ended : (b : Bool) → not b ≡ false → b ≡ true
       ended true h = refl
