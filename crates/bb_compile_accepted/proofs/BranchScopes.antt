@@ -14,11 +14,10 @@ use Rattle.bb_compile_buffer.specs.declared.buffer.Buffer.{Buffer}
 use Rattle.bb_compile_buffer.specs.Buffers.{kept}
 use Rattle.bb_verify.specs.FrameType.{Frame}
 use Rattle.bb_verify.specs.PartType.{Part}
-use Rattle.bb_compile_accepted.proofs.UnderLemmas.{IsUnder}
-use Rattle.bb_compile_accepted.proofs.KnowLemmas.{aged, Agree, Meet, left_taken}
+use Rattle.bb_compile_accepted.proofs.KnowLemmas.{aged, IsKept, Agree, Meet, left_taken}
 use Rattle.bb_compile_accepted.proofs.MergeLemmas.{merged_agree, merged_from}
 use Rattle.bb_compile_accepted.proofs.LabelLemmas.{listed, labels_of, label_at, labelled_at, labelled_rises, labelled_all, Rises, HasLast, AllLabels}
-use Rattle.bb_compile_accepted.proofs.ValueLemmas.{IsGood}
+use Rattle.bb_compile_accepted.proofs.ValueLemmas.{IsFit}
 use Rattle.bb_compile_accepted.proofs.MoveLemmas.{Tidy, Moves, kept_moves}
 use Rattle.bb_compile_accepted.proofs.WalkLemmas.{Walks, walks_on}
 use Rattle.bb_compile_accepted.proofs.JoinLemmas.{here, HasFrame, AreGood, Sound, Arrives, arrives_weaker, arrives_same}
@@ -57,13 +56,13 @@ module _ (schema : Schema) (sf : schemas.Fits schema) (part : Part) (code : Code
         good = subst (AllLabels (AreGood schema sf part code)) (sym listed_is) (labelled_all (AreGood schema sf part code) v.labels v.last n t.scope.kinds good tidy.good);
         strong = λ ks at i taken k held.
             let same : t.scope.kinds ≡ ks = (let e = sym (labelled_here v t n count labels last) ∙ at in cc) in
-            subst (λ l. IsUnder schema sf k (kind_at l i)) (sym same) (held (ap (λ l. is_free (kind_at l i)) (sym same) ∙ taken));
+            subst (λ l. IsKept schema sf k (kind_at l i)) (sym same) (held (ap (λ l. is_free (kind_at l i)) (sym same) ∙ taken));
       }
 
   -- a scope with the names of another, whose kinds are those behind one of two branches
   pub merged_moves : (u t : Buffer) (other one : List Kind) (ended : Bool) → t.scope.names ≡ u.scope.names → u.locals ≤ t.locals → t.scope.kinds ≡ cond ended other (kinds_met other one)
       → (Tidy schema sf u → Agree u.scope.kinds other × Agree u.scope.kinds one × Meet other one)
-      → (Tidy schema sf u → ((i : ℕ) → is_free (kind_at other i) ≡ false → (is_free (kind_at u.scope.kinds i) ≡ false) × IsGood schema sf (kind_at other i)) × ((i : ℕ) → is_free (kind_at one i) ≡ false → (is_free (kind_at u.scope.kinds i) ≡ false) × IsGood schema sf (kind_at one i)))
+      → (Tidy schema sf u → ((i : ℕ) → is_free (kind_at other i) ≡ false → (is_free (kind_at u.scope.kinds i) ≡ false) × IsFit schema sf (kind_at other i)) × ((i : ℕ) → is_free (kind_at one i) ≡ false → (is_free (kind_at u.scope.kinds i) ≡ false) × IsFit schema sf (kind_at one i)))
       → Moves schema sf u t
   merged_moves u t other one ended names le is agree back =
       kept_moves schema sf u t names le (λ tidy. let a = agree tidy in merged_agree u.scope.kinds other one t.scope.kinds ended is a.0 a.1 a.2)
@@ -73,22 +72,22 @@ module _ (schema : Schema) (sf : schemas.Fits schema) (part : Part) (code : Code
       by_side i taken b (merged_from u.scope.kinds other one t.scope.kinds ended is a.0 a.1 a.2 i taken))
     where
       by_side : (i : ℕ) → is_free (kind_at t.scope.kinds i) ≡ false
-          → (((j : ℕ) → is_free (kind_at other j) ≡ false → (is_free (kind_at u.scope.kinds j) ≡ false) × IsGood schema sf (kind_at other j)) × ((j : ℕ) → is_free (kind_at one j) ≡ false → (is_free (kind_at u.scope.kinds j) ≡ false) × IsGood schema sf (kind_at one j)))
-          → ((kind_at t.scope.kinds i ≡ kind_at other i) ⊎ (kind_at t.scope.kinds i ≡ kind_at one i)) → (is_free (kind_at u.scope.kinds i) ≡ false) × IsGood schema sf (kind_at t.scope.kinds i)
-      by_side i taken back (inl e) = let r = back.0 i (ap is_free (sym e) ∙ taken) in (r.0, subst (IsGood schema sf) (sym e) r.1)
-      by_side i taken back (inr e) = let r = back.1 i (ap is_free (sym e) ∙ taken) in (r.0, subst (IsGood schema sf) (sym e) r.1)
+          → (((j : ℕ) → is_free (kind_at other j) ≡ false → (is_free (kind_at u.scope.kinds j) ≡ false) × IsFit schema sf (kind_at other j)) × ((j : ℕ) → is_free (kind_at one j) ≡ false → (is_free (kind_at u.scope.kinds j) ≡ false) × IsFit schema sf (kind_at one j)))
+          → ((kind_at t.scope.kinds i ≡ kind_at other i) ⊎ (kind_at t.scope.kinds i ≡ kind_at one i)) → (is_free (kind_at u.scope.kinds i) ≡ false) × IsFit schema sf (kind_at t.scope.kinds i)
+      by_side i taken back (inl e) = let r = back.0 i (ap is_free (sym e) ∙ taken) in (r.0, subst (IsFit schema sf) (sym e) r.1)
+      by_side i taken back (inr e) = let r = back.1 i (ap is_free (sym e) ∙ taken) in (r.0, subst (IsFit schema sf) (sym e) r.1)
 
   -- kinds behind a block are good where those at its end are
-  pub left_good : (u v : Buffer) → Tidy schema sf v → (i : ℕ) → is_free (kind_at (kinds_left u.scope.kinds v.scope.kinds) i) ≡ false → (is_free (kind_at u.scope.kinds i) ≡ false) × IsGood schema sf (kind_at (kinds_left u.scope.kinds v.scope.kinds) i)
+  pub left_good : (u v : Buffer) → Tidy schema sf v → (i : ℕ) → is_free (kind_at (kinds_left u.scope.kinds v.scope.kinds) i) ≡ false → (is_free (kind_at u.scope.kinds i) ≡ false) × IsFit schema sf (kind_at (kinds_left u.scope.kinds v.scope.kinds) i)
   left_good u v tidy i taken =
       let was = left_taken u.scope.kinds v.scope.kinds i taken in
-      (was.0, subst (IsGood schema sf) (sym was.1) (tidy.good i (ap is_free (sym was.1) ∙ taken)))
+      (was.0, subst (IsFit schema sf) (sym was.1) (tidy.good i (ap is_free (sym was.1) ∙ taken)))
 
   pub twice_good : (r u v : Buffer) → Tidy schema sf v → (i : ℕ) → is_free (kind_at (kinds_left r.scope.kinds (kinds_left u.scope.kinds v.scope.kinds)) i) ≡ false
-      → (is_free (kind_at r.scope.kinds i) ≡ false) × IsGood schema sf (kind_at (kinds_left r.scope.kinds (kinds_left u.scope.kinds v.scope.kinds)) i)
+      → (is_free (kind_at r.scope.kinds i) ≡ false) × IsFit schema sf (kind_at (kinds_left r.scope.kinds (kinds_left u.scope.kinds v.scope.kinds)) i)
   twice_good r u v tidy i taken =
       let was = left_taken r.scope.kinds (kinds_left u.scope.kinds v.scope.kinds) i taken in
-      (was.0, subst (IsGood schema sf) (sym was.1) (left_good u v tidy i (ap is_free (sym was.1) ∙ taken)).1)
+      (was.0, subst (IsFit schema sf) (sym was.1) (left_good u v tidy i (ap is_free (sym was.1) ∙ taken)).1)
 
   -- the names that a block declared are forgotten
   pub names_left : (u v : Buffer) → Moves schema sf u v → (back_to (mark_of u.scope) v.scope).names ≡ u.scope.names
@@ -116,15 +115,15 @@ module _ (schema : Schema) (sf : schemas.Fits schema) (part : Part) (code : Code
   -- the same names, and kinds that are those of one of two lists
   pub either_moves : (u t : Buffer) (other one : List Kind) (ended : Bool) → t.scope.names ≡ u.scope.names → u.locals ≤ t.locals → t.scope.kinds ≡ cond ended other one
       → (Tidy schema sf u → Agree u.scope.kinds other × Agree u.scope.kinds one)
-      → (Tidy schema sf u → ((i : ℕ) → is_free (kind_at other i) ≡ false → (is_free (kind_at u.scope.kinds i) ≡ false) × IsGood schema sf (kind_at other i)) × ((i : ℕ) → is_free (kind_at one i) ≡ false → (is_free (kind_at u.scope.kinds i) ≡ false) × IsGood schema sf (kind_at one i)))
+      → (Tidy schema sf u → ((i : ℕ) → is_free (kind_at other i) ≡ false → (is_free (kind_at u.scope.kinds i) ≡ false) × IsFit schema sf (kind_at other i)) × ((i : ℕ) → is_free (kind_at one i) ≡ false → (is_free (kind_at u.scope.kinds i) ≡ false) × IsFit schema sf (kind_at one i)))
       → Moves schema sf u t
   either_moves u t other one true names le is agree back =
-      kept_moves schema sf u t names le (λ tidy. subst (Agree u.scope.kinds) (sym is) (agree tidy).0) (λ tidy. subst (λ ks. (i : ℕ) → is_free (kind_at ks i) ≡ false → (is_free (kind_at u.scope.kinds i) ≡ false) × IsGood schema sf (kind_at ks i)) (sym is) (back tidy).0)
+      kept_moves schema sf u t names le (λ tidy. subst (Agree u.scope.kinds) (sym is) (agree tidy).0) (λ tidy. subst (λ ks. (i : ℕ) → is_free (kind_at ks i) ≡ false → (is_free (kind_at u.scope.kinds i) ≡ false) × IsFit schema sf (kind_at ks i)) (sym is) (back tidy).0)
   either_moves u t other one false names le is agree back =
-      kept_moves schema sf u t names le (λ tidy. subst (Agree u.scope.kinds) (sym is) (agree tidy).1) (λ tidy. subst (λ ks. (i : ℕ) → is_free (kind_at ks i) ≡ false → (is_free (kind_at u.scope.kinds i) ≡ false) × IsGood schema sf (kind_at ks i)) (sym is) (back tidy).1)
+      kept_moves schema sf u t names le (λ tidy. subst (Agree u.scope.kinds) (sym is) (agree tidy).1) (λ tidy. subst (λ ks. (i : ℕ) → is_free (kind_at ks i) ≡ false → (is_free (kind_at u.scope.kinds i) ≡ false) × IsFit schema sf (kind_at ks i)) (sym is) (back tidy).1)
 
   -- the kinds of a scope in another
   pub same_moves : (u x : Buffer) → x.scope.names ≡ u.scope.names → u.locals ≤ x.locals → x.scope.kinds ≡ u.scope.kinds → Moves schema sf u x
   same_moves u x names le is =
       kept_moves schema sf u x names le (λ tidy i taken. ap (λ ks. aged (kind_at ks i)) (sym is))
-      (λ tidy. subst (λ ks. (i : ℕ) → is_free (kind_at ks i) ≡ false → (is_free (kind_at u.scope.kinds i) ≡ false) × IsGood schema sf (kind_at ks i)) (sym is) (λ i taken. (taken, tidy.good i taken)))
+      (λ tidy. subst (λ ks. (i : ℕ) → is_free (kind_at ks i) ≡ false → (is_free (kind_at u.scope.kinds i) ≡ false) × IsFit schema sf (kind_at ks i)) (sym is) (λ i taken. (taken, tidy.good i taken)))

@@ -19,12 +19,11 @@ use Rattle.bb_compile_emit.specs.declared.exits.Exits.{Exits}
 use Rattle.bb_verify.specs.FrameType.{Frame}
 use Rattle.bb_verify.specs.PartType.{Part}
 use Rattle.bb_verify.specs.Places.{target_due}
-use Rattle.bb_compile_accepted.proofs.UnderLemmas.{IsUnder}
 use Rattle.bb_compile_accepted.proofs.BufferLemmas.{Grown, Has, grown_none, grown_on, has_before, count_of}
 use Rattle.bb_compile_accepted.proofs.BranchLemmas.{ElseEnded, ElseOn}
 use Rattle.bb_compile_accepted.proofs.GuardLemmas.{Guard}
 use Rattle.bb_compile_accepted.proofs.AimLemmas.{all_aimed, same_more, more_after, aims_grown, aims_has, behind_count, aimed_before, jump_count, open_is, closed_is, end_count, open_has, jump_there}
-use Rattle.bb_compile_accepted.proofs.KnowLemmas.{Agree, Meet, Knows, Finds, left_taken, agree_on, agree_left, knows_left}
+use Rattle.bb_compile_accepted.proofs.KnowLemmas.{IsKept, Agree, Meet, Knows, Finds, left_taken, agree_on, agree_left, knows_left}
 use Rattle.bb_compile_accepted.proofs.MergeLemmas.{merged_other, merged_one}
 use Rattle.bb_compile_accepted.proofs.LabelLemmas.{listed, labels_of, label_at, Rises, rises_weaker, HasLast, AllLabels, frame_by}
 use Rattle.bb_compile_accepted.proofs.MoveLemmas.{moves_on}
@@ -197,7 +196,7 @@ module _ (schema : Schema) (sf : schemas.Fits schema) (part : Part) (code : Code
               let same : t.scope.kinds ≡ kinds_left el.inner.scope.kinds el.end.scope.kinds = kinds_t is in
               let was = left_taken el.inner.scope.kinds el.end.scope.kinds i (ap (λ l. is_free (kind_at l i)) (sym same) ∙ taken) in
               let e : kind_at t.scope.kinds i ≡ kind_at el.end.scope.kinds i = ap (λ l. kind_at l i) same ∙ was.1 in
-              subst (IsUnder schema sf k) (sym e) (gy.sound.strong ks at i (ap is_free (sym e) ∙ taken) k held)
+              subst (IsKept schema sf k) (sym e) (gy.sound.strong ks at i (ap is_free (sym e) ∙ taken) k held)
 
       pub on_goes : (el : ElseOn schema part loops (mark_of r.scope) (length a.ops) (length gd.es) b w t now) → LaysBlock el.inner el.end → (IsSound u → AgreesHere v → GoesHere u v false S) → (IsSound el.inner → AgreesHere el.end → GoesHere el.inner el.end el.ended T) → GoesHere s t now (λ frames. Finds schema sf frames (length s.ops) s.scope.kinds × (S frames × T frames))
       unfolding aims_grown grown_on

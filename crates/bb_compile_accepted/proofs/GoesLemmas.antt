@@ -13,6 +13,7 @@ use Rattle.bb_verify.specs.Places.{frame_at, on_due}
 use Rattle.bb_compile_accepted.proofs.BufferLemmas.{Grown, count_of}
 use Rattle.bb_compile_accepted.proofs.PatternLemmas.{AreSmall}
 use Rattle.bb_compile_accepted.proofs.StoreLemmas.{Does, After as DoesAfter}
+use Rattle.bb_compile_accepted.proofs.KnowLemmas.{knows_sequences}
 use Rattle.bb_compile_accepted.proofs.LabelLemmas.{listed, labels_of, label_at, found_past, Rises, rises_weaker, HasLast, AllLabels, frame_by}
 use Rattle.bb_compile_accepted.proofs.MoveLemmas.{Tidy, Moves}
 use Rattle.bb_compile_accepted.proofs.WalkLemmas.{Walks, leads_walk, runs_walk, At}
@@ -113,16 +114,16 @@ module _ (schema : Schema) (sf : schemas.Fits schema) (part : Part) (code : Code
         walk true is after joins next there =
             let f = there.0 in
             let has = there.2 in
-            let runs = subst (λ b. DoesAfter schema sf part code small b t d.grown.ops f) is (d.leads agrees.locals f (has.0, (has.1, known_there schema sf part code s f sound few has))) in
+            let runs = subst (λ b. DoesAfter schema sf part code small b t d.grown.ops f) is (d.leads agrees.locals f (has.0, (has.1, known_there schema sf part code s f sound few has, knows_sequences schema sf f.locals s.scope.kinds has.2))) in
             let e = count in
             let le = agrees.within in
             runs_walk schema part code d.grown.ops (length s.ops) f next there.1 none (omega (arith, e, le)) runs
         walk false is after joins next there =
             let f = there.0 in
             let has = there.2 in
-            let led = subst (λ b. DoesAfter schema sf part code small b t d.grown.ops f) is (d.leads agrees.locals f (has.0, (has.1, known_there schema sf part code s f sound few has))) in
+            let led = subst (λ b. DoesAfter schema sf part code small b t d.grown.ops f) is (d.leads agrees.locals f (has.0, (has.1, known_there schema sf part code s f sound few has, knows_sequences schema sf f.locals s.scope.kinds has.2))) in
             let g = led.0 in
-            let own = knows_there schema sf part code t g after led.1.0 led.1.1.0 led.1.1.1 in
+            let own = knows_there schema sf part code t g after led.1.0 led.1.1.0 led.1.1.1 led.1.1.2 in
             let e = count in
             let some = d.some in
             let lt : length s.ops < length t.ops = omega (arith, e, some) in

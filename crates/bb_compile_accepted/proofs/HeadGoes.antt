@@ -36,13 +36,13 @@ use Rattle.bb_compile_accepted.proofs.LayLemmas.{Lays}
 use Rattle.bb_compile_accepted.proofs.AtomLemmas.{name_lays, unit_lays}
 use Rattle.bb_compile_accepted.proofs.PatternLemmas.{AreSmall}
 use Rattle.bb_compile_accepted.proofs.ExprLemmas.{class_there}
-use Rattle.bb_compile_accepted.proofs.StoreLemmas.{declare_is, declared_known, store_gives, all_room}
+use Rattle.bb_compile_accepted.proofs.StoreLemmas.{declare_is, declared_known, store_gives, all_room, declared_sequences}
 use Rattle.bb_compile_accepted.proofs.AimLemmas.{all_aimed}
 use Rattle.bb_compile_accepted.proofs.HeadLemmas.{Tested, HeadLaid}
 use Rattle.bb_compile_accepted.proofs.HeadVisits.{Tests, as_visit, alive_visit, one_visit}
 use Rattle.bb_compile_accepted.proofs.GrownLemmas.{Adds, behind, grows_ok, variable_grows, unit_grows}
 use Rattle.bb_compile_accepted.proofs.GuardLemmas.{Puts, exits_of, tested_puts, puts_one, named_guard, head_guard}
-use Rattle.bb_compile_accepted.proofs.KnowLemmas.{knows_from}
+use Rattle.bb_compile_accepted.proofs.KnowLemmas.{HasSequences, under_value, knows_sequences, knows_from}
 use Rattle.bb_compile_accepted.proofs.SlotKinds.{partner_class}
 use Rattle.bb_compile_accepted.proofs.ValueLemmas.{IsGood}
 use Rattle.bb_compile_accepted.proofs.MoveLemmas.{Tidy, moves_same, declared_moves}
@@ -130,9 +130,10 @@ module _ (schema : Schema) (sf : schemas.Fits schema) (part : Part) (code : Code
           moves = moves;
           leads = λ sound few few_u f has.
               let known = known_there schema sf part code s f sound few has in
+              let sequences = knows_sequences schema sf f.locals s.scope.kinds has.2 in
               let room = all_room schema sf part code small f has.0 in
               let some = m.some in
-              let x = m.leads f (has.1, known) room in
+              let x = m.leads f (has.1, known, sequences) room in
               let g = tries f x.0 (omega (arith, room, some)) (subst (IsUnder schema sf x.0) kind_is x.1) in
               let own = with_local d.0 g.0 f in
               let high = le-max_right t.locals (d.0 + 1) in
@@ -145,7 +146,10 @@ module _ (schema : Schema) (sf : schemas.Fits schema) (part : Part) (code : Code
                 (
                   has.0,
                   length-set f.locals d.0 g.0 ∙ has.1,
-                  knows_from schema sf own.locals u.scope.kinds u.scope.names tidy.named (subst (λ (c : Scope). AreKnown schema sf own.locals c.kinds c.names) (sym (ap (λ (x : Buffer). x.scope) d.2)) after),
+                  knows_from schema sf own.locals u.scope.kinds u.scope.names tidy.named
+                      (subst (λ (c : Scope). HasSequences schema sf own.locals c.kinds) (sym (ap (λ (x : Buffer). x.scope) d.2))
+                      (declared_sequences schema sf part code small kind t d.0 f.locals g.0 d.1 (under_value schema sf g.0 kind g.1) (subst (λ (c : Scope). HasSequences schema sf f.locals c.kinds) (sym scope_t) sequences)))
+                      (subst (λ (c : Scope). AreKnown schema sf own.locals c.kinds c.names) (sym (ap (λ (x : Buffer). x.scope) d.2)) after),
                 ),
                 λ at rest listed next out is found none low high lt on target behind.
                     let found_a = count_of s a m.grown in

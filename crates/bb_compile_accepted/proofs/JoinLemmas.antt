@@ -14,11 +14,11 @@ use Rattle.bb_compile_buffer.specs.declared.buffer.Buffer.{Buffer}
 use Rattle.bb_verify.specs.FrameType.{Frame}
 use Rattle.bb_verify.specs.PartType.{Part}
 use Rattle.bb_verify.specs.Places.{frame_at, fits_declared, on_due, target_due}
-use Rattle.bb_compile_accepted.proofs.UnderLemmas.{IsUnder, AreKnown}
+use Rattle.bb_compile_accepted.proofs.UnderLemmas.{AreKnown}
 use Rattle.bb_compile_accepted.proofs.BufferLemmas.{Grown, Has, has_before, count_of}
-use Rattle.bb_compile_accepted.proofs.KnowLemmas.{IsHeld, Knows, known_from, knows_from, knows_weakens}
+use Rattle.bb_compile_accepted.proofs.KnowLemmas.{IsKept, IsHeld, Knows, HasSequences, known_from, knows_from, knows_weakens}
 use Rattle.bb_compile_accepted.proofs.LabelLemmas.{labels_of, label_at, Rises, HasLast, AllLabels, found_all, frame_by}
-use Rattle.bb_compile_accepted.proofs.ValueLemmas.{IsGood}
+use Rattle.bb_compile_accepted.proofs.ValueLemmas.{IsFit}
 use Rattle.bb_compile_accepted.proofs.MoveLemmas.{Tidy}
 use Rattle.bb_compile_accepted.proofs.WalkLemmas.{At}
 
@@ -51,11 +51,11 @@ module _ (s : Schema) (sf : schemas.Fits s) (part : Part) (code : Code) where
   HasFrame f ks = (f.stack ≡ []) × (length f.locals ≡ code.locals) × Knows s sf f.locals ks
 
   abbrev pub AreGood : List Kind → Type 0
-  AreGood ks = (i : ℕ) → is_free (kind_at ks i) ≡ false → IsGood s sf (kind_at ks i)
+  AreGood ks = (i : ℕ) → is_free (kind_at ks i) ≡ false → IsFit s sf (kind_at ks i)
 
   -- where these kinds are known, those are
   abbrev pub Weaker : List Kind → List Kind → Type 0
-  Weaker ks ls = (i : ℕ) → is_free (kind_at ls i) ≡ false → (k : Kind) → IsHeld s sf k (kind_at ks i) → IsUnder s sf k (kind_at ls i)
+  Weaker ks ls = (i : ℕ) → is_free (kind_at ls i) ≡ false → (k : Kind) → IsHeld s sf k (kind_at ks i) → IsKept s sf k (kind_at ls i)
 
   pub frame_weaker : (f : Frame) (ks ls : List Kind) → Weaker ks ls → HasFrame f ks → HasFrame f ls
   frame_weaker f ks ls weaker has = (has.0, has.1, λ i taken. weaker i taken (kind_at f.locals i) (has.2 i))
@@ -108,7 +108,7 @@ module _ (s : Schema) (sf : schemas.Fits s) (part : Part) (code : Code) where
     λ i taken.
         let low = sound.tidy.low i taken in
         let own : kind_at (Frame₁ ks).locals i ≡ kind_at ks i = at_range ks 0 code.locals i (omega (arith, low, le)) ∙ ap (kind_at ks) (let e : 0 + i ≡ i = omega arith in e) in
-        sound.strong ks at i taken (kind_at (Frame₁ ks).locals i) (λ free. subst (λ k. IsUnder s sf k (kind_at ks i)) (sym own) (label_good t sound (length t.ops) ks at i free).1),
+        sound.strong ks at i taken (kind_at (Frame₁ ks).locals i) (λ free. subst (λ k. IsKept s sf k (kind_at ks i)) (sym own) (label_good t sound (length t.ops) ks at i free).1),
   )
 
   -- what stands where the next op comes
@@ -191,5 +191,5 @@ module _ (s : Schema) (sf : schemas.Fits s) (part : Part) (code : Code) where
   known_there t f sound le has =
       known_from s sf f.locals t.scope.kinds t.scope.names sound.tidy.taken (λ i taken. let low = sound.tidy.low i taken in let count = has.1 in omega (arith, low, le, count)) has.2
 
-  pub knows_there : (t : Buffer) (f : Frame) → Sound t → f.stack ≡ [] → length f.locals ≡ code.locals → AreKnown s sf f.locals t.scope.kinds t.scope.names → HasFrame f t.scope.kinds
-  knows_there t f sound none count known = (none, count, knows_from s sf f.locals t.scope.kinds t.scope.names sound.tidy.named known)
+  pub knows_there : (t : Buffer) (f : Frame) → Sound t → f.stack ≡ [] → length f.locals ≡ code.locals → AreKnown s sf f.locals t.scope.kinds t.scope.names → HasSequences s sf f.locals t.scope.kinds → HasFrame f t.scope.kinds
+  knows_there t f sound none count known sequences = (none, count, knows_from s sf f.locals t.scope.kinds t.scope.names sound.tidy.named sequences known)

@@ -14,6 +14,7 @@ use Rattle.bb_verify.specs.FrameType.{Frame}
 use Rattle.bb_verify.specs.Frame.{with_stack}
 use Rattle.bb_compile_accepted.proofs.StraightLemmas.{Gives, Leads, leads_on}
 use Rattle.bb_compile_accepted.proofs.UnderLemmas.{IsUnder, AreKnown}
+use Rattle.bb_compile_accepted.proofs.KnowLemmas.{HasSequences}
 use Rattle.bb_compile_accepted.proofs.BufferLemmas.{Clean, Grown, with_op, grown_op, grown_on}
 use Rattle.bb_compile_accepted.proofs.EffectLemmas.{OneGives, TwoGives}
 
@@ -27,10 +28,10 @@ bare_op op s t put = ap bare put
 module _ (schema : Schema) (sf : schemas.Fits schema) (part : Part) (code : Code) where
   -- the verifier knows of each name's local what the compiler takes it for
   abbrev pub Known : Frame → Buffer → Type 0
-  Known f s = (length f.locals ≡ code.locals) × AreKnown schema sf f.locals s.scope.kinds s.scope.names
+  Known f s = (length f.locals ≡ code.locals) × AreKnown schema sf f.locals s.scope.kinds s.scope.names × HasSequences schema sf f.locals s.scope.kinds
 
   pub known_same : (f : Frame) (s t : Buffer) → bare t ≡ bare s → Known f s → Known f t
-  known_same f s t same known = (known.0, subst (λ (u : Buffer). AreKnown schema sf f.locals u.scope.kinds u.scope.names) (sym same) known.1)
+  known_same f s t same known = (known.0, subst (λ (u : Buffer). AreKnown schema sf f.locals u.scope.kinds u.scope.names) (sym same) known.1, subst (λ (u : Buffer). HasSequences schema sf f.locals u.scope.kinds) (sym same) known.2)
 
   -- what is laid out from one buffer to another pushes a value of a kind, where the stack has room for `space` values
   pub record Lays (space : ℕ) (s t : Buffer) (made : Made) : Type 0 where

@@ -47,7 +47,7 @@ use Rattle.bb_compile_accepted.proofs.BeforeLemmas.{InBlock}
 use Rattle.bb_compile_accepted.proofs.JoinLemmas.{here, HasFrame, AreGood, Sound, Agrees, Arrives, arrive, joins_own, knows_there}
 use Rattle.bb_compile_accepted.proofs.GoesLemmas.{After, Goes}
 use Rattle.bb_compile_accepted.proofs.AcceptLemmas.{block_goes}
-use Rattle.bb_compile_accepted.proofs.WholeLemmas.{rises_unlabelled, loops_pass, walked_accepted, begin_sound}
+use Rattle.bb_compile_accepted.proofs.WholeLemmas.{begin_sequences, rises_unlabelled, loops_pass, walked_accepted, begin_sound}
 use Rattle.bb_compile_accepted.proofs.PartLemmas.{begin_known, begin_count, all_at, query_limits, queries_within, version_fits}
 
 -- what is laid out for a part, taken from what the compiler answers
@@ -125,7 +125,7 @@ module _ (schema : Schema) (sf : schemas.Fits schema) (part : Part) (classes : H
     entry = entry_frame part code.locals
 
     entry_fits : HasFrame schema sf part code entry first.scope.kinds
-    entry_fits = knows_there schema sf part code first entry sound refl (begin_count part code.locals few) (begin_known schema sf part code.locals few)
+    entry_fits = knows_there schema sf part code first entry sound refl (begin_count part code.locals few) (begin_known schema sf part code.locals few) (begin_sequences schema sf part entry.locals)
 
     arrives : Arrives schema sf part code (Some entry) first
     arrives = inl (entry, refl, entry_fits)

@@ -48,6 +48,7 @@ use Rattle.bb_compile_accepted.proofs.UnderLemmas.{AreKnown, descends_same}
 use Rattle.bb_compile_accepted.proofs.BufferLemmas.{Clean, Grown, Has, with_op, never_noted, put_ok, grown_none, grown_op, grown_on, has_before}
 use Rattle.bb_compile_accepted.proofs.PutLemmas.{pair_ok}
 use Rattle.bb_compile_accepted.proofs.BlockLemmas.{stated}
+use Rattle.bb_compile_accepted.proofs.WholeLemmas.{begin_sequences}
 use Rattle.bb_compile_accepted.proofs.TextLays.{block_clean, block_now}
 use Rattle.bb_compile_accepted.proofs.PatternLemmas.{AreSmall}
 use Rattle.bb_compile_accepted.proofs.StoreLemmas.{Stands, After, Does, marks}
@@ -231,7 +232,7 @@ module _ (schema : Schema) (sf : schemas.Fits schema) (part : Part) where
       }
 
       begins : length (units_of part) ≤ u.locals → Stands schema sf part code small (entry_frame part u.locals) first
-      begins few = (refl, (begin_count part u.locals few, begin_known schema sf part u.locals few))
+      begins few = (refl, (begin_count part u.locals few, begin_known schema sf part u.locals few, begin_sequences schema sf part (entry_frame part u.locals).locals))
 
       -- ---- a part that ends by its last statement
 

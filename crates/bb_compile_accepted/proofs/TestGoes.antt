@@ -28,6 +28,7 @@ use Rattle.bb_compile_accepted.proofs.BranchLemmas.{TestLaid}
 use Rattle.bb_compile_accepted.proofs.GuardLemmas.{test_guard}
 use Rattle.bb_compile_accepted.proofs.MoveLemmas.{moves_same}
 use Rattle.bb_compile_accepted.proofs.WalkLemmas.{Walks, leads_then, unless_visit, At}
+use Rattle.bb_compile_accepted.proofs.KnowLemmas.{knows_sequences}
 use Rattle.bb_compile_accepted.proofs.JoinLemmas.{HasFrame, Sound, known_there}
 use Rattle.bb_compile_accepted.proofs.GuideLemmas.{Guides}
 
@@ -59,7 +60,7 @@ module _ (schema : Schema) (sf : schemas.Fits schema) (part : Part) (code : Code
           → WalksHere (length s.ops) (m.grown.ops ++ ops.Unless at ∷ rest) next out
       test_walks at rest next out f sound found has few none low high lt on target behind =
           let known = known_there schema sf part code s f sound few has in
-          let x = m.leads f (has.1, known) (all_room schema sf part code small f has.0) in
+          let x = m.leads f (has.1, known, knows_sequences schema sf f.locals s.scope.kinds has.2) (all_room schema sf part code small f has.0) in
           let count = count_of s a m.grown in
           let put = put_count in
           leads_then schema part code m.grown.ops (ops.Unless at ∷ rest) (length s.ops) f (with_stack (x.0 ∷ f.stack) f) next out found (λ i low high. none i low (omega (arith, high, count, put))) (omega (arith, count, put, lt)) x.2
