@@ -39,24 +39,24 @@ use Rattle.bb_compile_accepted.proofs.BranchGoes.{absent_goes}
 use Rattle.bb_compile_accepted.proofs.ElseGoes.{ended_goes, on_goes}
 
 module _ (schema : Schema) (sf : schemas.Fits schema) (part : Part) (code : Code) (small : AreSmall schema sf part code) where
-  abbrev GoesHere : Buffer → Buffer → Bool → (List Frame → Type 0) → Type 0
+  abbrev pub GoesHere : Buffer → Buffer → Bool → (List Frame → Type 0) → Type 0
   GoesHere s t now S = Goes schema sf part code s t now S
 
-  abbrev IsSound : Buffer → Type 0
+  abbrev pub IsSound : Buffer → Type 0
   IsSound t = Sound schema sf part code t
 
-  abbrev AgreesHere : Buffer → Type 0
+  abbrev pub AgreesHere : Buffer → Type 0
   AgreesHere t = Agrees schema sf part code t
 
   abbrev TracedHere : List Frame → ℕ → Option Frame → Type 0
   TracedHere frames place next = Traced schema part code frames place next
 
   -- behind a statement that ends there is no other
-  abbrev Block : (was now : Bool) → Buffer → Buffer → (List Frame → Type 0) → Type 0
+  abbrev pub Block : (was now : Bool) → Buffer → Buffer → (List Frame → Type 0) → Type 0
   Block true now s t S = (s ≡ t) × (now ≡ true) × ((frames : List Frame) → S frames)
   Block false now s t S = GoesHere s t now S
 
-  goes_none : (s t : Buffer) → s ≡ t → IsSound s → GoesHere s t false (λ frames. Unit {0})
+  pub goes_none : (s t : Buffer) → s ≡ t → IsSound s → GoesHere s t false (λ frames. Unit {0})
   unfolding grown_none
   goes_none s t same sound =
       subst (λ u. GoesHere s u false (λ frames. Unit {0})) same
@@ -70,7 +70,7 @@ module _ (schema : Schema) (sf : schemas.Fits schema) (part : Part) (code : Code
       })
 
   -- more may be told
-  goes_with : (s t : Buffer) (now : Bool) (S T : List Frame → Type 0) → ((frames : List Frame) → S frames → T frames) → GoesHere s t now S → GoesHere s t now T
+  pub goes_with : (s t : Buffer) (now : Bool) (S T : List Frame → Type 0) → ((frames : List Frame) → S frames → T frames) → GoesHere s t now S → GoesHere s t now T
   goes_with s t now S T also g = record {
     grown = g.grown;
     moves = g.moves;
@@ -110,25 +110,25 @@ module _ (schema : Schema) (sf : schemas.Fits schema) (part : Part) (code : Code
       both false next mid walks after =
           (after.0, after.1, walks_on schema part code (length s.ops) first.grown.ops then.grown.ops next mid after.0 walks (subst (λ p. Walks schema part code p then.grown.ops mid after.0) (count_of s t first.grown) after.2))
 
-  joined : (e now : Bool) (s t u : Buffer) (S T : List Frame → Type 0) → Has code t → GoesHere s t e S → Block e now t u T → GoesHere s u now (λ frames. S frames × T frames)
+  pub joined : (e now : Bool) (s t u : Buffer) (S T : List Frame → Type 0) → Has code t → GoesHere s t e S → Block e now t u T → GoesHere s u now (λ frames. S frames × T frames)
   joined true now s t u S T has first rest =
       subst (λ b. GoesHere s u b (λ frames. S frames × T frames)) (sym rest.1) (subst (λ x. GoesHere s x true (λ frames. S frames × T frames)) rest.0 (goes_with s t true S (λ frames. S frames × T frames) (λ frames own. (own, rest.2 frames)) first))
   joined false now s t u S T has first rest = goes_on now s t u S T has first rest
 
   -- the frame where a statement with blocks begins fits what the compiler knows there
-  abbrev Found : List Frame → Buffer → Type 0
+  abbrev pub Found : List Frame → Buffer → Type 0
   Found frames x = Finds schema sf frames (length x.ops) x.scope.kinds
 
   -- a test and the blocks behind it
   module _ (loops : ℕ) (first : BlockTree) (s t : Buffer) (now : Bool) (sound : IsSound s) (agrees : AgreesHere t) (S : (e : Bool) (x y : Buffer) → statements_code schema part loops false first x ≡ Ok (e, y) → List Frame → Type 0)
       (lays : (e : Bool) (x y : Buffer) → statements_code schema part loops false first x ≡ Ok (e, y) → LaysBlock x y) (goes : (e : Bool) (x y : Buffer) → (is : statements_code schema part loops false first x ≡ Ok (e, y)) → IsSound x → AgreesHere y → GoesHere x y e (S e x y is)) where
-    one_goes : (br : Branches schema part loops first absent s t now) → (Has code br.guard.behind → Guides schema sf part code s br.inner br.exits br.guard) → GoesHere s t now (λ frames. Found frames s × S br.blocks.ended br.inner br.blocks.end br.blocks.block_is frames)
+    pub one_goes : (br : Branches schema part loops first absent s t now) → (Has code br.guard.behind → Guides schema sf part code s br.inner br.exits br.guard) → GoesHere s t now (λ frames. Found frames s × S br.blocks.ended br.inner br.blocks.end br.blocks.block_is frames)
     one_goes br guides =
         let blocks = br.blocks in
         absent_goes schema sf part code s br.inner blocks.end br.exits br.guard guides (lays blocks.ended br.inner blocks.end blocks.block_is) (S blocks.ended br.inner blocks.end blocks.block_is) t blocks.ended now (branches_absent schema part loops first s t now br) sound agrees
         (goes blocks.ended br.inner blocks.end blocks.block_is)
 
-    both_go : (b : BlockTree) (T : (d : Bool) (x y : Buffer) → statements_code schema part loops false b x ≡ Ok (d, y) → List Frame → Type 0) → ((d : Bool) (x y : Buffer) → statements_code schema part loops false b x ≡ Ok (d, y) → LaysBlock x y)
+    pub both_go : (b : BlockTree) (T : (d : Bool) (x y : Buffer) → statements_code schema part loops false b x ≡ Ok (d, y) → List Frame → Type 0) → ((d : Bool) (x y : Buffer) → statements_code schema part loops false b x ≡ Ok (d, y) → LaysBlock x y)
         → ((d : Bool) (x y : Buffer) → (is : statements_code schema part loops false b x ≡ Ok (d, y)) → IsSound x → AgreesHere y → GoesHere x y d (T d x y is))
         → (br : Branches schema part loops first (otherwise b) s t now) → (Has code br.guard.behind → Guides schema sf part code s br.inner br.exits br.guard)
         → GoesHere s t now (λ frames. Found frames s × (S br.blocks.ended br.inner br.blocks.end br.blocks.block_is frames × InOther schema part loops first b s t now br (λ d x y is. T d x y is frames)))
@@ -148,7 +148,7 @@ module _ (schema : Schema) (sf : schemas.Fits schema) (part : Part) (code : Code
             on_goes schema sf part code s br.inner blocks.end br.exits br.guard guides (lays blocks.ended br.inner blocks.end blocks.block_is) (S blocks.ended br.inner blocks.end blocks.block_is) loops b t now (T el.ended el.inner el.end el.block_is) sound agrees el (more el.ended el.inner el.end el.block_is)
             (λ a c. subst (λ d. GoesHere br.inner blocks.end d (S blocks.ended br.inner blocks.end blocks.block_is)) e (goes blocks.ended br.inner blocks.end blocks.block_is a c)) (second el.ended el.inner el.end el.block_is)
 
-  abbrev Told : (b : BlockTree) (loops : ℕ) (was now : Bool) (s t : Buffer) → statements_code schema part loops was b s ≡ Ok (now, t) → List Frame → Type 0
+  abbrev pub Told : (b : BlockTree) (loops : ℕ) (was now : Bool) (s t : Buffer) → statements_code schema part loops was b s ≡ Ok (now, t) → List Frame → Type 0
   Told b loops was now s t h frames = InBlock schema part (Found frames) b loops was now s t h
 
   mutual

@@ -29,43 +29,43 @@ use Rattle.bb_compile_accepted.proofs.BlockLemmas.{Lays, LaysOne, same_labels, m
 use Rattle.bb_compile_accepted.proofs.LoopLaid.{SequenceLaid, HeadLaid, ForLaid}
 
 -- the way back, by whether the body ended
-back_same : (begun : Begun) (ended : Bool) (x : Buffer) → (let y = at_back begun ended x in (y.ops ≡ x.ops) × (y.texts ≡ x.texts) × (y.queries ≡ x.queries) × (y.loops ≡ x.loops) × (y.locals ≡ x.locals) × (y.flaw ≡ x.flaw))
+pub back_same : (begun : Begun) (ended : Bool) (x : Buffer) → (let y = at_back begun ended x in (y.ops ≡ x.ops) × (y.texts ≡ x.texts) × (y.queries ≡ x.queries) × (y.loops ≡ x.loops) × (y.locals ≡ x.locals) × (y.flaw ≡ x.flaw))
 unfolding labelled
 back_same begun true x = (refl, refl, refl, refl, refl, refl)
 back_same begun false x = (refl, refl, refl, refl, refl, refl)
 
 -- labels before its end stay
-back_marks : (begun : Begun) (ended : Bool) (x : Buffer) (p : ℕ) → p < length x.ops → label_at (labels_of (at_back begun ended x)) p ≡ label_at (labels_of x) p
+pub back_marks : (begun : Begun) (ended : Bool) (x : Buffer) (p : ℕ) → p < length x.ops → label_at (labels_of (at_back begun ended x)) p ≡ label_at (labels_of x) p
 unfolding labelled
 back_marks begun false x p lt = refl
 back_marks begun true x p lt = let y = with_kinds begun.start.kinds (leave begun.start x) in marks_before x (at_back begun true x) (length x.ops) p begun.start.kinds refl refl lt
 
-labelled_marks : (x : Buffer) (p : ℕ) → p < length x.ops → label_at (labels_of (labelled x)) p ≡ label_at (labels_of x) p
+pub labelled_marks : (x : Buffer) (p : ℕ) → p < length x.ops → label_at (labels_of (labelled x)) p ≡ label_at (labels_of x) p
 unfolding labelled
 labelled_marks x p lt = marks_before x (labelled x) (length x.ops) p x.scope.kinds refl refl lt
 
-labelled_same : (x : Buffer) → (let y = labelled x in (y.ops ≡ x.ops) × (y.texts ≡ x.texts) × (y.queries ≡ x.queries) × (y.loops ≡ x.loops) × (y.locals ≡ x.locals) × (y.flaw ≡ x.flaw))
+pub labelled_same : (x : Buffer) → (let y = labelled x in (y.ops ≡ x.ops) × (y.texts ≡ x.texts) × (y.queries ≡ x.queries) × (y.loops ≡ x.loops) × (y.locals ≡ x.locals) × (y.flaw ≡ x.flaw))
 unfolding labelled
 labelled_same x = (refl, refl, refl, refl, refl, refl)
 
 module _ (schema : Schema) (part : Part) (loops : ℕ) (name : List ℕ) (sequence : Sequence) (body : BlockTree) (s t : Buffer) (now : Bool) (f : ForLaid schema part loops name sequence body s t now) where
-  abbrev q : SequenceLaid schema sequence loops s f.held f.class f.local
+  abbrev pub q : SequenceLaid schema sequence loops s f.held f.class f.local
   q = f.sequence_is
 
-  abbrev hd : HeadLaid schema name f.class f.local body f.held f.inner f.begun
+  abbrev pub hd : HeadLaid schema name f.class f.local body f.held f.inner f.begun
   hd = f.head_is
 
-  abbrev next : Buffer
+  abbrev pub next : Buffer
   next = with_op (ops.Next f.local 0) hd.head
 
-  adds : Adds s q.behind
+  pub adds : Adds s q.behind
   adds = grows_ok behind s (sequence_code schema STACK_LIMIT (sequence_of sequence) s) (Some f.class, q.behind) q.code_is (sequence_grows schema (sequence_of sequence) STACK_LIMIT s)
 
   -- the name is declared
   abbrev pub stored : ℕ
   stored = (declare_is name (Ref f.class) next f.inner hd.declared).0
 
-  inner_is : f.inner ≡ with_op (ops.Store stored) (declared_on name stored (Ref f.class) next)
+  pub inner_is : f.inner ≡ with_op (ops.Store stored) (declared_on name stored (Ref f.class) next)
   inner_is = (declare_is name (Ref f.class) next f.inner hd.declared).2
 
   -- ---- flaws
@@ -78,13 +78,13 @@ module _ (schema : Schema) (part : Part) (loops : ℕ) (name : List ℕ) (sequen
   inner_clean = ap (λ (x : Buffer). x.flaw) inner_is ∙ (head_flaw ∙ (ap (λ (x : Buffer). x.flaw) q.is ∙ q.clean))
 
   -- the end of the body, and what is put behind it
-  abbrev left : Buffer
+  abbrev pub left : Buffer
   left = leave (mark_of f.inner.scope) f.end
 
-  abbrev returned : Buffer
+  abbrev pub returned : Buffer
   returned = with_op (ops.Back f.begun.head) (at_back f.begun f.ended left)
 
-  abbrev closed : Buffer
+  abbrev pub closed : Buffer
   closed = loop_closed f.begun returned
 
   pub for_clean : Clean f.end → Clean t
@@ -93,15 +93,15 @@ module _ (schema : Schema) (part : Part) (loops : ℕ) (name : List ℕ) (sequen
 
   -- ---- ops
 
-  abbrev after_head : List Op → List Op
+  abbrev pub after_head : List Op → List Op
   after_head more = (ops.Store stored ∷ more) ++ ops.Back f.begun.head ∷ []
 
-  head_ops : hd.head.ops ≡ f.held.ops
+  pub head_ops : hd.head.ops ≡ f.held.ops
   unfolding labelled
   head_ops = ap (λ (x : Buffer). x.ops) hd.head_is
 
   module _ (block : Lays f.inner f.end) where
-    abbrev more : List Op
+    abbrev pub more : List Op
     more = block.grown.ops
 
     -- before the head goes to the end
@@ -112,10 +112,10 @@ module _ (schema : Schema) (part : Part) (loops : ℕ) (name : List ℕ) (sequen
         ∙ (append_assoc (hd.head.ops ++ ops.Next f.local 0 ∷ []) (ops.Store stored ∷ []) (more ++ ops.Back f.begun.head ∷ []) ∙ append_assoc hd.head.ops (ops.Next f.local 0 ∷ []) (ops.Store stored ∷ (more ++ ops.Back f.begun.head ∷ []))))
 
     -- the place behind the loop
-    abbrev over : ℕ
+    abbrev pub over : ℕ
     over = length returned.ops
 
-    head_place : f.begun.head ≡ length hd.head.ops
+    pub head_place : f.begun.head ≡ length hd.head.ops
     head_place = ap (λ (b : Begun). b.head) hd.begun_is
 
     closed_ops : closed.ops ≡ f.held.ops ++ ops.Next f.local over ∷ after_head more
@@ -125,7 +125,7 @@ module _ (schema : Schema) (part : Part) (loops : ℕ) (name : List ℕ) (sequen
         ∙ (aimed_seam hd.head.ops (after_head more) (ops.Next f.local 0)
         ∙ (ap (λ l. hd.head.ops ++ ops.Next f.local (length l) ∷ after_head more) (sym returned_ops) ∙ ap (λ l. l ++ ops.Next f.local over ∷ after_head more) head_ops)))
 
-    t_same : (t.ops ≡ closed.ops) × (t.texts ≡ closed.texts) × (t.queries ≡ closed.queries) × (t.loops ≡ closed.loops) × (t.locals ≡ closed.locals)
+    pub t_same : (t.ops ≡ closed.ops) × (t.texts ≡ closed.texts) × (t.queries ≡ closed.queries) × (t.loops ≡ closed.loops) × (t.locals ≡ closed.locals)
     t_same =
         let x = labelled_same (leave (mark_of s.scope) closed) in
         (ap (λ (y : Buffer). y.ops) f.is ∙ x.0, ap (λ (y : Buffer). y.texts) f.is ∙ x.1, ap (λ (y : Buffer). y.queries) f.is ∙ x.2, ap (λ (y : Buffer). y.loops) f.is ∙ x.3, ap (λ (y : Buffer). y.locals) f.is ∙ x.4)
@@ -133,19 +133,19 @@ module _ (schema : Schema) (part : Part) (loops : ℕ) (name : List ℕ) (sequen
     pub for_ops : t.ops ≡ f.held.ops ++ ops.Next f.local over ∷ after_head more
     for_ops = t_same.0 ∙ closed_ops
 
-    held_ops : f.held.ops ≡ q.behind.ops ++ ops.Store f.local ∷ []
+    pub held_ops : f.held.ops ≡ q.behind.ops ++ ops.Store f.local ∷ []
     held_ops = ap (λ (x : Buffer). x.ops) q.is
 
-    ops_are : t.ops ≡ q.behind.ops ++ (ops.Store f.local ∷ ops.Next f.local over ∷ after_head more)
+    pub ops_are : t.ops ≡ q.behind.ops ++ (ops.Store f.local ∷ ops.Next f.local over ∷ after_head more)
     ops_are = for_ops ∙ (ap (λ l. l ++ ops.Next f.local over ∷ after_head more) held_ops ∙ append_assoc q.behind.ops (ops.Store f.local ∷ []) (ops.Next f.local over ∷ after_head more))
 
     -- ---- the rest of the buffer
 
-    inner_texts : f.inner.texts ≡ q.behind.texts
+    pub inner_texts : f.inner.texts ≡ q.behind.texts
     unfolding labelled
     inner_texts = ap (λ (x : Buffer). x.texts) inner_is ∙ (ap (λ (x : Buffer). x.texts) hd.head_is ∙ ap (λ (x : Buffer). x.texts) q.is)
 
-    inner_queries : f.inner.queries ≡ q.behind.queries
+    pub inner_queries : f.inner.queries ≡ q.behind.queries
     unfolding labelled
     inner_queries = ap (λ (x : Buffer). x.queries) inner_is ∙ (ap (λ (x : Buffer). x.queries) hd.head_is ∙ ap (λ (x : Buffer). x.queries) q.is)
 
@@ -168,7 +168,7 @@ module _ (schema : Schema) (part : Part) (loops : ℕ) (name : List ℕ) (sequen
     index_is : f.begun.index ≡ length s.loops
     index_is = ap (λ (b : Begun). b.index) hd.begun_is ∙ ap length held_loops
 
-    length_aimed : length closed.ops ≡ over
+    pub length_aimed : length closed.ops ≡ over
     length_aimed =
         ap length closed_ops ∙ (length-append f.held.ops (ops.Next f.local over ∷ after_head more)
         ∙ (sym (length-append f.held.ops (ops.Next f.local 0 ∷ after_head more)) ∙ (ap (λ l. length (l ++ ops.Next f.local 0 ∷ after_head more)) (sym head_ops) ∙ ap length (sym returned_ops))))
@@ -181,19 +181,22 @@ module _ (schema : Schema) (part : Part) (loops : ℕ) (name : List ℕ) (sequen
         ∙ (ap (λ n. ended_at (length s.loops) n returned.loops) length_aimed
         ∙ (ap (ended_at (length s.loops) over) returned_loops ∙ (ap (with_end (s.loops ++ begun_at ∷ block.loops) (length s.loops) over) (seam s.loops block.loops begun_at) ∙ set-append_seam s.loops begun_at block.loops whole))))
 
-    pub for_grown : Grown s t
-    for_grown = grown_on s q.behind t adds.grown (record {
+    unfoldable pub behind_grown : Grown q.behind t
+    behind_grown = record {
       ops = ops.Store f.local ∷ ops.Next f.local over ∷ after_head more;
       ops_are = ops_are;
       texts = block.grown.texts;
       texts_are = t_same.1 ∙ ((back_same f.begun f.ended left).1 ∙ (block.grown.texts_are ∙ ap (λ l. l ++ block.grown.texts) inner_texts));
       queries = block.grown.queries;
       queries_are = t_same.2 ∙ ((back_same f.begun f.ended left).2 ∙ (block.grown.queries_are ∙ ap (λ l. l ++ block.grown.queries) inner_queries));
-    })
+    }
+
+    pub for_grown : Grown s t
+    for_grown = grown_on s q.behind t adds.grown behind_grown
 
     -- ---- locals and labels
 
-    for_locals : s.locals ≤ t.locals
+    pub for_locals : s.locals ≤ t.locals
     unfolding labelled
     for_locals =
         let one = adds.locals in
@@ -205,23 +208,23 @@ module _ (schema : Schema) (part : Part) (loops : ℕ) (name : List ℕ) (sequen
         let five : t.locals ≡ f.end.locals = t_same.4 ∙ (back_same f.begun f.ended left).4 in
         omega (arith, one, two, high, three, higher, four, five)
 
-    held_count : length f.held.ops ≡ length q.behind.ops + 1
+    pub held_count : length f.held.ops ≡ length q.behind.ops + 1
     held_count = ap length held_ops ∙ length-append q.behind.ops (ops.Store f.local ∷ [])
 
-    inner_count : length f.inner.ops ≡ length f.held.ops + 2
+    pub inner_count : length f.inner.ops ≡ length f.held.ops + 2
     inner_count =
         ap length (ap (λ (x : Buffer). x.ops) inner_is) ∙ (length-append (hd.head.ops ++ ops.Next f.local 0 ∷ []) (ops.Store stored ∷ [])
         ∙ (let one = length-append hd.head.ops (ops.Next f.local 0 ∷ []) in let two : length hd.head.ops ≡ length f.held.ops = ap length head_ops in omega (arith, one, two)))
 
     -- labels before the head
-    head_marks : (p : ℕ) → p < length f.held.ops → label_at (labels_of f.inner) p ≡ label_at (labels_of s) p
+    pub head_marks : (p : ℕ) → p < length f.held.ops → label_at (labels_of f.inner) p ≡ label_at (labels_of s) p
     unfolding labelled
     head_marks p lt =
         ap (λ l. label_at l p) (same_labels hd.head f.inner (ap (λ (x : Buffer). x.labels) inner_is) (ap (λ (x : Buffer). x.last) inner_is))
         ∙ (marks_before f.held hd.head (length f.held.ops) p _ (ap (λ (x : Buffer). x.labels) hd.head_is) (ap (λ (x : Buffer). x.last) hd.head_is) lt
         ∙ ap (λ l. label_at l p) (same_labels s f.held (ap (λ (x : Buffer). x.labels) q.is ∙ adds.labels) (ap (λ (x : Buffer). x.last) q.is ∙ adds.last)))
 
-    for_marks : (p : ℕ) → p ≤ length s.ops → label_at (labels_of t) p ≡ label_at (labels_of s) p
+    pub for_marks : (p : ℕ) → p ≤ length s.ops → label_at (labels_of t) p ≡ label_at (labels_of s) p
     for_marks p low =
         let more_s = count_of s q.behind adds.grown in
         let count_held = held_count in

@@ -30,7 +30,7 @@ abbrev pub kinds_here : Option (List Kind) → List Kind → List Kind
 kinds_here None ks = ks
 kinds_here (Some ls) ks = ls
 
-at_range : (ks : List Kind) (n m i : ℕ) → i < m → kind_at (map (kind_at ks) (range_with_len n m)) i ≡ kind_at ks (n + i)
+pub at_range : (ks : List Kind) (n m i : ℕ) → i < m → kind_at (map (kind_at ks) (range_with_len n m)) i ≡ kind_at ks (n + i)
 at_range ks n zero i lt = absurd (omega (arith, lt))
 at_range ks n (suc m) zero lt = ap (kind_at ks) (let e : n ≡ n + 0 = omega arith in e)
 at_range ks n (suc m) (suc i) lt = at_range ks (n + 1) m i (omega (arith, lt)) ∙ ap (kind_at ks) (let e : n + 1 + i ≡ n + suc i = omega arith in e)
@@ -87,10 +87,10 @@ module _ (s : Schema) (sf : schemas.Fits s) (part : Part) (code : Code) where
 
   -- ---- one label
 
-  label_good : (t : Buffer) → Sound t → (p : ℕ) (ks : List Kind) → label_at (labels_of t) p ≡ Some ks → AreGood ks
+  pub label_good : (t : Buffer) → Sound t → (p : ℕ) (ks : List Kind) → label_at (labels_of t) p ≡ Some ks → AreGood ks
   label_good t sound p ks at = found_all AreGood None (labels_of t) p ks sound.good (λ ms e. absurd cc) at
 
-  label_fits : (f : Frame) (ks : List Kind) → AreGood ks → HasFrame f ks → frame_weakens s f (Frame₁ ks) ≡ true
+  pub label_fits : (f : Frame) (ks : List Kind) → AreGood ks → HasFrame f ks → frame_weakens s f (Frame₁ ks) ≡ true
   label_fits f ks good has = knows_weakens s sf f code.locals ks has.1 has.0 (λ i taken. (good i taken).1) has.2
 
   pub strong_frame : (t : Buffer) → Sound t → (g : Frame) → HasFrame g (kinds_here (here t) t.scope.kinds) → HasFrame g t.scope.kinds
@@ -101,7 +101,7 @@ module _ (s : Schema) (sf : schemas.Fits s) (part : Part) (code : Code) where
       by_label (Some ks) at has = frame_weaker g ks t.scope.kinds (sound.strong ks at) has
 
   -- where a label stands, its own frame is declared
-  declared_good : (t : Buffer) → Sound t → t.locals ≤ code.locals → (ks : List Kind) → here t ≡ Some ks → HasFrame (Frame₁ ks) t.scope.kinds
+  pub declared_good : (t : Buffer) → Sound t → t.locals ≤ code.locals → (ks : List Kind) → here t ≡ Some ks → HasFrame (Frame₁ ks) t.scope.kinds
   declared_good t sound le ks at = (
     refl,
     length-map (range_with_len 0 code.locals) (kind_at ks) ∙ range_count 0 code.locals,

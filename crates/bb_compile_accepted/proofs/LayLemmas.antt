@@ -1,5 +1,5 @@
 -- Parts of an expression, one after another, lead from frame to frame.
-use Rattle.std.proofs.Common.{◌≡◌, ℕ, ◌+◌, ◌-◌, ◌<◌, ◌≤◌, [], ◌∷◌, length, Some, None, refl, subst, sym, ap, ◌∙◌, arith}
+use Rattle.std.proofs.Common.{◌≡◌, ℕ, ◌+◌, ◌-◌, ◌<◌, ◌≤◌, [], ◌∷◌, length, Option, Some, None, refl, subst, sym, ap, ◌∙◌, arith}
 use Rattle.bb_code.specs.Limits.{STACK_LIMIT}
 use Rattle.bb_schema.specs.Schema.{Schema}
 use Rattle.bb_schema.specs.Fits as schemas
@@ -145,9 +145,12 @@ module _ (schema : Schema) (sf : schemas.Fits schema) (part : Part) (code : Code
   -- ---- sequences
 
   -- what is laid out pushes a sequence
-  pub record LaysUnits (space : ℕ) (s t : Buffer) : Type 0 where
+  pub record LaysUnits (space : ℕ) (s t : Buffer) (found : Option ℕ) : Type 0 where
     pub grown : Grown s t
     pub clean : Clean s
     pub same : bare t ≡ bare s
     pub some : 1 ≤ space
-    pub leads : (f : Frame) → Known f s → length f.stack + space ≡ STACK_LIMIT → (class : ℕ) × Leads schema part code grown.ops f (with_stack (kinds.Seq class ∷ f.stack) f)
+    pub class : ℕ
+    pub found_is : found ≡ Some class
+    pub there : class < length schema.classes
+    pub leads : (f : Frame) → Known f s → length f.stack + space ≡ STACK_LIMIT → Leads schema part code grown.ops f (with_stack (kinds.Seq class ∷ f.stack) f)

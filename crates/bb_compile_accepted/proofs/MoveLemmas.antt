@@ -124,6 +124,33 @@ assigned_aged held now (inr (class, of, inr e)) = unit_aged held class of ∙ sy
 value_on : (k l : Kind) → aged k ≡ aged l → is_sequence k ≡ false → is_sequence l ≡ false
 value_on k l same value = sym (sequence_aged l) ∙ (ap is_sequence (sym same) ∙ (sequence_aged k ∙ value))
 
+-- ---- names of locals that are taken, no two of one local
+
+abbrev pub Apart : ℕ → List NamedLocal → Type 0
+Apart local [] = Unit {0}
+Apart local (n ∷ ns) = (n.local ≡ local → ⊥) × Apart local ns
+
+abbrev pub Sole : List Kind → List NamedLocal → Type 0
+Sole ks [] = Unit {0}
+Sole ks (n ∷ ns) = (is_free (kind_at ks n.local) ≡ false) × Apart n.local ns × Sole ks ns
+
+pub sole_agree : (ks ls : List Kind) (ns : List NamedLocal) → Agree ks ls → Sole ks ns → Sole ls ns
+sole_agree ks ls [] agree sole = tt
+sole_agree ks ls (n ∷ ns) agree sole = (taken_on (kind_at ks n.local) (kind_at ls n.local) (agree n.local sole.0) sole.0, sole.1, sole_agree ks ls ns agree sole.2)
+
+apart_more : (local : ℕ) (ns : List NamedLocal) (n : NamedLocal) → Apart local ns → (n.local ≡ local → ⊥) → Apart local (ns ++ n ∷ [])
+apart_more local [] n apart other = (other, tt)
+apart_more local (m ∷ ms) n apart other = (apart.0, apart_more local ms n apart.1 other)
+
+-- one more name, for a local that was free
+pub sole_more : (ks ls : List Kind) (ns : List NamedLocal) (n : NamedLocal) → Agree ks ls → is_free (kind_at ks n.local) ≡ true → is_free (kind_at ls n.local) ≡ false → Sole ks ns → Sole ls (ns ++ n ∷ [])
+sole_more ks ls [] n agree free held sole = (held, tt, tt)
+sole_more ks ls (m ∷ ms) n agree free held sole = (
+  taken_on (kind_at ks m.local) (kind_at ls m.local) (agree m.local sole.0) sole.0,
+  apart_more m.local ms n sole.1 (λ e. absurd (let no : true ≡ false = sym free ∙ (ap (λ i. is_free (kind_at ks i)) e ∙ sole.0) in cc)),
+  sole_more ks ls ms n agree free held sole.2,
+)
+
 module _ (s : Schema) (sf : schemas.Fits s) where
   -- the locals that are taken are those of names, or hold sequences, and are known
   pub record Tidy (t : Buffer) : Type 0 where
@@ -131,6 +158,7 @@ module _ (s : Schema) (sf : schemas.Fits s) where
     pub named : (i : ℕ) → is_free (kind_at t.scope.kinds i) ≡ false → is_sequence (kind_at t.scope.kinds i) ≡ false → HasLocal s sf i t.scope.names
     pub taken : AllTaken s sf t.scope.kinds t.scope.names
     pub low : (i : ℕ) → is_free (kind_at t.scope.kinds i) ≡ false → i < t.locals
+    pub sole : Sole t.scope.kinds t.scope.names
 
   pub record Moves (t u : Buffer) : Type 0 where
     pub more : List NamedLocal
@@ -152,6 +180,7 @@ module _ (s : Schema) (sf : schemas.Fits s) where
         named = λ i taken value. subst (λ (c : Scope). HasLocal s sf i c.names) (sym scope) (tidy.named i (ap (λ (c : Scope). is_free (kind_at c.kinds i)) (sym scope) ∙ taken) (ap (λ (c : Scope). is_sequence (kind_at c.kinds i)) (sym scope) ∙ value));
         taken = subst (λ (c : Scope). AllTaken s sf c.kinds c.names) (sym scope) tidy.taken;
         low = λ i taken. subst (λ n. i < n) (sym locals) (tidy.low i (ap (λ (c : Scope). is_free (kind_at c.kinds i)) (sym scope) ∙ taken));
+        sole = subst (λ (c : Scope). Sole c.kinds c.names) (sym scope) tidy.sole;
       }
 
   pub moves_on : (t u w : Buffer) → Moves t u → Moves u w → Moves t w
@@ -217,6 +246,9 @@ module _ (s : Schema) (sf : schemas.Fits s) where
         taken =
             subst (AllTaken s sf u.scope.kinds) (sym names)
             (taken_more u.scope.kinds t.scope.names (record { name = name; local = local }) (taken_agree t.scope.kinds u.scope.kinds t.scope.names agrees tidy.taken) (ap is_free here ∙ good_taken kind (own tidy)) (ap is_sequence here ∙ under_value s sf kind kind (own tidy).1));
+        sole =
+            subst (Sole u.scope.kinds) (sym names)
+            (sole_more t.scope.kinds u.scope.kinds t.scope.names (record { name = name; local = local }) agrees (free_first t.scope.kinds local free) (ap is_free here ∙ good_taken kind (own tidy)) tidy.sole);
         low = λ i taken.
             subst (λ n. i < n) (sym locals)
             (by_local i (one_or_other i local) (λ e. let high = le-max_right t.locals (local + 1) in omega (arith, e, high))
@@ -241,11 +273,12 @@ module _ (s : Schema) (sf : schemas.Fits s) where
       named = λ i taken value. subst (HasLocal s sf i) (sym names) (tidy.named i (back tidy i taken).0 (value_on (kind_at u.scope.kinds i) (kind_at t.scope.kinds i) (sym (agree tidy i (back tidy i taken).0)) value));
       taken = subst (AllTaken s sf u.scope.kinds) (sym names) (taken_agree t.scope.kinds u.scope.kinds t.scope.names (agree tidy) tidy.taken);
       low = λ i taken. let was = tidy.low i (back tidy i taken).0 in omega (arith, was, locals);
+      sole = subst (Sole u.scope.kinds) (sym names) (sole_agree t.scope.kinds u.scope.kinds t.scope.names (agree tidy) tidy.sole);
     };
   }
 
   -- a unit of the class of a good one is good
-  good_unit : (k : Kind) (class : ℕ) → class_of k ≡ Some class → IsFit s sf k → IsFit s sf (kinds.Ref class) × IsFit s sf (kinds.Old class)
+  pub good_unit : (k : Kind) (class : ℕ) → class_of k ≡ Some class → IsFit s sf k → IsFit s sf (kinds.Ref class) × IsFit s sf (kinds.Old class)
   good_unit k class of good = by_known (known_unit k class of good.0)
     where
       known_unit : (k : Kind) (class : ℕ) → class_of k ≡ Some class → known_kind s k ≡ Ok tt → known_kind s (kinds.Ref class) ≡ Ok tt

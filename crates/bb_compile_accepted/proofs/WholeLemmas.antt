@@ -35,7 +35,7 @@ use Rattle.bb_compile_accepted.proofs.UnderLemmas.{descends_same}
 use Rattle.bb_compile_accepted.proofs.KnowLemmas.{HasLocal, AllTaken, HasSequences}
 use Rattle.bb_compile_accepted.proofs.LabelLemmas.{listed, label_at, found, AllLabels, AreKinds, Rises, rises_up, all_frames, rise_passes, frames_pass}
 use Rattle.bb_compile_accepted.proofs.ValueLemmas.{IsFit}
-use Rattle.bb_compile_accepted.proofs.MoveLemmas.{Tidy, one_or_other, at_other}
+use Rattle.bb_compile_accepted.proofs.MoveLemmas.{Tidy, Sole, one_or_other, at_other}
 use Rattle.bb_compile_accepted.proofs.WalkLemmas.{Walks, walked_frames, visited, fine_at, At}
 use Rattle.bb_compile_accepted.proofs.JoinLemmas.{Sound}
 
@@ -188,6 +188,7 @@ module _ (s : Schema) (sf : schemas.Fits s) where
     good = λ i taken. subst (λ (x : Scope). is_free (kind_at x.kinds i) ≡ false → IsFit s sf (kind_at x.kinds i)) (sym scope) (λ taken. by_good i taken (unit_at c i)) taken;
     named = λ i taken value. subst (λ (x : Scope). is_free (kind_at x.kinds i) ≡ false → HasLocal s sf i x.names) (sym scope) (λ taken. by_named i taken (unit_at c i)) taken;
     taken = subst (λ (x : Scope). AllTaken s sf x.kinds x.names) (sym scope) (refl, refl, tt);
+    sole = subst (λ (x : Scope). Sole x.kinds x.names) (sym scope) (refl, tt, tt);
     low = λ i taken. subst (λ (x : Scope). is_free (kind_at x.kinds i) ≡ false → i < length (units_of part)) (sym scope) (λ taken. by_low i taken (unit_at c i)) taken;
   }
     where
@@ -208,6 +209,7 @@ module _ (s : Schema) (sf : schemas.Fits s) where
     good = λ i taken. subst (λ (x : Scope). is_free (kind_at x.kinds i) ≡ false → IsFit s sf (kind_at x.kinds i)) (sym scope) (λ taken. by_good i taken (event_at c of i)) taken;
     named = λ i taken value. subst (λ (x : Scope). is_free (kind_at x.kinds i) ≡ false → HasLocal s sf i x.names) (sym scope) (λ taken. by_named i taken (event_at c of i)) taken;
     taken = subst (λ (x : Scope). AllTaken s sf x.kinds x.names) (sym scope) (refl, refl, (refl, refl, tt));
+    sole = subst (λ (x : Scope). Sole x.kinds x.names) (sym scope) (refl, ((λ e. cc), tt), (refl, tt, tt));
     low = λ i taken. subst (λ (x : Scope). is_free (kind_at x.kinds i) ≡ false → i < length (units_of part)) (sym scope) (λ taken. by_low i taken (event_at c of i)) taken;
   }
     where
