@@ -20,7 +20,7 @@ no_place n some = by_test (n == 0) refl
     by_test false h = refl
 
 -- an op that is aimed
-aimed_seam : (xs ys : List Op) (op : Op) → aimed_at (length xs) (xs ++ op ∷ ys) ≡ xs ++ aimed op (length (xs ++ op ∷ ys)) ∷ ys
+pub aimed_seam : (xs ys : List Op) (op : Op) → aimed_at (length xs) (xs ++ op ∷ ys) ≡ xs ++ aimed op (length (xs ++ op ∷ ys)) ∷ ys
 aimed_seam xs ys op =
     ap (with_aimed (xs ++ op ∷ ys) (length xs)) (seam xs ys op) ∙ set-append_seam xs op ys (aimed op (length (xs ++ op ∷ ys)))
 

@@ -45,6 +45,7 @@ use Rattle.bb_compile_accepted.proofs.BufferLemmas.{Clean, Has, with_op, passed,
 use Rattle.bb_compile_accepted.proofs.PutLemmas.{pair_ok, clean_before, IsPut, pushed_ok, pushed_room, IsLoaded, variable_ok, variable_room, unit_ok, unit_room}
 use Rattle.bb_compile_accepted.proofs.HeldLemmas.{value_below, value_known}
 use Rattle.bb_compile_accepted.proofs.EffectLemmas.{OneGives, push_on, push_gives}
+use Rattle.bb_compile_accepted.proofs.KnowLemmas.{HasSequences}
 use Rattle.bb_compile_accepted.proofs.LayLemmas.{Lays, bare, lays_on, push_lays, one_turns}
 
 -- ---- texts
@@ -163,7 +164,7 @@ module _ (schema : Schema) (sf : schemas.Fits schema) (part : Part) (code : Code
         some = m.some;
         kind = m.kind;
         made_is = m.made_is;
-        leads = λ f known count. m.leads f (known.0, subst (λ (x : Buffer). AreKnown schema sf f.locals x.scope.kinds x.scope.names) (sym there.same) known.1) count;
+        leads = λ f known count. m.leads f (known.0, subst (λ (x : Buffer). AreKnown schema sf f.locals x.scope.kinds x.scope.names) (sym there.same) known.1, subst (λ (x : Buffer). HasSequences schema sf f.locals x.scope.kinds) (sym there.same) known.2) count;
       }
 
   -- ---- labels

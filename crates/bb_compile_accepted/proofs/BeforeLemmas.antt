@@ -1,5 +1,5 @@
 -- What holds of the buffer before each statement with blocks of a text.
-use Rattle.std.proofs.Common.{◌≡◌, ◌⊎◌, inl, inr, ℕ, Bool, true, false, ◌||◌, length, Ok}
+use Rattle.std.proofs.Common.{◌≡◌, ◌⊎◌, inl, inr, ℕ, ◌-◌, Bool, true, false, ◌||◌, length, Ok}
 use Rattle.bb_basis.proofs.ResultLemmas.{bind_ok}
 use Rattle.bb_verify_frame.specs.declared.part.Part.{Part}
 use Rattle.bb_verify_frame.specs.Schema.{Schema}
@@ -11,6 +11,7 @@ use Rattle.bb_compile_buffer.specs.declared.buffer.Buffer.{Buffer}
 use Rattle.bb_compile_emit.specs.Statements.{after_end, statement_code, statements_code}
 use Rattle.bb_compile_accepted.specs.Plain.{is_plain}
 use Rattle.bb_compile_accepted.proofs.BranchLemmas.{ElseEnded, ElseOn, if_laid, with_laid}
+use Rattle.bb_compile_accepted.proofs.LoopLaid.{for_laid}
 use Rattle.bb_compile_accepted.proofs.GuardLemmas.{Branches, behind_first, if_branches, with_branches, branches_else}
 
 module _ (schema : Schema) (part : Part) where
@@ -48,7 +49,9 @@ module _ (schema : Schema) (part : Part) where
       InStatement (with_of binding first (otherwise b)) loops place now s t h =
           let br = with_branches schema part loops binding place first (otherwise b) s t now (with_laid schema part loops place binding first (otherwise b) s t now h) in
           K s × (InBlock first loops false br.blocks.ended br.inner br.blocks.end br.blocks.block_is × InOther loops first b s t now br (λ d x y is. InBlock b loops false d x y is))
-      InStatement (for_of name sequence body) loops place now s t h = Unit {0}
+      InStatement (for_of name sequence body) loops place now s t h =
+          let f = for_laid schema part loops place name sequence body s t now h in
+          K s × InBlock body (loops - 1) false f.ended f.inner f.end f.block_is
 
     -- a text without such statements
     pub plain_before : (b : BlockTree) (loops : ℕ) (was now : Bool) (s t : Buffer) → is_plain b ≡ true → (h : statements_code schema part loops was b s ≡ Ok (now, t)) → InBlock b loops was now s t h

@@ -31,23 +31,23 @@ use Rattle.bb_compile_accepted.proofs.GoesLemmas.{After, Goes}
 use Rattle.bb_compile_accepted.proofs.GuideLemmas.{Guides, ahead, in_labels, in_moves, in_sound, in_fits, in_marks, led_traced, known_so}
 use Rattle.bb_compile_accepted.proofs.BranchScopes.{labelled_here, labelled_sound, merged_moves, twice_good, names_twice, block_rest}
 
-module _ (schema : Schema) (sf : schemas.Fits schema) (part : Part) (code : Code) (no_loops : code.loops ≡ []) where
+module _ (schema : Schema) (sf : schemas.Fits schema) (part : Part) (code : Code) where
   abbrev IsSound : Buffer → Type 0
-  IsSound t = Sound schema sf part code no_loops t
+  IsSound t = Sound schema sf part code t
 
   abbrev AgreesHere : Buffer → Type 0
-  AgreesHere t = Agrees schema sf part code no_loops t
+  AgreesHere t = Agrees schema sf part code t
 
   abbrev WalksHere : ℕ → List Op → (next out : Option Frame) → Type 0
-  WalksHere place listed next out = Walks schema part code no_loops place listed next out
+  WalksHere place listed next out = Walks schema part code place listed next out
 
   abbrev GoesHere : Buffer → Buffer → Bool → (List Frame → Type 0) → Type 0
-  GoesHere s t now S = Goes schema sf part code no_loops s t now S
+  GoesHere s t now S = Goes schema sf part code s t now S
 
   abbrev Fitting : Frame → List Kind → Type 0
-  Fitting f ks = HasFrame schema sf part code no_loops f ks
+  Fitting f ks = HasFrame schema sf part code f ks
 
-  module _ (s u v : Buffer) (exits : Exits) (gd : Guard s u exits) (guides : Has code gd.behind → Guides schema sf part code no_loops s u exits gd) (block : LaysBlock u v) (S : List Frame → Type 0) where
+  module _ (s u v : Buffer) (exits : Exits) (gd : Guard s u exits) (guides : Has code gd.behind → Guides schema sf part code s u exits gd) (block : LaysBlock u v) (S : List Frame → Type 0) where
     abbrev a : Buffer
     a = gd.behind
 
@@ -73,7 +73,7 @@ module _ (schema : Schema) (sf : schemas.Fits schema) (part : Part) (code : Code
         let n = length (aims (length a.ops) (length gd.es) v.ops) in
         let same_n : n ≡ length v.ops = behind_count a r v gd.es gd.some gd.ops gd.texts gd.queries (whole block.grown) in
         let count_t : length t.ops ≡ n = ap length al.alike.ops in
-        let up = ahead schema sf part code no_loops s u exits gd in
+        let up = ahead schema sf part code s u exits gd in
         let le_v = long in
         let le_u = short in
         let all = al.alike.ops ∙ aimed_behind a r v gd.es gd.some gd.ops gd.texts gd.queries (whole block.grown) in
@@ -85,12 +85,12 @@ module _ (schema : Schema) (sf : schemas.Fits schema) (part : Part) (code : Code
           frames = λ p lt. agrees.frames p (omega (arith, lt, count_t, same_n)) ∙ ap (option_map (frame_by code.locals)) (marks_before v t n p t.scope.kinds al.labels al.last (omega (arith, lt, same_n)));
         } in
         let m = guides (has_before code a t (aims_grown a r v gd.es gd.some gd.ops gd.texts gd.queries (whole block.grown) t (length v.ops) [] all more_v) agrees.has) in
-        let sound_u = in_sound schema sf part code no_loops s u exits gd m sound in
-        let tidy_r = (in_moves schema sf part code no_loops s u exits gd m sound).tidy sound.tidy in
+        let sound_u = in_sound schema sf part code s u exits gd m sound in
+        let tidy_r = (in_moves schema sf part code s u exits gd m sound).tidy sound.tidy in
         let gv = own sound_u agrees_v in
         let g = gv.grown in
         let all_v = al.alike.ops ∙ aimed_behind a r v gd.es gd.some gd.ops gd.texts gd.queries (whole g) in
-        let names_are : t.scope.names ≡ r.scope.names = al.names ∙ names_twice schema sf part code no_loops r u v m.moves gv.moves in
+        let names_are : t.scope.names ≡ r.scope.names = al.names ∙ names_twice schema sf part code r u v m.moves gv.moves in
         let left = kinds_left u.scope.kinds v.scope.kinds in
         let once = agree_on r.scope.kinds u.scope.kinds left (m.moves.agree tidy_r) (agree_left u.scope.kinds v.scope.kinds (gv.moves.agree sound_u.tidy)) in
         let twice = agree_left r.scope.kinds left once in
@@ -102,10 +102,10 @@ module _ (schema : Schema) (sf : schemas.Fits schema) (part : Part) (code : Code
         let locals_r = m.locals in
         let le_code = agrees.locals in
         let le_locals : r.locals ≤ t.locals = omega (arith, locals_r, le_adds, le_named, le_block, same_locals) in
-        let moves_t = merged_moves schema sf part code no_loops r t r.scope.kinds w.scope.kinds ended names_are le_locals al.kinds (λ tidy. ((λ i taken. refl), twice, meets)) (λ tidy. ((λ i taken. (taken, tidy.good i taken)), twice_good schema sf part code no_loops r u v gv.sound.tidy)) in
+        let moves_t = merged_moves schema sf part code r t r.scope.kinds w.scope.kinds ended names_are le_locals al.kinds (λ tidy. ((λ i taken. refl), twice, meets)) (λ tidy. ((λ i taken. (taken, tidy.good i taken)), twice_good schema sf part code r u v gv.sound.tidy)) in
         let tidy_t = moves_t.tidy tidy_r in
-        let here_t = labelled_here schema sf part code no_loops v t n count_t al.labels al.last in
-        let sound_t = labelled_sound schema sf part code no_loops v t n (subst (λ k. Rises 0 (labels_of v) (k + 1)) (sym same_n) gv.sound.rises) gv.sound.last gv.sound.good count_t al.labels al.last tidy_t in
+        let here_t = labelled_here schema sf part code v t n count_t al.labels al.last in
+        let sound_t = labelled_sound schema sf part code v t n (subst (λ k. Rises 0 (labels_of v) (k + 1)) (sym same_n) gv.sound.rises) gv.sound.last gv.sound.good count_t al.labels al.last tidy_t in
         let from_test : (f : Frame) → Fitting f r.scope.kinds → Fitting f t.scope.kinds =
         λ f has. (has.0, has.1, merged_other r.scope.kinds r.scope.kinds w.scope.kinds t.scope.kinds ended al.kinds (λ i taken. refl) twice meets schema sf f.locals has.2) in
         let from_block : ended ≡ false → (f : Frame) → Fitting f v.scope.kinds → Fitting f t.scope.kinds =
@@ -119,41 +119,41 @@ module _ (schema : Schema) (sf : schemas.Fits schema) (part : Part) (code : Code
         let lt_t : length s.ops < length t.ops = omega (arith, up, le_v, count_v) in
         let few : s.locals ≤ code.locals = omega (arith, le_code, le_adds, le_named, le_block, same_locals) in
         let few_u : u.locals ≤ code.locals = omega (arith, le_code, le_block, same_locals) in
-        let declared_s : At schema part code no_loops (length s.ops) ≡ option_map (frame_by code.locals) (here s) =
+        let declared_s : At schema part code (length s.ops) ≡ option_map (frame_by code.locals) (here s) =
         agrees.frames (length s.ops) lt_t
         ∙ ap (option_map (frame_by code.locals)) (marks_before v t n (length s.ops) t.scope.kinds al.labels al.last (omega (arith, lt_t, count_t))
-        ∙ (block.marks (length s.ops) (omega (arith, up)) (omega (arith, lt_t, count_v)) ∙ ap (λ ls. label_at ls (length s.ops)) (in_labels schema sf part code no_loops s u exits gd))) in
+        ∙ (block.marks (length s.ops) (omega (arith, up)) (omega (arith, lt_t, count_v)) ∙ ap (λ ls. label_at ls (length s.ops)) (in_labels schema sf part code s u exits gd))) in
         let grown_t = grown_on s a t m.grown (aims_grown a r v gd.es gd.some gd.ops gd.texts gd.queries (whole g) t (length v.ops) [] all_v more_v) in
         record {
           grown = grown_t;
-          moves = moves_on schema sf s r t (in_moves schema sf part code no_loops s u exits gd m sound) moves_t;
+          moves = moves_on schema sf s r t (in_moves schema sf part code s u exits gd m sound) moves_t;
           sound = sound_t;
           unlabelled = λ e. absurd (let no : true ≡ false = sym e ∙ al.now_is in cc);
           right = λ e. absurd (let no : true ≡ false = sym e ∙ al.now_is in cc);
           more = λ joins.
               let j = joins al.now_is in
-              let more = gv.more (λ goes. joins_weaker schema sf part code no_loops v t gv.sound count_v here_t (from_block goes) j) in (
-                joins_own schema sf part code no_loops s sound (let le = j.below in omega (arith, lt_t, le)) declared_s,
+              let more = gv.more (λ goes. joins_weaker schema sf part code v t gv.sound count_v here_t (from_block goes) j) in (
+                joins_own schema sf part code s sound (let le = j.below in omega (arith, lt_t, le)) declared_s,
                 λ next arrives.
-                    let found = arrive schema sf part code no_loops s next sound few declared_s arrives in
+                    let found = arrive schema sf part code s next sound few declared_s arrives in
                     let f = found.0 in
                     let led = m.leads sound few few_u f found.2 in
-                    let fits = in_fits schema sf part code no_loops s u exits gd m sound led.0 led.1 in
+                    let fits = in_fits schema sf part code s u exits gd m sound led.0 led.1 in
                     let first = more.1 (Some led.0) (inl (led.0, refl, fits)) in
-                    let rest = block_rest schema sf part code no_loops (length u.ops) v t g.ops gv.sound here_t ended from_block (Some led.0) first.0 in
+                    let rest = block_rest schema sf part code (length u.ops) v t g.ops gv.sound here_t ended from_block (Some led.0) first.0 in
                     let below = j.below in
-                    let none : (p : ℕ) → length s.ops < p → p < length u.ops → At schema part code no_loops p ≡ None =
-                    λ p low high. agrees.frames p (omega (arith, high, le_v, count_v)) ∙ ap (option_map (frame_by code.locals)) (marks_before v t n p t.scope.kinds al.labels al.last (omega (arith, high, le_v, same_n)) ∙ in_marks schema sf part code no_loops s u exits gd m sound v block p low high) in
+                    let none : (p : ℕ) → length s.ops < p → p < length u.ops → At schema part code p ≡ None =
+                    λ p low high. agrees.frames p (omega (arith, high, le_v, count_v)) ∙ ap (option_map (frame_by code.locals)) (marks_before v t n p t.scope.kinds al.labels al.last (omega (arith, high, le_v, same_n)) ∙ in_marks schema sf part code s u exits gd m sound v block p low high) in
                     let there = more.0.on led.0 fits in
-                    let target = subst (λ p. target_due schema (Some f) (At schema part code no_loops p) ≡ Ok tt) (sym count_v) (j.target t.scope.kinds here_t f (from_test f (subst (λ (c : Scope). Fitting f c.kinds) (sym m.scope) found.2))) in (
-                      subst (λ e. After schema sf part code no_loops e (length s.ops) (m.grown.ops ++ (all_aimed gd.es (length v.ops) ++ ((gd.named.ops ++ g.ops) ++ []))) next t) (sym al.now_is) (
+                    let target = subst (λ p. target_due schema (Some f) (At schema part code p) ≡ Ok tt) (sym count_v) (j.target t.scope.kinds here_t f (from_test f (subst (λ (c : Scope). Fitting f c.kinds) (sym m.scope) found.2))) in (
+                      subst (λ e. After schema sf part code e (length s.ops) (m.grown.ops ++ (all_aimed gd.es (length v.ops) ++ ((gd.named.ops ++ g.ops) ++ []))) next t) (sym al.now_is) (
                         rest.0,
                         rest.1,
                         led.2 (length v.ops) (g.ops ++ []) ((gd.named.ops ++ g.ops) ++ []) next rest.0 (append_assoc gd.named.ops g.ops []) found.1 none (omega (arith, le_u, le_v)) (omega (arith, below, count_v)) (omega (arith, le_v, below, count_v)) there target
                             (subst (λ ls. WalksHere (length u.ops) ls (Some led.0) rest.0) (sym (append-nil g.ops)) rest.2),
                       ),
                       λ frames traced.
-                          (known_so schema sf part code no_loops frames s next f (omega (arith, lt_t, count_v, below)) found.1 found.2 traced, first.1 frames (led_traced schema sf part code no_loops s u exits gd m.grown f led.0 led.2 frames t agrees.has (length v.ops) g.ops [] next grown_t.ops_are found.1 none (omega (arith, le_u, le_v)) (omega (arith, below, count_v)) (omega (arith, le_v, below, count_v)) there target traced)),
+                          (known_so schema sf part code frames s next f (omega (arith, lt_t, count_v, below)) found.1 found.2 traced, first.1 frames (led_traced schema sf part code s u exits gd m.grown f led.0 led.2 frames t agrees.has (length v.ops) g.ops [] next grown_t.ops_are found.1 none (omega (arith, le_u, le_v)) (omega (arith, below, count_v)) (omega (arith, le_v, below, count_v)) there target traced)),
                     ),
               );
         }

@@ -108,7 +108,7 @@ module _ (schema : Schema) (sf : schemas.Fits schema) (part : Part) (code : Code
   -- ---- queries
 
   query_by : (class space_of : List ℕ) (p : PatternTree) (space : ℕ) (s t u : Buffer) (asked : Asked) (tree : Tree) (made : Option ℕ) → Clean u → Has code u → (c k : Option ℕ) → class_named schema class ≡ c → space_named schema space_of ≡ k
-      → (Clean t → Has code t → AsksHere space (known k (known c s)) t k no_operand asked (TreeFits tree)) → query_code c k asked tree space t ≡ Ok (made, u) → LaysUnits schema sf part code space s u
+      → (Clean t → Has code t → AsksHere space (known k (known c s)) t k no_operand asked (TreeFits tree)) → query_code c k asked tree space t ≡ Ok (made, u) → LaysUnits schema sf part code space s u made
   unfolding query_code
   query_by class space_of p space s t u asked tree made clean has None k class_is space_is asks h =
       let same = pair_ok None made t u h in
@@ -155,7 +155,7 @@ module _ (schema : Schema) (sf : schemas.Fits schema) (part : Part) (code : Code
         let same = pair_ok (Some kinds.Int) made two.0 t two.2 in
         let is : t ≡ with_op ops.Size one.0.1 = sym same.1 ∙ put_ok ops.Size one.0.1 two.0 two.1 in
         let units = sequence_lays sequence space s one.0.1 one.0.0 one.1 (clean_before ops.Size one.0.1 t is clean) (has_before code one.0.1 t (grown_op ops.Size one.0.1 t is) has) in
-        size_lays schema sf part code space s one.0.1 t made units is (sym same.0)
+        size_lays schema sf part code space s one.0.1 t made one.0.0 units is (sym same.0)
 
     -- the steps of a chain
     steps_turn : (steps : Steps) (space : ℕ) (left : Made) (s t : Buffer) (made : Made) → steps_code schema space left steps s ≡ Ok (made, t) → Clean t → Has code t → Turns schema sf part code space s t left made
@@ -174,7 +174,7 @@ module _ (schema : Schema) (sf : schemas.Fits schema) (part : Part) (code : Code
         let turn = division_turns schema sf part code division by left space s one.0.1 one.0.0 one.1 later.clean in
         turns_on schema sf part code space s one.0.1 t left one.0.0 made turn later
 
-    sequence_lays : (sequence : SequenceTree) (space : ℕ) (s t : Buffer) (class : Option ℕ) → sequence_code schema space sequence s ≡ Ok (class, t) → Clean t → Has code t → LaysUnits schema sf part code space s t
+    pub sequence_lays : (sequence : SequenceTree) (space : ℕ) (s t : Buffer) (class : Option ℕ) → sequence_code schema space sequence s ≡ Ok (class, t) → Clean t → Has code t → LaysUnits schema sf part code space s t class
     sequence_lays (linked unit slot) space s t class h clean has = links_lay schema sf part code unit slot space s t class h clean
     sequence_lays (found name space_of p) space s t class h clean has =
         let was = known (space_named schema space_of) (known (class_named schema name) s) in

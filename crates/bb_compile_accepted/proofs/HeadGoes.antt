@@ -36,13 +36,13 @@ use Rattle.bb_compile_accepted.proofs.LayLemmas.{Lays}
 use Rattle.bb_compile_accepted.proofs.AtomLemmas.{name_lays, unit_lays}
 use Rattle.bb_compile_accepted.proofs.PatternLemmas.{AreSmall}
 use Rattle.bb_compile_accepted.proofs.ExprLemmas.{class_there}
-use Rattle.bb_compile_accepted.proofs.StoreLemmas.{declare_is, declared_known, store_gives, all_room}
+use Rattle.bb_compile_accepted.proofs.StoreLemmas.{declare_is, declared_known, store_gives, all_room, declared_sequences}
 use Rattle.bb_compile_accepted.proofs.AimLemmas.{all_aimed}
 use Rattle.bb_compile_accepted.proofs.HeadLemmas.{Tested, HeadLaid}
 use Rattle.bb_compile_accepted.proofs.HeadVisits.{Tests, as_visit, alive_visit, one_visit}
 use Rattle.bb_compile_accepted.proofs.GrownLemmas.{Adds, behind, grows_ok, variable_grows, unit_grows}
 use Rattle.bb_compile_accepted.proofs.GuardLemmas.{Puts, exits_of, tested_puts, puts_one, named_guard, head_guard}
-use Rattle.bb_compile_accepted.proofs.KnowLemmas.{knows_from}
+use Rattle.bb_compile_accepted.proofs.KnowLemmas.{HasSequences, under_value, knows_sequences, knows_from}
 use Rattle.bb_compile_accepted.proofs.SlotKinds.{partner_class}
 use Rattle.bb_compile_accepted.proofs.ValueLemmas.{IsGood}
 use Rattle.bb_compile_accepted.proofs.MoveLemmas.{Tidy, moves_same, declared_moves}
@@ -50,12 +50,12 @@ use Rattle.bb_compile_accepted.proofs.WalkLemmas.{Walks, leads_then, undeclared_
 use Rattle.bb_compile_accepted.proofs.JoinLemmas.{known_there}
 use Rattle.bb_compile_accepted.proofs.GuideLemmas.{Guides}
 
-module _ (schema : Schema) (sf : schemas.Fits schema) (part : Part) (code : Code) (no_loops : code.loops ≡ []) where
+module _ (schema : Schema) (sf : schemas.Fits schema) (part : Part) (code : Code) where
   abbrev Here : ℕ → Option Frame
-  Here place = At schema part code no_loops place
+  Here place = At schema part code place
 
   abbrev WalksHere : ℕ → List Op → (next out : Option Frame) → Type 0
-  WalksHere place listed next out = Walks schema part code no_loops place listed next out
+  WalksHere place listed next out = Walks schema part code place listed next out
 
   -- ops of a test from one place to another, the first of which finds a kind on the stack: a unit comes in its place, or
   -- none does and the next op comes elsewhere
@@ -65,7 +65,7 @@ module _ (schema : Schema) (sf : schemas.Fits schema) (part : Part) (code : Code
       → WalksHere to rest (Some (with_stack (gives ∷ f.stack) f)) out → WalksHere from (all_aimed es at ++ rest) last out
 
   abbrev TestsHere : (place at : ℕ) (k gives : Kind) → Frame → Option Frame → Type 0
-  TestsHere place at k gives f next = Tests schema sf part code no_loops place at k gives f next
+  TestsHere place at k gives f next = Tests schema sf part code place at k gives f next
 
   tests_here : (place at : ℕ) (k gives : Kind) (f : Frame) (last : Option Frame) → frame_at (Here place) last ≡ Ok (with_stack (k ∷ f.stack) f) → length f.stack < STACK_LIMIT → Here (place + 1) ≡ None → place < at → at < length code.ops → place + 1 < length code.ops
       → target_due schema (Some f) (Here at) ≡ Ok tt → TestsHere place at k gives f last
@@ -75,21 +75,21 @@ module _ (schema : Schema) (sf : schemas.Fits schema) (part : Part) (code : Code
     low = low;
     high = high;
     more = lt;
-    on = (undeclared_on schema part code no_loops (with_stack (gives ∷ f.stack) f) (Here (place + 1)) none).0;
+    on = (undeclared_on schema part code (with_stack (gives ∷ f.stack) f) (Here (place + 1)) none).0;
     target = target;
   }
 
   as_tries : (class c n : ℕ) (f : Frame) (k : Kind) → length f.stack < STACK_LIMIT → dues.class_of k ≡ Ok c → dues.live k ≡ Ok tt → class < length schema.classes → Tries n (n + 1) (ops.As class 0 ∷ []) f k (kinds.Ref class)
   as_tries class c n f k room of live there at rest last out found none low high lt target behind = (
     Some (with_stack (kinds.Ref class ∷ f.stack) f),
-    as_visit schema sf part code no_loops class n at c k f last (tests_here n at k (kinds.Ref class) f last found room (none (n + 1) (omega arith) (omega arith)) (omega (arith, low)) high lt target) of live there,
+    as_visit schema sf part code class n at c k f last (tests_here n at k (kinds.Ref class) f last found room (none (n + 1) (omega arith) (omega arith)) (omega (arith, low)) high lt target) of live there,
     behind,
   )
 
   alive_tries : (c n : ℕ) (f : Frame) (k : Kind) → length f.stack < STACK_LIMIT → dues.class_of k ≡ Ok c → Tries n (n + 1) (ops.Alive 0 ∷ []) f k (kinds.Ref c)
   alive_tries c n f k room of at rest last out found none low high lt target behind = (
     Some (with_stack (kinds.Ref c ∷ f.stack) f),
-    alive_visit schema sf part code no_loops n at c k f last (tests_here n at k (kinds.Ref c) f last found room (none (n + 1) (omega arith) (omega arith)) (omega (arith, low)) high lt target) of,
+    alive_visit schema sf part code n at c k f last (tests_here n at k (kinds.Ref c) f last found room (none (n + 1) (omega arith) (omega arith)) (omega (arith, low)) high lt target) of,
     behind,
   )
 
@@ -99,14 +99,14 @@ module _ (schema : Schema) (sf : schemas.Fits schema) (part : Part) (code : Code
       let mid = with_stack (kinds.Ref c ∷ f.stack) f in
       let next : Here (n + 1) ≡ None = none (n + 1) (omega arith) (omega arith) in
       alive_tries c n f k room of at (ops.As class at ∷ rest) last out found (λ p first then. none p first (omega (arith, then))) (omega (arith, low)) high (omega (arith, lt)) target
-      (as_tries class c (n + 1) f (kinds.Ref c) room refl refl there at rest (Some mid) out (undeclared_on schema part code no_loops mid (Here (n + 1)) next).1 (λ p first then. none p (omega (arith, first)) then) low high lt target behind)
+      (as_tries class c (n + 1) f (kinds.Ref c) room refl refl there at rest (Some mid) out (undeclared_on schema part code mid (Here (n + 1)) next).1 (λ p first then. none p (omega (arith, first)) then) low high lt target behind)
 
   one_tries : (slot c n to : ℕ) (f : Frame) (k : Kind) → length f.stack < STACK_LIMIT → dues.class_of k ≡ Ok c → dues.live k ≡ Ok tt → (link : Link) → dues.single_slot schema c slot ≡ Ok link → link.to ≡ to → Tries n (n + 1) (ops.One slot 0 ∷ []) f k (kinds.Ref to)
   one_tries slot c n to f k room of live link single leads at rest last out found none low high lt target behind =
       subst (λ t. WalksHere (n + 1) rest (Some (with_stack (kinds.Ref t ∷ f.stack) f)) out → WalksHere n (ops.One slot at ∷ rest) last out) leads
       (λ then. (
         Some (with_stack (kinds.Ref link.to ∷ f.stack) f),
-        one_visit schema sf part code no_loops slot n at c link k f last (tests_here n at k (kinds.Ref link.to) f last found room (none (n + 1) (omega arith) (omega arith)) (omega (arith, low)) high lt target) of live single,
+        one_visit schema sf part code slot n at c link k f last (tests_here n at k (kinds.Ref link.to) f last found room (none (n + 1) (omega arith) (omega arith)) (omega (arith, low)) high lt target) of live single,
         then,
       ))
       behind
@@ -114,7 +114,7 @@ module _ (schema : Schema) (sf : schemas.Fits schema) (part : Part) (code : Code
   module _ (small : AreSmall schema sf part code) where
     -- what is loaded, tested and named
     named_guides : (name : List ℕ) (kind held : Kind) (s a t u : Buffer) (es : List Op) (exits : Exits) (adds : Adds s a) (puts : Puts a t es exits) (declared : declare name kind t ≡ Ok u) (clean : Clean u) → Lays schema sf part code STACK_LIMIT s a (Some held) → (Tidy schema sf t → IsGood schema sf kind)
-        → ((f : Frame) (k : Kind) → length f.stack < STACK_LIMIT → IsUnder schema sf k held → (gives : Kind) × IsUnder schema sf gives kind × Tries (length a.ops) (length t.ops) es f k gives) → Guides schema sf part code no_loops s u exits (named_guard name kind s a t u es exits adds puts declared clean)
+        → ((f : Frame) (k : Kind) → length f.stack < STACK_LIMIT → IsUnder schema sf k held → (gives : Kind) × IsUnder schema sf gives kind × Tries (length a.ops) (length t.ops) es f k gives) → Guides schema sf part code s u exits (named_guard name kind s a t u es exits adds puts declared clean)
     unfolding named_guard
     named_guides name kind held s a t u es exits adds puts declared clean m good tries =
         let d = declare_is name kind t u declared in
@@ -129,10 +129,11 @@ module _ (schema : Schema) (sf : schemas.Fits schema) (part : Part) (code : Code
           locals = locals_t;
           moves = moves;
           leads = λ sound few few_u f has.
-              let known = known_there schema sf part code no_loops s f sound few has in
+              let known = known_there schema sf part code s f sound few has in
+              let sequences = knows_sequences schema sf f.locals s.scope.kinds has.2 in
               let room = all_room schema sf part code small f has.0 in
               let some = m.some in
-              let x = m.leads f (has.1, known) room in
+              let x = m.leads f (has.1, known, sequences) room in
               let g = tries f x.0 (omega (arith, room, some)) (subst (IsUnder schema sf x.0) kind_is x.1) in
               let own = with_local d.0 g.0 f in
               let high = le-max_right t.locals (d.0 + 1) in
@@ -145,7 +146,10 @@ module _ (schema : Schema) (sf : schemas.Fits schema) (part : Part) (code : Code
                 (
                   has.0,
                   length-set f.locals d.0 g.0 ∙ has.1,
-                  knows_from schema sf own.locals u.scope.kinds u.scope.names tidy.named (subst (λ (c : Scope). AreKnown schema sf own.locals c.kinds c.names) (sym (ap (λ (x : Buffer). x.scope) d.2)) after),
+                  knows_from schema sf own.locals u.scope.kinds u.scope.names tidy.named
+                      (subst (λ (c : Scope). HasSequences schema sf own.locals c.kinds) (sym (ap (λ (x : Buffer). x.scope) d.2))
+                      (declared_sequences schema sf part code small kind t d.0 f.locals g.0 d.1 (under_value schema sf g.0 kind g.1) (subst (λ (c : Scope). HasSequences schema sf f.locals c.kinds) (sym scope_t) sequences)))
+                      (subst (λ (c : Scope). AreKnown schema sf own.locals c.kinds c.names) (sym (ap (λ (x : Buffer). x.scope) d.2)) after),
                 ),
                 λ at rest listed next out is found none low high lt on target behind.
                     let found_a = count_of s a m.grown in
@@ -155,12 +159,12 @@ module _ (schema : Schema) (sf : schemas.Fits schema) (part : Part) (code : Code
                     let undeclared : Here (length t.ops) ≡ None = none (length t.ops) (omega (arith, found_a, tested)) (omega (arith, put)) in
                     let store : WalksHere (length t.ops) (ops.Store d.0 ∷ rest) (Some w) out = (
                       Some own,
-                      straight_visit schema part code no_loops (length t.ops) (ops.Store d.0) w own (Some w) (undeclared_on schema part code no_loops w (Here (length t.ops)) undeclared).1
+                      straight_visit schema part code (length t.ops) (ops.Store d.0) w own (Some w) (undeclared_on schema part code w (Here (length t.ops)) undeclared).1
                           (store_gives schema sf part code small d.0 g.0 f (omega (arith, within, count))) (omega (arith, put, lt)) (subst (λ p. on_due schema (Some own) (Here p) ≡ Ok tt) put on),
                       subst (λ p. WalksHere p rest (Some own) out) put behind,
                     ) in
                     subst (λ l. WalksHere (length s.ops) (m.grown.ops ++ (all_aimed es at ++ l)) next out) (sym is)
-                    (leads_then schema part code no_loops m.grown.ops (all_aimed es at ++ (ops.Store d.0 ∷ rest)) (length s.ops) f (with_stack (x.0 ∷ f.stack) f) next out found (λ i first then. none i first (omega (arith, then, found_a, tested, put))) (omega (arith, found_a, tested, put, lt)) x.2
+                    (leads_then schema part code m.grown.ops (all_aimed es at ++ (ops.Store d.0 ∷ rest)) (length s.ops) f (with_stack (x.0 ∷ f.stack) f) next out found (λ i first then. none i first (omega (arith, then, found_a, tested, put))) (omega (arith, found_a, tested, put, lt)) x.2
                     (λ last found_here.
                     subst (λ p. WalksHere p (all_aimed es at ++ (ops.Store d.0 ∷ rest)) last out) found_a
                     (g.2 at (ops.Store d.0 ∷ rest) last out (subst (λ p. frame_at (Here p) last ≡ Ok (with_stack (x.0 ∷ f.stack) f)) (sym found_a) found_here) (λ p first then. none p (omega (arith, first, found_a)) (omega (arith, then, put))) low high (omega (arith, put, lt)) target store))),
@@ -202,7 +206,7 @@ module _ (schema : Schema) (sf : schemas.Fits schema) (part : Part) (code : Code
           subst (λ n. Tries (length a.ops) n (ops.Alive 0 ∷ ops.As class 0 ∷ []) f k (kinds.Ref class)) (sym count) (both_try class unit.0 (length a.ops) f k room unit.1 there),
         )
 
-    pub head_guides : (binding : Binding) (s u : Buffer) (exits : Exits) → (laid : HeadLaid schema binding s u exits) → (clean : Clean u) → Guides schema sf part code no_loops s u exits (head_guard schema binding s u exits laid clean)
+    pub head_guides : (binding : Binding) (s u : Buffer) (exits : Exits) → (laid : HeadLaid schema binding s u exits) → (clean : Clean u) → Guides schema sf part code s u exits (head_guard schema binding s u exits laid clean)
     unfolding head_guard named_guard
     head_guides (bindings.As name unit class) s u exits laid clean =
         let free = (head_guard schema (bindings.As name unit class) s u exits laid clean).clean_behind in

@@ -1,5 +1,5 @@
 -- The tests of a `with`, for the verifier: each goes on with a unit on the stack, and elsewhere without it.
-use Rattle.std.proofs.Common.{◌≡◌, ℕ, ◌+◌, ◌<◌, [], ◌∷◌, length, Option, Some, Result, Ok, refl, ap, ◌∙◌}
+use Rattle.std.proofs.Common.{◌≡◌, ℕ, ◌+◌, ◌<◌, ◌∷◌, length, Option, Some, Result, Ok, refl, ap, ◌∙◌, arith}
 use Rattle.std.proofs.lemmas.Bool.{lt-leb, lt-ltb}
 use Rattle.bb_basis.specs.Results.{◌>>=◌}
 use Rattle.bb_code.specs.Limits.{STACK_LIMIT}
@@ -22,19 +22,20 @@ use Rattle.bb_verify.specs.PartType.{Part}
 use Rattle.bb_verify.specs.Places.{frame_at, on_due, target_due}
 use Rattle.bb_verify.specs.Tables.{in_tables}
 use Rattle.bb_compile_accepted.proofs.EffectLemmas.{push_on}
+use Rattle.bb_compile_accepted.proofs.AimLemmas.{no_place}
 use Rattle.bb_compile_accepted.proofs.AtomLemmas.{live_on}
 use Rattle.bb_compile_accepted.proofs.WalkLemmas.{At, Visits, goes_ahead}
 
-module _ (s : Schema) (sf : schemas.Fits s) (part : Part) (code : Code) (no_loops : code.loops ≡ []) where
+module _ (s : Schema) (sf : schemas.Fits s) (part : Part) (code : Code) where
   -- a test of a kind on the stack, which goes on with a unit in its place
   pub record Tests (place at : ℕ) (k gives : Kind) (f : Frame) (next : Option Frame) : Type 0 where
-    pub here : frame_at (At s part code no_loops place) next ≡ Ok (with_stack (k ∷ f.stack) f)
+    pub here : frame_at (At s part code place) next ≡ Ok (with_stack (k ∷ f.stack) f)
     pub room : length f.stack < STACK_LIMIT
     pub low : place < at
     pub high : at < length code.ops
     pub more : place + 1 < length code.ops
-    pub on : on_due s (Some (with_stack (gives ∷ f.stack) f)) (At s part code no_loops (place + 1)) ≡ Ok tt
-    pub target : target_due s (Some f) (At s part code no_loops at) ≡ Ok tt
+    pub on : on_due s (Some (with_stack (gives ∷ f.stack) f)) (At s part code (place + 1)) ≡ Ok tt
+    pub target : target_due s (Some f) (At s part code at) ≡ Ok tt
 
   as_gives : (class c : ℕ) (k : Kind) (f : Frame) → dues.class_of k ≡ Ok c → dues.live k ≡ Ok tt → length f.stack < STACK_LIMIT → as_class class (with_stack (k ∷ f.stack) f) ≡ Ok (either (with_stack (kinds.Ref class ∷ f.stack) f) f)
   unfolding as_class
@@ -43,12 +44,13 @@ module _ (s : Schema) (sf : schemas.Fits s) (part : Part) (code : Code) (no_loop
       ∙ ap (λ (r : Result Frame CodeFlaw). r >>= λ next. Ok (either next f)) (push_on s sf part code (kinds.Ref class) f lt)
 
   pub as_visit : (class place at c : ℕ) (k : Kind) (f : Frame) (next : Option Frame) → Tests place at k (kinds.Ref class) f next → dues.class_of k ≡ Ok c → dues.live k ≡ Ok tt → class < length s.classes
-      → Visits s part code no_loops place (ops.As class at) next (Some (with_stack (kinds.Ref class ∷ f.stack) f))
+      → Visits s part code place (ops.As class at) next (Some (with_stack (kinds.Ref class ∷ f.stack) f))
   unfolding effect in_tables check_target op_due each
   as_visit class place at c k f next t of live there = record {
     tables = rw (lt-ltb class (length s.classes) there) refl;
     jumps = goes_ahead (length code.ops) place at t.low t.high;
-    loops = rw no_loops refl;
+    loops = λ no_loops. rw no_loops refl;
+    closed = (let low = t.low in no_place at (omega (arith, low)));
     frame = with_stack (k ∷ f.stack) f;
     here = t.here;
     edges = either (with_stack (kinds.Ref class ∷ f.stack) f) f;
@@ -65,12 +67,13 @@ module _ (s : Schema) (sf : schemas.Fits s) (part : Part) (code : Code) (no_loop
       ap (λ (r : Result ℕ CodeFlaw). r >>= λ class. push (kinds.Ref class) f >>= λ next. Ok (either next f)) of
       ∙ ap (λ (r : Result Frame CodeFlaw). r >>= λ next. Ok (either next f)) (push_on s sf part code (kinds.Ref c) f lt)
 
-  pub alive_visit : (place at c : ℕ) (k : Kind) (f : Frame) (next : Option Frame) → Tests place at k (kinds.Ref c) f next → dues.class_of k ≡ Ok c → Visits s part code no_loops place (ops.Alive at) next (Some (with_stack (kinds.Ref c ∷ f.stack) f))
+  pub alive_visit : (place at c : ℕ) (k : Kind) (f : Frame) (next : Option Frame) → Tests place at k (kinds.Ref c) f next → dues.class_of k ≡ Ok c → Visits s part code place (ops.Alive at) next (Some (with_stack (kinds.Ref c ∷ f.stack) f))
   unfolding effect in_tables check_target op_due each
   alive_visit place at c k f next t of = record {
     tables = refl;
     jumps = goes_ahead (length code.ops) place at t.low t.high;
-    loops = rw no_loops refl;
+    loops = λ no_loops. rw no_loops refl;
+    closed = (let low = t.low in no_place at (omega (arith, low)));
     frame = with_stack (k ∷ f.stack) f;
     here = t.here;
     edges = either (with_stack (kinds.Ref c ∷ f.stack) f) f;
@@ -89,12 +92,13 @@ module _ (s : Schema) (sf : schemas.Fits s) (part : Part) (code : Code) (no_loop
       ∙ (ap (λ (r : Result Link CodeFlaw). r >>= λ l. push (kinds.Ref l.to) f >>= λ next. Ok (either next f)) single ∙ ap (λ (r : Result Frame CodeFlaw). r >>= λ next. Ok (either next f)) (push_on s sf part code (kinds.Ref link.to) f lt))
 
   pub one_visit : (slot place at c : ℕ) (link : Link) (k : Kind) (f : Frame) (next : Option Frame) → Tests place at k (kinds.Ref link.to) f next → dues.class_of k ≡ Ok c → dues.live k ≡ Ok tt → dues.single_slot s c slot ≡ Ok link
-      → Visits s part code no_loops place (ops.One slot at) next (Some (with_stack (kinds.Ref link.to ∷ f.stack) f))
+      → Visits s part code place (ops.One slot at) next (Some (with_stack (kinds.Ref link.to ∷ f.stack) f))
   unfolding effect in_tables check_target op_due each
   one_visit slot place at c link k f next t of live single = record {
     tables = refl;
     jumps = goes_ahead (length code.ops) place at t.low t.high;
-    loops = rw no_loops refl;
+    loops = λ no_loops. rw no_loops refl;
+    closed = (let low = t.low in no_place at (omega (arith, low)));
     frame = with_stack (k ∷ f.stack) f;
     here = t.here;
     edges = either (with_stack (kinds.Ref link.to ∷ f.stack) f) f;

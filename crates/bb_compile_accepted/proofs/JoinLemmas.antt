@@ -14,11 +14,11 @@ use Rattle.bb_compile_buffer.specs.declared.buffer.Buffer.{Buffer}
 use Rattle.bb_verify.specs.FrameType.{Frame}
 use Rattle.bb_verify.specs.PartType.{Part}
 use Rattle.bb_verify.specs.Places.{frame_at, fits_declared, on_due, target_due}
-use Rattle.bb_compile_accepted.proofs.UnderLemmas.{IsUnder, AreKnown}
+use Rattle.bb_compile_accepted.proofs.UnderLemmas.{AreKnown}
 use Rattle.bb_compile_accepted.proofs.BufferLemmas.{Grown, Has, has_before, count_of}
-use Rattle.bb_compile_accepted.proofs.KnowLemmas.{IsHeld, Knows, known_from, knows_from, knows_weakens}
+use Rattle.bb_compile_accepted.proofs.KnowLemmas.{IsKept, IsHeld, Knows, HasSequences, known_from, knows_from, knows_weakens}
 use Rattle.bb_compile_accepted.proofs.LabelLemmas.{labels_of, label_at, Rises, HasLast, AllLabels, found_all, frame_by}
-use Rattle.bb_compile_accepted.proofs.ValueLemmas.{IsGood}
+use Rattle.bb_compile_accepted.proofs.ValueLemmas.{IsFit}
 use Rattle.bb_compile_accepted.proofs.MoveLemmas.{Tidy}
 use Rattle.bb_compile_accepted.proofs.WalkLemmas.{At}
 
@@ -30,7 +30,7 @@ abbrev pub kinds_here : Option (List Kind) → List Kind → List Kind
 kinds_here None ks = ks
 kinds_here (Some ls) ks = ls
 
-at_range : (ks : List Kind) (n m i : ℕ) → i < m → kind_at (map (kind_at ks) (range_with_len n m)) i ≡ kind_at ks (n + i)
+pub at_range : (ks : List Kind) (n m i : ℕ) → i < m → kind_at (map (kind_at ks) (range_with_len n m)) i ≡ kind_at ks (n + i)
 at_range ks n zero i lt = absurd (omega (arith, lt))
 at_range ks n (suc m) zero lt = ap (kind_at ks) (let e : n ≡ n + 0 = omega arith in e)
 at_range ks n (suc m) (suc i) lt = at_range ks (n + 1) m i (omega (arith, lt)) ∙ ap (kind_at ks) (let e : n + 1 + i ≡ n + suc i = omega arith in e)
@@ -39,9 +39,9 @@ range_count : (n m : ℕ) → length (range_with_len n m) ≡ m
 range_count n zero = refl
 range_count n (suc m) = ap suc (range_count (n + 1) m)
 
-module _ (s : Schema) (sf : schemas.Fits s) (part : Part) (code : Code) (no_loops : code.loops ≡ []) where
+module _ (s : Schema) (sf : schemas.Fits s) (part : Part) (code : Code) where
   abbrev Declared : ℕ → Option Frame
-  Declared place = At s part code no_loops place
+  Declared place = At s part code place
 
   abbrev Frame₁ : List Kind → Frame
   Frame₁ ks = frame_by code.locals ks
@@ -51,11 +51,11 @@ module _ (s : Schema) (sf : schemas.Fits s) (part : Part) (code : Code) (no_loop
   HasFrame f ks = (f.stack ≡ []) × (length f.locals ≡ code.locals) × Knows s sf f.locals ks
 
   abbrev pub AreGood : List Kind → Type 0
-  AreGood ks = (i : ℕ) → is_free (kind_at ks i) ≡ false → IsGood s sf (kind_at ks i)
+  AreGood ks = (i : ℕ) → is_free (kind_at ks i) ≡ false → IsFit s sf (kind_at ks i)
 
   -- where these kinds are known, those are
   abbrev pub Weaker : List Kind → List Kind → Type 0
-  Weaker ks ls = (i : ℕ) → is_free (kind_at ls i) ≡ false → (k : Kind) → IsHeld s sf k (kind_at ks i) → IsUnder s sf k (kind_at ls i)
+  Weaker ks ls = (i : ℕ) → is_free (kind_at ls i) ≡ false → (k : Kind) → IsHeld s sf k (kind_at ks i) → IsKept s sf k (kind_at ls i)
 
   pub frame_weaker : (f : Frame) (ks ls : List Kind) → Weaker ks ls → HasFrame f ks → HasFrame f ls
   frame_weaker f ks ls weaker has = (has.0, has.1, λ i taken. weaker i taken (kind_at f.locals i) (has.2 i))
@@ -87,10 +87,10 @@ module _ (s : Schema) (sf : schemas.Fits s) (part : Part) (code : Code) (no_loop
 
   -- ---- one label
 
-  label_good : (t : Buffer) → Sound t → (p : ℕ) (ks : List Kind) → label_at (labels_of t) p ≡ Some ks → AreGood ks
+  pub label_good : (t : Buffer) → Sound t → (p : ℕ) (ks : List Kind) → label_at (labels_of t) p ≡ Some ks → AreGood ks
   label_good t sound p ks at = found_all AreGood None (labels_of t) p ks sound.good (λ ms e. absurd cc) at
 
-  label_fits : (f : Frame) (ks : List Kind) → AreGood ks → HasFrame f ks → frame_weakens s f (Frame₁ ks) ≡ true
+  pub label_fits : (f : Frame) (ks : List Kind) → AreGood ks → HasFrame f ks → frame_weakens s f (Frame₁ ks) ≡ true
   label_fits f ks good has = knows_weakens s sf f code.locals ks has.1 has.0 (λ i taken. (good i taken).1) has.2
 
   pub strong_frame : (t : Buffer) → Sound t → (g : Frame) → HasFrame g (kinds_here (here t) t.scope.kinds) → HasFrame g t.scope.kinds
@@ -101,14 +101,14 @@ module _ (s : Schema) (sf : schemas.Fits s) (part : Part) (code : Code) (no_loop
       by_label (Some ks) at has = frame_weaker g ks t.scope.kinds (sound.strong ks at) has
 
   -- where a label stands, its own frame is declared
-  declared_good : (t : Buffer) → Sound t → t.locals ≤ code.locals → (ks : List Kind) → here t ≡ Some ks → HasFrame (Frame₁ ks) t.scope.kinds
+  pub declared_good : (t : Buffer) → Sound t → t.locals ≤ code.locals → (ks : List Kind) → here t ≡ Some ks → HasFrame (Frame₁ ks) t.scope.kinds
   declared_good t sound le ks at = (
     refl,
     length-map (range_with_len 0 code.locals) (kind_at ks) ∙ range_count 0 code.locals,
     λ i taken.
         let low = sound.tidy.low i taken in
         let own : kind_at (Frame₁ ks).locals i ≡ kind_at ks i = at_range ks 0 code.locals i (omega (arith, low, le)) ∙ ap (kind_at ks) (let e : 0 + i ≡ i = omega arith in e) in
-        sound.strong ks at i taken (kind_at (Frame₁ ks).locals i) (λ free. subst (λ k. IsUnder s sf k (kind_at ks i)) (sym own) (label_good t sound (length t.ops) ks at i free).1),
+        sound.strong ks at i taken (kind_at (Frame₁ ks).locals i) (λ free. subst (λ k. IsKept s sf k (kind_at ks i)) (sym own) (label_good t sound (length t.ops) ks at i free).1),
   )
 
   -- what stands where the next op comes
@@ -191,5 +191,5 @@ module _ (s : Schema) (sf : schemas.Fits s) (part : Part) (code : Code) (no_loop
   known_there t f sound le has =
       known_from s sf f.locals t.scope.kinds t.scope.names sound.tidy.taken (λ i taken. let low = sound.tidy.low i taken in let count = has.1 in omega (arith, low, le, count)) has.2
 
-  pub knows_there : (t : Buffer) (f : Frame) → Sound t → f.stack ≡ [] → length f.locals ≡ code.locals → AreKnown s sf f.locals t.scope.kinds t.scope.names → HasFrame f t.scope.kinds
-  knows_there t f sound none count known = (none, count, knows_from s sf f.locals t.scope.kinds t.scope.names sound.tidy.named known)
+  pub knows_there : (t : Buffer) (f : Frame) → Sound t → f.stack ≡ [] → length f.locals ≡ code.locals → AreKnown s sf f.locals t.scope.kinds t.scope.names → HasSequences s sf f.locals t.scope.kinds → HasFrame f t.scope.kinds
+  knows_there t f sound none count known sequences = (none, count, knows_from s sf f.locals t.scope.kinds t.scope.names sound.tidy.named sequences known)

@@ -10,11 +10,11 @@ use Rattle.bb_schema.specs.Fits as schemas
 use Rattle.bb_verify_frame.specs.Kind.{Kind}
 use Rattle.bb_verify_frame.specs.Kind.TheVariants.{Any, Int, Text, Bool as Truth, Label, Interval, Ref, Old, Seq}
 use Rattle.bb_verify_frame.specs.Kinds.{weakens, weakens_local, frame_weakens}
-use Rattle.bb_compile_scope.specs.Kinds.{is_live}
+use Rattle.bb_compile_scope.specs.Kinds.{class_of, is_live}
 use Rattle.bb_compile_scope.specs.LocalKinds.{is_free, kind_at, paired, left_kind, kinds_left, met_kind, kinds_met}
 use Rattle.bb_compile_scope.specs.declared.scope.NamedLocal.{NamedLocal}
 use Rattle.bb_verify.specs.FrameType.{Frame}
-use Rattle.bb_compile_accepted.proofs.UnderLemmas.{IsUnder, AreKnown}
+use Rattle.bb_compile_accepted.proofs.UnderLemmas.{IsUnder, AreKnown, descends_same}
 use Rattle.bb_compile_accepted.proofs.LabelLemmas.{frame_by}
 
 -- a kind, where a unit may be deleted
@@ -32,6 +32,22 @@ free_aged (Label set) = refl
 free_aged Interval = refl
 free_aged (Old c) = refl
 free_aged (Seq c) = refl
+
+-- a sequence of units, which no name has
+abbrev pub is_sequence : Kind → Bool
+is_sequence (Seq class) = true
+is_sequence k = false
+
+pub sequence_aged : (k : Kind) → is_sequence (aged k) ≡ is_sequence k
+sequence_aged (Ref c) = refl
+sequence_aged Any = refl
+sequence_aged Int = refl
+sequence_aged Text = refl
+sequence_aged Truth = refl
+sequence_aged (Label set) = refl
+sequence_aged Interval = refl
+sequence_aged (Old c) = refl
+sequence_aged (Seq c) = refl
 
 -- each local that is taken stays one of the same kind, but for units that may be deleted
 abbrev pub Agree : (before after : List Kind) → Type 0
@@ -86,9 +102,60 @@ pub meet_left : (ks ls : List Kind) → Agree ks ls → Meet ks (kinds_left ks l
 meet_left ks ls agree i taken = let was = left_taken ks ls i taken in agree i was.0 ∙ ap aged (sym was.1)
 
 module _ (s : Schema) (sf : schemas.Fits s) where
+  -- what a local is known to hold: a sequence of just this class, or a value
+  abbrev pub IsKept : (known thought : Kind) → Type 0
+  IsKept k (Seq class) = k ≡ Seq class
+  IsKept k t = IsUnder s sf k t
+
+  pub under_kept : (k t : Kind) → IsUnder s sf k t → IsKept k t
+  under_kept k (Seq c) u = absurd u
+  under_kept k (Ref c) u = u
+  under_kept k (Old c) u = u
+  under_kept k Any u = u
+  under_kept k Int u = u
+  under_kept k Text u = u
+  under_kept k Truth u = u
+  under_kept k (Label set) u = u
+  under_kept k Interval u = u
+
+  pub kept_under : (k t : Kind) → is_sequence t ≡ false → IsKept k t → IsUnder s sf k t
+  kept_under k (Seq c) other u = absurd cc
+  kept_under k (Ref c) other u = u
+  kept_under k (Old c) other u = u
+  kept_under k Any other u = u
+  kept_under k Int other u = u
+  kept_under k Text other u = u
+  kept_under k Truth other u = u
+  kept_under k (Label set) other u = u
+  kept_under k Interval other u = u
+
+  -- what is known of a unit
+  pub kept_unit : (k t : Kind) (class : ℕ) → class_of t ≡ Some class → IsKept k t → IsUnder s sf k t
+  kept_unit k (Seq c) class of u = absurd cc
+  kept_unit k (Ref c) class of u = u
+  kept_unit k (Old c) class of u = u
+  kept_unit k Any class of u = absurd cc
+  kept_unit k Int class of u = absurd cc
+  kept_unit k Text class of u = absurd cc
+  kept_unit k Truth class of u = absurd cc
+  kept_unit k (Label set) class of u = absurd cc
+  kept_unit k Interval class of u = absurd cc
+
+  -- a value is no sequence
+  pub under_value : (k t : Kind) → IsUnder s sf k t → is_sequence t ≡ false
+  under_value k (Seq c) u = absurd u
+  under_value k (Ref c) u = refl
+  under_value k (Old c) u = refl
+  under_value k Any u = refl
+  under_value k Int u = refl
+  under_value k Text u = refl
+  under_value k Truth u = refl
+  under_value k (Label set) u = refl
+  under_value k Interval u = refl
+
   -- a local of this kind is known, unless nothing is said of it
   abbrev pub IsHeld : (known thought : Kind) → Type 0
-  IsHeld k t = is_free t ≡ false → IsUnder s sf k t
+  IsHeld k t = is_free t ≡ false → IsKept k t
 
   abbrev pub Knows : List Kind → (thought : List Kind) → Type 0
   Knows locals thought = (i : ℕ) → IsHeld (kind_at locals i) (kind_at thought i)
@@ -106,24 +173,45 @@ module _ (s : Schema) (sf : schemas.Fits s) where
 
   abbrev pub AllTaken : List Kind → List NamedLocal → Type 0
   AllTaken kinds [] = Unit {0}
-  AllTaken kinds (n ∷ ns) = (is_free (kind_at kinds n.local) ≡ false) × AllTaken kinds ns
+  AllTaken kinds (n ∷ ns) = (is_free (kind_at kinds n.local) ≡ false) × (is_sequence (kind_at kinds n.local) ≡ false) × AllTaken kinds ns
+
+  -- the locals that hold sequences hold just these
+  abbrev pub HasSequences : (locals thought : List Kind) → Type 0
+  HasSequences locals thought = (i class : ℕ) → kind_at thought i ≡ Seq class → kind_at locals i ≡ Seq class
+
+  pub knows_sequences : (locals thought : List Kind) → Knows locals thought → HasSequences locals thought
+  knows_sequences locals thought knows i class is = subst (IsKept (kind_at locals i)) is (knows i (ap is_free is))
 
   known_local : (locals thought : List Kind) (ns : List NamedLocal) (i : ℕ) → AreKnown s sf locals thought ns → HasLocal i ns → IsUnder s sf (kind_at locals i) (kind_at thought i)
   known_local locals thought [] i known has = absurd has
   known_local locals thought (n ∷ ns) i known (inl e) = subst (λ j. IsUnder s sf (kind_at locals j) (kind_at thought j)) e known.1
   known_local locals thought (n ∷ ns) i known (inr has) = known_local locals thought ns i known.2 has
 
-  pub knows_from : (locals thought : List Kind) (ns : List NamedLocal) → ((i : ℕ) → is_free (kind_at thought i) ≡ false → HasLocal i ns) → AreKnown s sf locals thought ns → Knows locals thought
-  knows_from locals thought ns named known i taken = known_local locals thought ns i known (named i taken)
+  pub knows_from : (locals thought : List Kind) (ns : List NamedLocal) → ((i : ℕ) → is_free (kind_at thought i) ≡ false → is_sequence (kind_at thought i) ≡ false → HasLocal i ns) → HasSequences locals thought → AreKnown s sf locals thought ns → Knows locals thought
+  knows_from locals thought ns named sequences known i taken = by_kind (kind_at thought i) refl
+    where
+      value : is_sequence (kind_at thought i) ≡ false → IsKept (kind_at locals i) (kind_at thought i)
+      value other = under_kept (kind_at locals i) (kind_at thought i) (known_local locals thought ns i known (named i taken other))
+
+      by_kind : (t : Kind) → kind_at thought i ≡ t → IsKept (kind_at locals i) (kind_at thought i)
+      by_kind (Seq c) is = subst (IsKept (kind_at locals i)) (sym is) (sequences i c is)
+      by_kind (Ref c) is = value (ap is_sequence is)
+      by_kind (Old c) is = value (ap is_sequence is)
+      by_kind Any is = value (ap is_sequence is)
+      by_kind Int is = value (ap is_sequence is)
+      by_kind Text is = value (ap is_sequence is)
+      by_kind Truth is = value (ap is_sequence is)
+      by_kind (Label set) is = value (ap is_sequence is)
+      by_kind Interval is = value (ap is_sequence is)
 
   pub known_from : (locals thought : List Kind) (ns : List NamedLocal) → AllTaken thought ns → ((i : ℕ) → is_free (kind_at thought i) ≡ false → i < length locals) → Knows locals thought → AreKnown s sf locals thought ns
   known_from locals thought [] taken low knows = tt
-  known_from locals thought (n ∷ ns) taken low knows = (low n.local taken.0, knows n.local taken.0, known_from locals thought ns taken.1 low knows)
+  known_from locals thought (n ∷ ns) taken low knows = (low n.local taken.0, kept_under (kind_at locals n.local) (kind_at thought n.local) taken.1 (knows n.local taken.0), known_from locals thought ns taken.2 low knows)
 
   -- ---- behind a block, and where branches meet
 
   pub knows_left : (locals ks ls : List Kind) → Knows locals ls → Knows locals (kinds_left ks ls)
-  knows_left locals ks ls knows i taken = let was = left_taken ks ls i taken in subst (IsUnder s sf (kind_at locals i)) (sym was.1) (knows i (ap is_free (sym was.1) ∙ taken))
+  knows_left locals ks ls knows i taken = let was = left_taken ks ls i taken in subst (IsKept (kind_at locals i)) (sym was.1) (knows i (ap is_free (sym was.1) ∙ taken))
 
   -- a unit that is known to be live is one that may be deleted
   under_live : (k t r : Kind) → is_live t ≡ true → IsUnder s sf k t → aged r ≡ aged t → IsUnder s sf k r
@@ -199,35 +287,69 @@ module _ (s : Schema) (sf : schemas.Fits s) where
   under_aged k (Label set) (Old e) dead u same = absurd cc
   under_aged k Interval (Old e) dead u same = absurd cc
 
+  -- and so of any local
+  kept_live : (k t r : Kind) → is_live t ≡ true → IsKept k t → aged r ≡ aged t → IsKept k r
+  kept_live k t r live u same = under_kept k r (under_live k t r live (kept_under k t (live_value t live) u) same)
+    where
+      live_value : (t : Kind) → is_live t ≡ true → is_sequence t ≡ false
+      live_value (Ref c) h = refl
+      live_value _ h = absurd cc
+
+  pub kept_aged : (k t r : Kind) → is_live r ≡ false → IsKept k t → aged t ≡ aged r → IsKept k r
+  kept_aged k t r dead u same = by_sequence (is_sequence r) refl
+    where
+      both : (t r : Kind) → IsKept k t → aged t ≡ aged r → is_sequence r ≡ true → IsKept k r
+      both (Seq d) (Seq c) u same is = u ∙ (let e : Seq d ≡ Seq c = same in e)
+      both (Ref d) (Seq c) u same is = absurd cc
+      both (Old d) (Seq c) u same is = absurd cc
+      both Any (Seq c) u same is = absurd cc
+      both Int (Seq c) u same is = absurd cc
+      both Text (Seq c) u same is = absurd cc
+      both Truth (Seq c) u same is = absurd cc
+      both (Label set) (Seq c) u same is = absurd cc
+      both Interval (Seq c) u same is = absurd cc
+      both t (Ref c) u same is = absurd cc
+      both t (Old c) u same is = absurd cc
+      both t Any u same is = absurd cc
+      both t Int u same is = absurd cc
+      both t Text u same is = absurd cc
+      both t Truth u same is = absurd cc
+      both t (Label set) u same is = absurd cc
+      both t Interval u same is = absurd cc
+
+      by_sequence : (b : Bool) → is_sequence r ≡ b → IsKept k r
+      by_sequence true is = both t r u same is
+      by_sequence false is = under_kept k r (under_aged k t r dead (kept_under k t (sym (sequence_aged t) ∙ (ap is_sequence same ∙ (sequence_aged r ∙ is))) u) same)
+
   -- behind the branch that comes last
   pub knows_met_one : (locals other one : List Kind) → Meet other one → Knows locals one → Knows locals (kinds_met other one)
   knows_met_one locals other one meet knows i taken = by_met (met_at other one i)
     where
-      by_live : (b : Bool) → is_live (kind_at one i) ≡ b → is_free (cond b (kind_at other i) (kind_at one i)) ≡ false → IsUnder s sf (kind_at locals i) (cond b (kind_at other i) (kind_at one i))
+      by_live : (b : Bool) → is_live (kind_at one i) ≡ b → is_free (cond b (kind_at other i) (kind_at one i)) ≡ false → IsKept (kind_at locals i) (cond b (kind_at other i) (kind_at one i))
       by_live true live free =
           let here : is_free (kind_at one i) ≡ false = live_taken (kind_at one i) live in
-          under_live (kind_at locals i) (kind_at one i) (kind_at other i) live (knows i here) (meet i here)
+          kept_live (kind_at locals i) (kind_at one i) (kind_at other i) live (knows i here) (meet i here)
         where
           live_taken : (k : Kind) → is_live k ≡ true → is_free k ≡ false
           live_taken (Ref c) h = refl
           live_taken _ h = absurd cc
       by_live false live free = knows i free
 
-      by_met : (kind_at (kinds_met other one) i ≡ met_kind (kind_at other i) (kind_at one i)) ⊎ (kind_at (kinds_met other one) i ≡ Any) → IsUnder s sf (kind_at locals i) (kind_at (kinds_met other one) i)
-      by_met (inl e) = subst (IsUnder s sf (kind_at locals i)) (sym e) (by_live (is_live (kind_at one i)) refl (sym (ap is_free e) ∙ taken))
+      by_met : (kind_at (kinds_met other one) i ≡ met_kind (kind_at other i) (kind_at one i)) ⊎ (kind_at (kinds_met other one) i ≡ Any) → IsKept (kind_at locals i) (kind_at (kinds_met other one) i)
+      by_met (inl e) = subst (IsKept (kind_at locals i)) (sym e) (by_live (is_live (kind_at one i)) refl (sym (ap is_free e) ∙ taken))
       by_met (inr e) = absurd (let no : true ≡ false = sym (ap is_free e) ∙ taken in cc)
 
   -- behind the other branch
   pub knows_met_other : (locals other one : List Kind) → Meet other one → Knows locals other → Knows locals (kinds_met other one)
   knows_met_other locals other one meet knows i taken = by_met (met_at other one i)
     where
-      by_live : (b : Bool) → is_live (kind_at one i) ≡ b → is_free (cond b (kind_at other i) (kind_at one i)) ≡ false → IsUnder s sf (kind_at locals i) (cond b (kind_at other i) (kind_at one i))
+      by_live : (b : Bool) → is_live (kind_at one i) ≡ b → is_free (cond b (kind_at other i) (kind_at one i)) ≡ false → IsKept (kind_at locals i) (cond b (kind_at other i) (kind_at one i))
       by_live true live free = knows i free
       by_live false live free =
-          under_aged (kind_at locals i) (kind_at other i) (kind_at one i) live (knows i (taken_on (kind_at one i) (kind_at other i) (sym (meet i free)) free)) (meet i free)
+          kept_aged (kind_at locals i) (kind_at other i) (kind_at one i) live (knows i (taken_on (kind_at one i) (kind_at other i) (sym (meet i free)) free)) (meet i free)
 
-      by_met : (kind_at (kinds_met other one) i ≡ met_kind (kind_at other i) (kind_at one i)) ⊎ (kind_at (kinds_met other one) i ≡ Any) → IsUnder s sf (kind_at locals i) (kind_at (kinds_met other one) i)
-      by_met (inl e) = subst (IsUnder s sf (kind_at locals i)) (sym e) (by_live (is_live (kind_at one i)) refl (sym (ap is_free e) ∙ taken))
+      by_met : (kind_at (kinds_met other one) i ≡ met_kind (kind_at other i) (kind_at one i)) ⊎ (kind_at (kinds_met other one) i ≡ Any) → IsKept (kind_at locals i) (kind_at (kinds_met other one) i)
+      by_met (inl e) = subst (IsKept (kind_at locals i)) (sym e) (by_live (is_live (kind_at one i)) refl (sym (ap is_free e) ∙ taken))
       by_met (inr e) = absurd (let no : true ≡ false = sym (ap is_free e) ∙ taken in cc)
 
   -- ---- a frame may stand where one of these kinds is declared
@@ -246,7 +368,7 @@ module _ (s : Schema) (sf : schemas.Fits s) where
       by_old : IsUnder s sf k (Old d) → weakens s k (Old d) ≡ true
       by_old (c, inl e, up) = rw e up
       by_old (c, inr e, up) = rw e up
-  held_weakens k (Seq d) h own = absurd (own refl)
+  held_weakens k (Seq d) h own = rw (h refl) (descends_same s sf d)
 
   all_weaken : (locals : List Kind) (n : ℕ) (thought : List Kind) → ((i : ℕ) → IsHeld (kind_at locals i) (kind_at thought (n + i))) → ((i : ℕ) → IsHeld (kind_at thought i) (kind_at thought i)) → pointwise (weakens_local s) locals (map (kind_at thought) (range_with_len n (length locals))) ≡ true
   all_weaken [] n thought held own = refl

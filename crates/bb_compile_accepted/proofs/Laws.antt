@@ -1,7 +1,7 @@
 -- What the crates above use of what the compiler lays out, and that its code is accepted.
 pub use Rattle.bb_compile_accepted.proofs.BufferLemmas.{Clean, passed, not_failed, never_noted, is_due, is_known, with_op, put_ok, put_clean, put_value_ok, Grown, grown_none, grown_op, grown_on, count_of, is_open, Has, has_before, seam, op_at, count_op, front}
 pub use Rattle.bb_compile_accepted.proofs.UnderLemmas.{descends_on, under_class}
-pub use Rattle.bb_compile_accepted.proofs.KnowLemmas.{Finds}
+pub use Rattle.bb_compile_accepted.proofs.KnowLemmas.{Finds, kept_unit}
 pub use Rattle.bb_compile_accepted.proofs.PutLemmas.{pair_ok, triple_ok, clean_before, IsPut, pushed_ok, IsLoaded, variable_ok, IsUnit, unit_ok, one_due_ok, two_due_ok}
 pub use Rattle.bb_compile_accepted.proofs.HeldLemmas.{find_sound, named_slot}
 pub use Rattle.bb_compile_accepted.proofs.ExprLemmas.{class_there}
@@ -16,4 +16,5 @@ pub use Rattle.bb_compile_accepted.proofs.GuardLemmas.{Puts, exits_of, tested_pu
 unfoldable pub use Rattle.bb_compile_accepted.proofs.GuardLemmas.{test_guard, named_guard, head_guard, if_branches, with_branches}
 pub use Rattle.bb_compile_accepted.proofs.HeadLemmas.{OfClass, IsAlive, IsBoth, Tested, AsLaid, LinkLaid, HeadLaid, binding_laid}
 pub use Rattle.bb_compile_accepted.proofs.AimLemmas.{AreAimed, same_more, more_after, block_count, aims_grown, aims_count, aims_has, aims_there, aimed_behind, aimed_before, jump_count, open_is, closed_is, end_count, open_has, jump_there}
-pub use Rattle.bb_compile_accepted.proofs.BlockLemmas.{stated, plain_loopless, block_clean, statement_clean, block_now, block_grown}
+pub use Rattle.bb_compile_accepted.proofs.BlockLemmas.{stated, plain_loopless}
+pub use Rattle.bb_compile_accepted.proofs.TextLays.{block_clean, statement_clean, block_now, block_grown}

@@ -1,5 +1,5 @@
 -- Parts of an expression, one after another, lead from frame to frame.
-use Rattle.std.proofs.Common.{◌≡◌, ℕ, ◌+◌, ◌-◌, ◌<◌, ◌≤◌, [], ◌∷◌, length, Some, None, refl, subst, sym, ap, ◌∙◌, arith}
+use Rattle.std.proofs.Common.{◌≡◌, ℕ, ◌+◌, ◌-◌, ◌<◌, ◌≤◌, [], ◌∷◌, length, Option, Some, None, refl, subst, sym, ap, ◌∙◌, arith}
 use Rattle.bb_code.specs.Limits.{STACK_LIMIT}
 use Rattle.bb_schema.specs.Schema.{Schema}
 use Rattle.bb_schema.specs.Fits as schemas
@@ -14,6 +14,7 @@ use Rattle.bb_verify.specs.FrameType.{Frame}
 use Rattle.bb_verify.specs.Frame.{with_stack}
 use Rattle.bb_compile_accepted.proofs.StraightLemmas.{Gives, Leads, leads_on}
 use Rattle.bb_compile_accepted.proofs.UnderLemmas.{IsUnder, AreKnown}
+use Rattle.bb_compile_accepted.proofs.KnowLemmas.{HasSequences}
 use Rattle.bb_compile_accepted.proofs.BufferLemmas.{Clean, Grown, with_op, grown_op, grown_on}
 use Rattle.bb_compile_accepted.proofs.EffectLemmas.{OneGives, TwoGives}
 
@@ -27,10 +28,10 @@ bare_op op s t put = ap bare put
 module _ (schema : Schema) (sf : schemas.Fits schema) (part : Part) (code : Code) where
   -- the verifier knows of each name's local what the compiler takes it for
   abbrev pub Known : Frame → Buffer → Type 0
-  Known f s = (length f.locals ≡ code.locals) × AreKnown schema sf f.locals s.scope.kinds s.scope.names
+  Known f s = (length f.locals ≡ code.locals) × AreKnown schema sf f.locals s.scope.kinds s.scope.names × HasSequences schema sf f.locals s.scope.kinds
 
   pub known_same : (f : Frame) (s t : Buffer) → bare t ≡ bare s → Known f s → Known f t
-  known_same f s t same known = (known.0, subst (λ (u : Buffer). AreKnown schema sf f.locals u.scope.kinds u.scope.names) (sym same) known.1)
+  known_same f s t same known = (known.0, subst (λ (u : Buffer). AreKnown schema sf f.locals u.scope.kinds u.scope.names) (sym same) known.1, subst (λ (u : Buffer). HasSequences schema sf f.locals u.scope.kinds) (sym same) known.2)
 
   -- what is laid out from one buffer to another pushes a value of a kind, where the stack has room for `space` values
   pub record Lays (space : ℕ) (s t : Buffer) (made : Made) : Type 0 where
@@ -144,9 +145,12 @@ module _ (schema : Schema) (sf : schemas.Fits schema) (part : Part) (code : Code
   -- ---- sequences
 
   -- what is laid out pushes a sequence
-  pub record LaysUnits (space : ℕ) (s t : Buffer) : Type 0 where
+  pub record LaysUnits (space : ℕ) (s t : Buffer) (found : Option ℕ) : Type 0 where
     pub grown : Grown s t
     pub clean : Clean s
     pub same : bare t ≡ bare s
     pub some : 1 ≤ space
-    pub leads : (f : Frame) → Known f s → length f.stack + space ≡ STACK_LIMIT → (class : ℕ) × Leads schema part code grown.ops f (with_stack (kinds.Seq class ∷ f.stack) f)
+    pub class : ℕ
+    pub found_is : found ≡ Some class
+    pub there : class < length schema.classes
+    pub leads : (f : Frame) → Known f s → length f.stack + space ≡ STACK_LIMIT → Leads schema part code grown.ops f (with_stack (kinds.Seq class ∷ f.stack) f)

@@ -60,8 +60,14 @@ pub mod GrownLemmas
 pub mod MoreLemmas
 -- what stands before a first block
 pub mod GuardLemmas
--- flaws and ends of blocks
+-- what blocks add
 pub mod BlockLemmas
+-- what a for lays out
+pub mod LoopLaid
+-- what it adds
+pub mod ForLays
+-- flaws and ends of texts, and what they add
+pub mod TextLays
 -- kinds behind two branches
 pub mod MergeLemmas
 -- statements without blocks, where labels stand before

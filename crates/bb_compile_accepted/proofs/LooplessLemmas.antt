@@ -37,7 +37,8 @@ use Rattle.bb_compile_accepted.proofs.StraightLemmas.{Ends, nothing_follows}
 use Rattle.bb_compile_accepted.proofs.BufferLemmas.{Has, with_op, put_ok, count_of, front}
 use Rattle.bb_compile_accepted.proofs.PutLemmas.{pair_ok}
 use Rattle.bb_compile_accepted.proofs.PatternLemmas.{AreSmall}
-use Rattle.bb_compile_accepted.proofs.BlockLemmas.{Lays, same_labels, block_now, block_lays}
+use Rattle.bb_compile_accepted.proofs.BlockLemmas.{Lays, same_labels}
+use Rattle.bb_compile_accepted.proofs.TextLays.{block_now, block_lays, block_loops}
 use Rattle.bb_compile_accepted.proofs.LabelLemmas.{listed, labels_of, label_at, AllLabels, Rises, frame_by, declared_is}
 use Rattle.bb_compile_accepted.proofs.KnowLemmas.{Finds}
 use Rattle.bb_compile_accepted.proofs.WalkLemmas.{Walks, walked_frames, walks_on, end_visit, At}
@@ -46,7 +47,7 @@ use Rattle.bb_compile_accepted.proofs.BeforeLemmas.{InBlock}
 use Rattle.bb_compile_accepted.proofs.JoinLemmas.{here, HasFrame, AreGood, Sound, Agrees, Arrives, arrive, joins_own, knows_there}
 use Rattle.bb_compile_accepted.proofs.GoesLemmas.{After, Goes}
 use Rattle.bb_compile_accepted.proofs.AcceptLemmas.{block_goes}
-use Rattle.bb_compile_accepted.proofs.WholeLemmas.{rises_unlabelled, walked_accepted, begin_sound}
+use Rattle.bb_compile_accepted.proofs.WholeLemmas.{begin_sequences, rises_unlabelled, loops_pass, walked_accepted, begin_sound}
 use Rattle.bb_compile_accepted.proofs.PartLemmas.{begin_known, begin_count, all_at, query_limits, queries_within, version_fits}
 
 -- what is laid out for a part, taken from what the compiler answers
@@ -97,25 +98,25 @@ module _ (schema : Schema) (sf : schemas.Fits schema) (part : Part) (classes : H
     small i q at = query_limits q (all_at query_within u.queries i q (queries_within code within) at)
 
     lays : Lays first t
-    lays = block_lays schema part block LOOP_NESTING false now first t loopless h
+    lays = block_lays schema part block LOOP_NESTING false now first t h
 
     no_loops : code.loops ≡ []
-    no_loops = loops ∙ lays.loops
+    no_loops = loops ∙ block_loops schema part block LOOP_NESTING false now first t loopless h
 
     labels_are : listed u.labels u.last ≡ labels_of t
     labels_are = same_labels t u labels last
 
-    declared : (p : ℕ) → p < length u.ops → At schema part code no_loops p ≡ option_map (frame_by code.locals) (label_at (labels_of t) p)
+    declared : (p : ℕ) → p < length u.ops → At schema part code p ≡ option_map (frame_by code.locals) (label_at (labels_of t) p)
     declared p lt = declared_is code u.labels u.last p refl lt ∙ ap (λ ls. option_map (frame_by code.locals) (label_at ls p)) labels_are
 
-    agrees : Agrees schema sf part code no_loops t
+    agrees : Agrees schema sf part code t
     agrees = record { has = has; within = le; locals = let e = locals in omega (arith, e); frames = λ p lt. declared p (let few = le in omega (arith, lt, few)) }
 
-    sound : Sound schema sf part code no_loops first
-    sound = begin_sound schema sf part place code no_loops classes
+    sound : Sound schema sf part code first
+    sound = begin_sound schema sf part place code classes
 
-    goes : Goes schema sf part code no_loops first t now (Told now t h)
-    goes = block_goes schema sf part code no_loops small block LOOP_NESTING false now first t loopless h sound agrees
+    goes : Goes schema sf part code first t now (Told now t h)
+    goes = block_goes schema sf part code small block LOOP_NESTING false now first t loopless h sound agrees
 
     few : length (units_of part) ≤ code.locals
     few = let grows = lays.locals in let e = locals in omega (arith, grows, e)
@@ -123,23 +124,23 @@ module _ (schema : Schema) (sf : schemas.Fits schema) (part : Part) (classes : H
     abbrev entry : Frame
     entry = entry_frame part code.locals
 
-    entry_fits : HasFrame schema sf part code no_loops entry first.scope.kinds
-    entry_fits = knows_there schema sf part code no_loops first entry sound refl (begin_count part code.locals few) (begin_known schema sf part code.locals few)
+    entry_fits : HasFrame schema sf part code entry first.scope.kinds
+    entry_fits = knows_there schema sf part code first entry sound refl (begin_count part code.locals few) (begin_known schema sf part code.locals few) (begin_sequences schema sf part entry.locals)
 
-    arrives : Arrives schema sf part code no_loops (Some entry) first
+    arrives : Arrives schema sf part code (Some entry) first
     arrives = inl (entry, refl, entry_fits)
 
     ops_are : t.ops ≡ goes.grown.ops
     ops_are = goes.grown.ops_are
 
     -- the frames that are found, and what they tell
-    told : Rises 0 (listed u.labels u.last) (length u.ops) → Walks schema part code no_loops 0 u.ops (Some entry) None → on_due schema (Some entry) (At schema part code no_loops 0) ≡ Ok tt → ((frames : List Frame) → Traced schema part code no_loops frames 0 (Some entry) → Told now t h frames)
+    told : Rises 0 (listed u.labels u.last) (length u.ops) → Walks schema part code 0 u.ops (Some entry) None → on_due schema (Some entry) (At schema part code 0) ≡ Ok tt → ((frames : List Frame) → Traced schema part code frames 0 (Some entry) → Told now t h frames)
         → Accepted code now t h
     told rises walks on tells =
-        let frames = walked_frames schema part code no_loops 0 u.ops (Some entry) None walks in (
+        let frames = walked_frames schema part code 0 u.ops (Some entry) None walks in (
           frames,
-          walked_accepted schema sf part code no_loops u.labels u.last refl rises (subst (AllLabels (AreGood schema sf part code no_loops)) (sym labels_are) goes.sound.good) few (version_fits schema) None walks on,
-          tells frames (traced_first schema part code no_loops (Some entry) None walks),
+          walked_accepted schema sf part code u.labels u.last refl rises (subst (AllLabels (AreGood schema sf part code)) (sym labels_are) goes.sound.good) few (version_fits schema) (loops_pass schema sf part code no_loops None walks) None walks on,
+          tells frames (traced_first schema part code (Some entry) None walks),
         )
 
     -- ---- a part that ends by its last statement
@@ -148,8 +149,8 @@ module _ (schema : Schema) (sf : schemas.Fits schema) (part : Part) (classes : H
     ends_accepted ends_so same =
         let m = goes.more (λ e. absurd (let no : true ≡ false = sym ends_so ∙ e in cc)) in
         let after = m.1 (Some entry) arrives in
-        let walks : Walks schema part code no_loops 0 u.ops (Some entry) None =
-        subst (λ l. Walks schema part code no_loops 0 l (Some entry) None) (sym (same ∙ ops_are)) (subst (λ b. After schema sf part code no_loops b 0 goes.grown.ops (Some entry) t) ends_so after.0) in
+        let walks : Walks schema part code 0 u.ops (Some entry) None =
+        subst (λ l. Walks schema part code 0 l (Some entry) None) (sym (same ∙ ops_are)) (subst (λ b. After schema sf part code b 0 goes.grown.ops (Some entry) t) ends_so after.0) in
         let rises : Rises 0 (listed u.labels u.last) (length u.ops) =
         subst (λ ls. Rises 0 ls (length u.ops)) (sym labels_are) (subst (λ l. Rises 0 (labels_of t) (length l)) (sym same) (rises_unlabelled 0 (labels_of t) (length t.ops) (omega arith) goes.sound.rises (goes.unlabelled ends_so))) in
         told rises walks (m.0.on entry entry_fits) after.1
@@ -164,21 +165,21 @@ module _ (schema : Schema) (sf : schemas.Fits schema) (part : Part) (classes : H
     do_accepted may all =
         let count : length u.ops ≡ length t.ops + 1 = ap length all ∙ length-append t.ops (ops.Done ∷ []) in
         let here_is = declared (length t.ops) (omega (arith, count)) in
-        let joins = joins_own schema sf part code no_loops t goes.sound (omega (arith, count)) here_is in
+        let joins = joins_own schema sf part code t goes.sound (omega (arith, count)) here_is in
         let m = goes.more (λ e. joins) in
         let rises : Rises 0 (listed u.labels u.last) (length u.ops) = subst (λ ls. Rises 0 ls (length u.ops)) (sym labels_are) (subst (λ n. Rises 0 (labels_of t) n) (sym count) goes.sound.rises) in
         let after = m.1 (Some entry) arrives in
         let walks = by_now now refl after.0 here_is may in
-        told rises (subst (λ l. Walks schema part code no_loops 0 l (Some entry) None) (sym (all ∙ ap (λ l. l ++ ops.Done ∷ []) ops_are)) walks) (m.0.on entry entry_fits) after.1
+        told rises (subst (λ l. Walks schema part code 0 l (Some entry) None) (sym (all ∙ ap (λ l. l ++ ops.Done ∷ []) ops_are)) walks) (m.0.on entry entry_fits) after.1
       where
-        by_now : (n : Bool) → now ≡ n → After schema sf part code no_loops n 0 goes.grown.ops (Some entry) t → At schema part code no_loops (length t.ops) ≡ option_map (frame_by code.locals) (here t) → ends_done part ≡ Ok tt
-            → Walks schema part code no_loops 0 (goes.grown.ops ++ ops.Done ∷ []) (Some entry) None
+        by_now : (n : Bool) → now ≡ n → After schema sf part code n 0 goes.grown.ops (Some entry) t → At schema part code (length t.ops) ≡ option_map (frame_by code.locals) (here t) → ends_done part ≡ Ok tt
+            → Walks schema part code 0 (goes.grown.ops ++ ops.Done ∷ []) (Some entry) None
         by_now true is after here_is may = absurd (let no : true ≡ false = sym (ap is_ok may) ∙ goes.right is in cc)
         by_now false is after here_is may =
-            let found = arrive schema sf part code no_loops t after.0 goes.sound (let e = locals in omega (arith, e)) here_is after.1 in
+            let found = arrive schema sf part code t after.0 goes.sound (let e = locals in omega (arith, e)) here_is after.1 in
             let place_is : length t.ops ≡ 0 + length goes.grown.ops = count_of first t goes.grown in
-            walks_on schema part code no_loops 0 goes.grown.ops (ops.Done ∷ []) (Some entry) after.0 None after.2
-            (subst (λ p. Walks schema part code no_loops p (ops.Done ∷ []) after.0 None) place_is (None, end_visit schema part code no_loops (length t.ops) ops.Done found.0 after.0 found.1 (done_ends found.0 may), refl))
+            walks_on schema part code 0 goes.grown.ops (ops.Done ∷ []) (Some entry) after.0 None after.2
+            (subst (λ p. Walks schema part code p (ops.Done ∷ []) after.0 None) place_is (None, end_visit schema part code (length t.ops) ops.Done found.0 after.0 found.1 (done_ends found.0 may), refl))
 
   -- ---- either
 
@@ -221,7 +222,7 @@ module _ (schema : Schema) (sf : schemas.Fits schema) (part : Part) (classes : H
   by_end : (b : Bool) (now : Bool) (t u : Buffer) → is_ok (ends_done part) ≡ b → (not b && not (block_ends block)) ≡ false → (h : statements_code schema part LOOP_NESTING false block first ≡ Ok (now, t))
       → (let r : Result Buffer CompileFault = cond b (put ops.Done (leave (mark_of first.scope) t)) (Ok (leave (mark_of first.scope) t)) in r) ≡ Ok u → is_within (code_of (version_for schema) u) ≡ true → Accepted (code_of (version_for schema) u) now t h
   by_end true now t u ends_so no_end h last within = do_whole now t u ends_so within h last
-  by_end false now t u other no_end h last within = ends_whole now t u (block_now schema part block LOOP_NESTING false now first t loopless h ∙ ended (block_ends block) no_end) within h (same_ok (leave (mark_of first.scope) t) u last)
+  by_end false now t u other no_end h last within = ends_whole now t u (block_now schema part block LOOP_NESTING false now first t h ∙ ended (block_ends block) no_end) within h (same_ok (leave (mark_of first.scope) t) u last)
     where
       ended : (b : Bool) → not b ≡ false → b ≡ true
       ended true h = refl

@@ -63,7 +63,7 @@ module _ (schema : Schema) where
     steps_grow (divide division divisor steps) room left s =
         then behind behind s (division_code division divisor left s) (λ p. steps_code schema room p.0 steps p.1) (division_grows division divisor left s) (λ p. steps_grow steps room p.0 p.1)
 
-    sequence_grows : (sequence : SequenceTree) (room : ℕ) (s : Buffer) → Grows behind s (sequence_code schema room sequence s)
+    pub sequence_grows : (sequence : SequenceTree) (room : ℕ) (s : Buffer) → Grows behind s (sequence_code schema room sequence s)
     sequence_grows (linked unit slot) room s = links_grow schema unit slot room s
     sequence_grows (found class space p) room s =
         let space_is = space_named schema space in

@@ -47,7 +47,9 @@ use Rattle.bb_compile_accepted.proofs.StraightLemmas.{Ends, Leads, Runs, leads_o
 use Rattle.bb_compile_accepted.proofs.UnderLemmas.{AreKnown, descends_same}
 use Rattle.bb_compile_accepted.proofs.BufferLemmas.{Clean, Grown, Has, with_op, never_noted, put_ok, grown_none, grown_op, grown_on, has_before}
 use Rattle.bb_compile_accepted.proofs.PutLemmas.{pair_ok}
-use Rattle.bb_compile_accepted.proofs.BlockLemmas.{stated, plain_loopless, block_clean, block_now}
+use Rattle.bb_compile_accepted.proofs.BlockLemmas.{stated}
+use Rattle.bb_compile_accepted.proofs.WholeLemmas.{begin_sequences}
+use Rattle.bb_compile_accepted.proofs.TextLays.{block_clean, block_now}
 use Rattle.bb_compile_accepted.proofs.PatternLemmas.{AreSmall}
 use Rattle.bb_compile_accepted.proofs.StoreLemmas.{Stands, After, Does, marks}
 use Rattle.bb_compile_accepted.proofs.ActionLemmas.{action_does}
@@ -230,7 +232,7 @@ module _ (schema : Schema) (sf : schemas.Fits schema) (part : Part) where
       }
 
       begins : length (units_of part) ≤ u.locals → Stands schema sf part code small (entry_frame part u.locals) first
-      begins few = (refl, (begin_count part u.locals few, begin_known schema sf part u.locals few))
+      begins few = (refl, (begin_count part u.locals few, begin_known schema sf part u.locals few, begin_sequences schema sf part (entry_frame part u.locals).locals))
 
       -- ---- a part that ends by its last statement
 
@@ -259,7 +261,7 @@ module _ (schema : Schema) (sf : schemas.Fits schema) (part : Part) where
 
       does_block : (now : Bool) (t : Buffer) → statements_code schema part LOOP_NESTING false block first ≡ Ok (now, t) → Grown t u → DoesHere schema part sf code small now first t
       does_block now t h more =
-          block_does schema part sf code small block LOOP_NESTING false now first t plain h (block_clean schema part block LOOP_NESTING false now first t (plain_loopless block plain) refl h) (has_before code t u more has)
+          block_does schema part sf code small block LOOP_NESTING false now first t plain h (block_clean schema part block LOOP_NESTING false now first t refl h) (has_before code t u more has)
 
       -- what is accepted is the code
       whole : marks u ≡ marks first → IsAccepted code → IsAccepted (code_of (version_for schema) u)
@@ -321,7 +323,7 @@ module _ (schema : Schema) (sf : schemas.Fits schema) (part : Part) where
         → (let r : Result Buffer CompileFault = cond b (put ops.Done (leave (mark_of first.scope) t)) (Ok (leave (mark_of first.scope) t)) in r) ≡ Ok u → is_within (code_of (version_for schema) u) ≡ true → IsAccepted (code_of (version_for schema) u)
     by_end true now t u ends_so no_end h last within = do_whole u within now t ends_so h last
     by_end false now t u other no_end h last within =
-        ends_whole u within now t (block_now schema part block LOOP_NESTING false now first t (plain_loopless block plain) h ∙ ended (block_ends block) no_end) h (same_ok (leave (mark_of first.scope) t) u last)
+        ends_whole u within now t (block_now schema part block LOOP_NESTING false now first t h ∙ ended (block_ends block) no_end) h (same_ok (leave (mark_of first.scope) t) u last)
       where
         ended : (b : Bool) → not b ≡ false → b ≡ true
         ended true h = refl

@@ -321,7 +321,7 @@ module _ (schema : Schema) (sf : schemas.Fits schema) (part : Part) (code : Code
 
   module _ (small : AreSmall) (c k : ℕ) (class_there : c < length schema.classes) (space_there : k < length schema.spaces) where
     pub find_lays : (space : ℕ) (s t u : Buffer) (asked : Asked) (pattern : Tree) (found : Option ℕ) → (Clean t → Has code t → Asks space s t (Some k) no_operand asked (FitsTree pattern))
-        → query_code (Some c) (Some k) asked pattern space t ≡ Ok (found, u) → Clean u → Has code u → LaysUnits schema sf part code space s u
+        → query_code (Some c) (Some k) asked pattern space t ≡ Ok (found, u) → Clean u → Has code u → LaysUnits schema sf part code space s u found
     unfolding query_code asked_query grown_on grown_op
     find_lays space s t u asked pattern found asks h clean has =
         let one = bind_ok (asked_query q t) (λ p. put_value (ops.Find p.0) space p.1 >>= λ x. Ok (Some c, x)) (found, u) h in
@@ -331,7 +331,7 @@ module _ (schema : Schema) (sf : schemas.Fits schema) (part : Part) (code : Code
         let put = put_value_ok (ops.Find one.0.0) space one.0.1 two.0 two.1 two_clean in
         let asked_is = pair_ok (length t.queries) one.0.0 more one.0.1 (guard_ok (nat_le QUERY_LIMIT (length t.queries)) (At Limit t.start) (Ok (length t.queries, more)) one.0 one.1).1 in
         let is : u ≡ with_op (ops.Find one.0.0) more = sym same.1 ∙ (put.0 ∙ ap (with_op (ops.Find one.0.0)) (sym asked_is.1)) in
-        by_buffer one.0.0 is (sym asked_is.0) (put_room (ops.Find one.0.0) space one.0.1 two.0 two.1 two_clean)
+        by_buffer (sym same.0) one.0.0 is (sym asked_is.0) (put_room (ops.Find one.0.0) space one.0.1 two.0 two.1 two_clean)
       where
         q : Query
         q = record { class = c; space = k; kinds = asked.kinds; pattern = pattern }
@@ -342,8 +342,8 @@ module _ (schema : Schema) (sf : schemas.Fits schema) (part : Part) (code : Code
         added : Grown t more
         added = record { ops = []; ops_are = sym (append-nil t.ops); texts = []; texts_are = sym (append-nil t.texts); queries = q ∷ []; queries_are = refl }
 
-        by_buffer : (i : ℕ) → u ≡ with_op (ops.Find i) more → i ≡ length t.queries → 1 ≤ space → LaysUnits schema sf part code space s u
-        by_buffer i is index some =
+        by_buffer : found ≡ Some c → (i : ℕ) → u ≡ with_op (ops.Find i) more → i ≡ length t.queries → 1 ≤ space → LaysUnits schema sf part code space s u found
+        by_buffer found_is i is index some =
             let free : Clean t = clean_before (ops.Find i) more u is clean in
             let last = grown_op (ops.Find i) more u is in
             let own = has_before code more u last has in
@@ -357,9 +357,12 @@ module _ (schema : Schema) (sf : schemas.Fits schema) (part : Part) (code : Code
               clean = m.clean;
               same = ap bare is ∙ m.same;
               some = some;
+              class = c;
+              found_is = found_is;
+              there = class_there;
               leads = λ f known count.
                   let js = m.leads k refl f [] known count (omega arith) tt in
                   let g = find_gives i q f js.0 at js.2 query (omega (arith, count, some)) in
                   let end : Leads schema part code (ops.Find i ∷ []) (with_stack (reverse js.0 ++ f.stack) f) (with_stack (kinds.Seq c ∷ f.stack) f) = (with_stack (kinds.Seq c ∷ f.stack) f, g, refl) in
-                  (c, leads_on schema part code m.grown.ops (ops.Find i ∷ []) f (with_stack (reverse js.0 ++ f.stack) f) (with_stack (kinds.Seq c ∷ f.stack) f) js.3 end);
+                  leads_on schema part code m.grown.ops (ops.Find i ∷ []) f (with_stack (reverse js.0 ++ f.stack) f) (with_stack (kinds.Seq c ∷ f.stack) f) js.3 end;
             }

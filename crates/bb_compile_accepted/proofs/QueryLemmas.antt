@@ -36,6 +36,7 @@ use Rattle.bb_compile_accepted.proofs.BufferLemmas.{Clean, with_op, never_noted,
 use Rattle.bb_compile_accepted.proofs.PutLemmas.{pair_ok, clean_before}
 use Rattle.bb_compile_accepted.proofs.HeldLemmas.{link_below}
 use Rattle.bb_compile_accepted.proofs.EffectLemmas.{push_on}
+use Rattle.bb_compile_accepted.proofs.SlotKinds.{link_class}
 use Rattle.bb_compile_accepted.proofs.LayLemmas.{Lays, LaysUnits, bare_op}
 use Rattle.bb_compile_accepted.proofs.AtomLemmas.{live_on, unit_lays, no_unit}
 
@@ -102,12 +103,12 @@ module _ (schema : Schema) (sf : schemas.Fits schema) (part : Part) (code : Code
       let unit = under_class schema sf k t class under of in
       record { straight = refl; tables = refl; gives = ap on (links_on k unit.0 p.0 p.1 b rest unit.1 (unit.3 live) (link_below schema sf class name unit.0 unit.2 p slot) lt) }
 
-  pub links_lay : (v : Variable) (name : List ℕ) (space : ℕ) (s t : Buffer) (class : Option ℕ) → links_code schema v name space s ≡ Ok (class, t) → Clean t → LaysUnits schema sf part code space s t
+  pub links_lay : (v : Variable) (name : List ℕ) (space : ℕ) (s t : Buffer) (class : Option ℕ) → links_code schema v name space s ≡ Ok (class, t) → Clean t → LaysUnits schema sf part code space s t class
   unfolding links_code grown_on grown_op
   links_lay v name space s t class h clean =
       let one = bind_ok (unit_code v space s) (λ p. linked_from schema name p.0 p.1) (class, t) h in by_class one.0.0 one.0.1 one.1 one.2
     where
-      by_slot : (c : ℕ) (u : Buffer) (r : Result (ℕ × Link) TextFlaw) → unit_code v space s ≡ Ok (Some c, u) → slots.link_slot schema c name ≡ r → linked_by r u ≡ Ok (class, t) → LaysUnits schema sf part code space s t
+      by_slot : (c : ℕ) (u : Buffer) (r : Result (ℕ × Link) TextFlaw) → unit_code v space s ≡ Ok (Some c, u) → slots.link_slot schema c name ≡ r → linked_by r u ≡ Ok (class, t) → LaysUnits schema sf part code space s t class
       by_slot c u (Err flaw) unit at h = never_noted flaw u (ap (λ (x : Buffer). x.flaw) (pair_ok None class (noted flaw u) t h).1 ∙ clean)
       by_slot c u (Ok p) unit at h =
           let one = bind_ok (put (ops.Links p.0) u) (λ x. Ok (Some p.1.to, x)) (class, t) h in
@@ -123,15 +124,18 @@ module _ (schema : Schema) (sf : schemas.Fits schema) (part : Part) (code : Code
             clean = lays.clean;
             same = bare_op (ops.Links p.0) u t put_is ∙ lays.same;
             some = lays.some;
+            class = p.1.to;
+            found_is = sym same.0;
+            there = link_class schema sf c name p at;
             leads = λ f known count.
                 let k = lays.leads f known count in
                 let some = lays.some in
                 let g = links_give lays.kind c name p f f.stack k.0 of live at k.1 (omega (arith, count, some)) in
                 let last : Leads schema part code (ops.Links p.0 ∷ []) (with_stack (k.0 ∷ f.stack) f) (with_stack (kinds.Seq p.1.to ∷ f.stack) f) = (with_stack (kinds.Seq p.1.to ∷ f.stack) f, g, refl) in
-                (p.1.to, leads_on schema part code lays.grown.ops (ops.Links p.0 ∷ []) f (with_stack (k.0 ∷ f.stack) f) (with_stack (kinds.Seq p.1.to ∷ f.stack) f) k.2 last);
+                leads_on schema part code lays.grown.ops (ops.Links p.0 ∷ []) f (with_stack (k.0 ∷ f.stack) f) (with_stack (kinds.Seq p.1.to ∷ f.stack) f) k.2 last;
           }
 
-      by_class : (class' : Option ℕ) (u : Buffer) → unit_code v space s ≡ Ok (class', u) → linked_from schema name class' u ≡ Ok (class, t) → LaysUnits schema sf part code space s t
+      by_class : (class' : Option ℕ) (u : Buffer) → unit_code v space s ≡ Ok (class', u) → linked_from schema name class' u ≡ Ok (class, t) → LaysUnits schema sf part code space s t class
       by_class None u unit h = no_unit schema sf part code v space s u unit (ap (λ (x : Buffer). x.flaw) (pair_ok None class u t h).1 ∙ clean)
       by_class (Some c) u unit h = by_slot c u (slots.link_slot schema c name) unit refl h
 
@@ -145,9 +149,9 @@ module _ (schema : Schema) (sf : schemas.Fits schema) (part : Part) (code : Code
   unfolding effect in_tables
   size_gives c b rest lt = record { straight = refl; tables = refl; gives = ap on (size_on c b rest lt) }
 
-  pub size_lays : (space : ℕ) (s t u : Buffer) (made : Made) → LaysUnits schema sf part code space s t → u ≡ with_op ops.Size t → made ≡ Some kinds.Int → Lays schema sf part code space s u made
+  pub size_lays : (space : ℕ) (s t u : Buffer) (made : Made) (found : Option ℕ) → LaysUnits schema sf part code space s t found → u ≡ with_op ops.Size t → made ≡ Some kinds.Int → Lays schema sf part code space s u made
   unfolding grown_on grown_op
-  size_lays space s t u made units put_is made_is = record {
+  size_lays space s t u made found units put_is made_is = record {
     grown = grown_on s t u units.grown (grown_op ops.Size t u put_is);
     clean = units.clean;
     same = bare_op ops.Size t u put_is ∙ units.same;
@@ -157,7 +161,7 @@ module _ (schema : Schema) (sf : schemas.Fits schema) (part : Part) (code : Code
     leads = λ f known count.
         let q = units.leads f known count in
         let some = units.some in
-        let g = size_gives q.0 f f.stack (omega (arith, count, some)) in
-        let last : Leads schema part code (ops.Size ∷ []) (with_stack (kinds.Seq q.0 ∷ f.stack) f) (with_stack (kinds.Int ∷ f.stack) f) = (with_stack (kinds.Int ∷ f.stack) f, g, refl) in
-        (kinds.Int, refl, leads_on schema part code units.grown.ops (ops.Size ∷ []) f (with_stack (kinds.Seq q.0 ∷ f.stack) f) (with_stack (kinds.Int ∷ f.stack) f) q.1 last);
+        let g = size_gives units.class f f.stack (omega (arith, count, some)) in
+        let last : Leads schema part code (ops.Size ∷ []) (with_stack (kinds.Seq units.class ∷ f.stack) f) (with_stack (kinds.Int ∷ f.stack) f) = (with_stack (kinds.Int ∷ f.stack) f, g, refl) in
+        (kinds.Int, refl, leads_on schema part code units.grown.ops (ops.Size ∷ []) f (with_stack (kinds.Seq units.class ∷ f.stack) f) (with_stack (kinds.Int ∷ f.stack) f) q last);
   }

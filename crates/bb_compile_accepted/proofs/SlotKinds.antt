@@ -115,6 +115,21 @@ module _ (s : Schema) (sf : schemas.Fits s) where
       by_slot None h = absurd cc
       by_slot (Some t) h = by_content t.content (let e : kind_of t.content ≡ held.Link l = cc in e)
 
+  pub link_class : (c : ℕ) (name : List ℕ) (q : ℕ × Link) → link_slot s c name ≡ Ok q → q.1.to < length s.classes
+  unfolding link_slot
+  link_class c name q h =
+      let two = bind_ok (slot_of s c name) (λ p. Slots.link_in p.0 p.1) q h in
+      by_kind two.0.0 two.0.1 (named_kind s sf c name two.0 two.1).1 two.2
+    where
+      by_kind : (slot : ℕ) (k : SlotKind) → kind_of_slot s slot ≡ Some k → Slots.link_in slot k ≡ Ok q → q.1.to < length s.classes
+      by_kind slot (held.Link link) at is =
+          subst (λ (p : ℕ × Link). p.1.to < length s.classes) (same_ok (slot, link) q is) (owner_there link.inverse link.to (sf.coupled slot link (link_here slot link at)).there)
+      by_kind slot held.Int at is = absurd cc
+      by_kind slot held.Text at is = absurd cc
+      by_kind slot held.Bool at is = absurd cc
+      by_kind slot (held.Label set) at is = absurd cc
+      by_kind slot held.Interval at is = absurd cc
+
   pub partner_class : (c : ℕ) (name : List ℕ) (q : ℕ × ℕ) → partner_slot s c name ≡ Ok q → q.1 < length s.classes
   unfolding partner_slot link_slot
   partner_class c name q h =

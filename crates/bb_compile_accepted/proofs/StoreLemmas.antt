@@ -1,5 +1,5 @@
 -- Statements that store a value in a local: what statements share, and those that declare a name or assign to one.
-use Rattle.std.proofs.Common.{◌≡◌, ℕ, ◌+◌, ◌<◌, ◌≤◌, Bool, true, false, List, [], ◌∷◌, ◌++◌, length, Option, Some, None, Result, Ok, refl, subst, sym, ap, ◌∙◌, arith}
+use Rattle.std.proofs.Common.{◌≡◌, ◌⊎◌, inl, inr, ℕ, ◌+◌, ◌<◌, ◌≤◌, Bool, true, false, List, [], ◌∷◌, ◌++◌, length, Option, Some, None, Result, Ok, refl, subst, sym, ap, ◌∙◌, arith}
 use Rattle.std.specs.Prelude.{position, set, max, is_ok}
 use Rattle.std.proofs.Math.Nat.{le-max_left, le-max_right}
 use Rattle.std.proofs.lemmas.Bool.{lt-ltb}
@@ -38,12 +38,13 @@ use Rattle.bb_compile_accepted.proofs.StraightLemmas.{Gives, Leads, Runs, leads_
 use Rattle.bb_compile_accepted.proofs.UnderLemmas.{IsUnder, AreKnown, descends_same, under_assigned, under_known, known_set, known_more, known_named, known_within, set_here, set_twice}
 use Rattle.bb_compile_accepted.proofs.BufferLemmas.{Clean, Grown, Has, with_op, never_noted, put_ok, grown_on, has_before}
 use Rattle.bb_compile_accepted.proofs.PutLemmas.{pair_ok}
-use Rattle.bb_compile_accepted.proofs.LayLemmas.{Known, Lays, bare, push_lays}
+use Rattle.bb_compile_accepted.proofs.KnowLemmas.{is_sequence, HasSequences, under_value}
+use Rattle.bb_compile_accepted.proofs.LayLemmas.{Known, Lays, bare, known_same, push_lays}
 use Rattle.bb_compile_accepted.proofs.EffectLemmas.{push_on}
 use Rattle.bb_compile_accepted.proofs.PatternLemmas.{AreSmall, room_on}
 use Rattle.bb_compile_accepted.proofs.ExprLemmas.{expr_lays, class_there}
 use Rattle.bb_compile_accepted.proofs.ValueLemmas.{IsGood, local_good, made_good}
-use Rattle.bb_compile_accepted.proofs.MoveLemmas.{Tidy, Moves, last_some, moves_same, moves_on, declared_moves, assigned_moves}
+use Rattle.bb_compile_accepted.proofs.MoveLemmas.{Tidy, Moves, at_same, at_other, one_or_other, last_some, moves_same, moves_on, declared_moves, assigned_moves}
 
 -- a buffer but for what statements put on it
 abbrev pub marks : Buffer → Buffer
@@ -111,7 +112,7 @@ module _ (schema : Schema) (sf : schemas.Fits schema) (part : Part) (code : Code
 
   -- a value, and its local, in another scope
   stores : (s u t : Buffer) (made : Made) (local count : ℕ) (scope : Scope) → (m : Lays schema sf part code STACK_LIMIT s u made) → t ≡ with_op (ops.Store local) (record u { scope = scope; locals = count }) → u.locals ≤ count → Moves schema sf s t
-      → ((f : Frame) (k : Kind) → Known schema sf part code f u → IsUnder schema sf k m.kind → count ≤ code.locals → (local < length f.locals) × AreKnown schema sf (set f.locals local k) scope.kinds scope.names) → Does false s t
+      → ((f : Frame) (k : Kind) → Known schema sf part code f u → IsUnder schema sf k m.kind → count ≤ code.locals → (local < length f.locals) × AreKnown schema sf (set f.locals local k) scope.kinds scope.names × HasSequences schema sf (set f.locals local k) scope.kinds) → Does false s t
   unfolding grown_on
   stores s u t made local count scope m put_is le moves known_after =
       let last : Grown u t = record {
@@ -135,12 +136,12 @@ module _ (schema : Schema) (sf : schemas.Fits schema) (part : Part) (code : Code
         some = last_some m.grown.ops (ops.Store local);
         leads = λ few f stands.
             let x = m.leads f stands.1 (all_room f stands.0) in
-            let own = known_after f x.0 (stands.1.0, subst (λ (y : Buffer). AreKnown schema sf f.locals y.scope.kinds y.scope.names) (sym m.same) stands.1.1) x.1 (omega (arith, few, count_is)) in
+            let own = known_after f x.0 (known_same schema sf part code f s u m.same stands.1) x.1 (omega (arith, few, count_is)) in
             let within : local < code.locals = subst (λ n. local < n) stands.1.0 own.0 in
             let g = with_local local x.0 f in
             let end : Leads schema part code (ops.Store local ∷ []) (with_stack (x.0 ∷ f.stack) f) g = (g, store_gives local x.0 f within, refl) in (
               g,
-              (stands.0, (length-set f.locals local x.0 ∙ stands.1.0, subst (λ (c : Scope). AreKnown schema sf g.locals c.kinds c.names) (sym scope_is) own.1)),
+              (stands.0, (length-set f.locals local x.0 ∙ stands.1.0, subst (λ (c : Scope). AreKnown schema sf g.locals c.kinds c.names) (sym scope_is) own.1, subst (λ (c : Scope). HasSequences schema sf g.locals c.kinds) (sym scope_is) own.2)),
               leads_on schema part code m.grown.ops (ops.Store local ∷ []) f (with_stack (x.0 ∷ f.stack) f) g x.2 end,
             );
       }
@@ -154,6 +155,21 @@ module _ (schema : Schema) (sf : schemas.Fits schema) (part : Part) (code : Code
       subst (λ ks. AreKnown schema sf (set locals local k) ks (u.scope.names ++ n ∷ [])) (sym (set_twice u.scope.kinds local kind))
       (known_more schema sf (set locals local k) (set u.scope.kinds local kind) u.scope.names n (known_set schema sf locals u.scope.kinds u.scope.names local k kind within lt own known)
       (subst (λ m. local < m) (sym (length-set locals local k)) within) (set_here schema sf locals u.scope.kinds local k kind within lt own))
+
+  -- sequences stay where another local is set
+  set_sequences : (locals thought : List Kind) (local : ℕ) (k kind : Kind) → local < length thought → is_sequence kind ≡ false → HasSequences schema sf locals thought → HasSequences schema sf (set locals local k) (set thought local kind)
+  set_sequences locals thought local k kind within value has i class is = by_local (one_or_other i local)
+    where
+      by_local : ((i ≡ local) ⊎ (i ≡ local → ⊥)) → kind_at (set locals local k) i ≡ kinds.Seq class
+      by_local (inl e) =
+          let here : kind ≡ kinds.Seq class = sym (at_same thought local kind within) ∙ (ap (kind_at (set thought local kind)) (sym e) ∙ is) in
+          absurd (let no : false ≡ true = sym value ∙ ap is_sequence here in cc)
+      by_local (inr apart) = at_other locals local i k apart ∙ has i class (sym (at_other thought local i kind apart) ∙ is)
+
+  pub declared_sequences : (kind : Kind) (u : Buffer) (local : ℕ) (locals : List Kind) (k : Kind) → position is_free u.scope.kinds ≡ Some local → is_sequence kind ≡ false → HasSequences schema sf locals u.scope.kinds
+      → HasSequences schema sf (set locals local k) (set (set u.scope.kinds local kind) local kind)
+  declared_sequences kind u local locals k free value has =
+      subst (HasSequences schema sf (set locals local k)) (sym (set_twice u.scope.kinds local kind)) (set_sequences locals u.scope.kinds local k kind (position_within is_free u.scope.kinds local free) value has)
 
   -- a name is declared
   declares : (name : List ℕ) (kind : Kind) (s u t : Buffer) (m : Lays schema sf part code STACK_LIMIT s u (Some kind)) → (Tidy schema sf s → IsGood schema sf kind) → declare name kind u ≡ Ok t → Does false s t
@@ -170,7 +186,8 @@ module _ (schema : Schema) (sf : schemas.Fits schema) (part : Part) (code : Code
       let count = known.0 in
       let within : d.0 < length f.locals = omega (arith, high, few, count) in
       let kind_is : m.kind ≡ kind = (let e = m.made_is in cc) in
-      (within, declared_known name kind u d.0 f.locals k d.1 within (subst (IsUnder schema sf k) kind_is under) known.1))
+      let own = subst (IsUnder schema sf k) kind_is under in
+      (within, declared_known name kind u d.0 f.locals k d.1 within own known.1, declared_sequences kind u d.0 f.locals k d.1 (under_value schema sf k kind own) known.2))
 
   -- ---- let
 
@@ -228,7 +245,7 @@ module _ (schema : Schema) (sf : schemas.Fits schema) (part : Part) (code : Code
           let kind_is : m.kind ≡ kind = (let e = m.made_is in cc) in
           let own = under_assigned schema sf k (kind_at u.scope.kinds local) kind now (subst (IsUnder schema sf k) kind_is under) becomes in
           let within = known_within u.scope.kinds local (under_known schema sf (kind_at f.locals local) (kind_at u.scope.kinds local) named.1) in
-          (named.0, known_set schema sf f.locals u.scope.kinds u.scope.names local k now named.0 within own known.1))
+          (named.0, known_set schema sf f.locals u.scope.kinds u.scope.names local k now named.0 within own known.1, set_sequences f.locals u.scope.kinds local k now within (under_value schema sf k now own) known.2))
 
       by_local : (made : Made) (u : Buffer) (o : Option ℕ) → local_of u.scope name ≡ o → expr_code schema STACK_LIMIT e s ≡ Ok (made, u) → assign_to schema o made u ≡ Ok t → Does false s t
       by_local made u None at code_is h = never_noted Unknown u (ap (λ (x : Buffer). x.flaw) (same_ok (noted Unknown u) t h) ∙ clean)

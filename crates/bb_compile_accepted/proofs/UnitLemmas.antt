@@ -1,5 +1,5 @@
 -- Statements that change a unit lead from frame to frame.
-use Rattle.std.proofs.Common.{◌≡◌, ℕ, ◌+◌, ◌-◌, ◌<◌, Bool, true, false, ◌||◌, List, [], ◌∷◌, ◌++◌, length, map, Option, Some, None, Result, Ok, Err, refl, subst, sym, ap, ◌∙◌, arith, length-append}
+use Rattle.std.proofs.Common.{◌≡◌, ℕ, ◌+◌, ◌-◌, ◌<◌, Bool, true, false, cond, ◌||◌, List, [], ◌∷◌, ◌++◌, length, map, Option, Some, None, Result, Ok, Err, refl, subst, sym, ap, ◌∙◌, arith, length-append}
 use Rattle.std.proofs.lemmas.Bool.{lt-ltb}
 use Rattle.std.proofs.lemmas.List.{append-nil, length-map}
 use Rattle.std.specs.List.{list_any}
@@ -14,6 +14,8 @@ use Rattle.bb_schema.specs.Fits as schemas
 use Rattle.bb_verify_frame.specs.Code.{Code}
 use Rattle.bb_verify_frame.specs.Flaw.{Flaw as CodeFlaw}
 use Rattle.bb_verify_frame.specs.Kind.{Kind}
+use Rattle.bb_schema.specs.Ownership.{strikes}
+use Rattle.bb_verify_frame.specs.Kind.TheVariants as kinds
 use Rattle.bb_verify_frame.specs.Kinds.{struck}
 use Rattle.bb_verify_frame.specs.Kinds as frame_kinds
 use Rattle.bb_verify_frame.specs.Op.{Op}
@@ -23,6 +25,7 @@ use Rattle.bb_lang.specs.Trees.{ExprTree}
 use Rattle.bb_compile_scope.specs.declared.fault.TextFlaw.{TextFlaw}
 use Rattle.bb_compile_scope.specs.declared.fault.TextFlaw.TheVariants.{Unknown, LinkClass, Space}
 use Rattle.bb_compile_scope.specs.Kinds.{class_of, is_live}
+use Rattle.bb_compile_scope.specs.LocalKinds.{kind_at}
 use Rattle.bb_compile_scope.specs.Slots as slots
 use Rattle.bb_compile_buffer.specs.declared.buffer.Buffer.{Buffer}
 use Rattle.bb_compile_buffer.specs.Buffers.{noted, due, known, put, with_kinds}
@@ -48,7 +51,8 @@ use Rattle.bb_compile_accepted.proofs.AtomLemmas.{LaysUnit, live_on, unit_lays, 
 use Rattle.bb_compile_accepted.proofs.PatternLemmas.{AreSmall}
 use Rattle.bb_compile_accepted.proofs.ExprLemmas.{expr_lays, space_there}
 use Rattle.bb_compile_accepted.proofs.StoreLemmas.{Does, marks, marks_same, all_room}
-use Rattle.bb_compile_accepted.proofs.MoveLemmas.{last_some, moves_same, struck_moves}
+use Rattle.bb_compile_accepted.proofs.KnowLemmas.{HasSequences}
+use Rattle.bb_compile_accepted.proofs.MoveLemmas.{struck_at, last_some, moves_same, struck_moves}
 
 module _ (schema : Schema) (sf : schemas.Fits schema) (part : Part) (code : Code) (small : AreSmall schema sf part code) where
   abbrev DoesHere : Buffer → Buffer → Type 0
@@ -221,6 +225,31 @@ module _ (schema : Schema) (sf : schemas.Fits schema) (part : Part) (code : Code
           let is_live = unit_live STACK_LIMIT s u class first.of first first.class_is first.lays.kind first.lays.made_is in
           one_does (ops.Leave k) s u t (Some first.kind) first.lays put_is (λ f x under. leave_gives (may first.lays.clean) k first.lays.kind first.of f x is_live.0 is_live.1 (space_there schema space k at) under)
 
+  -- sequences stay where a unit was deleted
+  struck_kept : (c : ℕ) (k : Kind) (class : ℕ) → struck schema c k ≡ kinds.Seq class → k ≡ kinds.Seq class
+  unfolding struck
+  struck_kept c (kinds.Seq d) class h = h
+  struck_kept c (kinds.Ref d) class h = by_strike (strikes schema c d) h
+    where
+      by_strike : (b : Bool) → cond b (kinds.Old d) (kinds.Ref d) ≡ kinds.Seq class → kinds.Ref d ≡ kinds.Seq class
+      by_strike true h = absurd cc
+      by_strike false h = absurd cc
+  struck_kept c kinds.Any class h = absurd cc
+  struck_kept c kinds.Int class h = absurd cc
+  struck_kept c kinds.Text class h = absurd cc
+  struck_kept c kinds.Bool class h = absurd cc
+  struck_kept c (kinds.Label set) class h = absurd cc
+  struck_kept c kinds.Interval class h = absurd cc
+  struck_kept c (kinds.Old d) class h = absurd cc
+
+  sequence_struck : (c class : ℕ) → struck schema c (kinds.Seq class) ≡ kinds.Seq class
+  unfolding struck
+  sequence_struck c class = refl
+
+  struck_sequences : (b c : ℕ) (locals thought : List Kind) → HasSequences schema sf locals thought → HasSequences schema sf (map (struck schema b) locals) (map (struck schema c) thought)
+  struck_sequences b c locals thought has i class is =
+      struck_at schema b locals i ∙ (ap (struck schema b) (has i class (struck_kept c (kind_at thought i) class (sym (struck_at schema c thought i) ∙ is))) ∙ sequence_struck b class)
+
   pub delete_does : (v : Variable) (s t : Buffer) → (Clean s → writes part ≡ Ok tt) → delete_code schema v s ≡ Ok t → Clean t → DoesHere s t
   unfolding delete_code grown_on
   delete_does v s t may h clean =
@@ -262,7 +291,14 @@ module _ (schema : Schema) (sf : schemas.Fits schema) (part : Part) (code : Code
                 subst (λ ks. AreKnown schema sf (map (struck schema d.0) f.locals) ks t.scope.names) (sym kinds_are) (subst (AreKnown schema sf (map (struck schema d.0) f.locals) (map (struck schema c) s.scope.kinds)) (sym names_are)
                 (known_struck schema sf f.locals s.scope.kinds s.scope.names d.0 c d.1 stands.1.1)) in (
                   g,
-                  (after_stack d.0 f stands.0, (ap length (after_locals d.0 f) ∙ (length-map f.locals (struck schema d.0) ∙ stands.1.0), subst (λ l. AreKnown schema sf l t.scope.kinds t.scope.names) (sym (after_locals d.0 f)) known_after)),
+                  (
+                    after_stack d.0 f stands.0,
+                    (
+                      ap length (after_locals d.0 f) ∙ (length-map f.locals (struck schema d.0) ∙ stands.1.0),
+                      subst (λ l. AreKnown schema sf l t.scope.kinds t.scope.names) (sym (after_locals d.0 f)) known_after,
+                      subst (λ l. HasSequences schema sf l t.scope.kinds) (sym (after_locals d.0 f)) (subst (HasSequences schema sf (map (struck schema d.0) f.locals)) (sym kinds_are) (struck_sequences d.0 c f.locals s.scope.kinds stands.1.2)),
+                    ),
+                  ),
                   leads_on schema part code m.grown.ops (ops.Delete ∷ []) f (with_stack (x.0 ∷ f.stack) f) g x.2 end,
                 );
           }

@@ -41,12 +41,19 @@ use Rattle.bb_verify.specs.Tables.{known_kind}
 use Rattle.bb_compile_accepted.proofs.UnderLemmas.{IsUnder}
 use Rattle.bb_compile_accepted.proofs.HeldLemmas.{value_known}
 use Rattle.bb_compile_accepted.proofs.SlotKinds.{slot_kind}
-use Rattle.bb_compile_accepted.proofs.KnowLemmas.{AllTaken}
+use Rattle.bb_compile_accepted.proofs.KnowLemmas.{is_sequence, IsKept, under_kept, kept_under, AllTaken}
 
 module _ (s : Schema) (sf : schemas.Fits s) where
   -- a kind of values, of which the classes and label sets are of the schema
   abbrev pub IsGood : Kind → Type 0
   IsGood k = (known_kind s k ≡ Ok tt) × IsUnder s sf k k
+
+  -- what a local may hold
+  abbrev pub IsFit : Kind → Type 0
+  IsFit k = (known_kind s k ≡ Ok tt) × IsKept s sf k k
+
+  pub good_fits : (k : Kind) → IsGood k → IsFit k
+  good_fits k good = (good.0, under_kept s sf k k good.1)
 
   abbrev pub IsMade : Made → Type 0
   IsMade None = Unit {0}
@@ -83,27 +90,41 @@ module _ (s : Schema) (sf : schemas.Fits s) where
 
   -- ---- names
 
-  -- the local of a name is known
+  -- the local of a name is known, and holds a value
+  pub local_value : (thought : List Kind) (name : List ℕ) (local : ℕ) (ns : List NamedLocal) → AllTaken s sf thought ns → option_map (λ (n : NamedLocal). n.local) (find (λ (n : NamedLocal). bytes_eq n.name name) ns) ≡ Some local → is_sequence (kind_at thought local) ≡ false
+  local_value thought name local [] taken h = absurd cc
+  local_value thought name local (n ∷ ns) taken h = by_name (local_value thought name local ns taken.2) (bytes_eq n.name name) h
+    where
+      by_name : (option_map (λ (n : NamedLocal). n.local) (find (λ (n : NamedLocal). bytes_eq n.name name) ns) ≡ Some local → is_sequence (kind_at thought local) ≡ false)
+          → (b : Bool) → option_map (λ (n : NamedLocal). n.local) (cond b (Some n) (find (λ (n : NamedLocal). bytes_eq n.name name) ns)) ≡ Some local → is_sequence (kind_at thought local) ≡ false
+      by_name more true h = let e : n.local ≡ local = cc in ap (λ l. is_sequence (kind_at thought l)) (sym e) ∙ taken.1
+      by_name more false h = more h
+
   pub local_good : (thought : List Kind) (name : List ℕ) (local : ℕ) (ns : List NamedLocal) → AllTaken s sf thought ns → option_map (λ (n : NamedLocal). n.local) (find (λ (n : NamedLocal). bytes_eq n.name name) ns) ≡ Some local → is_free (kind_at thought local) ≡ false
   local_good thought name local [] taken h = absurd cc
-  local_good thought name local (n ∷ ns) taken h = by_name (local_good thought name local ns taken.1) (bytes_eq n.name name) h
+  local_good thought name local (n ∷ ns) taken h = by_name (local_good thought name local ns taken.2) (bytes_eq n.name name) h
     where
       by_name : (option_map (λ (n : NamedLocal). n.local) (find (λ (n : NamedLocal). bytes_eq n.name name) ns) ≡ Some local → is_free (kind_at thought local) ≡ false)
           → (b : Bool) → option_map (λ (n : NamedLocal). n.local) (cond b (Some n) (find (λ (n : NamedLocal). bytes_eq n.name name) ns)) ≡ Some local → is_free (kind_at thought local) ≡ false
       by_name more true h = let e : n.local ≡ local = cc in ap (λ l. is_free (kind_at thought l)) (sym e) ∙ taken.0
       by_name more false h = more h
 
-  module _ (t : Buffer) (taken : AllTaken s sf t.scope.kinds t.scope.names) (good : (i : ℕ) → is_free (kind_at t.scope.kinds i) ≡ false → IsGood (kind_at t.scope.kinds i)) where
+  module _ (t : Buffer) (taken : AllTaken s sf t.scope.kinds t.scope.names) (good : (i : ℕ) → is_free (kind_at t.scope.kinds i) ≡ false → IsFit (kind_at t.scope.kinds i)) where
     variable_makes : (v : Variable) (room : ℕ) → Makes (variable_code v room t)
     unfolding variable_code put_value put
     variable_makes v room = by_local (local_of t.scope (name_of v)) refl
       where
+        held : (local : ℕ) → local_of t.scope (name_of v) ≡ Some local → IsGood (kind_at t.scope.kinds local)
+        held local at =
+            let own = good local (local_good t.scope.kinds (name_of v) local t.scope.names taken at) in
+            (own.0, kept_under s sf (kind_at t.scope.kinds local) (kind_at t.scope.kinds local) (local_value t.scope.kinds (name_of v) local t.scope.names taken at) own.1)
+
         by_room : (local : ℕ) → local_of t.scope (name_of v) ≡ Some local → (a b : Bool)
             → Makes ((let r : Result Buffer CompileFault = cond b (Err (At Limit (cond a (noted Limit t) t).start)) (Ok (record (cond a (noted Limit t) t) { ops = (cond a (noted Limit t) t).ops ++ ops.Load local ∷ [] })) in r) >>= λ u. Ok (Some (kind_at u.scope.kinds local), u))
         by_room local at true true = tt
-        by_room local at true false = good local (local_good t.scope.kinds (name_of v) local t.scope.names taken at)
+        by_room local at true false = held local at
         by_room local at false true = tt
-        by_room local at false false = good local (local_good t.scope.kinds (name_of v) local t.scope.names taken at)
+        by_room local at false false = held local at
 
         by_local : (o : Option ℕ) → local_of t.scope (name_of v) ≡ o → Makes (loaded o room t)
         by_local None at = tt
@@ -192,7 +213,7 @@ module _ (s : Schema) (sf : schemas.Fits s) where
   steps_make (divide division divisor steps) room left t own =
       makes_on (division_code division divisor left t) (λ p. steps_code s room p.0 steps p.1) (one_makes left kinds.Int _ kinds.Int _ good_int) (λ p made. steps_make steps room p.0 p.1 made)
 
-  pub expr_makes : (e : ExprTree) (room : ℕ) (t : Buffer) → AllTaken s sf t.scope.kinds t.scope.names → ((i : ℕ) → is_free (kind_at t.scope.kinds i) ≡ false → IsGood (kind_at t.scope.kinds i)) → Makes (expr_code s room e t)
+  pub expr_makes : (e : ExprTree) (room : ℕ) (t : Buffer) → AllTaken s sf t.scope.kinds t.scope.names → ((i : ℕ) → is_free (kind_at t.scope.kinds i) ≡ false → IsFit (kind_at t.scope.kinds i)) → Makes (expr_code s room e t)
   unfolding expr_code
   expr_makes (atom a) room t taken good = atom_makes t taken good a room
   expr_makes (unary operation e) room t taken good = makes_then (expr_code s room e t) (λ p. unary_code operation p.0 p.1) (λ p. unary_makes operation p.0 p.1)
@@ -204,5 +225,5 @@ module _ (s : Schema) (sf : schemas.Fits s) where
   expr_makes (size_of sequence) room t taken good =
       makes_then (sequence_code s room sequence t) (λ p. put ops.Size p.1 >>= λ u. Ok (Some kinds.Int, u)) (λ p. makes_then (put ops.Size p.1) (λ u. Ok (Some kinds.Int, u)) (λ u. good_int))
 
-  pub made_good : (e : ExprTree) (room : ℕ) (t u : Buffer) (k : Kind) → expr_code s room e t ≡ Ok (Some k, u) → AllTaken s sf t.scope.kinds t.scope.names → ((i : ℕ) → is_free (kind_at t.scope.kinds i) ≡ false → IsGood (kind_at t.scope.kinds i)) → IsGood k
+  pub made_good : (e : ExprTree) (room : ℕ) (t u : Buffer) (k : Kind) → expr_code s room e t ≡ Ok (Some k, u) → AllTaken s sf t.scope.kinds t.scope.names → ((i : ℕ) → is_free (kind_at t.scope.kinds i) ≡ false → IsFit (kind_at t.scope.kinds i)) → IsGood k
   made_good e room t u k is taken good = subst Makes is (expr_makes e room t taken good)

@@ -1,5 +1,5 @@
 -- The frames of the places of a code, one op after another, where some are declared: what the verifier finds at each.
-use Rattle.std.proofs.Common.{◌≡◌, inl, inr, ℕ, zero, suc, ◌+◌, ◌<◌, ◌≤◌, List, [], ◌∷◌, ◌++◌, length, Option, Some, None, Result, Ok, refl, subst, sym, ap, ◌∙◌, arith, append_assoc, length-append}
+use Rattle.std.proofs.Common.{◌≡◌, inl, inr, ℕ, false, zero, suc, ◌+◌, ◌<◌, ◌≤◌, List, [], ◌∷◌, ◌++◌, length, Option, Some, None, Result, Ok, refl, subst, sym, ap, ◌∙◌, arith, append_assoc, length-append}
 use Rattle.std.specs.Prelude.{slice_get}
 use Rattle.std.specs.List.{range_with_len}
 use Rattle.std.proofs.lemmas.Bool.{lt-leb, lt-ltb}
@@ -24,7 +24,8 @@ use Rattle.bb_verify.specs.PartType.{Part}
 use Rattle.bb_verify.specs.Places.{declared_at, declared_frames, frame_at, on_due, target_due, has_next, declared_for, visit_op, visit}
 use Rattle.bb_verify.specs.Tables.{in_tables}
 use Rattle.bb_compile_accepted.proofs.StraightLemmas.{Gives, Ends, Leads, Runs, goes_on, nothing_follows}
-use Rattle.bb_compile_accepted.proofs.BufferLemmas.{seam}
+use Rattle.bb_compile_accepted.proofs.BufferLemmas.{is_open, seam}
+use Rattle.bb_compile_accepted.proofs.AimLemmas.{no_place}
 
 straight_target : (count place : ℕ) (op : Op) → target_of op ≡ None → check_target count place op ≡ Ok tt
 unfolding check_target
@@ -37,40 +38,52 @@ straight_target count place (ops.Next l target) h = absurd cc
 straight_target count place (ops.Back target) h = absurd cc
 straight_target count place _ h = refl
 
+straight_closed : (op : Op) → target_of op ≡ None → is_open op ≡ false
+straight_closed (ops.One slot target) h = absurd cc
+straight_closed (ops.Alive target) h = absurd cc
+straight_closed (ops.As class target) h = absurd cc
+straight_closed (ops.Jump target) h = absurd cc
+straight_closed (ops.Unless target) h = absurd cc
+straight_closed (ops.Next l target) h = absurd cc
+straight_closed _ h = refl
+
 pub goes_ahead : (count place target : ℕ) → place < target → target < count → ahead count place target ≡ Ok tt
 unfolding ahead
 goes_ahead count place target low high = rw (lt-ltb place target low, lt-ltb target count high) refl
 
-module _ (s : Schema) (part : Part) (code : Code) (no_loops : code.loops ≡ []) where
+module _ (s : Schema) (part : Part) (code : Code) where
   -- the frame that is declared for a place
   abbrev pub At : ℕ → Option Frame
   At place = declared_at (declared_frames code) place
 
-  straight_loops : (place : ℕ) (op : Op) → target_of op ≡ None → op_due code place op ≡ Ok tt
+  -- where there are no loops
+  straight_loops : (place : ℕ) (op : Op) → target_of op ≡ None → code.loops ≡ [] → op_due code place op ≡ Ok tt
   unfolding op_due each
-  straight_loops place (ops.One slot target) h = absurd cc
-  straight_loops place (ops.Alive target) h = absurd cc
-  straight_loops place (ops.As class target) h = absurd cc
-  straight_loops place (ops.Jump target) h = absurd cc
-  straight_loops place (ops.Unless target) h = absurd cc
-  straight_loops place (ops.Next l target) h = absurd cc
-  straight_loops place (ops.Back target) h = absurd cc
-  straight_loops place (ops.Store l) h = rw no_loops refl
-  straight_loops place _ h = refl
+  straight_loops place (ops.One slot target) h no_loops = absurd cc
+  straight_loops place (ops.Alive target) h no_loops = absurd cc
+  straight_loops place (ops.As class target) h no_loops = absurd cc
+  straight_loops place (ops.Jump target) h no_loops = absurd cc
+  straight_loops place (ops.Unless target) h no_loops = absurd cc
+  straight_loops place (ops.Next l target) h no_loops = absurd cc
+  straight_loops place (ops.Back target) h no_loops = absurd cc
+  straight_loops place (ops.Store l) h no_loops = rw no_loops refl
+  straight_loops place _ h no_loops = refl
 
-  unless_loops : (place target : ℕ) → op_due code place (ops.Unless target) ≡ Ok tt
+  unless_loops : (place target : ℕ) → code.loops ≡ [] → op_due code place (ops.Unless target) ≡ Ok tt
   unfolding op_due each
-  unless_loops place target = rw no_loops refl
+  unless_loops place target no_loops = rw no_loops refl
 
-  jump_loops : (place target : ℕ) → op_due code place (ops.Jump target) ≡ Ok tt
+  jump_loops : (place target : ℕ) → code.loops ≡ [] → op_due code place (ops.Jump target) ≡ Ok tt
   unfolding op_due each
-  jump_loops place target = rw no_loops refl
+  jump_loops place target no_loops = rw no_loops refl
 
   -- an op at a place, with what the op before left, and what it leaves itself
   pub record Visits (place : ℕ) (op : Op) (next mid : Option Frame) : Type 0 where
     pub tables : in_tables s code op ≡ Ok tt
     pub jumps : check_target (length code.ops) place op ≡ Ok tt
-    pub loops : op_due code place op ≡ Ok tt
+    -- a code with loops is asked apart from the walk what its ops do in them
+    pub loops : code.loops ≡ [] → op_due code place op ≡ Ok tt
+    pub closed : is_open op ≡ false
     pub frame : Frame
     pub here : frame_at (At place) next ≡ Ok frame
     pub edges : Edges
@@ -97,6 +110,7 @@ module _ (s : Schema) (part : Part) (code : Code) (no_loops : code.loops ≡ [])
     tables = gives.tables;
     jumps = straight_target (length code.ops) place op gives.straight;
     loops = straight_loops place op gives.straight;
+    closed = straight_closed op gives.straight;
     frame = f;
     here = here;
     edges = goes_on g;
@@ -112,6 +126,7 @@ module _ (s : Schema) (part : Part) (code : Code) (no_loops : code.loops ≡ [])
     tables = ends.tables;
     jumps = straight_target (length code.ops) place op ends.straight;
     loops = straight_loops place op ends.straight;
+    closed = straight_closed op ends.straight;
     frame = f;
     here = here;
     edges = nothing_follows;
@@ -182,6 +197,7 @@ module _ (s : Schema) (part : Part) (code : Code) (no_loops : code.loops ≡ [])
     tables = refl;
     jumps = goes_ahead (length code.ops) place at low high;
     loops = unless_loops place at;
+    closed = no_place at (omega (arith, low));
     frame = with_stack (k ∷ f.stack) f;
     here = here;
     edges = either f f;
@@ -201,6 +217,7 @@ module _ (s : Schema) (part : Part) (code : Code) (no_loops : code.loops ≡ [])
     tables = refl;
     jumps = goes_ahead (length code.ops) place at low high;
     loops = jump_loops place at;
+    closed = no_place at (omega (arith, low));
     frame = f;
     here = here;
     edges = only_there f;
@@ -237,7 +254,7 @@ module _ (s : Schema) (part : Part) (code : Code) (no_loops : code.loops ≡ [])
   pub record IsFine (place : ℕ) (op : Op) : Type 0 where
     pub tables : in_tables s code op ≡ Ok tt
     pub jumps : check_target (length code.ops) place op ≡ Ok tt
-    pub loops : op_due code place op ≡ Ok tt
+    pub loops : code.loops ≡ [] → op_due code place op ≡ Ok tt
 
   pub fine_at : (listed : List Op) (place i : ℕ) (op : Op) (next out : Option Frame) → Walks place listed next out → slice_get listed i ≡ Some op → IsFine (place + i) op
   fine_at [] place i op next out walks at = absurd cc

@@ -32,23 +32,23 @@ use Rattle.bb_verify.specs.Tables.{in_tables, table_at, known_frame, known_kind,
 use Rattle.bb_compile_accepted.specs.Loopless.{HasClass, HasClasses}
 use Rattle.bb_compile_accepted.proofs.StraightLemmas.{each_range}
 use Rattle.bb_compile_accepted.proofs.UnderLemmas.{descends_same}
-use Rattle.bb_compile_accepted.proofs.KnowLemmas.{HasLocal, AllTaken}
+use Rattle.bb_compile_accepted.proofs.KnowLemmas.{HasLocal, AllTaken, HasSequences}
 use Rattle.bb_compile_accepted.proofs.LabelLemmas.{listed, label_at, found, AllLabels, AreKinds, Rises, rises_up, all_frames, rise_passes, frames_pass}
-use Rattle.bb_compile_accepted.proofs.ValueLemmas.{IsGood}
-use Rattle.bb_compile_accepted.proofs.MoveLemmas.{Tidy, one_or_other, at_other}
+use Rattle.bb_compile_accepted.proofs.ValueLemmas.{IsFit}
+use Rattle.bb_compile_accepted.proofs.MoveLemmas.{Tidy, Sole, one_or_other, at_other}
 use Rattle.bb_compile_accepted.proofs.WalkLemmas.{Walks, walked_frames, visited, fine_at, At}
 use Rattle.bb_compile_accepted.proofs.JoinLemmas.{Sound}
 
 -- ---- the tables, the jumps and the loops of a code each of whose ops may stand where it does
 
-module _ (s : Schema) (part : Part) (code : Code) (no_loops : code.loops ≡ []) (out : Option Frame) (walks : Walks s part code no_loops 0 code.ops (Some (entry_frame part code.locals)) out) where
+module _ (s : Schema) (part : Part) (code : Code) (out : Option Frame) (walks : Walks s part code 0 code.ops (Some (entry_frame part code.locals)) out) where
   table_fits : (place : ℕ) → table_at s code place ≡ Ok tt
   unfolding table_at
   table_fits place = by_op (slice_get code.ops place) refl
     where
       by_op : (o : Option Op) → slice_get code.ops place ≡ o → (let r : Result (Unit {0}) VerifyFault = elim o [ None ↦ Ok tt | Some op ↦ map_err (fault_at place) (in_tables s code op) ] in r) ≡ Ok tt
       by_op None h = refl
-      by_op (Some op) h = rw (fine_at s part code no_loops code.ops 0 place op (Some (entry_frame part code.locals)) out walks h).tables refl
+      by_op (Some op) h = rw (fine_at s part code code.ops 0 place op (Some (entry_frame part code.locals)) out walks h).tables refl
 
   jump_fits : (place : ℕ) → jump_at code place ≡ Ok tt
   unfolding jump_at
@@ -57,20 +57,21 @@ module _ (s : Schema) (part : Part) (code : Code) (no_loops : code.loops ≡ [])
       by_op : (o : Option Op) → slice_get code.ops place ≡ o → (let r : Result (Unit {0}) VerifyFault = elim o [ None ↦ Ok tt | Some op ↦ map_err (fault_at place) (check_target (length code.ops) place op) ] in r) ≡ Ok tt
       by_op None h = refl
       by_op (Some op) h =
-          let fine = fine_at s part code no_loops code.ops 0 place op (Some (entry_frame part code.locals)) out walks h in
+          let fine = fine_at s part code code.ops 0 place op (Some (entry_frame part code.locals)) out walks h in
           let e : 0 + place ≡ place = omega arith in
           rw (subst (λ p. check_target (length code.ops) p op ≡ Ok tt) e fine.jumps) refl
 
-  loop_fits : (place : ℕ) → loop_at code place ≡ Ok tt
+  -- where there are no loops
+  loop_fits : code.loops ≡ [] → (place : ℕ) → loop_at code place ≡ Ok tt
   unfolding loop_at place_due rising each
-  loop_fits place = by_op (slice_get code.ops place) refl
+  loop_fits none place = by_op none (slice_get code.ops place) refl
     where
-      by_op : (o : Option Op) → slice_get code.ops place ≡ o → map_err (fault_at place) (place_due code place o) ≡ Ok tt
-      by_op None h = refl
-      by_op (Some op) h =
-          let fine = fine_at s part code no_loops code.ops 0 place op (Some (entry_frame part code.locals)) out walks h in
+      by_op : code.loops ≡ [] → (o : Option Op) → slice_get code.ops place ≡ o → map_err (fault_at place) (place_due code place o) ≡ Ok tt
+      by_op none None h = refl
+      by_op none (Some op) h =
+          let fine = fine_at s part code code.ops 0 place op (Some (entry_frame part code.locals)) out walks h in
           let e : 0 + place ≡ place = omega arith in
-          rw (subst (λ p. op_due code p op ≡ Ok tt) e fine.loops, no_loops) refl
+          rw (subst (λ p. op_due code p op ≡ Ok tt) e (fine.loops none), none) refl
 
 -- ---- declared frames that rise up to the end of a code
 
@@ -98,11 +99,11 @@ rises_unlabelled from (l ∷ ls) n le r none = by_place (λ low h. rises_unlabel
 -- ---- a code that is walked is accepted
 
 module _ (s : Schema) (sf : schemas.Fits s) (part : Part) where
-  good_kinds : (ls : List Label) → AllLabels (λ ks. (i : ℕ) → is_free (kind_at ks i) ≡ false → IsGood s sf (kind_at ks i)) ls → AllLabels (AreKinds s) ls
+  good_kinds : (ls : List Label) → AllLabels (λ ks. (i : ℕ) → is_free (kind_at ks i) ≡ false → IsFit s sf (kind_at ks i)) ls → AllLabels (AreKinds s) ls
   good_kinds [] all = tt
   good_kinds (l ∷ ls) all = ((λ i. by_free (kind_at l.kinds i) (all.0 i)), good_kinds ls all.1)
     where
-      by_free : (k : Kind) → (is_free k ≡ false → IsGood s sf k) → known_kind s k ≡ Ok tt
+      by_free : (k : Kind) → (is_free k ≡ false → IsFit s sf k) → known_kind s k ≡ Ok tt
       by_free kinds.Any good = refl
       by_free kinds.Int good = (good refl).0
       by_free kinds.Text good = (good refl).0
@@ -121,28 +122,30 @@ module _ (s : Schema) (sf : schemas.Fits s) (part : Part) where
   unfolding jumps
   jumps_pass code jump = rw (jump) refl
 
-  loops_pass : (code : Code) → code.loops ≡ [] → each (loop_at code) (range_with_len 0 (length code.ops)) ≡ Ok tt → loops code ≡ Ok tt
+  -- a code without loops
+  pub loops_pass : (code : Code) → code.loops ≡ [] → (out : Option Frame) → Walks s part code 0 code.ops (Some (entry_frame part code.locals)) out → loops code ≡ Ok tt
   unfolding loops lowest_outside
-  loops_pass code no_loops loop = rw (loop, no_loops) refl
+  loops_pass code none out walks =
+      let loop : each (loop_at code) (range_with_len 0 (length code.ops)) ≡ Ok tt = each_range (loop_at code) 0 (length code.ops) (λ i lt. loop_fits s part code out walks none i) in
+      rw (loop, none) refl
 
-  frames_found : (code : Code) (no_loops : code.loops ≡ []) (out : Option Frame) → (walks : Walks s part code no_loops 0 code.ops (Some (entry_frame part code.locals)) out) → on_due s (Some (entry_frame part code.locals)) (At s part code no_loops 0) ≡ Ok tt
-      → frames_of s part code ≡ Ok (walked_frames s part code no_loops 0 code.ops (Some (entry_frame part code.locals)) out walks)
+  frames_found : (code : Code) (out : Option Frame) → (walks : Walks s part code 0 code.ops (Some (entry_frame part code.locals)) out) → on_due s (Some (entry_frame part code.locals)) (At s part code 0) ≡ Ok tt
+      → frames_of s part code ≡ Ok (walked_frames s part code 0 code.ops (Some (entry_frame part code.locals)) out walks)
   unfolding frames_of
-  frames_found code no_loops out walks on = rw (on, visited s part code no_loops 0 [] code.ops (Some (entry_frame part code.locals)) out [] refl refl walks) refl
+  frames_found code out walks on = rw (on, visited s part code 0 [] code.ops (Some (entry_frame part code.locals)) out [] refl refl walks) refl
 
-  pub walked_accepted : (code : Code) (no_loops : code.loops ≡ []) (labels : List Label) (last : Option Label) → code.frames ≡ declared_of code.locals labels last → Rises 0 (listed labels last) (length code.ops)
-      → AllLabels (λ ks. (i : ℕ) → is_free (kind_at ks i) ≡ false → IsGood s sf (kind_at ks i)) (listed labels last) → length (units_of part) ≤ code.locals → fit_version s code.version ≡ Ok tt
-      → (out : Option Frame) → (walks : Walks s part code no_loops 0 code.ops (Some (entry_frame part code.locals)) out) → on_due s (Some (entry_frame part code.locals)) (At s part code no_loops 0) ≡ Ok tt
-      → checked s part code ≡ Ok (record { code = code; part = part; frames = walked_frames s part code no_loops 0 code.ops (Some (entry_frame part code.locals)) out walks })
+  pub walked_accepted : (code : Code) (labels : List Label) (last : Option Label) → code.frames ≡ declared_of code.locals labels last → Rises 0 (listed labels last) (length code.ops)
+      → AllLabels (λ ks. (i : ℕ) → is_free (kind_at ks i) ≡ false → IsFit s sf (kind_at ks i)) (listed labels last) → length (units_of part) ≤ code.locals → fit_version s code.version ≡ Ok tt → loops code ≡ Ok tt
+      → (out : Option Frame) → (walks : Walks s part code 0 code.ops (Some (entry_frame part code.locals)) out) → on_due s (Some (entry_frame part code.locals)) (At s part code 0) ≡ Ok tt
+      → checked s part code ≡ Ok (record { code = code; part = part; frames = walked_frames s part code 0 code.ops (Some (entry_frame part code.locals)) out walks })
   unfolding checked accepted
-  walked_accepted code no_loops labels last frames_are rises good enough fit out walks on =
+  walked_accepted code labels last frames_are rises good enough fit nested out walks on =
       let all = frames_are ∙ all_frames code.locals labels last in
       let in_order : places_rise 0 (length code.ops) code.frames ≡ Ok tt = ap (places_rise 0 (length code.ops)) all ∙ rise_passes code.locals 0 (listed labels last) (length code.ops) (length code.ops) rises (omega arith) in
       let known : each (known_frame s) code.frames ≡ Ok tt = ap (each (known_frame s)) all ∙ frames_pass s code.locals (listed labels last) (good_kinds (listed labels last) good) in
-      let table : each (table_at s code) (range_with_len 0 (length code.ops)) ≡ Ok tt = each_range (table_at s code) 0 (length code.ops) (λ i lt. table_fits s part code no_loops out walks i) in
-      let jump : each (jump_at code) (range_with_len 0 (length code.ops)) ≡ Ok tt = each_range (jump_at code) 0 (length code.ops) (λ i lt. jump_fits s part code no_loops out walks i) in
-      let loop : each (loop_at code) (range_with_len 0 (length code.ops)) ≡ Ok tt = each_range (loop_at code) 0 (length code.ops) (λ i lt. loop_fits s part code no_loops out walks i) in
-      rw (tables_pass code table in_order known enough fit, jumps_pass code jump, loops_pass code no_loops loop, frames_found code no_loops out walks on) refl
+      let table : each (table_at s code) (range_with_len 0 (length code.ops)) ≡ Ok tt = each_range (table_at s code) 0 (length code.ops) (λ i lt. table_fits s part code out walks i) in
+      let jump : each (jump_at code) (range_with_len 0 (length code.ops)) ≡ Ok tt = each_range (jump_at code) 0 (length code.ops) (λ i lt. jump_fits s part code out walks i) in
+      rw (tables_pass code table in_order known enough fit, jumps_pass code jump, nested, frames_found code out walks on) refl
 
 -- ---- what a part begins with
 
@@ -174,7 +177,7 @@ event_at c of i = by_local (one_or_other i 1)
     by_local (inr apart) = by_first apart (unit_at c i)
 
 module _ (s : Schema) (sf : schemas.Fits s) where
-  class_good : (c : ℕ) → HasClass s c → IsGood s sf (kinds.Old c)
+  class_good : (c : ℕ) → HasClass s c → IsFit s sf (kinds.Old c)
   class_good c lt = (rw (lt-ltb c (length s.classes) lt) refl, (c, inr refl, descends_same s sf c))
 
   never_free : {A : Type 0} (k : Kind) → k ≡ kinds.Any → is_free k ≡ false → A
@@ -182,14 +185,15 @@ module _ (s : Schema) (sf : schemas.Fits s) where
 
   unit_tidy : (part : Part) (place : Place) (c : ℕ) → HasClass s c → begin_with part ≡ of_unit c → units_of part ≡ kinds.Old c ∷ [] → Tidy s sf (empty_buffer part place)
   unit_tidy part place c lt scope units = record {
-    good = λ i taken. subst (λ (x : Scope). is_free (kind_at x.kinds i) ≡ false → IsGood s sf (kind_at x.kinds i)) (sym scope) (λ taken. by_good i taken (unit_at c i)) taken;
-    named = λ i taken. subst (λ (x : Scope). is_free (kind_at x.kinds i) ≡ false → HasLocal s sf i x.names) (sym scope) (λ taken. by_named i taken (unit_at c i)) taken;
-    taken = subst (λ (x : Scope). AllTaken s sf x.kinds x.names) (sym scope) (refl, tt);
+    good = λ i taken. subst (λ (x : Scope). is_free (kind_at x.kinds i) ≡ false → IsFit s sf (kind_at x.kinds i)) (sym scope) (λ taken. by_good i taken (unit_at c i)) taken;
+    named = λ i taken value. subst (λ (x : Scope). is_free (kind_at x.kinds i) ≡ false → HasLocal s sf i x.names) (sym scope) (λ taken. by_named i taken (unit_at c i)) taken;
+    taken = subst (λ (x : Scope). AllTaken s sf x.kinds x.names) (sym scope) (refl, refl, tt);
+    sole = subst (λ (x : Scope). Sole x.kinds x.names) (sym scope) (refl, tt, tt);
     low = λ i taken. subst (λ (x : Scope). is_free (kind_at x.kinds i) ≡ false → i < length (units_of part)) (sym scope) (λ taken. by_low i taken (unit_at c i)) taken;
   }
     where
-      by_good : (i : ℕ) → is_free (kind_at (set all_free 0 (kinds.Old c)) i) ≡ false → (((i ≡ 0) × (kind_at (set all_free 0 (kinds.Old c)) i ≡ kinds.Old c)) ⊎ (kind_at (set all_free 0 (kinds.Old c)) i ≡ kinds.Any)) → IsGood s sf (kind_at (set all_free 0 (kinds.Old c)) i)
-      by_good i taken (inl (e, is)) = subst (IsGood s sf) (sym is) (class_good c lt)
+      by_good : (i : ℕ) → is_free (kind_at (set all_free 0 (kinds.Old c)) i) ≡ false → (((i ≡ 0) × (kind_at (set all_free 0 (kinds.Old c)) i ≡ kinds.Old c)) ⊎ (kind_at (set all_free 0 (kinds.Old c)) i ≡ kinds.Any)) → IsFit s sf (kind_at (set all_free 0 (kinds.Old c)) i)
+      by_good i taken (inl (e, is)) = subst (IsFit s sf) (sym is) (class_good c lt)
       by_good i taken (inr free) = never_free (kind_at (set all_free 0 (kinds.Old c)) i) free taken
 
       by_named : (i : ℕ) → is_free (kind_at (set all_free 0 (kinds.Old c)) i) ≡ false → (((i ≡ 0) × (kind_at (set all_free 0 (kinds.Old c)) i ≡ kinds.Old c)) ⊎ (kind_at (set all_free 0 (kinds.Old c)) i ≡ kinds.Any)) → HasLocal s sf i (of_unit c).names
@@ -202,18 +206,19 @@ module _ (s : Schema) (sf : schemas.Fits s) where
 
   event_tidy : (part : Part) (place : Place) (c of : ℕ) → HasClass s c → HasClass s of → begin_with part ≡ of_event c of → units_of part ≡ kinds.Old c ∷ kinds.Old of ∷ [] → Tidy s sf (empty_buffer part place)
   event_tidy part place c of lt lt_of scope units = record {
-    good = λ i taken. subst (λ (x : Scope). is_free (kind_at x.kinds i) ≡ false → IsGood s sf (kind_at x.kinds i)) (sym scope) (λ taken. by_good i taken (event_at c of i)) taken;
-    named = λ i taken. subst (λ (x : Scope). is_free (kind_at x.kinds i) ≡ false → HasLocal s sf i x.names) (sym scope) (λ taken. by_named i taken (event_at c of i)) taken;
-    taken = subst (λ (x : Scope). AllTaken s sf x.kinds x.names) (sym scope) (refl, (refl, tt));
+    good = λ i taken. subst (λ (x : Scope). is_free (kind_at x.kinds i) ≡ false → IsFit s sf (kind_at x.kinds i)) (sym scope) (λ taken. by_good i taken (event_at c of i)) taken;
+    named = λ i taken value. subst (λ (x : Scope). is_free (kind_at x.kinds i) ≡ false → HasLocal s sf i x.names) (sym scope) (λ taken. by_named i taken (event_at c of i)) taken;
+    taken = subst (λ (x : Scope). AllTaken s sf x.kinds x.names) (sym scope) (refl, refl, (refl, refl, tt));
+    sole = subst (λ (x : Scope). Sole x.kinds x.names) (sym scope) (refl, ((λ e. cc), tt), (refl, tt, tt));
     low = λ i taken. subst (λ (x : Scope). is_free (kind_at x.kinds i) ≡ false → i < length (units_of part)) (sym scope) (λ taken. by_low i taken (event_at c of i)) taken;
   }
     where
       abbrev_at : ℕ → Type 0
       abbrev_at i = ((i ≡ 0) × (kind_at (event_kinds c of) i ≡ kinds.Old c)) ⊎ (((i ≡ 1) × (kind_at (event_kinds c of) i ≡ kinds.Old of)) ⊎ (kind_at (event_kinds c of) i ≡ kinds.Any))
 
-      by_good : (i : ℕ) → is_free (kind_at (event_kinds c of) i) ≡ false → abbrev_at i → IsGood s sf (kind_at (event_kinds c of) i)
-      by_good i taken (inl (e, is)) = subst (IsGood s sf) (sym is) (class_good c lt)
-      by_good i taken (inr (inl (e, is))) = subst (IsGood s sf) (sym is) (class_good of lt_of)
+      by_good : (i : ℕ) → is_free (kind_at (event_kinds c of) i) ≡ false → abbrev_at i → IsFit s sf (kind_at (event_kinds c of) i)
+      by_good i taken (inl (e, is)) = subst (IsFit s sf) (sym is) (class_good c lt)
+      by_good i taken (inr (inl (e, is))) = subst (IsFit s sf) (sym is) (class_good of lt_of)
       by_good i taken (inr (inr free)) = never_free (kind_at (event_kinds c of) i) free taken
 
       by_named : (i : ℕ) → is_free (kind_at (event_kinds c of) i) ≡ false → abbrev_at i → HasLocal s sf i (of_event c of).names
@@ -226,6 +231,29 @@ module _ (s : Schema) (sf : schemas.Fits s) where
       by_low i taken (inr (inl (e, is))) = let count : length (units_of part) ≡ 2 = ap length units in omega (arith, e, count)
       by_low i taken (inr (inr free)) = never_free (kind_at (event_kinds c of) i) free taken
 
+  -- a part begins with no sequence
+  unit_none : {A : Type 0} (c i class : ℕ) → kind_at (set all_free 0 (kinds.Old c)) i ≡ kinds.Seq class → A
+  unit_none c i class is = by_kind (unit_at c i)
+    where
+      by_kind : {A : Type 0} → (((i ≡ 0) × (kind_at (set all_free 0 (kinds.Old c)) i ≡ kinds.Old c)) ⊎ (kind_at (set all_free 0 (kinds.Old c)) i ≡ kinds.Any)) → A
+      by_kind (inl (e, own)) = absurd (let no : kinds.Old c ≡ kinds.Seq class = sym own ∙ is in cc)
+      by_kind (inr free) = absurd (let no : kinds.Any ≡ kinds.Seq class = sym free ∙ is in cc)
+
+  event_none : {A : Type 0} (c of i class : ℕ) → kind_at (event_kinds c of) i ≡ kinds.Seq class → A
+  event_none c of i class is = by_kind (event_at c of i)
+    where
+      by_kind : {A : Type 0} → (((i ≡ 0) × (kind_at (event_kinds c of) i ≡ kinds.Old c)) ⊎ (((i ≡ 1) × (kind_at (event_kinds c of) i ≡ kinds.Old of)) ⊎ (kind_at (event_kinds c of) i ≡ kinds.Any))) → A
+      by_kind (inl (e, own)) = absurd (let no : kinds.Old c ≡ kinds.Seq class = sym own ∙ is in cc)
+      by_kind (inr (inl (e, own))) = absurd (let no : kinds.Old of ≡ kinds.Seq class = sym own ∙ is in cc)
+      by_kind (inr (inr free)) = absurd (let no : kinds.Any ≡ kinds.Seq class = sym free ∙ is in cc)
+
+  pub begin_sequences : (part : Part) (locals : List Kind) → HasSequences s sf locals (begin_with part).kinds
+  begin_sequences (Require c) locals i class is = unit_none c i class is
+  begin_sequences (Obviate c of) locals i class is = event_none c of i class is
+  begin_sequences (Retrigger c of) locals i class is = event_none c of i class is
+  begin_sequences (Revalidate c) locals i class is = unit_none c i class is
+  begin_sequences (Do c) locals i class is = unit_none c i class is
+
   begin_tidy : (part : Part) (place : Place) → HasClasses s part → Tidy s sf (empty_buffer part place)
   begin_tidy (Require c) place has = unit_tidy (Require c) place c has refl refl
   begin_tidy (Obviate c of) place has = event_tidy (Obviate c of) place c of has.0 has.1 refl refl
@@ -233,5 +261,5 @@ module _ (s : Schema) (sf : schemas.Fits s) where
   begin_tidy (Revalidate c) place has = unit_tidy (Revalidate c) place c has refl refl
   begin_tidy (Do c) place has = unit_tidy (Do c) place c has refl refl
 
-  pub begin_sound : (part : Part) (place : Place) (code : Code) (no_loops : code.loops ≡ []) → HasClasses s part → Sound s sf part code no_loops (empty_buffer part place)
-  begin_sound part place code no_loops has = record { tidy = begin_tidy part place has; rises = omega arith; last = refl; good = tt; strong = λ ks at. absurd cc }
+  pub begin_sound : (part : Part) (place : Place) (code : Code) → HasClasses s part → Sound s sf part code (empty_buffer part place)
+  begin_sound part place code has = record { tidy = begin_tidy part place has; rises = omega arith; last = refl; good = tt; strong = λ ks at. absurd cc }

@@ -316,15 +316,15 @@ module _ (schema : Schema) (sf : schemas.Fits schema) (part : Part) (code : Code
         → Acts code start s t (λ scene. test scene >>= chosen (statements first) (λ sc. Ok sc) scene)
     one_does br tests g own has = absent_acts test first loops s br.inner br.blocks.end br.exits br.guard g tests own t br.blocks.ended now (branches_absent schema part loops first s t now br) has
 
-    both_do : is_loopless first ≡ true → (b : BlockTree) → (br : Branches schema part loops first (otherwise b) s t now) → (Has code br.guard.behind → Tests code start s br.inner br.exits br.guard test) → (Has code br.blocks.end → Acts code start br.inner br.blocks.end (statements first))
+    both_do : (b : BlockTree) → (br : Branches schema part loops first (otherwise b) s t now) → (Has code br.guard.behind → Tests code start s br.inner br.exits br.guard test) → (Has code br.blocks.end → Acts code start br.inner br.blocks.end (statements first))
         → (T : (d : Bool) (x y : Buffer) → statements_code schema part loops false b x ≡ Ok (d, y) → Type 0) → InOther schema part loops first b s t now br T
         → ((d : Bool) (x y : Buffer) → Clean x → (is : statements_code schema part loops false b x ≡ Ok (d, y)) → T d x y is → Has code y → Acts code start x y (statements b))
         → ((d : Bool) (x y : Buffer) → statements_code schema part loops false b x ≡ Ok (d, y) → Grown x y) → Has code t → Acts code start s t (λ scene. test scene >>= chosen (statements first) (λ sc. left sc (statements b sc)) scene)
-    both_do ok b br tests own T told second more has =
+    both_do b br tests own T told second more has =
         let blocks = br.blocks in
-        let g = block_grown schema part first loops false blocks.ended br.inner blocks.end ok blocks.block_is in
-        let clean = block_clean schema part first loops false blocks.ended br.inner blocks.end ok br.guard.clean blocks.block_is in
-        let ends_so = block_now schema part first loops false blocks.ended br.inner blocks.end ok blocks.block_is in
+        let g = block_grown schema part first loops false blocks.ended br.inner blocks.end blocks.block_is in
+        let clean = block_clean schema part first loops false blocks.ended br.inner blocks.end br.guard.clean blocks.block_is in
+        let ends_so = block_now schema part first loops false blocks.ended br.inner blocks.end blocks.block_is in
         else_acts test first loops s br.inner blocks.end br.exits br.guard g tests own b t now has blocks.ended ends_so T second more clean (branches_else schema part loops first b s t now br) told
 
   abbrev Told : (b : BlockTree) (loops : ℕ) (was now : Bool) (s t : Buffer) → statements_code schema part loops was b s ≡ Ok (now, t) → Type 0
@@ -340,9 +340,9 @@ module _ (schema : Schema) (sf : schemas.Fits schema) (part : Part) (code : Code
         let one = bind_ok (statement_code schema part loops place x here) (λ p. statements_code schema part loops (was || p.0) others p.1) (now, t) h in
         let own_ok = and_first (is_loopless_statement x) (is_loopless others) ok in
         let rest_ok = and_second (is_loopless_statement x) (is_loopless others) ok in
-        let behind = block_grown schema part others loops (was || one.0.0) now one.0.1 t rest_ok one.2 in
+        let behind = block_grown schema part others loops (was || one.0.0) now one.0.1 t one.2 in
         let first = statement_does x loops place one.0.0 here one.0.1 own_ok one.1 told.0 (has_before code one.0.1 t behind has) in
-        let rest = block_does others loops (was || one.0.0) now one.0.1 t rest_ok (statement_clean schema part x loops place one.0.0 here one.0.1 own_ok one.1) one.2 told.1 has in
+        let rest = block_does others loops (was || one.0.0) now one.0.1 t rest_ok (statement_clean schema part x loops place one.0.0 here one.0.1 one.1) one.2 told.1 has in
         let free = not_failed was NoEnd s first.clean in
         acts_on s one.0.1 t (statement x) (statements others) (subst (λ y. Acts code start y one.0.1 (statement x)) free.1 first) rest
 
@@ -354,7 +354,7 @@ module _ (schema : Schema) (sf : schemas.Fits schema) (part : Part) (code : Code
         let tests = if_tests code start schema sf good test s laid.inner laid.exits laid.test_is in
         let own_ok = and_first (is_loopless first) true ok in
         acts_same s t (λ scene. where_true code start test scene >>= chosen (statements first) (λ sc. Ok sc) scene) (statement (if_of test first absent)) (λ scene. if_means scene (value_of scene.board scene.names test) (statements first) (λ sc. Ok sc))
-        (one_does (where_true code start test) first loops s t now br tests (block_grown schema part first loops false br.blocks.ended br.inner br.blocks.end own_ok br.blocks.block_is)
+        (one_does (where_true code start test) first loops s t now br tests (block_grown schema part first loops false br.blocks.ended br.inner br.blocks.end br.blocks.block_is)
         (λ has. block_does first loops false br.blocks.ended br.inner br.blocks.end own_ok br.guard.clean br.blocks.block_is told.1 has) has)
     statement_does (if_of test first (otherwise b)) loops place now s t ok h told has =
         let laid = if_laid schema part loops place test first (otherwise b) s t now h in
@@ -363,8 +363,8 @@ module _ (schema : Schema) (sf : schemas.Fits schema) (part : Part) (code : Code
         let own_ok = and_first (is_loopless first) (is_loopless b) ok in
         let rest_ok = and_second (is_loopless first) (is_loopless b) ok in
         acts_same s t (λ scene. where_true code start test scene >>= chosen (statements first) (λ sc. left sc (statements b sc)) scene) (statement (if_of test first (otherwise b))) (λ scene. if_means scene (value_of scene.board scene.names test) (statements first) (λ sc. left sc (statements b sc)))
-        (both_do (where_true code start test) first loops s t now own_ok b br tests (λ has. block_does first loops false br.blocks.ended br.inner br.blocks.end own_ok br.guard.clean br.blocks.block_is told.1.0 has) (λ d x y is. Told b loops false d x y is) told.1.1
-        (λ d x y clean is told has. block_does b loops false d x y rest_ok clean is told has) (λ d x y is. block_grown schema part b loops false d x y rest_ok is) has)
+        (both_do (where_true code start test) first loops s t now b br tests (λ has. block_does first loops false br.blocks.ended br.inner br.blocks.end own_ok br.guard.clean br.blocks.block_is told.1.0 has) (λ d x y is. Told b loops false d x y is) told.1.1
+        (λ d x y clean is told has. block_does b loops false d x y rest_ok clean is told has) (λ d x y is. block_grown schema part b loops false d x y is) has)
     statement_does (with_of binding first absent) loops place now s t ok h told has =
         let laid = with_laid schema part loops place binding first absent s t now h in
         let br = with_branches schema part loops binding place first absent s t now laid in
@@ -372,7 +372,7 @@ module _ (schema : Schema) (sf : schemas.Fits schema) (part : Part) (code : Code
         let tests = head_tests schema sf code start good binding s laid.inner laid.exits head.0 head.1 (found_below schema sf code start frames stands s told.0) in
         let own_ok = and_first (is_loopless first) true ok in
         acts_same s t (λ scene. where_found binding scene >>= chosen (statements first) (λ sc. Ok sc) scene) (statement (with_of binding first absent)) (λ scene. with_means scene (bound binding scene) (statements first) (λ sc. Ok sc))
-        (one_does (where_found binding) first loops s t now br tests (block_grown schema part first loops false br.blocks.ended br.inner br.blocks.end own_ok br.blocks.block_is)
+        (one_does (where_found binding) first loops s t now br tests (block_grown schema part first loops false br.blocks.ended br.inner br.blocks.end br.blocks.block_is)
         (λ has. block_does first loops false br.blocks.ended br.inner br.blocks.end own_ok br.guard.clean br.blocks.block_is told.1 has) has)
     statement_does (with_of binding first (otherwise b)) loops place now s t ok h told has =
         let laid = with_laid schema part loops place binding first (otherwise b) s t now h in
@@ -382,6 +382,6 @@ module _ (schema : Schema) (sf : schemas.Fits schema) (part : Part) (code : Code
         let own_ok = and_first (is_loopless first) (is_loopless b) ok in
         let rest_ok = and_second (is_loopless first) (is_loopless b) ok in
         acts_same s t (λ scene. where_found binding scene >>= chosen (statements first) (λ sc. left sc (statements b sc)) scene) (statement (with_of binding first (otherwise b))) (λ scene. with_means scene (bound binding scene) (statements first) (λ sc. left sc (statements b sc)))
-        (both_do (where_found binding) first loops s t now own_ok b br tests (λ has. block_does first loops false br.blocks.ended br.inner br.blocks.end own_ok br.guard.clean br.blocks.block_is told.1.0 has) (λ d x y is. Told b loops false d x y is) told.1.1
-        (λ d x y clean is told has. block_does b loops false d x y rest_ok clean is told has) (λ d x y is. block_grown schema part b loops false d x y rest_ok is) has)
+        (both_do (where_found binding) first loops s t now b br tests (λ has. block_does first loops false br.blocks.ended br.inner br.blocks.end own_ok br.guard.clean br.blocks.block_is told.1.0 has) (λ d x y is. Told b loops false d x y is) told.1.1
+        (λ d x y clean is told has. block_does b loops false d x y rest_ok clean is told has) (λ d x y is. block_grown schema part b loops false d x y is) has)
     statement_does (for_of name sequence body) loops place now s t ok h told has = absurd cc

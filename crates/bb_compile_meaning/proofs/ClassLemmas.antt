@@ -28,7 +28,7 @@ use Rattle.bb_machine.specs.Kinds.{HasKind, LocalHas}
 use Rattle.bb_machine.specs.NeverWrong.{Stands}
 use Rattle.bb_verify.specs.Due as dues
 use Rattle.bb_verify.specs.FrameType.{Frame}
-use Rattle.bb_compile_accepted.proofs.Laws.{Finds, descends_on, under_class}
+use Rattle.bb_compile_accepted.proofs.Laws.{Finds, kept_unit, descends_on, under_class}
 use Rattle.bb_compile_meaning.specs.Meaning.{named}
 use Rattle.bb_compile_meaning.specs.Statements.{Scene}
 use Rattle.bb_compile_meaning.proofs.ComeLemmas.{Comes}
@@ -101,7 +101,7 @@ module _ (schema : Schema) (sf : schemas.Fits schema) (code : Code) (start : Sta
       let there : slice_get frames (length s.ops) ≡ Some stand.frame = ap (slice_get frames) (sym c.0) ∙ stand.there in
       let thought = kind_at s.scope.kinds local in
       let known = kind_at stand.frame.locals local in
-      let unit = under_class schema sf known thought own (finds stand.frame there local (unit_taken thought own of)) of in
+      let unit = under_class schema sf known thought own (kept_unit schema sf known thought own of (finds stand.frame there local (unit_taken thought own of))) of in
       let value = value_named st.0.locals (name_of v) local s.scope.names scene.names here.held at in
       let same : value.0 ≡ One k = same_ok value.0 (One k) (sym value.1 ∙ is) in
       let has = local_has schema st.1.world stand.frame.locals st.0.locals local (One k) stand.suits.locals (value.2 ∙ ap (λ x. Some (Some x)) same) in
