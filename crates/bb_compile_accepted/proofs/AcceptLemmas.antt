@@ -1,7 +1,6 @@
--- Statements without `for`, one after another, lead the verifier to what stands behind them.
-use Rattle.std.proofs.Common.{◌≡◌, ◌⊎◌, inl, inr, ℕ, Bool, true, false, ◌||◌, List, [], ◌++◌, length, Option, None, Ok, refl, subst, sym, ap, ◌∙◌, arith}
+-- Statements of all kinds, one after another, lead the verifier to what stands behind them.
+use Rattle.std.proofs.Common.{◌≡◌, ◌⊎◌, inl, inr, ℕ, Bool, true, false, ◌||◌, List, [], ◌++◌, length, Option, None, Ok, refl, subst, sym, ap, ◌∙◌, arith, ◌-◌, Some}
 use Rattle.std.proofs.lemmas.List.{append-nil}
-use Rattle.bb_basis.proofs.BoolLemmas.{and_first, and_second}
 use Rattle.bb_basis.proofs.ResultLemmas.{bind_ok}
 use Rattle.bb_schema.specs.Schema.{Schema}
 use Rattle.bb_schema.specs.Fits as schemas
@@ -15,8 +14,7 @@ use Rattle.bb_compile_buffer.specs.declared.buffer.Buffer.{Buffer}
 use Rattle.bb_compile_emit.specs.Statements.{after_end, statement_code, statements_code}
 use Rattle.bb_verify.specs.FrameType.{Frame}
 use Rattle.bb_verify.specs.PartType.{Part}
-use Rattle.bb_compile_accepted.specs.Loopless.{is_loopless, is_loopless_statement}
-use Rattle.bb_compile_accepted.proofs.BufferLemmas.{Grown, Has, never_noted, grown_none, grown_on, count_of}
+use Rattle.bb_compile_accepted.proofs.BufferLemmas.{Grown, Has, never_noted, grown_none, grown_on, count_of, has_before}
 use Rattle.bb_compile_accepted.proofs.PutLemmas.{pair_ok}
 use Rattle.bb_compile_accepted.proofs.PatternLemmas.{AreSmall}
 use Rattle.bb_compile_accepted.proofs.ActionLemmas.{action_does}
@@ -37,6 +35,16 @@ use Rattle.bb_compile_accepted.proofs.TestGoes.{test_guides}
 use Rattle.bb_compile_accepted.proofs.HeadGoes.{head_guides}
 use Rattle.bb_compile_accepted.proofs.BranchGoes.{absent_goes}
 use Rattle.bb_compile_accepted.proofs.ElseGoes.{ended_goes, on_goes}
+use Rattle.bb_code.specs.Limits.{STACK_LIMIT}
+use Rattle.bb_lang.specs.View.{sequence_of}
+use Rattle.bb_compile_accepted.proofs.ExprLemmas.{sequence_lays}
+use Rattle.bb_compile_accepted.proofs.LoopLaid.{for_laid}
+use Rattle.bb_compile_accepted.proofs.ForLays.{behind_grown}
+use Rattle.bb_compile_accepted.proofs.TextActs.{block_acts}
+use Rattle.bb_compile_accepted.proofs.ForActs.{sole_inner}
+use Rattle.bb_compile_accepted.proofs.ForSounds.{sound_inner}
+use Rattle.bb_compile_accepted.proofs.ForEnds.{agrees_end}
+use Rattle.bb_compile_accepted.proofs.ForGoes.{for_goes}
 
 module _ (schema : Schema) (sf : schemas.Fits schema) (part : Part) (code : Code) (small : AreSmall schema sf part code) where
   abbrev pub GoesHere : Buffer → Buffer → Bool → (List Frame → Type 0) → Type 0
@@ -154,50 +162,52 @@ module _ (schema : Schema) (sf : schemas.Fits schema) (part : Part) (code : Code
   mutual
     unfolding statements_code statement_code if_branches with_branches InBlock InStatement
 
-    pub block_goes : (b : BlockTree) (loops : ℕ) (was now : Bool) (s t : Buffer) → is_loopless b ≡ true → (h : statements_code schema part loops was b s ≡ Ok (now, t)) → IsSound s → AgreesHere t → Block was now s t (Told b loops was now s t h)
-    block_goes no_statement loops true now s t ok h sound agrees = let same = pair_ok true now s t h in (same.1, sym same.0, λ frames. tt)
-    block_goes no_statement loops false now s t ok h sound agrees = let same = pair_ok false now s t h in subst (λ b. GoesHere s t b (λ frames. Unit {0})) same.0 (goes_none s t same.1 sound)
-    block_goes (before_others place x others) loops true now s t ok h sound agrees =
+    pub block_goes : (b : BlockTree) (loops : ℕ) (was now : Bool) (s t : Buffer) → (h : statements_code schema part loops was b s ≡ Ok (now, t)) → IsSound s → AgreesHere t → Block was now s t (Told b loops was now s t h)
+    block_goes no_statement loops true now s t h sound agrees = let same = pair_ok true now s t h in (same.1, sym same.0, λ frames. tt)
+    block_goes no_statement loops false now s t h sound agrees = let same = pair_ok false now s t h in subst (λ b. GoesHere s t b (λ frames. Unit {0})) same.0 (goes_none s t same.1 sound)
+    block_goes (before_others place x others) loops true now s t h sound agrees =
         let here = after_end true s in
         let one = bind_ok (statement_code schema part loops place x here) (λ p. statements_code schema part loops (true || p.0) others p.1) (now, t) h in
         never_noted NoEnd s (statement_lays schema part x loops place one.0.0 here one.0.1 one.1).clean
-    block_goes (before_others place x others) loops false now s t ok h sound agrees =
+    block_goes (before_others place x others) loops false now s t h sound agrees =
         let one = bind_ok (statement_code schema part loops place x s) (λ p. statements_code schema part loops (false || p.0) others p.1) (now, t) h in
-        let own_ok = and_first (is_loopless_statement x) (is_loopless others) ok in
-        let rest_ok = and_second (is_loopless_statement x) (is_loopless others) ok in
         let behind = block_lays schema part others loops one.0.0 now one.0.1 t one.2 in
         let agrees_here = agrees_before schema sf part code one.0.1 t behind.grown behind.locals (λ p lt. behind.marks p (omega (arith, lt)) (let count = count_of one.0.1 t behind.grown in omega (arith, lt, count))) agrees in
-        let first = statement_goes x loops place one.0.0 s one.0.1 own_ok one.1 sound agrees_here in
-        joined one.0.0 now s one.0.1 t (λ frames. InStatement schema part (Found frames) x loops place one.0.0 s one.0.1 one.1) (Told others loops one.0.0 now one.0.1 t one.2) agrees_here.has first (block_goes others loops one.0.0 now one.0.1 t rest_ok one.2 first.sound agrees)
+        let first = statement_goes x loops place one.0.0 s one.0.1 one.1 sound agrees_here in
+        joined one.0.0 now s one.0.1 t (λ frames. InStatement schema part (Found frames) x loops place one.0.0 s one.0.1 one.1) (Told others loops one.0.0 now one.0.1 t one.2) agrees_here.has first (block_goes others loops one.0.0 now one.0.1 t one.2 first.sound agrees)
 
-    statement_goes : (x : StatementTree) (loops : ℕ) (place : Place) (now : Bool) (s t : Buffer) → is_loopless_statement x ≡ true → (h : statement_code schema part loops place x s ≡ Ok (now, t)) → IsSound s → AgreesHere t → GoesHere s t now (λ frames. InStatement schema part (Found frames) x loops place now s t h)
-    statement_goes (action a) loops place now s t ok h sound agrees =
+    statement_goes : (x : StatementTree) (loops : ℕ) (place : Place) (now : Bool) (s t : Buffer) → (h : statement_code schema part loops place x s ≡ Ok (now, t)) → IsSound s → AgreesHere t → GoesHere s t now (λ frames. InStatement schema part (Found frames) x loops place now s t h)
+    statement_goes (action a) loops place now s t h sound agrees =
         let is = stated schema part place a s t now h in
         subst (λ e. GoesHere s t e (λ frames. Unit {0})) is.now_is (action_goes schema sf part code small (ends a) s t (action_does schema sf part code small a s t is.code_is is.clean agrees.has) sound agrees)
-    statement_goes (if_of test first absent) loops place now s t ok h sound agrees =
+    statement_goes (if_of test first absent) loops place now s t h sound agrees =
         let laid = if_laid schema part loops place test first absent s t now h in
-        let own_ok = and_first (is_loopless first) true ok in
-        one_goes loops first s t now sound agrees (λ e x y is. Told first loops false e x y is) (λ e x y is. block_lays schema part first loops false e x y is) (λ e x y is sound agrees. block_goes first loops false e x y own_ok is sound agrees)
+        one_goes loops first s t now sound agrees (λ e x y is. Told first loops false e x y is) (λ e x y is. block_lays schema part first loops false e x y is) (λ e x y is sound agrees. block_goes first loops false e x y is sound agrees)
         (if_branches schema part loops test first absent s t now laid) (λ has. test_guides schema sf part code small test s laid.inner laid.exits laid.test_is has)
-    statement_goes (if_of test first (otherwise b)) loops place now s t ok h sound agrees =
+    statement_goes (if_of test first (otherwise b)) loops place now s t h sound agrees =
         let laid = if_laid schema part loops place test first (otherwise b) s t now h in
-        let own_ok = and_first (is_loopless first) (is_loopless b) ok in
-        let rest_ok = and_second (is_loopless first) (is_loopless b) ok in
-        both_go loops first s t now sound agrees (λ e x y is. Told first loops false e x y is) (λ e x y is. block_lays schema part first loops false e x y is) (λ e x y is sound agrees. block_goes first loops false e x y own_ok is sound agrees) b (λ d x y is. Told b loops false d x y is)
-        (λ d x y is. block_lays schema part b loops false d x y is) (λ d x y is sound agrees. block_goes b loops false d x y rest_ok is sound agrees)
+        both_go loops first s t now sound agrees (λ e x y is. Told first loops false e x y is) (λ e x y is. block_lays schema part first loops false e x y is) (λ e x y is sound agrees. block_goes first loops false e x y is sound agrees) b (λ d x y is. Told b loops false d x y is)
+        (λ d x y is. block_lays schema part b loops false d x y is) (λ d x y is sound agrees. block_goes b loops false d x y is sound agrees)
         (if_branches schema part loops test first (otherwise b) s t now laid) (λ has. test_guides schema sf part code small test s laid.inner laid.exits laid.test_is has)
-    statement_goes (with_of binding first absent) loops place now s t ok h sound agrees =
+    statement_goes (with_of binding first absent) loops place now s t h sound agrees =
         let laid = with_laid schema part loops place binding first absent s t now h in
         let head = binding_laid schema binding place s laid.inner laid.exits laid.test_is in
-        let own_ok = and_first (is_loopless first) true ok in
-        one_goes loops first s t now sound agrees (λ e x y is. Told first loops false e x y is) (λ e x y is. block_lays schema part first loops false e x y is) (λ e x y is sound agrees. block_goes first loops false e x y own_ok is sound agrees)
+        one_goes loops first s t now sound agrees (λ e x y is. Told first loops false e x y is) (λ e x y is. block_lays schema part first loops false e x y is) (λ e x y is sound agrees. block_goes first loops false e x y is sound agrees)
         (with_branches schema part loops binding place first absent s t now laid) (λ has. head_guides schema sf part code small binding s laid.inner laid.exits head.0 head.1)
-    statement_goes (with_of binding first (otherwise b)) loops place now s t ok h sound agrees =
+    statement_goes (with_of binding first (otherwise b)) loops place now s t h sound agrees =
         let laid = with_laid schema part loops place binding first (otherwise b) s t now h in
         let head = binding_laid schema binding place s laid.inner laid.exits laid.test_is in
-        let own_ok = and_first (is_loopless first) (is_loopless b) ok in
-        let rest_ok = and_second (is_loopless first) (is_loopless b) ok in
-        both_go loops first s t now sound agrees (λ e x y is. Told first loops false e x y is) (λ e x y is. block_lays schema part first loops false e x y is) (λ e x y is sound agrees. block_goes first loops false e x y own_ok is sound agrees) b (λ d x y is. Told b loops false d x y is)
-        (λ d x y is. block_lays schema part b loops false d x y is) (λ d x y is sound agrees. block_goes b loops false d x y rest_ok is sound agrees)
+        both_go loops first s t now sound agrees (λ e x y is. Told first loops false e x y is) (λ e x y is. block_lays schema part first loops false e x y is) (λ e x y is sound agrees. block_goes first loops false e x y is sound agrees) b (λ d x y is. Told b loops false d x y is)
+        (λ d x y is. block_lays schema part b loops false d x y is) (λ d x y is sound agrees. block_goes b loops false d x y is sound agrees)
         (with_branches schema part loops binding place first (otherwise b) s t now laid) (λ has. head_guides schema sf part code small binding s laid.inner laid.exits head.0 head.1)
-    statement_goes (for_of name sequence body) loops place now s t ok h sound agrees = absurd cc
+    statement_goes (for_of name sequence body) loops place now s t h sound agrees =
+        let f = for_laid schema part loops place name sequence body s t now h in
+        let sole = sound.tidy.sole in
+        let first = block_lays schema part body (loops - 1) false f.ended f.inner f.end f.block_is in
+        let has_behind = has_before code f.sequence_is.behind t (behind_grown schema part loops name sequence body s t now f first) agrees.has in
+        let units = sequence_lays schema sf part code small (sequence_of sequence) STACK_LIMIT s f.sequence_is.behind (Some f.class) f.sequence_is.code_is f.sequence_is.clean has_behind in
+        let acted = block_acts schema part body (loops - 1) false f.ended f.inner f.end f.block_is (sole_inner schema part loops name sequence body s t now sole f) in
+        let sound_body = sound_inner schema sf part code loops name sequence body s t now sole f first units sound in
+        let agrees_body = agrees_end schema sf part code loops name sequence body s t now sole f first units sound agrees in
+        let own = block_goes body (loops - 1) false f.ended f.inner f.end f.block_is sound_body agrees_body in
+        for_goes schema sf part code loops name sequence body s t now sole f first units sound agrees small acted (Told body (loops - 1) false f.ended f.inner f.end f.block_is) own

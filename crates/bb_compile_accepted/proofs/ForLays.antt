@@ -1,10 +1,11 @@
 -- What a `for` lays out: it only adds, and the head of its loop goes to the end.
-use Rattle.std.proofs.Common.{◌≡◌, ℕ, ◌+◌, ◌<◌, ◌≤◌, Bool, true, false, List, [], ◌∷◌, ◌++◌, length, Some, refl, sym, ap, ◌∙◌, arith, append_assoc, length-append}
-use Rattle.std.specs.Prelude.{max}
+use Rattle.std.proofs.Common.{◌≡◌, ℕ, zero, suc, ◌+◌, ◌<◌, ◌≤◌, Bool, true, false, List, [], ◌∷◌, ◌++◌, length, Some, refl, sym, ap, ◌∙◌, arith, append_assoc, length-append}
+use Rattle.std.specs.Prelude.{max, slice_get}
 use Rattle.std.proofs.Math.Nat.{le-max_left}
 use Rattle.std.proofs.Math.Seq.{set-append_seam}
 use Rattle.bb_code.specs.Limits.{STACK_LIMIT}
 use Rattle.bb_code.specs.Loop.{Loop}
+use Rattle.bb_verify_frame.specs.Code.{Code}
 use Rattle.bb_verify_frame.specs.declared.part.Part.{Part}
 use Rattle.bb_verify_frame.specs.Kind.TheVariants.{Ref}
 use Rattle.bb_verify_frame.specs.Op.{Op}
@@ -19,11 +20,11 @@ use Rattle.bb_compile_buffer.specs.Buffers.{aimed_at, with_end, ended_at, labell
 use Rattle.bb_compile_emit.specs.declared.looping.Begun.{Begun}
 use Rattle.bb_compile_emit.specs.Expressions.{sequence_code}
 use Rattle.bb_compile_emit.specs.Statements.{at_back, loop_closed}
-use Rattle.bb_compile_accepted.proofs.BufferLemmas.{Clean, Grown, with_op, seam, grown_on, count_of}
+use Rattle.bb_compile_accepted.proofs.BufferLemmas.{Clean, Grown, Has, is_open, with_op, seam, grown_on, count_of}
 use Rattle.bb_compile_accepted.proofs.AimLemmas.{aimed_seam}
 use Rattle.bb_compile_accepted.proofs.StoreLemmas.{declare_is, declared_on}
-use Rattle.bb_compile_accepted.proofs.GrownLemmas.{Adds, behind, grows_ok}
-use Rattle.bb_compile_accepted.proofs.MoreLemmas.{sequence_grows}
+use Rattle.bb_compile_accepted.proofs.GrownLemmas.{Adds}
+use Rattle.bb_compile_accepted.proofs.StayLemmas.{behind, keeps_ok, sequence_keeps}
 use Rattle.bb_compile_accepted.proofs.LabelLemmas.{labels_of, label_at}
 use Rattle.bb_compile_accepted.proofs.BlockLemmas.{Lays, LaysOne, same_labels, marks_before}
 use Rattle.bb_compile_accepted.proofs.LoopLaid.{SequenceLaid, HeadLaid, ForLaid}
@@ -48,6 +49,18 @@ pub labelled_same : (x : Buffer) → (let y = labelled x in (y.ops ≡ x.ops) ×
 unfolding labelled
 labelled_same x = (refl, refl, refl, refl, refl, refl)
 
+-- what stands in a list also stands where one more comes behind it, and what is open is aimed
+put_has : (xs ys zs : List Op) (x y : Op) (i : ℕ) (op : Op) → is_open x ≡ true → is_open op ≡ false → slice_get (xs ++ x ∷ ys) i ≡ Some op → slice_get (xs ++ y ∷ (ys ++ zs)) i ≡ Some op
+put_has [] ys zs x y zero op opens closed at = absurd (let e : x ≡ op = (let s : Some x ≡ Some op = at in cc) in let no : true ≡ false = sym opens ∙ (ap is_open e ∙ closed) in cc)
+put_has [] ys zs x y (suc i) op opens closed at = behind ys i at
+  where
+    behind : (ys : List Op) (i : ℕ) → slice_get ys i ≡ Some op → slice_get (ys ++ zs) i ≡ Some op
+    behind [] i at = absurd cc
+    behind (z ∷ ys) zero at = at
+    behind (z ∷ ys) (suc i) at = behind ys i at
+put_has (z ∷ xs) ys zs x y zero op opens closed at = at
+put_has (z ∷ xs) ys zs x y (suc i) op opens closed at = put_has xs ys zs x y i op opens closed at
+
 module _ (schema : Schema) (part : Part) (loops : ℕ) (name : List ℕ) (sequence : Sequence) (body : BlockTree) (s t : Buffer) (now : Bool) (f : ForLaid schema part loops name sequence body s t now) where
   abbrev pub q : SequenceLaid schema sequence loops s f.held f.class f.local
   q = f.sequence_is
@@ -59,7 +72,7 @@ module _ (schema : Schema) (part : Part) (loops : ℕ) (name : List ℕ) (sequen
   next = with_op (ops.Next f.local 0) hd.head
 
   pub adds : Adds s q.behind
-  adds = grows_ok behind s (sequence_code schema STACK_LIMIT (sequence_of sequence) s) (Some f.class, q.behind) q.code_is (sequence_grows schema (sequence_of sequence) STACK_LIMIT s)
+  adds = (keeps_ok behind s (sequence_code schema STACK_LIMIT (sequence_of sequence) s) (Some f.class, q.behind) q.code_is (sequence_keeps schema (sequence_of sequence) STACK_LIMIT s)).adds
 
   -- the name is declared
   abbrev pub stored : ℕ
@@ -139,6 +152,9 @@ module _ (schema : Schema) (part : Part) (loops : ℕ) (name : List ℕ) (sequen
     pub ops_are : t.ops ≡ q.behind.ops ++ (ops.Store f.local ∷ ops.Next f.local over ∷ after_head more)
     ops_are = for_ops ∙ (ap (λ l. l ++ ops.Next f.local over ∷ after_head more) held_ops ∙ append_assoc q.behind.ops (ops.Store f.local ∷ []) (ops.Next f.local over ∷ after_head more))
 
+    pub over_is : over ≡ length f.end.ops + 1
+    over_is = length-append (at_back f.begun f.ended left).ops (ops.Back f.begun.head ∷ []) ∙ ap (λ l. length l + 1) (back_same f.begun f.ended left).0
+
     -- ---- the rest of the buffer
 
     pub inner_texts : f.inner.texts ≡ q.behind.texts
@@ -172,6 +188,9 @@ module _ (schema : Schema) (part : Part) (loops : ℕ) (name : List ℕ) (sequen
     length_aimed =
         ap length closed_ops ∙ (length-append f.held.ops (ops.Next f.local over ∷ after_head more)
         ∙ (sym (length-append f.held.ops (ops.Next f.local 0 ∷ after_head more)) ∙ (ap (λ l. length (l ++ ops.Next f.local 0 ∷ after_head more)) (sym head_ops) ∙ ap length (sym returned_ops))))
+
+    pub count_t : length t.ops ≡ over
+    count_t = ap length t_same.0 ∙ length_aimed
 
     -- the loop is listed before those in its body
     pub for_loops : t.loops ≡ s.loops ++ whole ∷ block.loops
@@ -231,7 +250,7 @@ module _ (schema : Schema) (part : Part) (loops : ℕ) (name : List ℕ) (sequen
         let count_inner = inner_count in
         let count_end = count_of f.inner f.end block.grown in
         let count_closed = length_aimed in
-        let count_over : over ≡ length f.end.ops + 1 = length-append (at_back f.begun f.ended left).ops (ops.Back f.begun.head ∷ []) ∙ ap (λ l. length l + 1) (back_same f.begun f.ended left).0 in
+        let count_over = over_is in
         ap (λ (x : Buffer). label_at (labels_of x) p) f.is
         ∙ (labelled_marks (leave (mark_of s.scope) closed) p (omega (arith, low, more_s, count_held, count_inner, count_end, count_closed, count_over))
         ∙ (back_marks f.begun f.ended left p (omega (arith, low, more_s, count_held, count_inner, count_end))
@@ -239,3 +258,21 @@ module _ (schema : Schema) (part : Part) (loops : ℕ) (name : List ℕ) (sequen
 
     pub for_lays : LaysOne s t
     for_lays = record { grown = for_grown; loops = whole ∷ block.loops; loops_are = for_loops; locals = for_locals; marks = for_marks; clean = adds.clean q.clean }
+
+    -- ---- a code that has it has what the body lays out
+
+    end_ops : f.end.ops ≡ f.held.ops ++ ops.Next f.local 0 ∷ (ops.Store stored ∷ more)
+    end_ops =
+        block.grown.ops_are ∙ (ap (λ l. l ++ more) (ap (λ (x : Buffer). x.ops) inner_is)
+        ∙ (append_assoc (hd.head.ops ++ ops.Next f.local 0 ∷ []) (ops.Store stored ∷ []) more
+        ∙ (append_assoc hd.head.ops (ops.Next f.local 0 ∷ []) (ops.Store stored ∷ more) ∙ ap (λ l. l ++ ops.Next f.local 0 ∷ (ops.Store stored ∷ more)) head_ops)))
+
+    pub end_has : (code : Code) → Has code t → Has code f.end
+    end_has code has = record {
+      ops = λ i op at closed.
+          has.ops i op (ap (λ l. slice_get l i) for_ops ∙ put_has f.held.ops (ops.Store stored ∷ more) (ops.Back f.begun.head ∷ []) (ops.Next f.local 0) (ops.Next f.local over) i op refl closed (sym (ap (λ l. slice_get l i) end_ops) ∙ at)) closed;
+      texts = has.texts;
+      texts_are = has.texts_are ∙ ap (λ l. l ++ has.texts) (t_same.1 ∙ (back_same f.begun f.ended left).1);
+      queries = has.queries;
+      queries_are = has.queries_are ∙ ap (λ l. l ++ has.queries) (t_same.2 ∙ (back_same f.begun f.ended left).2);
+    }

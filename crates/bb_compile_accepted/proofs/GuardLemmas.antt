@@ -29,8 +29,8 @@ use Rattle.bb_compile_accepted.proofs.PutLemmas.{variable_ok, unit_ok}
 use Rattle.bb_compile_accepted.proofs.AimLemmas.{AreOpen}
 use Rattle.bb_compile_accepted.proofs.BranchLemmas.{TestLaid, BlocksLaid, IfLaid, WithLaid, AreExits, AbsentLaid, ElseEnded, ElseOn, absent_laid, else_by}
 use Rattle.bb_compile_accepted.proofs.HeadLemmas.{Tested, HeadLaid, binding_laid}
-use Rattle.bb_compile_accepted.proofs.GrownLemmas.{Adds, behind, grows_ok, variable_grows, unit_grows}
-use Rattle.bb_compile_accepted.proofs.MoreLemmas.{expr_grows}
+use Rattle.bb_compile_accepted.proofs.GrownLemmas.{Adds}
+use Rattle.bb_compile_accepted.proofs.StayLemmas.{behind, keeps_ok, variable_keeps, unit_keeps, expr_keeps}
 use Rattle.bb_compile_accepted.proofs.StoreLemmas.{declare_is}
 
 pub record Guard (s u : Buffer) (exits : Exits) : Type 0 where
@@ -60,7 +60,7 @@ unfoldable pub test_guard : (schema : Schema) (test : ExprTree) (s u : Buffer) (
 unfolding grown_none
 test_guard schema test s u exits l = record {
   behind = l.behind;
-  adds = grows_ok behind s (expr_code schema STACK_LIMIT test s) (l.made, l.behind) l.code_is (expr_grows schema test STACK_LIMIT s);
+  adds = (keeps_ok behind s (expr_code schema STACK_LIMIT test s) (l.made, l.behind) l.code_is (expr_keeps schema test STACK_LIMIT s)).adds;
   es = ops.Unless 0 ∷ [];
   tested = u;
   ops = ap (λ (x : Buffer). x.ops) l.put_is;
@@ -155,10 +155,10 @@ module _ (schema : Schema) where
   unfoldable pub head_guard : (binding : Binding) (s u : Buffer) (exits : Exits) → HeadLaid schema binding s u exits → Clean u → Guard s u exits
   head_guard (bindings.As name unit class) s u exits laid clean =
       named_guard name (Ref laid.of) s laid.behind laid.test u (exits_of laid.held laid.of laid.behind laid.test exits laid.test_is) exits
-      (grows_ok behind s (variable_code unit STACK_LIMIT s) (Some laid.held, laid.behind) laid.code_is (variable_grows unit STACK_LIMIT s)) (tested_puts laid.held laid.of laid.behind laid.test exits laid.test_is) laid.declared clean
+      (keeps_ok behind s (variable_code unit STACK_LIMIT s) (Some laid.held, laid.behind) laid.code_is (variable_keeps unit STACK_LIMIT s)).adds (tested_puts laid.held laid.of laid.behind laid.test exits laid.test_is) laid.declared clean
   head_guard (bindings.Linked name unit slot) s u exits laid clean =
       named_guard name (Ref laid.at.1) s laid.behind laid.test u (ops.One laid.at.0 0 ∷ []) exits
-      (grows_ok behind s (unit_code unit STACK_LIMIT s) (Some laid.class, laid.behind) laid.code_is (unit_grows unit STACK_LIMIT s)) (puts_one (ops.One laid.at.0 0) laid.behind laid.test exits (refl, tt) laid.put_is laid.exits_are) laid.declared clean
+      (keeps_ok behind s (unit_code unit STACK_LIMIT s) (Some laid.class, laid.behind) laid.code_is (unit_keeps unit STACK_LIMIT s)).adds (puts_one (ops.One laid.at.0 0) laid.behind laid.test exits (refl, tt) laid.put_is laid.exits_are) laid.declared clean
 
   -- a test changes nothing in the scope
   pub head_scope : (binding : Binding) (s u : Buffer) (exits : Exits) → (laid : HeadLaid schema binding s u exits) → (clean : Clean u) → (head_guard binding s u exits laid clean).tested.scope ≡ s.scope

@@ -40,7 +40,8 @@ use Rattle.bb_compile_accepted.proofs.StoreLemmas.{declare_is, declared_known, s
 use Rattle.bb_compile_accepted.proofs.AimLemmas.{all_aimed}
 use Rattle.bb_compile_accepted.proofs.HeadLemmas.{Tested, HeadLaid}
 use Rattle.bb_compile_accepted.proofs.HeadVisits.{Tests, as_visit, alive_visit, one_visit}
-use Rattle.bb_compile_accepted.proofs.GrownLemmas.{Adds, behind, grows_ok, variable_grows, unit_grows}
+use Rattle.bb_compile_accepted.proofs.GrownLemmas.{Adds}
+use Rattle.bb_compile_accepted.proofs.StayLemmas.{behind, keeps_ok, variable_keeps, unit_keeps}
 use Rattle.bb_compile_accepted.proofs.GuardLemmas.{Puts, exits_of, tested_puts, puts_one, named_guard, head_guard}
 use Rattle.bb_compile_accepted.proofs.KnowLemmas.{HasSequences, under_value, knows_sequences, knows_from}
 use Rattle.bb_compile_accepted.proofs.SlotKinds.{partner_class}
@@ -216,7 +217,7 @@ module _ (schema : Schema) (sf : schemas.Fits schema) (part : Part) (code : Code
         let there = class_there schema class laid.of laid.named in
         let own = own_class (is_live laid.held) (class_of laid.held) laid.of laid.may in
         named_guides name (kinds.Ref laid.of) laid.held s laid.behind laid.test u (exits_of laid.held laid.of laid.behind laid.test exits laid.test_is) exits
-        (grows_ok behind s (variable_code unit STACK_LIMIT s) (Some laid.held, laid.behind) laid.code_is (variable_grows unit STACK_LIMIT s)) (tested_puts laid.held laid.of laid.behind laid.test exits laid.test_is) laid.declared clean m (ref_good laid.test laid.of there)
+        (keeps_ok behind s (variable_code unit STACK_LIMIT s) (Some laid.held, laid.behind) laid.code_is (variable_keeps unit STACK_LIMIT s)).adds (tested_puts laid.held laid.of laid.behind laid.test exits laid.test_is) laid.declared clean m (ref_good laid.test laid.of there)
         (λ f k room under. tested_tries laid.held laid.of laid.behind laid.test exits own.0 own.1 there laid.test_is f k room under)
     head_guides (bindings.Linked name unit slot) s u exits laid clean =
         let free = (head_guard schema (bindings.Linked name unit slot) s u exits laid clean).clean_behind in
@@ -224,7 +225,7 @@ module _ (schema : Schema) (sf : schemas.Fits schema) (part : Part) (code : Code
         let there = partner_class schema sf laid.class slot laid.at laid.slot_is in
         let class : first.of ≡ laid.class = (let e = first.class_is in cc) in
         named_guides name (kinds.Ref laid.at.1) first.kind s laid.behind laid.test u (ops.One laid.at.0 0 ∷ []) exits
-        (grows_ok behind s (unit_code unit STACK_LIMIT s) (Some laid.class, laid.behind) laid.code_is (unit_grows unit STACK_LIMIT s)) (puts_one (ops.One laid.at.0 0) laid.behind laid.test exits (refl, tt) laid.put_is laid.exits_are) laid.declared clean first.lays
+        (keeps_ok behind s (unit_code unit STACK_LIMIT s) (Some laid.class, laid.behind) laid.code_is (unit_keeps unit STACK_LIMIT s)).adds (puts_one (ops.One laid.at.0 0) laid.behind laid.test exits (refl, tt) laid.put_is laid.exits_are) laid.declared clean first.lays
         (ref_good laid.test laid.at.1 there)
         (λ f k room under.
         let unit = under_class schema sf k first.kind first.of under first.kind_of in

@@ -49,7 +49,6 @@ module _ (s : Schema) (sf : schemas.Fits s) (part : Part) (code : Code) where
   as_visit class place at c k f next t of live there = record {
     tables = rw (lt-ltb class (length s.classes) there) refl;
     jumps = goes_ahead (length code.ops) place at t.low t.high;
-    loops = λ no_loops. rw no_loops refl;
     closed = (let low = t.low in no_place at (omega (arith, low)));
     frame = with_stack (k ∷ f.stack) f;
     here = t.here;
@@ -72,7 +71,6 @@ module _ (s : Schema) (sf : schemas.Fits s) (part : Part) (code : Code) where
   alive_visit place at c k f next t of = record {
     tables = refl;
     jumps = goes_ahead (length code.ops) place at t.low t.high;
-    loops = λ no_loops. rw no_loops refl;
     closed = (let low = t.low in no_place at (omega (arith, low)));
     frame = with_stack (k ∷ f.stack) f;
     here = t.here;
@@ -97,7 +95,6 @@ module _ (s : Schema) (sf : schemas.Fits s) (part : Part) (code : Code) where
   one_visit slot place at c link k f next t of live single = record {
     tables = refl;
     jumps = goes_ahead (length code.ops) place at t.low t.high;
-    loops = λ no_loops. rw no_loops refl;
     closed = (let low = t.low in no_place at (omega (arith, low)));
     frame = with_stack (k ∷ f.stack) f;
     here = t.here;

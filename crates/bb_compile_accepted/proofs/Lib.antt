@@ -1,7 +1,5 @@
 -- worked codes
 mod Rows
--- a code that is refused, of a tree that no text has
-mod ChainRows
 -- codes without jumps
 pub mod StraightLemmas
 -- kinds that the verifier knows, and the compiler
@@ -38,6 +36,8 @@ pub mod LabelLemmas
 pub mod KnowLemmas
 -- label sets of slots
 pub mod SlotKinds
+-- what operations make
+pub mod MadeLemmas
 -- kinds of expressions
 pub mod ValueLemmas
 -- what statements without blocks do to a scope
@@ -54,10 +54,8 @@ pub mod AimLemmas
 pub mod BranchLemmas
 -- the test of a `with`
 pub mod HeadLemmas
--- expressions without parts only add
+-- what buffers have more
 pub mod GrownLemmas
--- all expressions, and statements without blocks, only add
-pub mod MoreLemmas
 -- what stands before a first block
 pub mod GuardLemmas
 -- what blocks add
@@ -88,13 +86,71 @@ pub mod BranchGoes
 pub mod ElseGoes
 -- what holds before statements with blocks
 pub mod BeforeLemmas
+-- ops that go on to the next one
+pub mod QuietLemmas
+-- expressions leave the scope
+pub mod StayLemmas
+-- free locals
+pub mod FreeLemmas
+-- scopes of any statement
+pub mod ScopeLemmas
+-- which names a text spares
+pub mod SpareLemmas
+-- names and classes behind a statement
+pub mod ShapeLemmas
+-- what a loop leaves of the names that are live
+pub mod KilledLemmas
+-- what a body spares
+pub mod BodyLemmas
+-- statements that leave the scope
+pub mod StillLemmas
+-- classes of what expressions make
+pub mod PlainLemmas
+-- statements without blocks, and what they spare
+pub mod ActLemmas
+-- an if and a with, and what they spare
+pub mod BranchActs
+-- a for, and the way back
+pub mod ForActs
+-- whole texts, and what they spare
+pub mod TextActs
+-- the ops of a loop
+pub mod LoopVisits
+-- what is sound at the head of a loop
+pub mod LoopSounds
+-- where the body of a for begins and ends
+pub mod ForSounds
+-- where the body of a for ends
+pub mod ForEnds
+-- the ops of a for, and its head
+pub mod ForHeads
+-- a for, for the verifier
+pub mod ForGoes
 -- statements of all kinds
 pub mod AcceptLemmas
 -- what a part begins with, and a code that is walked
 pub mod WholeLemmas
--- whole parts
+-- whole parts without blocks
 pub mod PartLemmas
--- whole parts with `if` and `with`
+-- where ops may stand between loops
+pub mod NestLemmas
+-- the order of loops
+pub mod LoopOrder
+-- such a code passes
+pub mod NestPasses
+-- ops that take no sequence
+pub mod CalmLemmas
+-- loops behind branches
+pub mod NestBranches
+-- a for, and those in its body
+pub mod NestFor
+-- the loops of a text
+pub mod NestTexts
+-- the loop of a `for`, for whoever executes its code
+pub mod LoopRuns
+-- texts without loops
 pub mod LooplessLemmas
+-- whole parts
+pub mod TextLemmas
 -- what crates above use
 pub mod Laws

@@ -1,6 +1,6 @@
 -- What holds of a text by the answer of the compiler alone: that it leaves no flaw, whether it ends, and that it only adds.
-use Rattle.std.proofs.Common.{◌≡◌, ◌⊎◌, inl, inr, ℕ, ◌-◌, Bool, true, false, ◌&&◌, ◌||◌, length, List, Option, Some, None, Ok, refl, subst, sym, ap, ◌∙◌}
-use Rattle.bb_basis.proofs.BoolLemmas.{or_false, and_first, and_second}
+use Rattle.std.proofs.Common.{◌≡◌, ℕ, ◌-◌, Bool, true, false, ◌&&◌, ◌||◌, length, List, Option, Some, None, Ok, refl, subst, sym, ap, ◌∙◌}
+use Rattle.bb_basis.proofs.BoolLemmas.{or_false}
 use Rattle.bb_basis.proofs.ResultLemmas.{bind_ok, same_ok}
 use Rattle.bb_verify_frame.specs.declared.part.Part.{Part}
 use Rattle.bb_verify_frame.specs.Kind.{Kind}
@@ -14,18 +14,15 @@ use Rattle.bb_compile_scope.specs.Scope.{mark_of}
 use Rattle.bb_compile_buffer.specs.declared.buffer.Buffer.{Buffer}
 use Rattle.bb_compile_buffer.specs.Buffers.{aim, labelled, with_kinds, leave, met}
 use Rattle.bb_compile_emit.specs.declared.branches.Branch.{Branch}
-use Rattle.bb_compile_emit.specs.Actions.{action_code}
 use Rattle.bb_compile_emit.specs.Bindings.{second_aimed, exits_aimed}
 use Rattle.bb_compile_emit.specs.Statements.{after_end, jumped, else_begun, else_ended, if_ended, statement_code, otherwise_code, statements_code}
-use Rattle.bb_compile_accepted.specs.Loopless.{is_loopless, is_loopless_statement}
 use Rattle.bb_compile_accepted.proofs.BufferLemmas.{Clean, Grown, put_ok}
 use Rattle.bb_compile_accepted.proofs.PutLemmas.{pair_ok}
-use Rattle.bb_compile_accepted.proofs.BranchLemmas.{ElseEnded, ElseOn, if_laid, with_laid, else_laid}
-use Rattle.bb_compile_accepted.proofs.GuardLemmas.{Branches, if_branches, with_branches, branches_absent, branches_else}
-use Rattle.bb_compile_accepted.proofs.GrownLemmas.{itself, if_flawed, grows_ok}
-use Rattle.bb_compile_accepted.proofs.MoreLemmas.{action_grows}
+use Rattle.bb_compile_accepted.proofs.BranchLemmas.{if_laid, with_laid, else_laid}
+use Rattle.bb_compile_accepted.proofs.GuardLemmas.{if_branches, with_branches}
+use Rattle.bb_compile_accepted.proofs.StayLemmas.{if_flawed}
+use Rattle.bb_compile_accepted.proofs.CalmLemmas.{action_calm}
 use Rattle.bb_compile_accepted.proofs.BlockLemmas.{Lays, LaysOne, stated, lays_none, lays_added, lays_noted, lays_then, one_lays, both_lay}
-use Rattle.bb_compile_accepted.proofs.GuardLemmas.{behind_first}
 use Rattle.bb_compile_accepted.proofs.LoopLaid.{for_laid}
 use Rattle.bb_compile_accepted.proofs.ForLays.{for_clean, inner_clean, for_lays}
 
@@ -67,24 +64,6 @@ same_ended branch jump kinds d s = by_end branch.ended
     by_end : (e : Bool) → (else_ended (record branch { ended = e }) jump kinds d s).flaw ≡ s.flaw
     by_end true = same_met d true kinds s
     by_end false = same_met d false kinds s
-
--- ---- the loops of a text without `for`
-
-module _ (schema : Schema) (part : Part) (loops : ℕ) (first : BlockTree) (s t : Buffer) (now : Bool) where
-  one_loops : (br : Branches schema part loops first absent s t now) → br.blocks.end.loops ≡ br.inner.loops → t.loops ≡ s.loops
-  one_loops br own = (branches_absent schema part loops first s t now br).alike.loops ∙ (own ∙ (br.guard.loops ∙ br.guard.adds.loops))
-
-  both_loops : (b : BlockTree) → (br : Branches schema part loops first (otherwise b) s t now) → br.blocks.end.loops ≡ br.inner.loops → ((d : Bool) (inner end : Buffer) → statements_code schema part loops false b inner ≡ Ok (d, end) → end.loops ≡ inner.loops) → t.loops ≡ s.loops
-  both_loops b br own other = by_side (branches_else schema part loops first b s t now br)
-    where
-      before : br.blocks.end.loops ≡ s.loops
-      before = own ∙ (br.guard.loops ∙ br.guard.adds.loops)
-
-      by_side : (let w = behind_first schema part loops first (otherwise b) s t now br in
-          ((br.blocks.ended ≡ true) × ElseEnded schema part loops (mark_of br.guard.tested.scope) (length br.guard.behind.ops) (length br.guard.es) b w t now)
-          ⊎ ((br.blocks.ended ≡ false) × ElseOn schema part loops (mark_of br.guard.tested.scope) (length br.guard.behind.ops) (length br.guard.es) b w t now)) → t.loops ≡ s.loops
-      by_side (inl (e, el)) = el.alike.loops ∙ (other now el.inner el.end el.block_is ∙ (el.begun.loops ∙ before))
-      by_side (inr (e, el)) = el.alike.loops ∙ (other el.ended el.inner el.end el.block_is ∙ (el.begun.loops ∙ before))
 
 module _ (schema : Schema) (part : Part) where
   mutual
@@ -176,10 +155,10 @@ module _ (schema : Schema) (part : Part) where
         let one = bind_ok (statement_code schema part loops place x here) (λ p. statements_code schema part loops (was || p.0) others p.1) (now, t) h in
         let own = statement_lays x loops place one.0.0 here one.0.1 one.1 in
         let rest = block_lays others loops (was || one.0.0) now one.0.1 t one.2 in
-        lays_noted s here t (if_flawed was NoEnd s) (lays_then here one.0.1 t own rest)
+        lays_noted s here t (if_flawed was NoEnd s).adds (lays_then here one.0.1 t own rest)
 
     pub statement_lays : (x : StatementTree) (loops : ℕ) (place : Place) (now : Bool) (s t : Buffer) → statement_code schema part loops place x s ≡ Ok (now, t) → LaysOne s t
-    statement_lays (action a) loops place now s t h = lays_added s t (grows_ok itself s (action_code schema part a s) t (stated schema part place a s t now h).code_is (action_grows schema part a s)) (stated schema part place a s t now h).clean
+    statement_lays (action a) loops place now s t h = lays_added s t (action_calm schema part s t a (stated schema part place a s t now h).code_is).adds (stated schema part place a s t now h).clean
     statement_lays (if_of test first absent) loops place now s t h =
         let br = if_branches schema part loops test first absent s t now (if_laid schema part loops place test first absent s t now h) in
         one_lays schema part loops first s t now br (block_lays first loops false br.blocks.ended br.inner br.blocks.end br.blocks.block_is)
@@ -200,35 +179,3 @@ module _ (schema : Schema) (part : Part) where
 
   pub block_grown : (b : BlockTree) (loops : ℕ) (was now : Bool) (s t : Buffer) → statements_code schema part loops was b s ≡ Ok (now, t) → Grown s t
   block_grown b loops was now s t h = (block_lays b loops was now s t h).grown
-
-  -- ---- texts without `for`
-
-  mutual
-    unfolding statements_code statement_code
-
-    -- they have no loops
-    pub block_loops : (b : BlockTree) (loops : ℕ) (was now : Bool) (s t : Buffer) → is_loopless b ≡ true → statements_code schema part loops was b s ≡ Ok (now, t) → t.loops ≡ s.loops
-    block_loops no_statement loops was now s t ok h = ap (λ (x : Buffer). x.loops) (sym (pair_ok was now s t h).1)
-    block_loops (before_others place x others) loops was now s t ok h =
-        let here = after_end was s in
-        let one = bind_ok (statement_code schema part loops place x here) (λ p. statements_code schema part loops (was || p.0) others p.1) (now, t) h in
-        block_loops others loops (was || one.0.0) now one.0.1 t (and_second (is_loopless_statement x) (is_loopless others) ok) one.2
-        ∙ (statement_loops x loops place one.0.0 here one.0.1 (and_first (is_loopless_statement x) (is_loopless others) ok) one.1 ∙ (if_flawed was NoEnd s).loops)
-
-    statement_loops : (x : StatementTree) (loops : ℕ) (place : Place) (now : Bool) (s t : Buffer) → is_loopless_statement x ≡ true → statement_code schema part loops place x s ≡ Ok (now, t) → t.loops ≡ s.loops
-    statement_loops (action a) loops place now s t ok h = (grows_ok itself s (action_code schema part a s) t (stated schema part place a s t now h).code_is (action_grows schema part a s)).loops
-    statement_loops (if_of test first absent) loops place now s t ok h =
-        let br = if_branches schema part loops test first absent s t now (if_laid schema part loops place test first absent s t now h) in
-        one_loops schema part loops first s t now br (block_loops first loops false br.blocks.ended br.inner br.blocks.end (and_first (is_loopless first) true ok) br.blocks.block_is)
-    statement_loops (if_of test first (otherwise b)) loops place now s t ok h =
-        let br = if_branches schema part loops test first (otherwise b) s t now (if_laid schema part loops place test first (otherwise b) s t now h) in
-        both_loops schema part loops first s t now b br (block_loops first loops false br.blocks.ended br.inner br.blocks.end (and_first (is_loopless first) (is_loopless b) ok) br.blocks.block_is)
-        (λ d inner end is. block_loops b loops false d inner end (and_second (is_loopless first) (is_loopless b) ok) is)
-    statement_loops (with_of binding first absent) loops place now s t ok h =
-        let br = with_branches schema part loops binding place first absent s t now (with_laid schema part loops place binding first absent s t now h) in
-        one_loops schema part loops first s t now br (block_loops first loops false br.blocks.ended br.inner br.blocks.end (and_first (is_loopless first) true ok) br.blocks.block_is)
-    statement_loops (with_of binding first (otherwise b)) loops place now s t ok h =
-        let br = with_branches schema part loops binding place first (otherwise b) s t now (with_laid schema part loops place binding first (otherwise b) s t now h) in
-        both_loops schema part loops first s t now b br (block_loops first loops false br.blocks.ended br.inner br.blocks.end (and_first (is_loopless first) (is_loopless b) ok) br.blocks.block_is)
-        (λ d inner end is. block_loops b loops false d inner end (and_second (is_loopless first) (is_loopless b) ok) is)
-    statement_loops (for_of name sequence body) loops place now s t ok h = absurd cc

@@ -12,17 +12,10 @@ use Rattle.bb_schema.specs.Schema.{Schema, label_set_named, label_named}
 use Rattle.bb_schema.specs.Fits as schemas
 use Rattle.bb_verify_frame.specs.Kind.{Kind}
 use Rattle.bb_verify_frame.specs.Kind.TheVariants as kinds
-use Rattle.bb_verify_frame.specs.Op.{Op}
 use Rattle.bb_verify_frame.specs.Op.TheVariants as ops
 use Rattle.bb_lang.specs.Atom.{Atom}
 use Rattle.bb_lang.specs.Atom.TheVariants as atoms
-use Rattle.bb_lang.specs.Binary.{Binary}
-use Rattle.bb_lang.specs.Binary.TheVariants as binaries
-use Rattle.bb_lang.specs.Operator.{Operator}
-use Rattle.bb_lang.specs.Operator.TheVariants as operators
-use Rattle.bb_lang.specs.Trees.{ExprTree, Steps, atom, unary, binary, chain, size_of, no_step, apply, divide}
-use Rattle.bb_lang.specs.Unary.{Unary}
-use Rattle.bb_lang.specs.Unary.TheVariants as unaries
+use Rattle.bb_lang.specs.Trees.{ExprTree, atom, unary, binary, chain, size_of}
 use Rattle.bb_lang.specs.Variable.{Variable}
 use Rattle.bb_compile_scope.specs.declared.fault.CompileFault.{CompileFault}
 use Rattle.bb_compile_scope.specs.declared.fault.CompileFault.TheVariants.{At}
@@ -34,7 +27,7 @@ use Rattle.bb_compile_scope.specs.Scope.{name_of, local_of}
 use Rattle.bb_compile_scope.specs.Slots.{value_slot}
 use Rattle.bb_compile_buffer.specs.declared.buffer.Buffer.{Buffer}
 use Rattle.bb_compile_buffer.specs.Buffers.{noted, put, put_value, text_index}
-use Rattle.bb_compile_buffer.specs.Operations.{Made, one_due, two_due, unary_code, equality_code, binary_code, operator_code, division_code}
+use Rattle.bb_compile_buffer.specs.Operations.{Made, unary_code, binary_code}
 use Rattle.bb_compile_buffer.specs.Atoms.{pushed, loaded, variable_code, unit_code, gotten, got_from, slot_code, text_code, label_of, label_in, label_code, atom_code}
 use Rattle.bb_compile_emit.specs.Expressions.{expr_code, steps_code, sequence_code}
 use Rattle.bb_verify.specs.Tables.{known_kind}
@@ -42,6 +35,7 @@ use Rattle.bb_compile_accepted.proofs.UnderLemmas.{IsUnder}
 use Rattle.bb_compile_accepted.proofs.HeldLemmas.{value_known}
 use Rattle.bb_compile_accepted.proofs.SlotKinds.{slot_kind}
 use Rattle.bb_compile_accepted.proofs.KnowLemmas.{is_sequence, IsKept, under_kept, kept_under, AllTaken}
+use Rattle.bb_compile_accepted.proofs.MadeLemmas as making
 
 module _ (s : Schema) (sf : schemas.Fits s) where
   -- a kind of values, of which the classes and label sets are of the schema
@@ -60,17 +54,8 @@ module _ (s : Schema) (sf : schemas.Fits s) where
   IsMade (Some k) = IsGood k
 
   -- so is what an answer makes
-  abbrev pub Makes : Result (Made × Buffer) CompileFault → Type 0
-  Makes (Ok p) = IsMade p.0
-  Makes (Err e) = Unit {0}
-
-  makes_then : {X : Type 0} (r : Result X CompileFault) (f : X → Result (Made × Buffer) CompileFault) → ((x : X) → Makes (f x)) → Makes (r >>= f)
-  makes_then (Ok x) f each = each x
-  makes_then (Err e) f each = tt
-
-  makes_on : (r : Result (Made × Buffer) CompileFault) (f : Made × Buffer → Result (Made × Buffer) CompileFault) → Makes r → ((p : Made × Buffer) → IsMade p.0 → Makes (f p)) → Makes (r >>= f)
-  makes_on (Ok p) f own each = each p own
-  makes_on (Err e) f own each = tt
+  abbrev Makes : Result (Made × Buffer) CompileFault → Type 0
+  Makes r = making.Makes IsMade r
 
   pub good_int : IsGood kinds.Int
   good_int = (refl, refl)
@@ -83,10 +68,6 @@ module _ (s : Schema) (sf : schemas.Fits s) where
 
   pub good_interval : IsGood kinds.Interval
   good_interval = (refl, refl)
-
-  pushed_makes : (op : Op) (k : Kind) (room : ℕ) (t : Buffer) → IsGood k → Makes (pushed op k room t)
-  unfolding pushed
-  pushed_makes op k room t good = makes_then (put_value op room t) (λ u. Ok (Some k, u)) (λ u. good)
 
   -- ---- names
 
@@ -134,11 +115,11 @@ module _ (s : Schema) (sf : schemas.Fits s) where
 
     slot_makes : (v : Variable) (slot : List ℕ) (room : ℕ) → Makes (slot_code s v slot room t)
     unfolding slot_code
-    slot_makes v slot room = makes_then (unit_code v room t) (λ p. got_from s slot p.0 p.1) (λ p. by_class p.0 p.1)
+    slot_makes v slot room = making.makes_then IsMade (unit_code v room t) (λ p. got_from s slot p.0 p.1) (λ p. by_class p.0 p.1)
       where
         by_slot : (c : ℕ) (r : Result (ℕ × Kind) TextFlaw) → value_slot s c slot ≡ r → (u : Buffer) → Makes (gotten r u)
         by_slot c (Err flaw) at u = tt
-        by_slot c (Ok p) at u = makes_then (put (ops.Get p.0) u) (λ w. Ok (Some p.1, w)) (λ w. (slot_kind s sf c slot p at, value_known s sf c slot p at))
+        by_slot c (Ok p) at u = making.makes_then IsMade (put (ops.Get p.0) u) (λ w. Ok (Some p.1, w)) (λ w. (slot_kind s sf c slot p at, value_known s sf c slot p at))
 
         by_class : (class : Option ℕ) (u : Buffer) → Makes (got_from s slot class u)
         by_class None u = tt
@@ -156,7 +137,7 @@ module _ (s : Schema) (sf : schemas.Fits s) where
 
         by_label : (k : ℕ) (o : Option ℕ) → label_set_named s set ≡ Some k → Makes (label_of k o room t)
         by_label k None at = there k at
-        by_label k (Some l) at = pushed_makes (ops.PushLabel k l) (kinds.Label k) room t (there k at)
+        by_label k (Some l) at = making.pushed_makes IsMade (ops.PushLabel k l) (kinds.Label k) room t (there k at)
 
         by_set : (o : Option ℕ) → label_set_named s set ≡ o → Makes (label_in s label o room t)
         by_set None at = tt
@@ -164,66 +145,26 @@ module _ (s : Schema) (sf : schemas.Fits s) where
 
     atom_makes : (a : Atom) (room : ℕ) → Makes (atom_code s room a t)
     unfolding atom_code text_code
-    atom_makes (atoms.Int n) room = pushed_makes (ops.PushInt n) kinds.Int room t good_int
-    atom_makes (atoms.Text text) room = makes_then (text_index text _) (λ p. pushed (ops.PushText p.0) kinds.Text room p.1) (λ p. pushed_makes (ops.PushText p.0) kinds.Text room p.1 good_text)
-    atom_makes (atoms.Bool b) room = pushed_makes (ops.PushBool b) kinds.Bool room t good_truth
+    atom_makes (atoms.Int n) room = making.pushed_makes IsMade (ops.PushInt n) kinds.Int room t good_int
+    atom_makes (atoms.Text text) room = making.makes_then IsMade (text_index text _) (λ p. pushed (ops.PushText p.0) kinds.Text room p.1) (λ p. making.pushed_makes IsMade (ops.PushText p.0) kinds.Text room p.1 good_text)
+    atom_makes (atoms.Bool b) room = making.pushed_makes IsMade (ops.PushBool b) kinds.Bool room t good_truth
     atom_makes (atoms.Label set label) room = label_makes set label room
     atom_makes (atoms.Variable v) room = variable_makes v room
     atom_makes (atoms.Slot unit slot) room = slot_makes unit slot room
 
-  -- ---- operations
-
-  one_makes : (operand : Made) (wanted : Kind) (op : Op) (k : Kind) (t : Buffer) → IsGood k → Makes (one_due operand wanted op k t)
-  unfolding one_due
-  one_makes operand wanted op k t good = makes_then (put op _) (λ u. Ok (Some k, u)) (λ u. good)
-
-  two_make : (l r : Made) (wanted : Kind) (op : Op) (k : Kind) (t : Buffer) → IsGood k → Makes (two_due l r wanted op k t)
-  unfolding two_due
-  two_make l r wanted op k t good = makes_then (put op _) (λ u. Ok (Some k, u)) (λ u. good)
-
-  unary_makes : (operation : Unary) (operand : Made) (t : Buffer) → Makes (unary_code operation operand t)
-  unary_makes unaries.Not operand t = one_makes operand kinds.Bool ops.Not kinds.Bool t good_truth
-  unary_makes unaries.Low operand t = one_makes operand kinds.Interval _ kinds.Int t good_int
-  unary_makes unaries.High operand t = one_makes operand kinds.Interval _ kinds.Int t good_int
-
-  binary_makes : (operation : Binary) (l r : Made) (t : Buffer) → Makes (binary_code operation l r t)
-  unfolding binary_code
-  binary_makes binaries.Less l r t = two_make l r kinds.Int _ kinds.Bool t good_truth
-  binary_makes binaries.AtMost l r t = two_make l r kinds.Int _ kinds.Bool t good_truth
-  binary_makes binaries.Equal l r t = makes_then (equality_code l r t) (λ u. Ok (Some kinds.Bool, u)) (λ u. good_truth)
-  binary_makes binaries.Min l r t = two_make l r kinds.Int _ kinds.Int t good_int
-  binary_makes binaries.Max l r t = two_make l r kinds.Int _ kinds.Int t good_int
-  binary_makes binaries.Interval l r t = two_make l r kinds.Int ops.MakeInterval kinds.Interval t good_interval
-
-  operator_makes : (operator : Operator) (l r : Made) (t : Buffer) → Makes (operator_code operator l r t)
-  operator_makes operators.Or l r t = two_make l r kinds.Bool _ kinds.Bool t good_truth
-  operator_makes operators.And l r t = two_make l r kinds.Bool _ kinds.Bool t good_truth
-  operator_makes operators.Plus l r t = two_make l r kinds.Int _ kinds.Int t good_int
-  operator_makes operators.Minus l r t = two_make l r kinds.Int _ kinds.Int t good_int
-  operator_makes operators.Times l r t = two_make l r kinds.Int _ kinds.Int t good_int
-
   -- ---- all expressions
-
-  steps_make : (steps : Steps) (room : ℕ) (left : Made) (t : Buffer) → IsMade left → Makes (steps_code s room left steps t)
-  unfolding steps_code division_code
-  steps_make no_step room left t own = own
-  steps_make (apply operator e steps) room left t own =
-      makes_then (expr_code s (room - 1) e t) (λ p. operator_code operator left p.0 p.1 >>= λ q. steps_code s room q.0 steps q.1)
-      (λ p. makes_on (operator_code operator left p.0 p.1) (λ q. steps_code s room q.0 steps q.1) (operator_makes operator left p.0 p.1) (λ q made. steps_make steps room q.0 q.1 made))
-  steps_make (divide division divisor steps) room left t own =
-      makes_on (division_code division divisor left t) (λ p. steps_code s room p.0 steps p.1) (one_makes left kinds.Int _ kinds.Int _ good_int) (λ p made. steps_make steps room p.0 p.1 made)
 
   pub expr_makes : (e : ExprTree) (room : ℕ) (t : Buffer) → AllTaken s sf t.scope.kinds t.scope.names → ((i : ℕ) → is_free (kind_at t.scope.kinds i) ≡ false → IsFit (kind_at t.scope.kinds i)) → Makes (expr_code s room e t)
   unfolding expr_code
   expr_makes (atom a) room t taken good = atom_makes t taken good a room
-  expr_makes (unary operation e) room t taken good = makes_then (expr_code s room e t) (λ p. unary_code operation p.0 p.1) (λ p. unary_makes operation p.0 p.1)
+  expr_makes (unary operation e) room t taken good = making.makes_then IsMade (expr_code s room e t) (λ p. unary_code operation p.0 p.1) (λ p. making.unary_makes IsMade good_int good_truth good_interval operation p.0 p.1)
   expr_makes (binary operation l r) room t taken good =
-      makes_then (expr_code s room l t) (λ p. expr_code s (room - 1) r p.1 >>= λ q. binary_code operation p.0 q.0 q.1)
-      (λ p. makes_then (expr_code s (room - 1) r p.1) (λ q. binary_code operation p.0 q.0 q.1) (λ q. binary_makes operation p.0 q.0 q.1))
+      making.makes_then IsMade (expr_code s room l t) (λ p. expr_code s (room - 1) r p.1 >>= λ q. binary_code operation p.0 q.0 q.1)
+      (λ p. making.makes_then IsMade (expr_code s (room - 1) r p.1) (λ q. binary_code operation p.0 q.0 q.1) (λ q. making.binary_makes IsMade good_int good_truth good_interval operation p.0 q.0 q.1))
   expr_makes (chain first steps) room t taken good =
-      makes_on (expr_code s room first t) (λ p. steps_code s room p.0 steps p.1) (expr_makes first room t taken good) (λ p made. steps_make steps room p.0 p.1 made)
+      making.makes_on IsMade (expr_code s room first t) (λ p. steps_code s room p.0 steps p.1) (expr_makes first room t taken good) (λ p own. making.steps_make IsMade good_int good_truth good_interval s steps room p.0 p.1 (making.needed IsMade good_int good_truth good_interval steps p.0 own))
   expr_makes (size_of sequence) room t taken good =
-      makes_then (sequence_code s room sequence t) (λ p. put ops.Size p.1 >>= λ u. Ok (Some kinds.Int, u)) (λ p. makes_then (put ops.Size p.1) (λ u. Ok (Some kinds.Int, u)) (λ u. good_int))
+      making.makes_then IsMade (sequence_code s room sequence t) (λ p. put ops.Size p.1 >>= λ u. Ok (Some kinds.Int, u)) (λ p. making.makes_then IsMade (put ops.Size p.1) (λ u. Ok (Some kinds.Int, u)) (λ u. good_int))
 
   pub made_good : (e : ExprTree) (room : ℕ) (t u : Buffer) (k : Kind) → expr_code s room e t ≡ Ok (Some k, u) → AllTaken s sf t.scope.kinds t.scope.names → ((i : ℕ) → is_free (kind_at t.scope.kinds i) ≡ false → IsFit (kind_at t.scope.kinds i)) → IsGood k
   made_good e room t u k is taken good = subst Makes is (expr_makes e room t taken good)

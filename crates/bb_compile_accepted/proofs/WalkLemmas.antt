@@ -12,14 +12,12 @@ use Rattle.bb_verify_frame.specs.Kind.{Kind}
 use Rattle.bb_verify_frame.specs.Kind.TheVariants as kinds
 use Rattle.bb_verify_frame.specs.Op.{Op}
 use Rattle.bb_verify_frame.specs.Op.TheVariants as ops
-use Rattle.bb_verify.specs.Each.{each}
 use Rattle.bb_verify.specs.Edges.{Edges}
 use Rattle.bb_verify.specs.Due as dues
 use Rattle.bb_verify.specs.Effect.{effect, unless, only_there, either}
 use Rattle.bb_verify.specs.Frame.{with_stack, pop}
 use Rattle.bb_verify.specs.FrameType.{Frame}
 use Rattle.bb_verify.specs.Jumps.{target_of, before, ahead, check_target}
-use Rattle.bb_verify.specs.Loops.{op_due}
 use Rattle.bb_verify.specs.PartType.{Part}
 use Rattle.bb_verify.specs.Places.{declared_at, declared_frames, frame_at, on_due, target_due, has_next, declared_for, visit_op, visit}
 use Rattle.bb_verify.specs.Tables.{in_tables}
@@ -56,33 +54,10 @@ module _ (s : Schema) (part : Part) (code : Code) where
   abbrev pub At : ℕ → Option Frame
   At place = declared_at (declared_frames code) place
 
-  -- where there are no loops
-  straight_loops : (place : ℕ) (op : Op) → target_of op ≡ None → code.loops ≡ [] → op_due code place op ≡ Ok tt
-  unfolding op_due each
-  straight_loops place (ops.One slot target) h no_loops = absurd cc
-  straight_loops place (ops.Alive target) h no_loops = absurd cc
-  straight_loops place (ops.As class target) h no_loops = absurd cc
-  straight_loops place (ops.Jump target) h no_loops = absurd cc
-  straight_loops place (ops.Unless target) h no_loops = absurd cc
-  straight_loops place (ops.Next l target) h no_loops = absurd cc
-  straight_loops place (ops.Back target) h no_loops = absurd cc
-  straight_loops place (ops.Store l) h no_loops = rw no_loops refl
-  straight_loops place _ h no_loops = refl
-
-  unless_loops : (place target : ℕ) → code.loops ≡ [] → op_due code place (ops.Unless target) ≡ Ok tt
-  unfolding op_due each
-  unless_loops place target no_loops = rw no_loops refl
-
-  jump_loops : (place target : ℕ) → code.loops ≡ [] → op_due code place (ops.Jump target) ≡ Ok tt
-  unfolding op_due each
-  jump_loops place target no_loops = rw no_loops refl
-
   -- an op at a place, with what the op before left, and what it leaves itself
   pub record Visits (place : ℕ) (op : Op) (next mid : Option Frame) : Type 0 where
     pub tables : in_tables s code op ≡ Ok tt
     pub jumps : check_target (length code.ops) place op ≡ Ok tt
-    -- a code with loops is asked apart from the walk what its ops do in them
-    pub loops : code.loops ≡ [] → op_due code place op ≡ Ok tt
     pub closed : is_open op ≡ false
     pub frame : Frame
     pub here : frame_at (At place) next ≡ Ok frame
@@ -109,7 +84,6 @@ module _ (s : Schema) (part : Part) (code : Code) where
   straight_visit place op f g next here gives lt on = record {
     tables = gives.tables;
     jumps = straight_target (length code.ops) place op gives.straight;
-    loops = straight_loops place op gives.straight;
     closed = straight_closed op gives.straight;
     frame = f;
     here = here;
@@ -125,7 +99,6 @@ module _ (s : Schema) (part : Part) (code : Code) where
   end_visit place op f next here ends = record {
     tables = ends.tables;
     jumps = straight_target (length code.ops) place op ends.straight;
-    loops = straight_loops place op ends.straight;
     closed = straight_closed op ends.straight;
     frame = f;
     here = here;
@@ -196,7 +169,6 @@ module _ (s : Schema) (part : Part) (code : Code) where
   unless_visit place at f k next here right low high lt on target = record {
     tables = refl;
     jumps = goes_ahead (length code.ops) place at low high;
-    loops = unless_loops place at;
     closed = no_place at (omega (arith, low));
     frame = with_stack (k ∷ f.stack) f;
     here = here;
@@ -216,7 +188,6 @@ module _ (s : Schema) (part : Part) (code : Code) where
   jump_visit place at f next here low high target = record {
     tables = refl;
     jumps = goes_ahead (length code.ops) place at low high;
-    loops = jump_loops place at;
     closed = no_place at (omega (arith, low));
     frame = f;
     here = here;
@@ -254,12 +225,11 @@ module _ (s : Schema) (part : Part) (code : Code) where
   pub record IsFine (place : ℕ) (op : Op) : Type 0 where
     pub tables : in_tables s code op ≡ Ok tt
     pub jumps : check_target (length code.ops) place op ≡ Ok tt
-    pub loops : code.loops ≡ [] → op_due code place op ≡ Ok tt
 
   pub fine_at : (listed : List Op) (place i : ℕ) (op : Op) (next out : Option Frame) → Walks place listed next out → slice_get listed i ≡ Some op → IsFine (place + i) op
   fine_at [] place i op next out walks at = absurd cc
   fine_at (x ∷ more) place zero op next out walks at =
       let e : x ≡ op = cc in
       let v = walks.1 in
-      subst (λ p. IsFine p op) (let same : place ≡ place + 0 = omega arith in same) (subst (IsFine place) e (record { tables = v.tables; jumps = v.jumps; loops = v.loops }))
+      subst (λ p. IsFine p op) (let same : place ≡ place + 0 = omega arith in same) (subst (IsFine place) e (record { tables = v.tables; jumps = v.jumps }))
   fine_at (x ∷ more) place (suc i) op next out walks at = subst (λ p. IsFine p op) (let same : place + 1 + i ≡ place + suc i = omega arith in same) (fine_at more (place + 1) i op walks.0 out walks.2 at)

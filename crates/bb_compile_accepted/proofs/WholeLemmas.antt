@@ -26,10 +26,10 @@ use Rattle.bb_verify.specs.PartType.TheVariants.{Require, Obviate, Retrigger, Re
 use Rattle.bb_verify.specs.FrameType.{Frame}
 use Rattle.bb_verify.specs.Accepted.{accepted, checked}
 use Rattle.bb_verify.specs.Jumps.{check_target, jump_at, jumps}
-use Rattle.bb_verify.specs.Loops.{op_due, place_due, loop_at, rising, lowest_outside, loops}
+use Rattle.bb_verify.specs.Loops.{loops}
 use Rattle.bb_verify.specs.Places.{entry_frame, on_due, frames_of}
 use Rattle.bb_verify.specs.Tables.{in_tables, table_at, known_frame, known_kind, places_rise, enough_locals, frames_in_order, fit_version, tables}
-use Rattle.bb_compile_accepted.specs.Loopless.{HasClass, HasClasses}
+use Rattle.bb_compile_accepted.specs.Classes.{HasClass, HasClasses}
 use Rattle.bb_compile_accepted.proofs.StraightLemmas.{each_range}
 use Rattle.bb_compile_accepted.proofs.UnderLemmas.{descends_same}
 use Rattle.bb_compile_accepted.proofs.KnowLemmas.{HasLocal, AllTaken, HasSequences}
@@ -39,7 +39,7 @@ use Rattle.bb_compile_accepted.proofs.MoveLemmas.{Tidy, Sole, one_or_other, at_o
 use Rattle.bb_compile_accepted.proofs.WalkLemmas.{Walks, walked_frames, visited, fine_at, At}
 use Rattle.bb_compile_accepted.proofs.JoinLemmas.{Sound}
 
--- ---- the tables, the jumps and the loops of a code each of whose ops may stand where it does
+-- ---- the tables and the jumps of a code each of whose ops may stand where it does
 
 module _ (s : Schema) (part : Part) (code : Code) (out : Option Frame) (walks : Walks s part code 0 code.ops (Some (entry_frame part code.locals)) out) where
   table_fits : (place : ℕ) → table_at s code place ≡ Ok tt
@@ -60,18 +60,6 @@ module _ (s : Schema) (part : Part) (code : Code) (out : Option Frame) (walks : 
           let fine = fine_at s part code code.ops 0 place op (Some (entry_frame part code.locals)) out walks h in
           let e : 0 + place ≡ place = omega arith in
           rw (subst (λ p. check_target (length code.ops) p op ≡ Ok tt) e fine.jumps) refl
-
-  -- where there are no loops
-  loop_fits : code.loops ≡ [] → (place : ℕ) → loop_at code place ≡ Ok tt
-  unfolding loop_at place_due rising each
-  loop_fits none place = by_op none (slice_get code.ops place) refl
-    where
-      by_op : code.loops ≡ [] → (o : Option Op) → slice_get code.ops place ≡ o → map_err (fault_at place) (place_due code place o) ≡ Ok tt
-      by_op none None h = refl
-      by_op none (Some op) h =
-          let fine = fine_at s part code code.ops 0 place op (Some (entry_frame part code.locals)) out walks h in
-          let e : 0 + place ≡ place = omega arith in
-          rw (subst (λ p. op_due code p op ≡ Ok tt) e (fine.loops none), none) refl
 
 -- ---- declared frames that rise up to the end of a code
 
@@ -121,13 +109,6 @@ module _ (s : Schema) (sf : schemas.Fits s) (part : Part) where
   jumps_pass : (code : Code) → each (jump_at code) (range_with_len 0 (length code.ops)) ≡ Ok tt → jumps code ≡ Ok tt
   unfolding jumps
   jumps_pass code jump = rw (jump) refl
-
-  -- a code without loops
-  pub loops_pass : (code : Code) → code.loops ≡ [] → (out : Option Frame) → Walks s part code 0 code.ops (Some (entry_frame part code.locals)) out → loops code ≡ Ok tt
-  unfolding loops lowest_outside
-  loops_pass code none out walks =
-      let loop : each (loop_at code) (range_with_len 0 (length code.ops)) ≡ Ok tt = each_range (loop_at code) 0 (length code.ops) (λ i lt. loop_fits s part code out walks none i) in
-      rw (loop, none) refl
 
   frames_found : (code : Code) (out : Option Frame) → (walks : Walks s part code 0 code.ops (Some (entry_frame part code.locals)) out) → on_due s (Some (entry_frame part code.locals)) (At s part code 0) ≡ Ok tt
       → frames_of s part code ≡ Ok (walked_frames s part code 0 code.ops (Some (entry_frame part code.locals)) out walks)

@@ -2,6 +2,8 @@
 pub mod Plain
 -- texts without `for`
 pub mod Loopless
+-- parts with classes of the schema
+pub mod Classes
 -- what the compiler lays out, for crates above
 pub use Rattle.bb_compile_buffer.specs.declared.buffer.Buffer
 pub use Rattle.bb_compile_buffer.specs.Buffers

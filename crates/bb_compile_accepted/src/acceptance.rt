@@ -10,26 +10,23 @@ ghost use Rattle.bb_verify.specs.Accepted.{checked};
 ghost use Rattle.bb_verify.specs.FrameType.{Frame};
 ghost use Rattle.bb_verify.specs.PartType.{Part};
 ghost use Rattle.bb_compile_accepted.specs.Plain.{is_plain};
-ghost use Rattle.bb_compile_accepted.specs.Loopless.{is_loopless, HasClasses};
+ghost use Rattle.bb_compile_accepted.specs.Classes.{HasClasses};
 
 use bb_verify_frame::Schema;
 
-/// The code of a part that has no `for` is accepted for that part, whatever its expressions are.
+/// The code of a part is accepted for that part, whatever its statements and expressions are.
 ///
-/// - `accepted`: for any schema and any classes the verifier takes each code that the compiler gives for a part that
-///   has no `if` and no `with` either, with a frame for each of its places.
-/// - `branches`: it takes each code that the compiler gives for a part with `if`, `with`, `else` and chains of them,
-///   where the classes of the part are classes of the schema: a declared frame says the kind of each local, and a kind
-///   that names another class is refused.
-///
-/// It says nothing of texts with `for`.
+/// - `accepted`: for any schema and any classes the verifier takes each code that the compiler gives for a part without
+///   `if`, `with` and `for`, with a frame for each of its places.
+/// - `texts`: it takes each code that the compiler gives for any part, where the classes of the part are classes of the
+///   schema: a declared frame says the kind of each local, and a kind that names another class is refused.
 pub fn compiled_code_is_accepted(schema: &Schema)
     ensures accepted { (part : Part) (place : Place) (block : BlockTree) (code : AnyCode) →
         is_plain block ≡ true → part_code schema.now part place block ≡ Ok code →
         (frames : List Frame) ×
         (checked schema.now part code ≡ Ok (record { code = code; part = part; frames = frames })) }
-    ensures branches { (part : Part) (place : Place) (block : BlockTree) (code : AnyCode) →
-        is_loopless block ≡ true → HasClasses schema.now part → part_code schema.now part place block ≡ Ok code →
+    ensures texts { (part : Part) (place : Place) (block : BlockTree) (code : AnyCode) →
+        HasClasses schema.now part → part_code schema.now part place block ≡ Ok code →
         (frames : List Frame) ×
         (checked schema.now part code ≡ Ok (record { code = code; part = part; frames = frames })) }
 {

@@ -1,5 +1,4 @@
-//! The verifier accepts compiled code, as far as it is proved: a theorem on the code of parts without `for`. No code
-//! calls it.
+//! The verifier accepts compiled code: a theorem on the code of all parts. No code calls it.
 #![tactic(auto)]
 
 mod acceptance;

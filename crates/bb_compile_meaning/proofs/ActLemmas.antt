@@ -158,7 +158,7 @@ module _ (code : Code) (start : State) where
 
   -- ---- a value becomes that of a local
 
-  store_on : (local : ℕ) (m : Machine) (b : Board) (v : Value) → m.stack ≡ v ∷ [] → step code (ops.Store local) (m, b) ≡ keeps b (store local v (with_stack [] m))
+  pub store_on : (local : ℕ) (m : Machine) (b : Board) (v : Value) → m.stack ≡ v ∷ [] → step code (ops.Store local) (m, b) ≡ keeps b (store local v (with_stack [] m))
   unfolding step store_local pop
   store_on local m b v is = rw is refl
 

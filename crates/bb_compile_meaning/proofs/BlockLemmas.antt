@@ -1,18 +1,14 @@
--- Blocks without `for` do what they mean.
-use Rattle.std.proofs.Common.{◌≡◌, ◌⊎◌, inl, inr, ℕ, ◌≤◌, Bool, true, false, cond, ◌||◌, List, [], ◌∷◌, length, Option, Ok, refl, subst, sym, ap, ◌∙◌, arith}
+-- A test and the blocks behind it do what they mean, and so do statements one after another.
+use Rattle.std.proofs.Common.{◌≡◌, ◌⊎◌, inl, inr, ℕ, ◌≤◌, Bool, true, false, cond, List, [], ◌∷◌, length, Option, Ok, refl, subst, sym, ap, ◌∙◌, arith}
 use Rattle.std.specs.Prelude.{take}
 use Rattle.bb_basis.specs.Results.{◌>>=◌}
-use Rattle.bb_basis.proofs.BoolLemmas.{and_first, and_second}
-use Rattle.bb_basis.proofs.ResultLemmas.{bind_ok}
 use Rattle.bb_code.specs.Code.{Code}
 use Rattle.bb_verify_frame.specs.declared.part.Part.{Part}
 use Rattle.bb_verify_frame.specs.Kind.{Kind}
 use Rattle.bb_verify_frame.specs.Op.TheVariants as ops
 use Rattle.bb_schema.specs.Schema.{Schema}
 use Rattle.bb_schema.specs.Fits as schemas
-use Rattle.bb_lang.specs.Blocks.{BlockTree, StatementTree, no_statement, before_others, action, if_of, with_of, for_of, absent, otherwise}
-use Rattle.bb_compile_scope.specs.Place.{Place}
-use Rattle.bb_compile_scope.specs.declared.fault.TextFlaw.TheVariants.{NoEnd}
+use Rattle.bb_lang.specs.Blocks.{BlockTree, absent, otherwise}
 use Rattle.bb_compile_scope.specs.declared.scope.Scope.{Scope}
 use Rattle.bb_compile_scope.specs.Ending.{block_ends}
 use Rattle.bb_compile_scope.specs.LocalKinds.{is_free, kind_at, kinds_met}
@@ -21,15 +17,11 @@ use Rattle.bb_compile_scope.specs.Scope.{mark_of, back_to}
 use Rattle.bb_compile_accepted.specs.Buffer.{Buffer}
 use Rattle.bb_compile_accepted.specs.Buffers.{leave}
 use Rattle.bb_compile_accepted.specs.Exits.{Exits}
-use Rattle.bb_compile_meaning.specs.Loopless.{is_loopless, is_loopless_statement}
-use Rattle.bb_compile_accepted.specs.Statements.{after_end, statement_code, statements_code}
+use Rattle.bb_compile_accepted.specs.Statements.{statements_code}
 use Rattle.bb_machine_step.specs.Changing.{State}
-use Rattle.bb_machine.specs.NeverWrong.{Stands}
-use Rattle.bb_verify.specs.FrameType.{Frame}
-use Rattle.bb_compile_accepted.proofs.Laws.{Clean, Grown, Has, AreAimed, AbsentLaid, ElseEnded, ElseOn, Guard, Branches, not_failed, grown_none, grown_on, has_before, pair_ok, stated, if_laid, with_laid, binding_laid, if_branches, with_branches, Finds, InEither, InOther, InBlock, InStatement, branches_absent, branches_else, same_more, more_after, block_count, aims_grown, aims_count, aims_has, aims_there, aimed_behind, aimed_before, jump_count, open_is, closed_is, end_count, open_has, jump_there, statement_clean, block_clean, block_now, block_grown, count_of}
+use Rattle.bb_compile_accepted.proofs.Laws.{Clean, Grown, Has, AreAimed, AbsentLaid, ElseEnded, ElseOn, Guard, Branches, grown_none, grown_on, has_before, InEither, InOther, branches_absent, branches_else, same_more, more_after, block_count, aims_grown, aims_count, aims_has, aims_there, aimed_behind, aimed_before, jump_count, open_is, closed_is, end_count, open_has, jump_there, block_clean, block_now, block_grown, count_of}
 use Rattle.bb_compile_meaning.specs.Meaning.{Meaning}
-use Rattle.bb_compile_meaning.specs.Expressions.{value_of}
-use Rattle.bb_compile_meaning.specs.Statements.{Scene, bound, left, otherwise_done, statement, statements}
+use Rattle.bb_compile_meaning.specs.Statements.{Scene, left, statements}
 use Rattle.bb_compile_meaning.proofs.ComeLemmas.{Comes, Gets, gets_none}
 use Rattle.bb_compile_meaning.proofs.MeansLemmas.{part_gets}
 use Rattle.bb_compile_meaning.proofs.NameLemmas.{AreTaken}
@@ -37,15 +29,12 @@ use Rattle.bb_compile_meaning.proofs.AtomLemmas.{Good}
 use Rattle.bb_compile_meaning.proofs.SceneLemmas.{AreApart}
 use Rattle.bb_compile_meaning.proofs.KeepLemmas.{Keeps, Moves, moves_same, moves_kept, moves_on, moves_left, names_left, keeps_met, taken_kept, held_count}
 use Rattle.bb_compile_meaning.proofs.ActLemmas.{IsTidy, IsScene, Acts}
-use Rattle.bb_compile_meaning.proofs.ActionLemmas.{action_does}
 use Rattle.bb_compile_meaning.proofs.EndLemmas.{block_never}
 use Rattle.bb_compile_meaning.proofs.BranchLemmas.{left_gets, jump_gets, never_gets}
-use Rattle.bb_compile_meaning.proofs.ClassLemmas.{found_below}
-use Rattle.bb_compile_meaning.proofs.HeadLemmas.{where_found, with_means, head_tests}
-use Rattle.bb_compile_meaning.proofs.TestLemmas.{Tests, chosen, where_true, if_tests, if_means}
+use Rattle.bb_compile_meaning.proofs.TestLemmas.{Tests, chosen}
 
 -- a scope with the names of another, of whose locals none became free, is as tidy
-tidy_kept : (s t : Scope) → t.names ≡ s.names → Keeps s.kinds t.kinds → IsTidy s → IsTidy t
+pub tidy_kept : (s t : Scope) → t.names ≡ s.names → Keeps s.kinds t.kinds → IsTidy s → IsTidy t
 tidy_kept s t names keeps tidy = record {
   taken = subst (AreTaken t.kinds) (sym names) (taken_kept s.names s.kinds t.kinds keeps tidy.taken);
   apart = subst AreApart (sym names) tidy.apart;
@@ -67,14 +56,9 @@ twice_left r u v first then = moves_left r (back_to (mark_of u) v) (moves_on r u
 names_twice : (r u v : Scope) → Moves r u → Moves u v → (back_to (mark_of r) (back_to (mark_of u) v)).names ≡ r.names
 names_twice r u v first then = names_left r (back_to (mark_of u) v) (moves_on r u (back_to (mark_of u) v) first (moves_left u v then))
 
-module _ (schema : Schema) (sf : schemas.Fits schema) (part : Part) (code : Code) (start : State) (good : (n : ℕ) (st : State) → Comes code start n (Ok st) → Good schema st.1) (frames : List Frame)
-    (stands : (n : ℕ) (st : State) → Comes code start n (Ok st) → Stands schema code frames st) where
+module _ (schema : Schema) (sf : schemas.Fits schema) (part : Part) (code : Code) (start : State) (good : (n : ℕ) (st : State) → Comes code start n (Ok st) → Good schema st.1) where
   abbrev GetsAt : ℕ → List NamedLocal → Meaning Scene → Type 0
   GetsAt n ns r = Gets code start (IsScene n ns) r n
-
-  -- the frame where a statement with blocks begins is known to fit
-  abbrev Before : Buffer → Type 0
-  Before x = Finds schema sf frames (length x.ops) x.scope.kinds
 
   placed_as : (n m : ℕ) (ns ks : List NamedLocal) (r : Meaning Scene) → n ≡ m → ns ≡ ks → GetsAt n ns r → GetsAt m ks r
   placed_as n m ns ks r place names g = subst (λ k. GetsAt m k r) names (subst (λ i. GetsAt i ns r) place g)
@@ -278,7 +262,7 @@ module _ (schema : Schema) (sf : schemas.Fits schema) (part : Part) (code : Code
 
   -- ---- statements, one after another
 
-  acts_on : (s t u : Buffer) (f f' : Scene → Meaning Scene) → Acts code start s t f → Acts code start t u f' → Acts code start s u (λ scene. f scene >>= f')
+  pub acts_on : (s t u : Buffer) (f f' : Scene → Meaning Scene) → Acts code start s t f → Acts code start t u f' → Acts code start s u (λ scene. f scene >>= f')
   acts_on s t u f f' first then = record {
     grown = grown_on s t u first.grown then.grown;
     clean = first.clean;
@@ -289,7 +273,7 @@ module _ (schema : Schema) (sf : schemas.Fits schema) (part : Part) (code : Code
         (λ after next there is. then.gets (first.tidy tidy) next after there is);
   }
 
-  acts_none : (s t : Buffer) → s ≡ t → Clean s → Acts code start s t (λ scene. Ok scene)
+  pub acts_none : (s t : Buffer) → s ≡ t → Clean s → Acts code start s t (λ scene. Ok scene)
   acts_none s t same clean =
       subst (λ u. Acts code start s u (λ scene. Ok scene)) same
       (record {
@@ -301,7 +285,7 @@ module _ (schema : Schema) (sf : schemas.Fits schema) (part : Part) (code : Code
       })
 
   -- an equal meaning
-  acts_same : (s t : Buffer) (f f' : Scene → Meaning Scene) → ((scene : Scene) → f scene ≡ f' scene) → Acts code start s t f → Acts code start s t f'
+  pub acts_same : (s t : Buffer) (f f' : Scene → Meaning Scene) → ((scene : Scene) → f scene ≡ f' scene) → Acts code start s t f → Acts code start s t f'
   acts_same s t f f' same acts = record {
     grown = acts.grown;
     clean = acts.clean;
@@ -312,11 +296,11 @@ module _ (schema : Schema) (sf : schemas.Fits schema) (part : Part) (code : Code
 
   -- a test and the blocks behind it
   module _ (test : Scene → Meaning (Option Scene)) (first : BlockTree) (loops : ℕ) (s t : Buffer) (now : Bool) where
-    one_does : (br : Branches schema part loops first absent s t now) → (Has code br.guard.behind → Tests code start s br.inner br.exits br.guard test) → Grown br.inner br.blocks.end → (Has code br.blocks.end → Acts code start br.inner br.blocks.end (statements first)) → Has code t
+    pub one_does : (br : Branches schema part loops first absent s t now) → (Has code br.guard.behind → Tests code start s br.inner br.exits br.guard test) → Grown br.inner br.blocks.end → (Has code br.blocks.end → Acts code start br.inner br.blocks.end (statements first)) → Has code t
         → Acts code start s t (λ scene. test scene >>= chosen (statements first) (λ sc. Ok sc) scene)
     one_does br tests g own has = absent_acts test first loops s br.inner br.blocks.end br.exits br.guard g tests own t br.blocks.ended now (branches_absent schema part loops first s t now br) has
 
-    both_do : (b : BlockTree) → (br : Branches schema part loops first (otherwise b) s t now) → (Has code br.guard.behind → Tests code start s br.inner br.exits br.guard test) → (Has code br.blocks.end → Acts code start br.inner br.blocks.end (statements first))
+    pub both_do : (b : BlockTree) → (br : Branches schema part loops first (otherwise b) s t now) → (Has code br.guard.behind → Tests code start s br.inner br.exits br.guard test) → (Has code br.blocks.end → Acts code start br.inner br.blocks.end (statements first))
         → (T : (d : Bool) (x y : Buffer) → statements_code schema part loops false b x ≡ Ok (d, y) → Type 0) → InOther schema part loops first b s t now br T
         → ((d : Bool) (x y : Buffer) → Clean x → (is : statements_code schema part loops false b x ≡ Ok (d, y)) → T d x y is → Has code y → Acts code start x y (statements b))
         → ((d : Bool) (x y : Buffer) → statements_code schema part loops false b x ≡ Ok (d, y) → Grown x y) → Has code t → Acts code start s t (λ scene. test scene >>= chosen (statements first) (λ sc. left sc (statements b sc)) scene)
@@ -326,62 +310,3 @@ module _ (schema : Schema) (sf : schemas.Fits schema) (part : Part) (code : Code
         let clean = block_clean schema part first loops false blocks.ended br.inner blocks.end br.guard.clean blocks.block_is in
         let ends_so = block_now schema part first loops false blocks.ended br.inner blocks.end blocks.block_is in
         else_acts test first loops s br.inner blocks.end br.exits br.guard g tests own b t now has blocks.ended ends_so T second more clean (branches_else schema part loops first b s t now br) told
-
-  abbrev Told : (b : BlockTree) (loops : ℕ) (was now : Bool) (s t : Buffer) → statements_code schema part loops was b s ≡ Ok (now, t) → Type 0
-  Told b loops was now s t h = InBlock schema part Before b loops was now s t h
-
-  mutual
-    unfolding statements_code statement_code statements statement otherwise_done if_branches with_branches InBlock InStatement
-
-    pub block_does : (b : BlockTree) (loops : ℕ) (was now : Bool) (s t : Buffer) → is_loopless b ≡ true → Clean s → (h : statements_code schema part loops was b s ≡ Ok (now, t)) → Told b loops was now s t h → Has code t → Acts code start s t (statements b)
-    block_does no_statement loops was now s t ok clean h told has = acts_none s t (pair_ok was now s t h).1 clean
-    block_does (before_others place x others) loops was now s t ok clean h told has =
-        let here = after_end was s in
-        let one = bind_ok (statement_code schema part loops place x here) (λ p. statements_code schema part loops (was || p.0) others p.1) (now, t) h in
-        let own_ok = and_first (is_loopless_statement x) (is_loopless others) ok in
-        let rest_ok = and_second (is_loopless_statement x) (is_loopless others) ok in
-        let behind = block_grown schema part others loops (was || one.0.0) now one.0.1 t one.2 in
-        let first = statement_does x loops place one.0.0 here one.0.1 own_ok one.1 told.0 (has_before code one.0.1 t behind has) in
-        let rest = block_does others loops (was || one.0.0) now one.0.1 t rest_ok (statement_clean schema part x loops place one.0.0 here one.0.1 one.1) one.2 told.1 has in
-        let free = not_failed was NoEnd s first.clean in
-        acts_on s one.0.1 t (statement x) (statements others) (subst (λ y. Acts code start y one.0.1 (statement x)) free.1 first) rest
-
-    statement_does : (x : StatementTree) (loops : ℕ) (place : Place) (now : Bool) (s t : Buffer) → is_loopless_statement x ≡ true → (h : statement_code schema part loops place x s ≡ Ok (now, t)) → InStatement schema part Before x loops place now s t h → Has code t → Acts code start s t (statement x)
-    statement_does (action a) loops place now s t ok h told has = let is = stated schema part place a s t now h in action_does schema sf code start good part a s t is.code_is is.clean has
-    statement_does (if_of test first absent) loops place now s t ok h told has =
-        let laid = if_laid schema part loops place test first absent s t now h in
-        let br = if_branches schema part loops test first absent s t now laid in
-        let tests = if_tests code start schema sf good test s laid.inner laid.exits laid.test_is in
-        let own_ok = and_first (is_loopless first) true ok in
-        acts_same s t (λ scene. where_true code start test scene >>= chosen (statements first) (λ sc. Ok sc) scene) (statement (if_of test first absent)) (λ scene. if_means scene (value_of scene.board scene.names test) (statements first) (λ sc. Ok sc))
-        (one_does (where_true code start test) first loops s t now br tests (block_grown schema part first loops false br.blocks.ended br.inner br.blocks.end br.blocks.block_is)
-        (λ has. block_does first loops false br.blocks.ended br.inner br.blocks.end own_ok br.guard.clean br.blocks.block_is told.1 has) has)
-    statement_does (if_of test first (otherwise b)) loops place now s t ok h told has =
-        let laid = if_laid schema part loops place test first (otherwise b) s t now h in
-        let br = if_branches schema part loops test first (otherwise b) s t now laid in
-        let tests = if_tests code start schema sf good test s laid.inner laid.exits laid.test_is in
-        let own_ok = and_first (is_loopless first) (is_loopless b) ok in
-        let rest_ok = and_second (is_loopless first) (is_loopless b) ok in
-        acts_same s t (λ scene. where_true code start test scene >>= chosen (statements first) (λ sc. left sc (statements b sc)) scene) (statement (if_of test first (otherwise b))) (λ scene. if_means scene (value_of scene.board scene.names test) (statements first) (λ sc. left sc (statements b sc)))
-        (both_do (where_true code start test) first loops s t now b br tests (λ has. block_does first loops false br.blocks.ended br.inner br.blocks.end own_ok br.guard.clean br.blocks.block_is told.1.0 has) (λ d x y is. Told b loops false d x y is) told.1.1
-        (λ d x y clean is told has. block_does b loops false d x y rest_ok clean is told has) (λ d x y is. block_grown schema part b loops false d x y is) has)
-    statement_does (with_of binding first absent) loops place now s t ok h told has =
-        let laid = with_laid schema part loops place binding first absent s t now h in
-        let br = with_branches schema part loops binding place first absent s t now laid in
-        let head = binding_laid schema binding place s laid.inner laid.exits laid.test_is in
-        let tests = head_tests schema sf code start good binding s laid.inner laid.exits head.0 head.1 (found_below schema sf code start frames stands s told.0) in
-        let own_ok = and_first (is_loopless first) true ok in
-        acts_same s t (λ scene. where_found binding scene >>= chosen (statements first) (λ sc. Ok sc) scene) (statement (with_of binding first absent)) (λ scene. with_means scene (bound binding scene) (statements first) (λ sc. Ok sc))
-        (one_does (where_found binding) first loops s t now br tests (block_grown schema part first loops false br.blocks.ended br.inner br.blocks.end br.blocks.block_is)
-        (λ has. block_does first loops false br.blocks.ended br.inner br.blocks.end own_ok br.guard.clean br.blocks.block_is told.1 has) has)
-    statement_does (with_of binding first (otherwise b)) loops place now s t ok h told has =
-        let laid = with_laid schema part loops place binding first (otherwise b) s t now h in
-        let br = with_branches schema part loops binding place first (otherwise b) s t now laid in
-        let head = binding_laid schema binding place s laid.inner laid.exits laid.test_is in
-        let tests = head_tests schema sf code start good binding s laid.inner laid.exits head.0 head.1 (found_below schema sf code start frames stands s told.0) in
-        let own_ok = and_first (is_loopless first) (is_loopless b) ok in
-        let rest_ok = and_second (is_loopless first) (is_loopless b) ok in
-        acts_same s t (λ scene. where_found binding scene >>= chosen (statements first) (λ sc. left sc (statements b sc)) scene) (statement (with_of binding first (otherwise b))) (λ scene. with_means scene (bound binding scene) (statements first) (λ sc. left sc (statements b sc)))
-        (both_do (where_found binding) first loops s t now b br tests (λ has. block_does first loops false br.blocks.ended br.inner br.blocks.end own_ok br.guard.clean br.blocks.block_is told.1.0 has) (λ d x y is. Told b loops false d x y is) told.1.1
-        (λ d x y clean is told has. block_does b loops false d x y rest_ok clean is told has) (λ d x y is. block_grown schema part b loops false d x y is) has)
-    statement_does (for_of name sequence body) loops place now s t ok h told has = absurd cc

@@ -48,6 +48,14 @@ pub mod TriedLemmas
 pub mod HeadLemmas
 -- blocks
 pub mod BlockLemmas
+-- how many steps a code can make
+pub mod BudgetLemmas
+-- the loop of a `for`
+pub mod LoopLemmas
+-- a `for`
+pub mod ForLemmas
+-- whole texts
+pub mod TextLemmas
 -- whole parts
 pub mod PartLemmas
 -- codes within their limits

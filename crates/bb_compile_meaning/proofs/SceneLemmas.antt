@@ -13,6 +13,7 @@ use Rattle.bb_schema.specs.Schema.{Schema}
 use Rattle.bb_compile_scope.specs.LocalKinds.{is_free, kind_at}
 use Rattle.bb_compile_scope.specs.declared.scope.NamedLocal.{NamedLocal}
 use Rattle.bb_machine_step.specs.Values.{Value}
+use Rattle.bb_compile_accepted.proofs.Laws.{Apart, Sole}
 use Rattle.bb_compile_meaning.specs.Meaning.{Name, with_name, assigned}
 use Rattle.bb_compile_meaning.proofs.NameLemmas.{AreHeld, AreTaken, local_among}
 
@@ -36,6 +37,15 @@ AreOthers local (n ∷ ns) = (n.local ≡ local → ⊥) × AreOthers local ns
 abbrev pub AreApart : List NamedLocal → Type 0
 AreApart [] = Unit {0}
 AreApart (n ∷ ns) = AreOthers n.local ns × AreApart ns
+
+-- what the verifier's part of the proof calls so
+pub sole_of : (ks : List Kind) (ns : List NamedLocal) → AreTaken ks ns → AreApart ns → Sole ks ns
+sole_of ks [] taken apart = tt
+sole_of ks (n ∷ ns) taken apart = (taken.0, others_apart n.local ns apart.0, sole_of ks ns taken.1 apart.1)
+  where
+    others_apart : (local : ℕ) (ns : List NamedLocal) → AreOthers local ns → Apart local ns
+    others_apart local [] others = tt
+    others_apart local (n ∷ ns) others = (others.0, others_apart local ns others.1)
 
 pub known_set : (ks : List Kind) (i j : ℕ) (k : Kind) → is_free k ≡ false → is_free (kind_at ks j) ≡ false → is_free (kind_at (set ks i k) j) ≡ false
 known_set [] i j k known was = was

@@ -14,6 +14,8 @@ pub mod Parts
 pub use Rattle.bb_compile_accepted.specs.Plain
 -- texts without `for`
 pub use Rattle.bb_compile_accepted.specs.Loopless
+-- parts with classes of the schema
+pub use Rattle.bb_compile_accepted.specs.Classes
 -- what an execution comes to, by the text
 pub mod Told
 -- sources without `for`, and what it is that their codes are accepted, and mean their text

@@ -17,6 +17,8 @@ use Rattle.bb_verify.specs.FrameType.{Frame}
 use Rattle.bb_verify.specs.PartType.{Part}
 use Rattle.bb_verify.specs.PartType.TheVariants.{Require, Obviate, Retrigger, Revalidate, Do}
 use Rattle.bb_verify.specs.Accepted.{checked}
+use Rattle.bb_verify.specs.Budget.{budget}
+use Rattle.bb_verify.specs.declared.checked.TheConstants.{FOUND_LIMIT}
 use Rattle.bb_machine_state.specs.Board.{Board}
 use Rattle.bb_machine_step.specs.Activation.{activation}
 use Rattle.bb_machine_step.specs.Entry.{Entry}
@@ -72,47 +74,55 @@ pub record AreAccepted (s : Schema) (draft : SourceDraft Code) : Type 0 where
 
 -- ---- each code means the text of its part, on a blackboard
 
--- where an execution of the code begins with units that fit the part, and may make as many steps as the code has ops, it
--- comes to what the block means
-abbrev pub IsMeant : Board → Part → BlockTree → Code → Type 0
-IsMeant b part block code =
-    (entry : Entry) (limit : ℕ) → EntryFits b.schema b.world part entry → length code.ops ≤ limit
+-- how many steps are enough for an execution of a code: as many as it has ops, where none of them comes twice; and as
+-- many as its budget allows, whatever loops it has
+abbrev pub once_each : Code → ℕ
+once_each code = length code.ops
+
+abbrev pub within_budget : Code → ℕ
+within_budget code = budget code FOUND_LIMIT
+
+-- where an execution of the code begins with units that fit the part, and may make as many steps, it comes to what the
+-- block means
+abbrev pub IsMeant : (steps : Code → ℕ) → Board → Part → BlockTree → Code → Type 0
+IsMeant steps b part block code =
+    (entry : Entry) (limit : ℕ) → EntryFits b.schema b.world part entry → steps code ≤ limit
     → IsTold (meaning part block entry b) (activation limit code entry b)
 
 -- a part is there exactly where its text is
-abbrev pub IsMeantIf : Board → Part → Option PartText → Option Code → Type 0
-IsMeantIf b part None None = Unit {0}
-IsMeantIf b part (Some text) (Some code) = IsMeant b part text.block code
-IsMeantIf b part _ _ = ⊥
+abbrev pub IsMeantIf : (steps : Code → ℕ) → Board → Part → Option PartText → Option Code → Type 0
+IsMeantIf steps b part None None = Unit {0}
+IsMeantIf steps b part (Some text) (Some code) = IsMeant steps b part text.block code
+IsMeantIf steps b part _ _ = ⊥
 
 -- a reaction has the class and the clauses of its text, and its code is for events of that class
-pub record IsMeantFor (b : Board) (part : (of : ℕ) → Part) (text : ReactionText) (r : ReactionDraft Code) : Type 0 where
+pub record IsMeantFor (steps : Code → ℕ) (b : Board) (part : (of : ℕ) → Part) (text : ReactionText) (r : ReactionDraft Code) : Type 0 where
   pub of : ℕ
   pub named : class_named b.schema text.class ≡ Some of
   pub class : r.class ≡ text.class
   pub clauses : r.clauses ≡ text.clauses
-  pub code : IsMeant b (part of) text.block r.code
+  pub code : IsMeant steps b (part of) text.block r.code
 
-abbrev pub IsMeantReaction : Board → ((of : ℕ) → Part) → Option ReactionText → Option (ReactionDraft Code) → Type 0
-IsMeantReaction b part None None = Unit {0}
-IsMeantReaction b part (Some text) (Some r) = IsMeantFor b part text r
-IsMeantReaction b part _ _ = ⊥
+abbrev pub IsMeantReaction : (steps : Code → ℕ) → Board → ((of : ℕ) → Part) → Option ReactionText → Option (ReactionDraft Code) → Type 0
+IsMeantReaction steps b part None None = Unit {0}
+IsMeantReaction steps b part (Some text) (Some r) = IsMeantFor steps b part text r
+IsMeantReaction steps b part _ _ = ⊥
 
-abbrev pub IsMeantAct : Board → (class : ℕ) → ActText → ActDraft Code → Type 0
-IsMeantAct b class acts.Native drafts.Native = Unit {0}
-IsMeantAct b class (acts.Do text) (drafts.Do code) = IsMeant b (Do class) text.block code
-IsMeantAct b class _ _ = ⊥
+abbrev pub IsMeantAct : (steps : Code → ℕ) → Board → (class : ℕ) → ActText → ActDraft Code → Type 0
+IsMeantAct steps b class acts.Native drafts.Native = Unit {0}
+IsMeantAct steps b class (acts.Do text) (drafts.Do code) = IsMeant steps b (Do class) text.block code
+IsMeantAct steps b class _ _ = ⊥
 
 -- a source has the name, the class, the rate, the clauses and the parts of its text, and each of its codes means its part
-pub record AreMeant (b : Board) (text : SourceText) (draft : SourceDraft Code) : Type 0 where
+pub record AreMeant (steps : Code → ℕ) (b : Board) (text : SourceText) (draft : SourceDraft Code) : Type 0 where
   pub name : draft.header.name ≡ text.header.name
   pub class : draft.header.class ≡ text.header.class
   pub rate : draft.header.rate ≡ text.rate
   pub triggers : draft.header.triggers ≡ text.clauses
   pub of : ℕ
   pub named : class_named b.schema text.header.class ≡ Some of
-  pub require : IsMeantIf b (Require of) text.parts.require draft.parts.require
-  pub obviate : IsMeantReaction b (Obviate of) text.parts.obviate draft.parts.obviate
-  pub retrigger : IsMeantReaction b (Retrigger of) text.parts.retrigger draft.parts.retrigger
-  pub revalidate : IsMeantIf b (Revalidate of) text.parts.revalidate draft.parts.revalidate
-  pub act : IsMeantAct b of text.act draft.act
+  pub require : IsMeantIf steps b (Require of) text.parts.require draft.parts.require
+  pub obviate : IsMeantReaction steps b (Obviate of) text.parts.obviate draft.parts.obviate
+  pub retrigger : IsMeantReaction steps b (Retrigger of) text.parts.retrigger draft.parts.retrigger
+  pub revalidate : IsMeantIf steps b (Revalidate of) text.parts.revalidate draft.parts.revalidate
+  pub act : IsMeantAct steps b of text.act draft.act

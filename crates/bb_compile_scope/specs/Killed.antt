@@ -14,7 +14,7 @@ use Rattle.bb_lang.specs.Action.{Action}
 use Rattle.bb_lang.specs.Action.TheVariants.{Let, New, Assign, Delete}
 use Rattle.bb_lang.specs.Binding.{Binding}
 use Rattle.bb_lang.specs.Binding.TheVariants.{As, Linked}
-use Rattle.bb_lang.specs.Trees.{ExprTree, atom}
+use Rattle.bb_lang.specs.Trees.{ExprTree, atom, chain, no_step}
 use Rattle.bb_lang.specs.Blocks.{BlockTree, StatementTree, OtherwiseTree, no_statement, before_others, action, if_of, with_of, for_of, absent, otherwise}
 use Rattle.bb_compile_scope.specs.declared.scope.Scope.{Scope}
 use Rattle.bb_compile_scope.specs.Kinds.{class_of}
@@ -41,9 +41,10 @@ declared name class scope =
 unfoldable pub unit_class : Scope → Variable → Option ℕ
 unit_class scope unit = option_and_then class_of (kind_of scope (name_of unit))
 
--- the class of the unit that an expression is
+-- the class of the unit that an expression is; a chain without steps is its first operand
 abbrev pub value_class : Scope → ExprTree → Option ℕ
 value_class scope (atom (atoms.Variable unit)) = unit_class scope unit
+value_class scope (chain first no_step) = value_class scope first
 value_class scope _ = None
 
 -- the class of the units of a sequence

@@ -49,12 +49,16 @@ fn unit_class(scope: &Scope, unit: &Variable) -> Option<ClassId>
     class_of(scope.kind_of(name_of(unit))?)
 }
 
-// The class of the unit that an expression is.
+// The class of the unit that an expression is. A chain without steps is its first operand.
 fn value_class(scope: &Scope, value: &Expr) -> Option<ClassId>
     ensures { result ≡ value_class scope.now value.now }
 {
     match value.node() {
         ExprNode::Atom(Atom::Variable(unit)) => unit_class(scope, unit),
+        ExprNode::Chain { first, steps } => match steps.as_slice() {
+            [] => value_class(scope, first),
+            _ => None,
+        },
         _ => None,
     }
 }

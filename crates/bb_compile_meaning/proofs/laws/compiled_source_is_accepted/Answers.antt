@@ -3,5 +3,5 @@ use Rattle.bb_compile_meaning.proofs.laws.compiled_source_is_accepted.Goals as g
 
 pub returns : goal.returns
 returns c = record {
-  accepted = λ text draft loopless is. source_accepted c.args.schema.now c.fits.ensures text draft loopless is;
+  accepted = λ text draft is. source_accepted c.args.schema.now c.fits.ensures text draft is;
 }
