@@ -74,6 +74,10 @@ SUMS = [
 ]
 
 
+WIDE = ", ".join(f"span within [{-n}, {WORDS}]" for n in range(16))
+FAR = ", ".join(f"span within [{1 + WORDS}, {WORDS + n}]" for n in range(1, 16))
+
+
 class Search(NamedTuple):
     """A statement for each word, so many times one after another."""
 
@@ -85,6 +89,10 @@ class Search(NamedTuple):
 SEARCHES = [
     Search("`say x`, noted and written", "say x;", 1000),
     Search("`size(find ..)` of all 1,000 units of a space", "x = size(find word in board);", 3),
+    Search("the same, by `not` of a test", f"x = size(find word in board where not(span more [{WORDS}, {WORDS}]));", 3),
+    Search("the same, by an `or` of 16 tests", f"x = size(find word in board where or({WIDE}));", 3),
+    Search("the same, by an `and` of 16 tests", f"x = size(find word in board where and({WIDE}));", 3),
+    Search("the same, by an `or` of 16 tests, 15 of them in vain", f"x = size(find word in board where or({FAR}, {WIDE.split(', span')[0]}));", 3),
     Search("`size(find ..)` of 11 of 1,000 units", "x = size(find word in board where span within [10, 20]);", 100),
 ]
 
@@ -104,8 +112,8 @@ class Row(NamedTuple):
 # ---- inputs of the program
 
 
-def an_input(units, sources):
-    return f"%schema\n{json.dumps(SCHEMA)}\n%units\n{json.dumps(units)}\n%sources\n{sources}"
+def an_input(units, sources, schema=SCHEMA):
+    return f"%schema\n{json.dumps(schema)}\n%units\n{json.dumps(units)}\n%sources\n{sources}"
 
 
 def on_words(sources, more_units=()):
@@ -141,6 +149,22 @@ def asked(reaction):
 def activated(source):
     """A run of units, each of which may be an activation of the source."""
     return an_input({"units": [{"name": f"i{n}", "class": "idle"} for n in range(ACTIVATIONS)]}, source)
+
+
+def told(statement):
+    """A run in which a unit in 255 spaces of 16 dimensions, each of which reads a slot, does a statement for each word."""
+    names = [f"d{n}" for n in range(16)]
+    dims = [{"name": name, "kind": "ordered"} for name in names]
+    spaces = [{"name": f"s{n}", "classes": ["hub"], "dims": dims} for n in range(255)]
+    hub = {"name": "hub", "slots": [{"name": name, "kind": "int"} for name in names]}
+    board = {"name": "board", "classes": ["word"], "dims": []}
+    schema = {"classes": [{"name": "word"}, hub], "spaces": [board, *spaces]}
+    words = [{"name": f"w{n}", "class": "word"} for n in range(WORDS)]
+    entered = [*([word["name"], "board"] for word in words), *(["hub", it["name"]] for it in spaces)]
+    units = {"units": [*words, {"name": "hub", "class": "hub"}], "spaces": entered}
+    loop = f"let x = 1; {over_words('a', statement)} say x;"
+    source = f"source tell on hub {{ when create hub; rate 1; do {{ with h = it as hub {{ {loop} }} }} }}\n"
+    return an_input(units, source, schema)
 
 
 # ---- the same sums elsewhere
@@ -215,6 +239,11 @@ def searches():
         yield Row(it.of, WORDS * it.times, (in_loop(it.bb * it.times), in_loop("")))
 
 
+def sets():
+    pair = told("x = x + 1; set h.d0 = x;"), told("x = x + 1;")
+    yield Row("`set h.d0 = x` of a unit in 255 spaces of 16 dimensions", WORDS, pair)
+
+
 # ---- measuring
 
 
@@ -282,7 +311,7 @@ def main():
     print("|---|---|---|---|---|---|---|")
     with tempfile.TemporaryDirectory() as folder:
         programs = Programs(wanted.program, folder, wanted.runs)
-        for row in [*sums(), *turns(), *parts(), *searches()]:
+        for row in [*sums(), *turns(), *parts(), *searches(), *sets()]:
             if wanted.only in row.of:
                 print(f"| {' | '.join([row.of, *programs.cells(row)])} |", flush=True)
 

@@ -1,20 +1,27 @@
 -- Units that rise, among them all that a query answers, hold its answer.
-use Rattle.std.proofs.Common.{◌≡◌, ℕ, ◌&&◌, Bool, true, false, List, Option, Some, None, refl, sym, ap, ◌∙◌}
+use Rattle.std.proofs.Common.{◌≡◌, ℕ, suc, ◌&&◌, Bool, true, false, cond, List, [], ◌∷◌, ◌++◌, Option, Some, None, refl, sym, ap, ◌∙◌, arith, get_or}
 use Rattle.std.specs.Prelude.{is_some, filter}
+use Rattle.std.specs.List.{All}
+use Rattle.std.specs.List.Sorted.{IsStrictlySortedBy}
+use Rattle.std.specs.Map.{keys_of, lookup}
 use Rattle.std.specs.Ordering.{nat_cmp}
-use Rattle.std.specs.FinMap.{keys, contains_key-keys}
+use Rattle.std.specs.BTreeMap.{is_at}
+use Rattle.std.specs.FinMap.{keys, get, from_entries, contains_key-keys}
 use Rattle.std.proofs.lemmas.Bool.{and_parts}
+use Rattle.std.proofs.lemmas.List.{append_assoc}
 use Rattle.std.proofs.lemmas.List.Kept.{IsStrictlySortedBy-filter}
+use Rattle.bb_basis.proofs.EntryLemmas.{get_is_lookup, entries_are}
 use Rattle.bb_schema.specs.Schema.{Schema}
 use Rattle.bb_units.specs.Units.{Units, is_live}
 use Rattle.bb_pattern.specs.declared.query.Query.{Query}
 use Rattle.bb_pattern.specs.declared.value.DimValue.{DimValue}
 use Rattle.bb_pattern.specs.Holds.{holds}
-use Rattle.bb_space.specs.Spaces.{Spaces, is_member, values_in}
+use Rattle.bb_space.specs.Spaces.{Spaces, Membership, membership, members, is_member, values_in}
 use Rattle.bb_query.specs.Answer.{answers, answer, is_of_class}
 use Rattle.bb_query.specs.Knows.{KnowsValues}
 use Rattle.bb_query.specs.PresentValues.{present_values}
 use Rattle.bb_query.specs.proving.Enough.{AreEnough, among}
+use Rattle.bb_query.proofs.NearLemmas.{members_enough}
 use Rattle.bb_space.proofs.Laws.{keys_rise, same_numbers, any_filter}
 
 module _ (s : Schema) (u : Units) (t : Spaces) (knows : KnowsValues s u t) (q : Query) (operands : List DimValue) where
@@ -51,3 +58,39 @@ module _ (s : Schema) (u : Units) (t : Spaces) (knows : KnowsValues s u t) (q : 
         same_numbers (filter passes list) (filter passes (keys u.units)) (IsStrictlySortedBy-filter nat_cmp passes list enough.rises) (IsStrictlySortedBy-filter nat_cmp passes (keys u.units) (keys_rise u.units)) (λ n.
         any_filter passes n list ∙ (both_pass (among n list) (among n (keys u.units)) (passes n) (λ h. (answered n h).listed) (λ h. sym (contains_key-keys u.units n) ∙ (answered n h).live)
         ∙ sym (any_filter passes n (keys u.units))))
+
+-- ---- members with their values
+
+module _ (t : Spaces) (space : ℕ) where
+  -- the values that members have
+  abbrev pub AreTold : List (ℕ × List DimValue) → Type 0
+  AreTold es = All (λ e. values_in t space e.0 ≡ Some e.1) es
+
+  pub first_told : (e : ℕ × List DimValue) (es : List (ℕ × List DimValue)) → AreTold (e ∷ es) → values_in t space e.0 ≡ Some e.1
+  first_told e es all = all 0 e (omega arith)
+
+  pub others_told : (e : ℕ × List DimValue) (es : List (ℕ × List DimValue)) → AreTold (e ∷ es) → AreTold es
+  others_told e es all = λ k d lt. all (suc k) d (omega (arith, lt))
+
+  module _ (es : List (ℕ × List DimValue)) (same : from_entries es ≡ membership t space) where
+    -- the entries of a map of all members
+    pub map_told : All (λ e. lookup (is_at (nat_cmp e.0)) es ≡ Some e.1) es → AreTold es
+    map_told all = λ k d lt. let e = get_or es k d in ap (λ (m : Membership). get m e.0) (sym same) ∙ (get_is_lookup es e.0 ∙ all k d lt)
+
+    pub map_members : IsStrictlySortedBy nat_cmp (keys_of es) → keys_of es ≡ members t space
+    map_members rise = sym (ap (λ (fs : List (ℕ × List DimValue)). keys_of fs) (entries_are es rise)) ∙ ap keys same
+
+-- one more member is gone over, which passes, or does not
+module _ (p : ℕ → Bool) (made : List ℕ) (n : ℕ) (rest whole : List ℕ) (was : made ++ filter p (n ∷ rest) ≡ whole) where
+  one_first : (b : Bool) → p n ≡ b → made ++ cond b (n ∷ filter p rest) (filter p rest) ≡ whole
+  one_first b is = ap (λ c. made ++ cond c (n ∷ filter p rest) (filter p rest)) (sym is) ∙ was
+
+  pub scan_more : p n ≡ true → (made ++ n ∷ []) ++ filter p rest ≡ whole
+  scan_more is = append_assoc made (n ∷ []) (filter p rest) ∙ one_first true is
+
+  pub scan_over : p n ≡ false → made ++ filter p rest ≡ whole
+  scan_over is = one_first false is
+
+-- all members hold the answer
+pub answer_members : (s : Schema) (u : Units) (t : Spaces) → KnowsValues s u t → (q : Query) (operands : List DimValue) → filter (answers s u t q operands) (members t q.space) ≡ answer s u t q operands
+answer_members s u t knows q operands = answer_among s u t knows q operands (members t q.space) (members_enough t q.space (λ values. holds operands values q.pattern))

@@ -7,6 +7,7 @@
 #![tactic(auto)]
 
 mod answer;
+mod effort;
 mod narrow;
 mod near;
 mod search;

@@ -1,38 +1,28 @@
 //! Which members of a space a pattern can hold of, without a walk over all of them. The answer of a query begins there.
 //! The numbers by which it chooses, with their reasons, are in costs.rt of bb_space_index.
 
-ghost use Rattle.std.specs.Prelude.{◌≡◌, IfOk, IfSome, OnOk};
-ghost use Rattle.std.specs.BTreeSet.{contains, IsOrdered};
-ghost use Rattle.std.specs.Ordering.{nat_cmp};
+ghost use Rattle.std.specs.Prelude.{IfOk, IfSome};
 ghost use Rattle.bb_pattern.specs.Holds.{holds, holds_each, holds_some};
 ghost use Rattle.bb_pattern.specs.View.{trees_of};
-ghost use Rattle.bb_query.specs.proving.Enough.{HasAlso};
 ghost use Rattle.bb_query.specs.proving.Searches.{HasSpace, HasAll, matches};
 ghost use Rattle.bb_query.specs.proving.Tests.{AskNoMore};
 
+use crate::effort::Effort;
 use crate::narrow::{test_of, tests_of};
 use crate::search::Search;
 use bb_basis::Memory;
 use bb_pattern::{Node, Pattern};
 use bb_schema::UnitId;
 use bb_space::Leaf;
-use bb_space_index::{FIRST_CANDIDATES, MORE_CANDIDATES, ROUNDS, SORTED};
+use bb_space_index::{ROUNDS, rise};
 use std::alloc::Global;
-use std::collections::BTreeSet;
 
-// How many candidates a test may have where `most` may be found in rising order, as those of one low end or one label
-// are. Others have to be sorted, and count more.
-fn at_most(test: &Leaf, most: usize) -> usize {
-    if test.has_one_key() {
-        most
-    } else {
-        most / SORTED
-    }
-}
-
-// The candidates for a pattern that is a test, or `None` where they are too many for `most`, or its operand is of
-// another sort.
-fn near_test(search: &Search, pattern: &Pattern, most: usize) -> Result<Option<Vec<UnitId>>, Memory>
+// The candidates for a pattern that is a test, or `None` where they are too many, or its operand is of another sort.
+fn near_test(
+    search: &Search,
+    pattern: &Pattern,
+    effort: &mut Effort,
+) -> Result<Option<Vec<UnitId>>, Memory>
     requires { HasSpace search.now }
     ensures { IfOk result (λ near. IfSome near (λ list. HasAll search.now
         (λ values. holds search.now.operands.now values pattern.now) list.items)) }
@@ -40,47 +30,27 @@ fn near_test(search: &Search, pattern: &Pattern, most: usize) -> Result<Option<V
     let Some(test) = test_of(pattern, search.operands) else {
         return Ok(None);
     };
-    let most = at_most(&test, most);
-    search.spaces.few(search.query.space, &test, most)
-}
-
-// Adds units.
-fn add_all(found: &mut BTreeSet<UnitId>, list: &[UnitId]) -> Result<(), Memory>
-    ensures { OnOk result (HasAlso found.old list.now found.new) }
-{
-    for unit in list {
-        found.insert(*unit)?;
-    }
-    Ok(())
-}
-
-// The units, rising.
-fn list_of(alloc: Global, found: &BTreeSet<UnitId>) -> Result<Vec<UnitId>, Memory>
-    ensures list { IfOk result (λ list. list.items ≡ found.now.keys) }
-    ensures rising { IsOrdered nat_cmp found.now }
-{
-    let mut list = Vec::new(alloc);
-    for unit in found {
-        list.push(*unit)?;
-    }
-    Ok(list)
+    let most = effort.most_of(&test);
+    let few = search.spaces.few(search.query.space, &test, most)?;
+    effort.spend(most, &few);
+    Ok(few)
 }
 
 // Members, rising, among them all of which each of some patterns holds: those of the first pattern that bounds them by
-// no more than `most` candidates.
+// few candidates.
 #[cycle(near)]
 fn near_each(
     alloc: Global,
     search: &Search,
     patterns: &[Pattern],
-    most: usize,
+    effort: &mut Effort,
 ) -> Result<Option<Vec<UnitId>>, Memory>
     requires { HasSpace search.now }
     ensures { IfOk result (λ near. IfSome near (λ list. HasAll search.now
         (λ values. holds_each search.now.operands.now values (trees_of patterns.now)) list.items)) }
 {
     for pattern in patterns {
-        let near = near_pattern(alloc, search, pattern, most)?;
+        let near = near_pattern(alloc, search, pattern, effort)?;
         if let Some(list) = near {
             return Ok(Some(list));
         }
@@ -89,36 +59,36 @@ fn near_each(
 }
 
 // Members, rising, among them all of which one of some patterns holds: those of all patterns, if each bounds them by
-// no more than `most` candidates.
+// few candidates, and these are few together.
 #[cycle(near)]
 fn near_some(
     alloc: Global,
     search: &Search,
     patterns: &[Pattern],
-    most: usize,
+    effort: &mut Effort,
 ) -> Result<Option<Vec<UnitId>>, Memory>
     requires { HasSpace search.now }
     ensures { IfOk result (λ near. IfSome near (λ list. HasAll search.now
         (λ values. holds_some search.now.operands.now values (trees_of patterns.now)) list.items)) }
 {
-    let mut found = BTreeSet::new(alloc);
+    let mut found = Vec::new(alloc);
     for pattern in patterns {
-        let Some(list) = near_pattern(alloc, search, pattern, most)? else {
+        let Some(list) = near_pattern(alloc, search, pattern, effort)? else {
             return Ok(None);
         };
-        add_all(&mut found, &list)?;
+        found.extend_from_slice(&list)?;
     }
-    Ok(Some(list_of(alloc, &found)?))
+    rise(&mut found);
+    Ok(Some(found))
 }
 
-// Members, rising, among them all of which a pattern holds, or `None` where it does not bound them, or a test by which
-// it does has more than `most` candidates.
+// Members, rising, among them all of which a pattern holds, or `None` where it does not bound them by few candidates.
 #[cycle(near)]
 fn near_pattern(
     alloc: Global,
     search: &Search,
     pattern: &Pattern,
-    most: usize,
+    effort: &mut Effort,
 ) -> Result<Option<Vec<UnitId>>, Memory>
     requires { HasSpace search.now }
     ensures { IfOk result (λ near. IfSome near (λ list. HasAll search.now
@@ -126,11 +96,32 @@ fn near_pattern(
 {
     match pattern.node() {
         Node::All => Ok(None),
-        Node::And(parts) => near_each(alloc, search, parts.as_slice(), most),
-        Node::Or(parts) => near_some(alloc, search, parts.as_slice(), most),
+        Node::And(parts) => near_each(alloc, search, parts.as_slice(), effort),
+        Node::Or(parts) => near_some(alloc, search, parts.as_slice(), effort),
         Node::Not(_) => Ok(None),
-        Node::Ordered { .. } | Node::Is { .. } => near_test(search, pattern, most),
+        Node::Ordered { .. } | Node::Is { .. } => near_test(search, pattern, effort),
     }
+}
+
+// Members, rising, among them all of which the query's pattern holds: by two of the tests that it is an `and` of, of
+// which the first asks for one low end or one label.
+fn near_both(
+    search: &Search,
+    tests: &[Leaf],
+    effort: &mut Effort,
+) -> Result<Option<Vec<UnitId>>, Memory>
+    requires space { HasSpace search.now }
+    requires ask { AskNoMore (matches search.now) tests.now }
+    ensures { IfOk result (λ near. IfSome near (λ list. HasAll search.now (matches search.now) list.items)) }
+{
+    let pairs = tests.iter().filter(|test| test.has_one_key()).count();
+    if pairs == 0 {
+        return Ok(None);
+    }
+    let most = effort.most_of_each(pairs);
+    let few = search.spaces.few_passing(search.query.space, tests, most)?;
+    effort.spend(most.saturating_mul(pairs), &few);
+    Ok(few)
 }
 
 // Members, rising, among them all of which the query's pattern holds: by two of the tests that it is an `and` of, or
@@ -139,51 +130,54 @@ fn near_within(
     alloc: Global,
     search: &Search,
     tests: &[Leaf],
-    most: usize,
+    effort: &mut Effort,
 ) -> Result<Option<Vec<UnitId>>, Memory>
     requires space { HasSpace search.now }
     requires ask { AskNoMore (matches search.now) tests.now }
     ensures { IfOk result (λ near. IfSome near (λ list. HasAll search.now (matches search.now) list.items)) }
 {
-    let both = search.spaces.few_passing(search.query.space, tests, most)?;
+    let both = near_both(search, tests, effort)?;
     if let Some(list) = both {
         return Ok(Some(list));
     }
-    near_pattern(alloc, search, &search.query.pattern, most)
+    near_pattern(alloc, search, &search.query.pattern, effort)
 }
 
-// Members, rising, among them all of which the query's pattern holds, or `None` where it does not bound them. The
-// number of candidates that a test may have begins small and grows: so an `and` goes by the first part with so few, or
-// with at most sixteen times as many as the one with the fewest (`MORE_CANDIDATES`, and `SORTED`), and costs no more
-// where that one stands last. Two tests that are asked together count as one.
+// Members, rising, among them all of which the query's pattern holds, or `None` where a walk over all members is no
+// dearer. The number of candidates that a test may have begins small and grows: so an `and` goes by the first part with
+// so few, or with at most sixteen times as many as the one with the fewest (`MORE_CANDIDATES`, and `SORTED`), and costs
+// no more where that one stands last. Two tests that are asked together count as one.
 fn near_few(alloc: Global, search: &Search, tests: &[Leaf]) -> Result<Option<Vec<UnitId>>, Memory>
     requires space { HasSpace search.now }
     requires ask { AskNoMore (matches search.now) tests.now }
     ensures { IfOk result (λ near. IfSome near (λ list. HasAll search.now (matches search.now) list.items)) }
 {
-    let mut most = FIRST_CANDIDATES;
+    let mut effort = Effort::new(search.spaces.member_count(search.query.space));
     for _ in 0..ROUNDS {
-        let near = near_within(alloc, search, tests, most)?;
+        let near = near_within(alloc, search, tests, &mut effort)?;
         if let Some(list) = near {
             return Ok(Some(list));
         }
-        most = most.saturating_mul(MORE_CANDIDATES);
+        if !effort.grow() {
+            break;
+        }
     }
-    near_within(alloc, search, tests, usize::MAX)
+    Ok(None)
 }
 
-/// Members of the query's space, rising, among them all of which its pattern holds. Members that fail a test which the
-/// pattern is an `and` of are left out.
-pub(crate) fn near(alloc: Global, search: &Search) -> Result<Vec<UnitId>, Memory>
+/// Members of the query's space, rising, among them all of which its pattern holds, or `None` where a walk over all
+/// members is no dearer. Members that fail a test which the pattern is an `and` of are left out.
+pub(crate) fn near(alloc: Global, search: &Search) -> Result<Option<Vec<UnitId>>, Memory>
     requires { HasSpace search.now }
-    ensures { IfOk result (λ list. HasAll search.now (matches search.now) list.items) }
+    ensures { IfOk result (λ near. IfSome near (λ list. HasAll search.now (matches search.now) list.items)) }
 {
     let tests = tests_of(alloc, &search.query.pattern, search.operands)?;
     let Some(list) = near_few(alloc, search, &tests)? else {
-        return search.spaces.members(search.query.space);
+        return Ok(None);
     };
     if tests.len() < 2 {
-        return Ok(list);
+        return Ok(Some(list));
     }
-    search.spaces.passing(search.query.space, &tests, &list)
+    let left = search.spaces.passing(search.query.space, &tests, &list)?;
+    Ok(Some(left))
 }

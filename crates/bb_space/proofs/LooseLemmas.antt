@@ -12,7 +12,7 @@ use Rattle.bb_pattern.specs.declared.value.DimValue.{DimValue}
 use Rattle.bb_space.specs.declared.members.Members.{Members}
 use Rattle.bb_space_index.specs.declared.place.Place.{Place}
 use Rattle.bb_space.specs.Spaces.{Membership, left, moved}
-use Rattle.bb_space_index.specs.Places.{place_cmp, is_at, is_place_of, has, ArePut, AreTaken}
+use Rattle.bb_space_index.specs.Places.{place_cmp, is_at, is_place_of, has, ArePut, AreIn, AreTaken}
 use Rattle.bb_space.specs.proving.Indexed.{membership, is_told, IsLoose, IsIndexed}
 use Rattle.bb_space.specs.proving.Entries.{members_of_entries}
 use Rattle.bb_basis.proofs.EntryLemmas.{get_is_lookup}
@@ -80,6 +80,13 @@ put_loose unit values spare more m n members put wider put_too l = record {
       (λ there. wider p (l.only p there (ap (λ w. is_told w p) (sym members) ∙ g)))
       (λ new. put_too p (put.only p h new));
 }
+
+-- the places of values are there, once those are put that the unit has not
+pub put_ready : (unit : ℕ) (values : List DimValue) (spare : Place → Bool) (m n : Members) → ArePut unit values m.places n.places
+    → AreIn unit values (unwrap_or (fin.get (membership m) unit) []) n.places → IsLoose spare m → (p : Place) → is_place_of unit values p ≡ true → has n.places p ≡ true
+put_ready unit values spare m n put new l p h = by_bool (is_at (unwrap_or (fin.get (membership m) unit) []) p) _
+    (λ on. put.keeps p (l.full p (told_present unit (membership m) p (of_unit unit values p h) ∙ on)))
+    (λ off. new p h off)
 
 -- places were taken, but for those of the unit's values
 pub take_loose : (unit : ℕ) (values : List DimValue) (spare less : Place → Bool) (m n : Members) → membership n ≡ membership m

@@ -1,14 +1,13 @@
 //! The members of one space. spaces.rt keeps them for each space.
 
-ghost use Rattle.std.specs.Prelude.{◌≡◌, [], IfOk, IfSome, OnOk, OnErr, true, not, option_map, filter};
+ghost use Rattle.std.specs.Prelude.{◌≡◌, [], IfOk, IfSome, OnOk, OnErr, not, option_map, filter};
 ghost use Rattle.std.specs.Option.{unwrap_or};
 ghost use Rattle.std.specs.FinMap as map;
 ghost use Rattle.bb_space.specs.Spaces.{entered, left, moved};
 ghost use Rattle.bb_space.specs.Candidates.{candidates_of};
 ghost use Rattle.bb_space.specs.Passing.{passes, HaveAllPassing};
-ghost use Rattle.bb_space_index.specs.declared.place.Place.{Place as At};
 ghost use Rattle.bb_space.specs.proving.Entries.{members_of_entries};
-ghost use Rattle.bb_space_index.specs.Places.{has, is_place_of, ArePut, AreTaken};
+ghost use Rattle.bb_space_index.specs.Places.{ArePut, AreIn, AreTaken};
 ghost use Rattle.bb_space.specs.proving.Indexed.{membership, IsIndexed};
 
 use crate::passing::{passing, room};
@@ -53,6 +52,13 @@ fn keys_of(alloc: Global, values: &BTreeMap<UnitId, Items<DimValue>>) -> Result<
     Ok(list)
 }
 
+// The number of keys.
+fn count(values: &BTreeMap<UnitId, Items<DimValue>>) -> usize
+    ensures { result ≡ map.len (members_of_entries values.now.entries) }
+{
+    values.len()
+}
+
 // The number of marks for some units, or 0 where the units are few, lie close together, or would need too many.
 fn room_for_marks(among: &[UnitId]) -> usize {
     if among.len() < FEW_UNITS || room(among, CLOSE_NUMBERS) > 0 {
@@ -90,14 +96,18 @@ impl Members {
         }
     }
 
-    /// Puts the places of values that a unit is to have. An error may leave some of them.
+    /// Puts the places of values that a unit is to have, except those of values that it has. An error may leave some of
+    /// them.
     pub(crate) fn prepare(&mut self, unit: UnitId, values: &[DimValue]) -> Result<(), Memory>
         ensures same { self.new.values ≡ self.old.values }
         ensures put { ArePut unit values.now self.old.places self.new.places }
-        ensures all { OnOk result ((p : At) →
-            is_place_of unit values.now p ≡ true → has self.new.places p ≡ true) }
+        ensures all { OnOk result (AreIn unit values.now
+            (unwrap_or (map.get (membership self.old) unit) []) self.new.places) }
     {
-        put_all(&mut self.places, unit, values)
+        match self.values.get(&unit) {
+            None => put_all(&mut self.places, unit, values, &[]),
+            Some(present) => put_all(&mut self.places, unit, values, present.as_slice()),
+        }
     }
 
     /// Swaps the values of a member with others, whose places are there. A unit that is none stays out.
@@ -178,6 +188,20 @@ impl Members {
         self.exchange(unit, &mut values);
         self.settle(unit, values.as_slice());
         Ok(())
+    }
+
+    /// The number of members.
+    pub(crate) fn count(&self) -> usize
+        ensures { result ≡ map.len (membership self.now) }
+    {
+        count(&self.values)
+    }
+
+    /// The members with their values.
+    pub(crate) fn told(&self) -> &BTreeMap<UnitId, Items<DimValue>>
+        ensures { members_of_entries result.now.entries ≡ membership self.now }
+    {
+        &self.values
     }
 
     /// The members, rising.

@@ -1,6 +1,7 @@
 //! All spaces. The board changes them, and queries read them.
 
 ghost use Rattle.std.specs.Prelude.{◌≡◌, ◌<◌, IfOk, IfSome, OnOk, OnErr, length, not, option_map, filter};
+ghost use Rattle.std.specs.FinMap as fin;
 ghost use Rattle.bb_space.specs.Fits.{Fits};
 ghost use Rattle.bb_space.specs.Spaces.{no_spaces, is_member, values_in, membership, members};
 ghost use Rattle.bb_space.specs.Spaces.{AreCandidates, spaces_of};
@@ -18,6 +19,7 @@ use bb_pattern::DimValue;
 use bb_schema::{Schema, SpaceId, UnitId};
 use bb_space_index::Leaf;
 use std::alloc::Global;
+use std::collections::BTreeMap;
 use std::marker::Model;
 
 /// The spaces of a blackboard: which units are in each, with the values on its dimensions that were told of them, one
@@ -222,6 +224,22 @@ impl Spaces {
         ensures { option_map (λ v. v.now) result ≡ values_in self.now space unit }
     {
         self.spaces[space as usize].values(unit)
+    }
+
+    /// The number of members of a space.
+    pub fn member_count(&self, space: SpaceId) -> usize
+        requires { space < length self.now.spaces }
+        ensures { result ≡ fin.len (membership self.now space) }
+    {
+        self.spaces[space as usize].count()
+    }
+
+    /// The members of a space with the values that they have, as they were told last, to be gone over in rising order.
+    pub fn told(&self, space: SpaceId) -> &BTreeMap<UnitId, Items<DimValue>>
+        requires { space < length self.now.spaces }
+        ensures { fin.from_entries result.now.entries ≡ membership self.now space }
+    {
+        self.spaces[space as usize].told()
     }
 
     /// The members of a space, rising.

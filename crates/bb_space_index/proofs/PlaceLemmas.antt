@@ -13,7 +13,7 @@ use Rattle.std.proofs.lemmas.Option.{slice_get_within}
 use Rattle.bb_basis.proofs.BoolLemmas.{cond_or_true}
 use Rattle.bb_pattern.specs.declared.value.DimValue.{DimValue}
 use Rattle.bb_space_index.specs.declared.place.Place.{Place}
-use Rattle.bb_space_index.specs.Places.{place_cmp, sort_of, key_of, next_of, place_of, is_value_at, is_at, is_place_of, has, ArePut, AreTaken}
+use Rattle.bb_space_index.specs.Places.{place_cmp, sort_of, key_of, next_of, place_of, is_value_at, is_at, is_place_of, has, ArePut, AreIn, AreTaken}
 
 pub place_total : IsTotalOrder place_cmp
 place_total = then_total (on_total (λ (p : Place). p.dim) nat_cmp_total) (then_total (on_total (λ (p : Place). p.sort) nat_cmp_total) (then_total (on_total (λ (p : Place). p.key) int_cmp_total) (then_total (on_total (λ (p : Place). p.edge) nat_cmp_total) (then_total (on_total (λ (p : Place). p.next_sort) nat_cmp_total) (then_total (on_total (λ (p : Place). p.next_key) int_cmp_total) (then_total (on_total (λ (p : Place). p.next_edge) nat_cmp_total) (on_total (λ (p : Place). p.unit) nat_cmp_total)))))))
@@ -93,6 +93,13 @@ pub is_here : (unit dim : ℕ) (values : List DimValue) (v : DimValue) → slice
 is_here unit dim values v there =
     and_from (unit == unit) (is_at values (place_in dim unit values v)) (eq-eqb unit unit refl)
     (is_at_value values (place_in dim unit values v) v there ∙ value_here dim unit v (next_of values dim))
+
+-- other values with the same one there, and on the next dimension, have one that stands there
+pub stays_at : (unit dim : ℕ) (values others : List DimValue) (v : DimValue) → slice_get values dim ≡ Some v → (slice_get others dim ≡ slice_get values dim) × (next_of others dim ≡ next_of values dim)
+    → is_at others (place_in dim unit values v) ≡ true
+stays_at unit dim values others v there same =
+    is_at_value others (place_in dim unit values v) v (same.0 ∙ there)
+    ∙ (ap (λ next. is_value_at (place_in dim unit values v) next v) same.1 ∙ value_here dim unit v (next_of values dim))
 
 -- what is known of a place of one of a unit's values
 pub record Stands (unit : ℕ) (values : List DimValue) (p : Place) : Type 0 where
@@ -174,8 +181,10 @@ none_at p = ap (λ o. option_map_or (is_value_at p (next_of [] p.dim)) o false) 
 
 -- ---- puts
 
-abbrev pub AreIn : ℕ → ℕ → List DimValue → BTreeSet Place → Type 0
-AreIn n unit values places = (p : Place) → is_place_of unit values p ≡ true → p.dim < n → has places p ≡ true
+-- those of the first dimensions are there
+abbrev pub AreFirstIn : ℕ → ℕ → (values except : List DimValue) → BTreeSet Place → Type 0
+AreFirstIn n unit values except places =
+    (p : Place) → is_place_of unit values p ≡ true → is_at except p ≡ false → p.dim < n → has places p ≡ true
 
 pub put_none : (unit : ℕ) (values : List DimValue) (places : BTreeSet Place) → ArePut unit values places places
 put_none unit values places = record { keeps = λ p h. h; only = λ p h g. absurd cc }
@@ -195,13 +204,20 @@ module _ (unit : ℕ) (values : List DimValue) (n : ℕ) (v : DimValue) (there :
           (λ other. was.only p (sym (more p ∙ ap (λ b. cond b true (has old p)) other) ∙ h) before);
     }
 
-    pub in_more : AreIn n unit values old → AreIn (n + 1) unit values new
-    in_more was = λ p h lt. split p _ h lt
-        (λ before. more p ∙ cond_or_true (is_eq (place_cmp (place_in n unit values v) p)) (has old p) (was p h before))
+    pub in_more : (except : List DimValue) → AreFirstIn n unit values except old → AreFirstIn (n + 1) unit values except new
+    in_more except was = λ p h off lt. split p _ h lt
+        (λ before. more p ∙ cond_or_true (is_eq (place_cmp (place_in n unit values v) p)) (has old p) (was p h off before))
         (λ same. more p ∙ ap (λ b. cond b true (has old p)) (subst (λ q. is_eq (place_cmp (place_in n unit values v) q) ≡ true) same (place_itself (place_in n unit values v))))
 
-pub in_all : (n unit : ℕ) (values : List DimValue) (places : BTreeSet Place) → length values ≤ n → AreIn n unit values places → (p : Place) → is_place_of unit values p ≡ true → has places p ≡ true
-in_all n unit values places le all p h = let lt = stands_within unit values p h in all p h (omega (arith, lt, le))
+-- other values stand there too
+pub in_over : (unit : ℕ) (values except : List DimValue) (n : ℕ) (v : DimValue) → slice_get values n ≡ Some v → (places : BTreeSet Place) → is_at except (place_in n unit values v) ≡ true
+    → AreFirstIn n unit values except places → AreFirstIn (n + 1) unit values except places
+in_over unit values except n v there places stays was = λ p h off lt. split unit values n v there places places places p _ h lt
+    (λ before. was p h off before)
+    (λ same. let on : is_at except p ≡ true = subst (λ q. is_at except q ≡ true) same stays in absurd cc)
+
+pub in_all : (n unit : ℕ) (values except : List DimValue) (places : BTreeSet Place) → length values ≤ n → AreFirstIn n unit values except places → AreIn unit values except places
+in_all n unit values except places le all = λ p h off. let lt = stands_within unit values p h in all p h off (omega (arith, lt, le))
 
 -- ---- takes
 

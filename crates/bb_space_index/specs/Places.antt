@@ -68,6 +68,11 @@ pub record ArePut (unit : ℕ) (values : List DimValue) (old new : BTreeSet Plac
   pub keeps : (p : Place) → has old p ≡ true → has new p ≡ true
   pub only : (p : Place) → has new p ≡ true → has old p ≡ false → is_place_of unit values p ≡ true
 
+-- the places of values are there, except those where others stand
+abbrev pub AreIn : (unit : ℕ) (values except : List DimValue) → BTreeSet Place → Type 0
+AreIn unit values except places =
+    (p : Place) → is_place_of unit values p ≡ true → is_at except p ≡ false → has places p ≡ true
+
 -- values were taken, except those that stand where others do
 pub record AreTaken (unit : ℕ) (values except : List DimValue) (old new : BTreeSet Place) : Type 0 where
   pub only : (p : Place) → has new p ≡ true → has old p ≡ true

@@ -25,9 +25,14 @@ pub const FIRST_CANDIDATES: usize = 64;
 /// comes to a third of it.
 pub const MORE_CANDIDATES: usize = 4;
 
-/// At most so often, the first time included: 64 have then become 65,536, as many as there can be units. After that
-/// any number is asked for.
+/// At most so often, the first time included: 64 have then become 65,536, as many as there can be units.
 pub const ROUNDS: u32 = 6;
 
 /// A candidate that has to be put in order counts as so many that are found in order.
 pub const SORTED: usize = 4;
+
+/// A candidate that is found counts as so many steps of what may be spent on candidates: it is listed, and then looked
+/// up. What may be spent, in all rounds and for all tests, is a step for each member of the space. After that all
+/// members are gone over instead. So a `find` costs at most half as much again as a walk over all members by which each
+/// is tested; a quarter was measured.
+pub const FOUND: usize = 4;

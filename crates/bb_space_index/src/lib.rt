@@ -12,7 +12,8 @@ mod stretch;
 mod thin;
 
 pub use costs::{
-    CLOSE_NUMBERS, FEW_UNITS, FIRST_CANDIDATES, MARKED_NUMBERS, MORE_CANDIDATES, ROUNDS, SORTED,
+    CLOSE_NUMBERS, FEW_UNITS, FIRST_CANDIDATES, FOUND, MARKED_NUMBERS, MORE_CANDIDATES, ROUNDS,
+    SORTED,
 };
 pub use index::{put_all, take_all};
 pub use leaf::Leaf;

@@ -1,6 +1,6 @@
 //! Where a value stands in the index of a space. index.rt keeps the places of all members in their order.
 
-ghost use Rattle.std.specs.Prelude.{◌≡◌, ◌<◌, length};
+ghost use Rattle.std.specs.Prelude.{◌≡◌, ◌<◌, true, length, slice_get};
 ghost use Rattle.bb_space_index.specs.Places.{sort_of, key_of, next_of, place_of, is_at};
 
 use bb_pattern::DimValue;
@@ -56,6 +56,40 @@ pub(crate) fn next_of(values: &[DimValue], dim: usize) -> Option<DimValue>
         return Some(*next);
     }
     Some(*values.first()?)
+}
+
+// Whether two values are the same.
+fn are_same(value: DimValue, other: DimValue) -> bool
+    ensures { result ≡ true → value ≡ other }
+{
+    match (value, other) {
+        (DimValue::Interval(low, high), DimValue::Interval(from, to)) => low == from && high == to,
+        (DimValue::Label(set, label), DimValue::Label(of, other)) => set == of && label == other,
+        _ => false,
+    }
+}
+
+// Whether two values are there and the same.
+fn are_there(value: Option<DimValue>, other: Option<DimValue>) -> bool
+    ensures { result ≡ true → value ≡ other }
+{
+    match (value, other) {
+        (Some(value), Some(other)) => are_same(value, other),
+        _ => false,
+    }
+}
+
+/// Whether other values are the same on a dimension and on the next one, so that one of them stands where the value
+/// does. This is quicker than to compare places. Some others stand there too.
+pub(crate) fn stays(values: &[DimValue], dim: usize, others: &[DimValue]) -> bool
+    requires { dim < length values.now }
+    ensures { result ≡ true → (slice_get others.now dim ≡ slice_get values.now dim)
+        × (next_of others.now dim ≡ next_of values.now dim) }
+{
+    let Some(other) = others.get(dim) else {
+        return false;
+    };
+    are_same(*other, values[dim]) && are_there(next_of(others, dim), next_of(values, dim))
 }
 
 impl Place {

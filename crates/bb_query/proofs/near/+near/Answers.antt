@@ -1,4 +1,4 @@
-use Rattle.std.proofs.Common.{◌≡◌, ◌<◌, ◌≤◌, Some, arith, sym, ap, subst, ◌∙◌, length, refl, slice_get}
+use Rattle.std.proofs.Common.{◌≡◌, ◌<◌, ◌≤◌, Some, arith, sym, ap, subst, ◌∙◌, length, refl, slice_get, drop, ◌+◌, ◌++◌}
 use Rattle.std.proofs.lemmas.Option.{slice_get_read, IfSome_then}
 use Rattle.std.proofs.lemmas.Result.{IfOk-weaker}
 use Rattle.bb_basis.proofs.ListLemmas.{if_some}
@@ -6,8 +6,8 @@ use Rattle.bb_pattern.specs.Trees.{and_of, or_of}
 use Rattle.bb_pattern.specs.Holds.{holds}
 use Rattle.bb_pattern.specs.View.{tree_of, trees_of}
 use Rattle.bb_pattern.proofs.Laws.{parts_below_and, parts_below_or}
-use Rattle.bb_query.specs.proving.Enough.{AreEnough, HasAlso}
-use Rattle.bb_query.proofs.NearLemmas.{each_enough, has_but_less, some_enough, and_enough, or_enough}
+use Rattle.bb_query.specs.proving.Enough.{AreEnough}
+use Rattle.bb_query.proofs.NearLemmas.{HasBut, each_enough, has_but_less, some_enough, and_enough, or_enough}
 use Rattle.bb_query.proofs.near.+near.Goals as goal
 
 pub near_pattern-near_each-requires : goal.near_pattern-near_each-requires
@@ -32,20 +32,25 @@ near_each-returns-in-Some t c =
 
 pub near_some-loop-pattern-preserved : goal.near_some-loop-pattern-preserved
 near_some-loop-pattern-preserved t c =
+    let t = c.args.search.now.spaces.now in
+    let space = c.args.search.now.query.now.space in
+    let operands = c.args.search.now.operands.now in
     let ps = c.args.patterns.now in
     let k = c.loop-pattern.pattern-index in
     let p = c.pattern-item.result in
+    let list = c.in-Some.list.items in
+    let found = c.loop-pattern.found.items in
     let lt : k < length ps = omega (arith, c.loop-pattern-test.true, c.loop-pattern.auto.pattern-index-end) in
     let there : slice_get ps k ≡ Some p = slice_get_read ps (length ps) k p refl lt c.pattern-item.is in
-    has_but_less c.args.search.now.spaces.now c.args.search.now.query.now.space c.args.search.now.operands.now ps k p c.in-Some.list.items c.loop-pattern.found c.add_all.new.found there
-    (if_some (λ list. AreEnough c.args.search.now.spaces.now c.args.search.now.query.now.space (λ values. holds c.args.search.now.operands.now values p) list.items) c.in_ok-list.field-0 c.in-Some.list c.in-Some.is c.in_ok-list.ensures)
-    (subst (λ list. HasAlso c.loop-pattern.found list c.add_all.new.found) c.deref.ensures.value c.in_ok-add_all.ensures) c.loop-pattern.invariant
+    let enough = if_some (λ list. AreEnough t space (λ values. holds operands values p) list.items) c.in_ok-list.field-0 c.in-Some.list c.in-Some.is c.in_ok-list.ensures in
+    let more : c.extend_from_slice.new.self.items ≡ found ++ list = c.in_ok-extend_from_slice.ensures.items ∙ ap (λ ys. found ++ ys) c.deref.ensures.value in
+    subst (λ units. HasBut t space operands ps (drop (k + 1) ps) units) (sym more) (has_but_less t space operands ps k p list found there enough c.loop-pattern.invariant)
 
 pub near_some-returns : goal.near_some-returns
 near_some-returns t c =
     let ps = c.args.patterns.now in
     let le : length ps ≤ c.loop-pattern.pattern-index = omega (arith, c.loop-pattern-test.false, c.loop-pattern.auto.pattern-index-end) in
-    some_enough c.args.search.now.spaces.now c.args.search.now.query.now.space c.args.search.now.operands.now ps c.loop-pattern.pattern-index c.loop-pattern.found c.in_ok-list_of.field-0.items le c.loop-pattern.invariant c.in_ok-list_of.ensures.list c.list_of.ensures.rising
+    some_enough c.args.search.now.spaces.now c.args.search.now.query.now.space c.args.search.now.operands.now ps c.loop-pattern.pattern-index c.loop-pattern.found.items c.rise.new.list.items le c.loop-pattern.invariant c.rise.ensures.same c.rise.ensures.rises
 
 pub near_pattern-returns-in-And : goal.near_pattern-returns-in-And
 near_pattern-returns-in-And t c =

@@ -1,18 +1,11 @@
-use Rattle.std.proofs.Common.{sym, ap, subst, ◌∙◌}
+use Rattle.std.proofs.Common.{ap, ◌∙◌}
 use Rattle.std.specs.Prelude.{filter}
-use Rattle.std.proofs.lemmas.Result.{IfOk-weaker}
 use Rattle.bb_basis.proofs.ListLemmas.{if_some}
 use Rattle.bb_space.specs.Passing.{passes}
 use Rattle.bb_space.specs.Spaces.{membership}
 use Rattle.bb_query.specs.proving.Searches.{HasAll, matches}
-use Rattle.bb_query.proofs.NearLemmas.{members_enough}
 use Rattle.bb_query.proofs.NarrowLemmas.{left_enough}
 use Rattle.bb_query.proofs.near.near.Goals as goal
-
-pub returns-in_default : goal.returns-in_default
-returns-in_default c =
-    let search = c.args.search.now in
-    IfOk-weaker c.members.result _ _ (λ list same. subst (HasAll search (matches search)) (sym same) (members_enough search.spaces.now search.query.now.space (matches search))) c.members.ensures
 
 pub returns : goal.returns
 returns c =
@@ -21,6 +14,6 @@ returns c =
     let tests = c.in_ok-tests.tests.items in
     let list = c.in-Some.list.items in
     let enough = if_some (λ list. HasAll search (matches search) list.items) c.in_ok-list.field-0 c.in-Some.list c.in-Some.is c.in_ok-list.ensures in
-    IfOk-weaker c.passing.result _ _ (λ left is. left_enough search.spaces.now search.query.now.space (matches search) tests list left.items c.in_ok-tests.ensures
-    (is ∙ (ap (λ ts. filter (passes members ts) c.deref-3.result.now) c.deref-2.ensures.value ∙ ap (filter (passes members tests)) c.deref-3.ensures.value))
-    enough) c.passing.ensures
+    left_enough search.spaces.now search.query.now.space (matches search) tests list c.in_ok-left.left.items c.in_ok-tests.ensures
+    (c.in_ok-left.ensures ∙ (ap (λ ts. filter (passes members ts) c.deref-3.result.now) c.deref-2.ensures.value ∙ ap (filter (passes members tests)) c.deref-3.ensures.value))
+    enough

@@ -1,6 +1,8 @@
 use Rattle.std.proofs.Common.{◌≡◌, ◌<◌, ◌≤◌, ◌+◌, subst, drop, length, Some, refl, arith, slice_get}
 use Rattle.std.proofs.lemmas.Option.{slice_get_read}
 use Rattle.bb_space_index.specs.Places.{ArePut}
+use Rattle.bb_space.specs.proving.Indexed.{is_moved}
+use Rattle.bb_space.proofs.LooseLemmas.{put_ready}
 use Rattle.bb_space.proofs.MovingLemmas.{preparing_none, preparing_at, preparing_over, prepared_same, prepared_loose, preparing_more, all_ready}
 use Rattle.bb_space.proofs.moving.prepare_all.Goals as goal
 
@@ -66,7 +68,8 @@ loop-space-preserved c =
     let there : slice_get now e.0 ≡ Some m = slice_get_read now (length now) e.0 m refl within c.index_mut.ensures.value in
     let was = preparing_at k unit moves c.args.spaces.now.items now e at c.loop-space.invariant in
     let put = subst (λ vs. ArePut unit vs m.places c.prepare.new.self.places) c.as_slice.ensures c.prepare.ensures.put in
-    preparing_more unit moves e (drop (k + 1) moves) c.args.spaces.now.items now was m c.prepare.new.self there c.prepare.ensures.same put (rw (← c.as_slice.ensures) c.in_ok-prepare.ensures.all)
+    preparing_more unit moves e (drop (k + 1) moves) c.args.spaces.now.items now was m c.prepare.new.self there c.prepare.ensures.same put
+    (put_ready unit e.1 (is_moved unit e.0 moves) m c.prepare.new.self put (rw (← c.as_slice.ensures) c.in_ok-prepare.ensures.all) (was.loose e.0 m there))
 
 pub returns-clause-ready : goal.returns-clause-ready
 returns-clause-ready c =

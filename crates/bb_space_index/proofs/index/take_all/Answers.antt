@@ -3,8 +3,16 @@ use Rattle.std.proofs.lemmas.Option.{slice_get-get_or}
 use Rattle.bb_space_index.specs.Places.{place_cmp, place_of, is_at, has}
 use Rattle.bb_pattern.specs.declared.value.DimValue.TheVariants.{Interval}
 use Rattle.bb_space_index.specs.declared.place.Place.{Place}
-use Rattle.bb_space_index.proofs.PlaceLemmas.{place_in, taking_over, taking_more, taking_all}
+use Rattle.bb_space_index.proofs.PlaceLemmas.{place_in, stays_at, taking_over, taking_more, taking_all}
 use Rattle.bb_space_index.proofs.index.take_all.Goals as goal
+
+pub loop-dim-preserved-then-stays : goal.loop-dim-preserved-then-stays
+loop-dim-preserved-then-stays c =
+    let values = c.args.values.now in
+    let n = c.loop-dim.dim in
+    let lt : n < length values = omega (arith, c.loop-dim-test.true, c.loop-dim.auto.dim-end) in
+    let there = slice_get-get_or values n (Interval (pos 0) (pos 0)) lt in
+    taking_over c.args.unit values c.args.except.now n _ there c.args.places.now c.loop-dim.places c.loop-dim.places c.loop-dim.invariant (stays_at c.args.unit n values c.args.except.now _ there (c.stays.ensures c.if-stays.true))
 
 pub loop-dim-preserved-then-is_of : goal.loop-dim-preserved-then-is_of
 loop-dim-preserved-then-is_of c =
