@@ -11,8 +11,8 @@ use clap::builder::PossibleValue;
 use clap::{Arg, Command, value_parser};
 use std::alloc::{AllocError, Global};
 
-/// The version of the program.
-pub const VERSION: &str = "0.9.0";
+/// The version of the program, and the logic of the kit that its proofs hold in.
+pub const VERSION: &str = "0.9.0 (proved in logic dac8208d650f15bf)";
 
 // The end of help: what the program's statuses mean.
 const STATUSES: &str = "Exit status:
