@@ -165,6 +165,22 @@ def untried(now, then):
     return {name: why for name, why in reasons.items() if then.get(name) != now[name]}
 
 
+def count_of_edits(name, files):
+    """The number of wrong bodies of a crate."""
+    return sum(it.startswith(f"crates/{name}/must-fail/") and it.endswith(".edit") for it in files)
+
+
+def first_of(selected, now, files, most):
+    """Of the selected crates those that have at most so many wrong bodies between them, one crate at least. They are taken
+    in the order of their digests, so that each that has to be tried comes first at some time."""
+    taken, count = [], 0
+    for name in sorted(selected, key=now.get):
+        edits = count_of_edits(name, files)
+        if not taken or count + edits <= most:
+            taken, count = [*taken, name], count + edits
+    return [it for it in selected if it in taken]
+
+
 def with_passed(then, now, passed):
     """What was tried, after these crates passed with these digests: of the others what is still so."""
     kept = {name: it for name, it in then.items() if now.get(name) == it}
