@@ -2,7 +2,7 @@
 //! line say, and on standard error it says why an input is refused.
 #![tactic(auto)]
 
-use bb_main::{Intake, Options, OptionsFault, Pipe, options, program, tell};
+use bb_main::{Intake, Options, OptionsFault, Pipe, answer_words, options, program};
 use std::process::ExitCode;
 use std::rt::Env;
 use std::{env, io};
@@ -15,7 +15,7 @@ fn main(rt: HostRuntime) -> ExitCode {
             let mut errors = rt.stderr();
             program(rt.alloc(), options, &mut reader, &mut writer, &mut errors)
         }
-        Err(fault) => tell(&fault, &mut writer),
+        Err(fault) => answer_words(&fault, &mut writer),
     };
     ExitCode::from(status)
 }

@@ -73,32 +73,32 @@ pub(crate) fn write_clauses(
 ) -> Result<(), Memory> {
     let parts = source.parts();
     let triggers = parts.triggers.as_slice();
-    let told = Told {
+    let sentences = ClauseSentences {
         schema,
         possible,
         source,
         sites,
     };
-    told.write_list(text, ClauseList::Triggers, triggers)?;
+    sentences.write_list(text, ClauseList::Triggers, triggers)?;
     if let Some(reaction) = &parts.obviate {
-        told.write_list(text, ClauseList::Obviate, reaction.clauses.as_slice())?;
+        sentences.write_list(text, ClauseList::Obviate, reaction.clauses.as_slice())?;
     }
     if let Some(reaction) = &parts.retrigger {
-        told.write_list(text, ClauseList::Retrigger, reaction.clauses.as_slice())?;
+        sentences.write_list(text, ClauseList::Retrigger, reaction.clauses.as_slice())?;
     }
     Ok(())
 }
 
-// What the clauses of a source are told by.
+// What the sentences on the clauses of a source go by.
 #[derive(Clone, Copy)]
-struct Told<'a> {
+struct ClauseSentences<'a> {
     schema: &'a Schema,
     possible: &'a Possible,
     source: &'a Source,
     sites: &'a SourceSites<'a>,
 }
 
-impl Told<'_> {
+impl ClauseSentences<'_> {
     // Appends the clauses of a list that name what never happens.
     fn write_list(
         self,

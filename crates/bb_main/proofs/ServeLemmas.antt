@@ -78,27 +78,27 @@ run-not-refused (Some (ends.Stuck reason)) k is = let no : 0 ≡ 2 = is in omega
 -- a run's answer, by how the run came out
 pub served_run : (natives : List Native) (limit : ℕ) (m : Meaning) (f : Finish) (status : ℕ) (old new : Option (List ℕ)) → status ≡ status_of f
     → IfSome (end_of f) (λ end. (run m.plan m.board natives limit).end ≡ Some end)
-    → IfSome (end_of f) (λ _. Appends old new (trace_text m.plan (run m.plan m.board natives limit).told))
+    → IfSome (end_of f) (λ _. Appends old new (trace_text m.plan (run m.plan m.board natives limit).emitted))
     → WritesFront m.plan (run m.plan m.board natives limit) f old new
     → Delivers (answer_to_run natives limit m) old new status ⊎ CutShort (answer_to_run natives limit m) old new status
 served_run natives limit m f status old new = by f
   where
-    whole : trace_text m.plan (run m.plan m.board natives limit).told ≡ text_of (answer_to_run natives limit m).pieces
-    whole = sym (text_of-map (segment_text m.plan) (run m.plan m.board natives limit).told)
+    whole : trace_text m.plan (run m.plan m.board natives limit).emitted ≡ text_of (answer_to_run natives limit m).pieces
+    whole = sym (text_of-map (segment_text m.plan) (run m.plan m.board natives limit).emitted)
 
-    all : Appends old new (trace_text m.plan (run m.plan m.board natives limit).told) → Appends old new (text_of (answer_to_run natives limit m).pieces)
+    all : Appends old new (trace_text m.plan (run m.plan m.board natives limit).emitted) → Appends old new (text_of (answer_to_run natives limit m).pieces)
     all p = subst (Appends old new) whole p
 
     by : (f : Finish) → status ≡ status_of f
         → IfSome (end_of f) (λ end. (run m.plan m.board natives limit).end ≡ Some end)
-        → IfSome (end_of f) (λ _. Appends old new (trace_text m.plan (run m.plan m.board natives limit).told))
+        → IfSome (end_of f) (λ _. Appends old new (trace_text m.plan (run m.plan m.board natives limit).emitted))
         → WritesFront m.plan (run m.plan m.board natives limit) f old new
         → Delivers (answer_to_run natives limit m) old new status ⊎ CutShort (answer_to_run natives limit m) old new status
     by finishes.Quiescence is ends wrote front = inl (inl (rw ends is, all wrote))
     by finishes.Limit is ends wrote front = inl (inl (rw ends is, all wrote))
     by finishes.Full is ends wrote front = inl (inl (rw ends is, all wrote))
     by finishes.Memory is ends wrote front =
-        inr (is, (front.0, run-not-refused (run m.plan m.board natives limit).end front.0, subst (Appends old new) (sym (text_of-map (segment_text m.plan) (take front.0 (run m.plan m.board natives limit).told)) ∙ ap text_of (sym (take-map (segment_text m.plan) front.0 (run m.plan m.board natives limit).told))) front.1))
+        inr (is, (front.0, run-not-refused (run m.plan m.board natives limit).end front.0, subst (Appends old new) (sym (text_of-map (segment_text m.plan) (take front.0 (run m.plan m.board natives limit).emitted)) ∙ ap text_of (sym (take-map (segment_text m.plan) front.0 (run m.plan m.board natives limit).emitted))) front.1))
     by finishes.Write is ends wrote front = inl (inr (is, (front.0, subst (λ t. Appends old new (take front.0 t)) whole front.1)))
 
 same_meaning : (given : Result Meaning InputFault) (m n : Meaning) → given ≡ Ok m → given ≡ Ok n → n ≡ m
@@ -107,12 +107,12 @@ same_meaning given m n p q = let e : ◌≡◌ {A = Result Meaning InputFault} (
 -- the answer to what sections mean, by what a run of them is known to have told
 pub served_meaning : (natives : List Native) (limit : ℕ) (given : Result Meaning InputFault) (f : Finish) (status : ℕ) (old new : Option (List ℕ)) → status ≡ status_of f
     → (m : Meaning) × (given ≡ Ok m) × IfSome (end_of f) (λ end. (run m.plan m.board natives limit).end ≡ Some end)
-    → (m : Meaning) × (given ≡ Ok m) × IfSome (end_of f) (λ _. Appends old new (trace_text m.plan (run m.plan m.board natives limit).told))
+    → (m : Meaning) × (given ≡ Ok m) × IfSome (end_of f) (λ _. Appends old new (trace_text m.plan (run m.plan m.board natives limit).emitted))
     → (m : Meaning) × (given ≡ Ok m) × WritesFront m.plan (run m.plan m.board natives limit) f old new
     → Delivers (answer_to_meaning natives limit given) old new status ⊎ CutShort (answer_to_meaning natives limit given) old new status
 served_meaning natives limit given f status old new is ends wrote front =
     let m = ends.0 in
-    let text = subst (λ (n : Meaning). IfSome (end_of f) (λ _. Appends old new (trace_text n.plan (run n.plan n.board natives limit).told))) (same_meaning given m wrote.0 ends.1 wrote.1) wrote.2 in
+    let text = subst (λ (n : Meaning). IfSome (end_of f) (λ _. Appends old new (trace_text n.plan (run n.plan n.board natives limit).emitted))) (same_meaning given m wrote.0 ends.1 wrote.1) wrote.2 in
     let first = subst (λ (n : Meaning). WritesFront n.plan (run n.plan n.board natives limit) f old new) (same_meaning given m front.0 ends.1 front.1) front.2 in
     subst (λ (r : Result Meaning InputFault). Delivers (answer_to_meaning natives limit r) old new status ⊎ CutShort (answer_to_meaning natives limit r) old new status) (sym ends.1) (served_run natives limit m f status old new is ends.2 text first)
 

@@ -69,7 +69,7 @@ fault_answer Memory = record { pieces = []; status = MEMORY }
 abbrev pub answer_to_run : List Native → (limit : ℕ) → Meaning → Answer
 answer_to_run natives limit m =
     let r = run m.plan m.board natives limit in
-    record { pieces = map (segment_text m.plan) r.told; status = option_map_or end_status r.end 0 }
+    record { pieces = map (segment_text m.plan) r.emitted; status = option_map_or end_status r.end 0 }
 
 -- the answer to a refused input: its line, ended by a line feed
 abbrev pub refusal : List ℕ → Answer

@@ -18,9 +18,9 @@ mod refusal_tests;
 mod refusing;
 mod served;
 mod serving;
-mod telling;
 #[cfg(test)]
 mod tests;
+mod words;
 #[cfg(test)]
 mod writer_tests;
 
@@ -30,4 +30,4 @@ pub use bb_shell::{Memory, NativeSource, Out, Pipe};
 pub use program_native::{ProgramNative, Trade, program_natives};
 pub use served::Served;
 pub use serving::{program, serve, serve_with};
-pub use telling::tell;
+pub use words::answer_words;

@@ -1,8 +1,8 @@
 //! Tests of the program with writers that fail, also with writers that fail once and would go on.
 
 use crate::serving::serve;
-use crate::telling::tell;
 use crate::tests::{FIRST_RUN, none};
+use crate::words::answer_words;
 use bb_main_input::Intake;
 use bb_main_options::{Mode, OptionsFault};
 use bb_shell::Pipe;
@@ -40,7 +40,7 @@ fn told_words(rt: HostRuntime) -> Result<(), Fail> {
         (&OptionsFault::Memory, 0, 5),
     ] {
         let mut writer = Pipe::new(Full { room });
-        assert_eq!(rt; tell(fault, &mut writer), status);
+        assert_eq!(rt; answer_words(fault, &mut writer), status);
     }
     Ok(())
 }

@@ -85,26 +85,26 @@ impl NativeSource for Reaper {
 
 // Has a number, and at its close puts it after those that were put before.
 #[derive(Drop)]
-struct Teller {
+struct Recorder {
     number: u64,
-    told: Rc<Cell<u64>>,
+    closings: Rc<Cell<u64>>,
     is_open: bool,
 }
 
-impl NativeSource for Teller {
+impl NativeSource for Recorder {
     ghost use Rattle.std.specs.Prelude.{[], pos, codes};
 
-    ghost meaning = { λ teller. record {
-      name = codes "teller";
+    ghost meaning = { λ recorder. record {
+      name = codes "recorder";
       held = [];
-      is_open = teller.is_open;
+      is_open = recorder.is_open;
       asks = λ held unit seen. [];
       next = λ held unit seen. held;
       closing = λ held. pos 0;
     } };
 
     fn name(&self) -> &str {
-        "teller"
+        "recorder"
     }
 
     fn act(&mut self, alloc: Global, _unit: UnitId, _view: &View<'_>) -> Result<Vec<Ask>, Memory> {
@@ -113,20 +113,20 @@ impl NativeSource for Teller {
 
     fn close(&mut self) -> i64 {
         self.is_open = false;
-        let before = self.told.get();
-        self.told
+        let before = self.closings.get();
+        self.closings
             .set(before.wrapping_mul(10).wrapping_add(self.number));
         0
     }
 }
 
-impl Teller {
-    fn new(number: u64, told: &Rc<Cell<u64>>) -> Result<Teller, Memory>
-        ensures { IfOk result (λ teller. teller.is_open ≡ true) }
+impl Recorder {
+    fn new(number: u64, closings: &Rc<Cell<u64>>) -> Result<Recorder, Memory>
+        ensures { IfOk result (λ recorder. recorder.is_open ≡ true) }
     {
-        Ok(Teller {
+        Ok(Recorder {
             number,
-            told: told.clone()?,
+            closings: closings.clone()?,
             is_open: true,
         })
     }
@@ -228,16 +228,16 @@ fn natives_of_one_name(rt: HostRuntime) -> Result<(), Fail> {
 #[test]
 fn each_is_closed_once_in_order(rt: HostRuntime) -> Result<(), Fail> {
     let alloc = rt.alloc();
-    let told = Rc::new(alloc, Cell::new(0u64))?;
+    let closings = Rc::new(alloc, Cell::new(0u64))?;
     let mut natives = Vec::new(alloc);
-    natives.push(Teller::new(1, &told)?)?;
-    natives.push(Teller::new(2, &told)?)?;
-    natives.push(Teller::new(3, &told)?)?;
+    natives.push(Recorder::new(1, &closings)?)?;
+    natives.push(Recorder::new(2, &closings)?)?;
+    natives.push(Recorder::new(3, &closings)?)?;
     // Whether a roster is made or refused: `tools/refuse` refuses it.
     if let Ok(roster) = Roster::new(alloc, natives) {
         drop(roster.close_all());
     }
-    assert_eq!(rt; told.get(), 123);
+    assert_eq!(rt; closings.get(), 123);
     Ok(())
 }
 

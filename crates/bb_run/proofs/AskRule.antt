@@ -11,7 +11,7 @@ use Rattle.bb_trace.specs.Refusal.{Refusal}
 use Rattle.bb_trace.specs.End as finishes
 use Rattle.bb_trace.specs.declared.note.Note.TheVariants.{Refused}
 use Rattle.bb_run.specs.State.{State, with_board}
-use Rattle.bb_run.specs.Told.{Response, telling, idle, over, and_then_unless}
+use Rattle.bb_run.specs.Emission.{Response, emitting, idle, over, and_then_unless}
 use Rattle.bb_run.specs.Run.{each_applied, noted, upon_ask}
 
 module _ (asks : List Ask) (Holds : State → Response → Type 0) where
@@ -19,7 +19,7 @@ module _ (asks : List Ask) (Holds : State → Response → Type 0) where
   pub record HoldsOfAsks : Type 0 where
     pub nothing : (s : State) → Holds s (idle s)
     pub changed : (s : State) (ask : Ask) (board : Blackboard) → applied ask s.board ≡ Ok board → Holds s (noted (with_board s board) [] None)
-    pub refused : (s : State) (number : ℕ) (refusal : Refusal) → Holds s (telling (Refused number refusal ∷ []) s None)
+    pub refused : (s : State) (number : ℕ) (refusal : Refusal) → Holds s (emitting (Refused number refusal ∷ []) s None)
     pub full : (s : State) (ask : Ask) → Contains asks ask → applied ask s.board ≡ Err denials.Full → Holds s (over finishes.Full s)
     pub no_memory : (s : State) (ask : Ask) → applied ask s.board ≡ Err denials.Memory → Holds s (over finishes.Full s)
     pub further : (s : State) (r : Response) (next : State → Response) → Holds s r → Holds r.state (next r.state) → Holds s (and_then_unless r.end r next)

@@ -1,4 +1,4 @@
--- Sources are triggered as the events ask for it: each part of a run answers the events that it tells.
+-- Sources are triggered as the events ask for it: each part of a run answers the events that it emits.
 use Rattle.std.proofs.Common.{◌≡◌, ℕ, zero, suc, ◌+◌, ℤ, List, [], ◌∷◌, ◌++◌, length, map, slice_get, Option, Some, None, Result, Ok, Err, refl, sym, ap, subst, ◌∙◌, append_assoc}
 use Rattle.std.specs.Prelude.{⊤, option_and_then}
 use Rattle.std.proofs.lemmas.List.{append-nil}
@@ -18,7 +18,7 @@ use Rattle.bb_trace.specs.Source.{Source}
 use Rattle.bb_trace.specs.End.{End}
 use Rattle.bb_trace.specs.End as finishes
 use Rattle.bb_trace.specs.declared.note.Note.{Note}
-use Rattle.bb_trace.specs.declared.note.Note.TheVariants.{Board, Triggered, Declined, Obviated, Retriggered, Chosen, Invalid, Ended, Refused, NativeEnded, Finished, Closed}
+use Rattle.bb_trace.specs.declared.note.Note.TheVariants.{Board, Triggered, Declined, Obviated, Retriggered, Chosen, Invalid, Ended, Refused, NativeEnded, Posted, PostEnded, Finished, Closed}
 use Rattle.bb_trace.specs.Ask.{Ask}
 use Rattle.bb_trace.specs.Roster.{after_act_at, asks_at, place_of}
 use Rattle.bb_trace.specs.Sight.{sight_of}
@@ -26,7 +26,7 @@ use Rattle.bb_run_plan.specs.Plan.{Plan}
 use Rattle.bb_run.specs.declared.execution.Verdict.{Verdict}
 use Rattle.bb_run.specs.declared.execution.Verdict.TheVariants as verdicts
 use Rattle.bb_run.specs.State.{State, with_board, with_natives}
-use Rattle.bb_run.specs.Told.{Response, Stretch, telling, over, and_then, and_then_unless, segment}
+use Rattle.bb_run.specs.Emission.{Response, Stretch, emitting, over, and_then, and_then_unless, segment}
 use Rattle.bb_run.specs.Asking.{attempt, entry_of}
 use Rattle.bb_run.specs.Processing.{events_in, processing, processing_all, reported, response}
 use Rattle.bb_run.specs.Run.{rating, choice, wait, wait_for, quiet, noted, answered, calling, each_applied, execution, acting, if_valid, chosen_with, cycle, cycles, if_chosen, validity}
@@ -42,13 +42,13 @@ module _ (plan : Plan) where
   PaysAll owed p = Pays owed (notes_of p) p.end
 
   paid_segment : (owed : List (ℕ × ℕ)) (r : Response) → Answers owed r → PaysAll owed (segment r)
-  paid_segment owed r p = subst (λ l. Pays owed l r.end) (sym (append-nil r.told)) p
+  paid_segment owed r p = subst (λ l. Pays owed l r.end) (sym (append-nil r.emitted)) p
 
   stretch_then : (xs ys : List (ℕ × ℕ)) (p : Stretch) (next : State → Stretch) (end : Option End) → p.end ≡ end → PaysAll xs p → ((s : State) → PaysAll ys (next s)) → PaysAll (xs ++ ys) (and_then_unless end p next)
   stretch_then xs ys p next (Some e) is first rest = subst (Pays (xs ++ ys) (notes_of p)) (sym is) (pays_first xs ys (notes_of p) e (subst (Pays xs (notes_of p)) is first))
   stretch_then xs ys p next None is first rest =
       let q = next p.state in
-      subst (λ l. Pays (xs ++ ys) l q.end) (sym (all_of_two p.told q.told)) (pays_then xs ys (notes_of p) (notes_of q) q.end (subst (Pays xs (notes_of p)) is first) (rest p.state))
+      subst (λ l. Pays (xs ++ ys) l q.end) (sym (all_of_two p.emitted q.emitted)) (pays_then xs ys (notes_of p) (notes_of q) q.end (subst (Pays xs (notes_of p)) is first) (rest p.state))
 
   pub events_answered : (events : List Event) (s : State) → PaysAll (asked_for plan events) (processing_all plan events s)
   unfolding processing_all
@@ -57,7 +57,7 @@ module _ (plan : Plan) where
       let p = processing plan event s in
       stretch_then (asked_by plan event) (asked_for plan events) p (processing_all plan events) p.end refl (paid_segment (asked_by plan event) (response plan event s) (answers_event plan event s)) (λ t. events_answered events t)
 
-  -- ---- stretches that answer the events that they tell
+  -- ---- stretches that answer the events that they emit
 
   abbrev pub IsPaid : List Note → Type 0
   IsPaid notes = answered_in notes ≡ asked_for plan (events_in notes)
@@ -101,6 +101,8 @@ module _ (plan : Plan) where
   comes_unchosen past (Ended steps found allowed ∷ notes) none = (tt, comes_unchosen (past ++ Ended steps found allowed ∷ []) notes none)
   comes_unchosen past (Refused ask refusal ∷ notes) none = (tt, comes_unchosen (past ++ Refused ask refusal ∷ []) notes none)
   comes_unchosen past (NativeEnded asks ∷ notes) none = (tt, comes_unchosen (past ++ NativeEnded asks ∷ []) notes none)
+  comes_unchosen past (Posted ∷ notes) none = (tt, comes_unchosen (past ++ Posted ∷ []) notes none)
+  comes_unchosen past (PostEnded asks ∷ notes) none = (tt, comes_unchosen (past ++ PostEnded asks ∷ []) notes none)
   comes_unchosen past (Closed closing ∷ notes) none = (tt, comes_unchosen (past ++ Closed closing ∷ []) notes none)
   comes_unchosen past (Finished end ∷ notes) none = (tt, comes_unchosen (past ++ Finished end ∷ []) notes none)
 
@@ -122,7 +124,7 @@ module _ (plan : Plan) where
       let q = next p.state in
       let second = rest p.state in
       let here = first.whole is in
-      subst (λ l. Goes l q.end) (sym (all_of_two p.told q.told)) (record {
+      subst (λ l. Goes l q.end) (sym (all_of_two p.emitted q.emitted)) (record {
         comes = λ past paid. comes_then MayAsk past (notes_of p) (notes_of q) (first.comes past paid) (second.comes (past ++ notes_of p) (paid_then past (notes_of p) paid here));
         whole = λ none. paid_then (notes_of p) (notes_of q) here (second.whole none);
         owes = λ e ends. let left = second.owes e ends in (left.0, owed_then (notes_of p) (notes_of q) left.0 here left.1, left.2);
@@ -135,27 +137,27 @@ module _ (plan : Plan) where
     pub unchosen : chosen_in notes ≡ []
     pub silent : answered_in notes ≡ []
 
-  reports_by : (r : Response) (end : Option End) → r.end ≡ end → IsMute r.told → IsEarly r.end → GoesOn (and_then_unless end (segment r) (processing_all plan (events_in r.told)))
+  reports_by : (r : Response) (end : Option End) → r.end ≡ end → IsMute r.emitted → IsEarly r.end → GoesOn (and_then_unless end (segment r) (processing_all plan (events_in r.emitted)))
   reports_by r (Some e) is mute early =
-      let same = sym (append-nil r.told) in
+      let same = sym (append-nil r.emitted) in
       subst (λ l. Goes l r.end) same (record {
-        comes = λ past paid. comes_unchosen past r.told mute.unchosen;
+        comes = λ past paid. comes_unchosen past r.emitted mute.unchosen;
         whole = λ none. absurd cc;
-        owes = λ f ends. (asked_for plan (events_in r.told), ap (λ l. l ++ asked_for plan (events_in r.told)) mute.silent, may_owe f (asked_for plan (events_in r.told)) (subst IsEarly ends early));
+        owes = λ f ends. (asked_for plan (events_in r.emitted), ap (λ l. l ++ asked_for plan (events_in r.emitted)) mute.silent, may_owe f (asked_for plan (events_in r.emitted)) (subst IsEarly ends early));
       })
   reports_by r None is mute early =
-      let p = processing_all plan (events_in r.told) r.state in
-      let paid = events_answered (events_in r.told) r.state in
-      let told : answered_in (r.told ++ notes_of p) ≡ answered_in (notes_of p) = answered_two r.told (notes_of p) ∙ ap (λ l. l ++ answered_in (notes_of p)) mute.silent in
-      let asked : asked_for plan (events_in r.told) ≡ asked_for plan (events_in (r.told ++ notes_of p)) =
-      ap (asked_for plan) (sym (events_two r.told (notes_of p) ∙ ap (λ l. events_in r.told ++ l) paid.quiet ∙ append-nil (events_in r.told))) in
+      let p = processing_all plan (events_in r.emitted) r.state in
+      let paid = events_answered (events_in r.emitted) r.state in
+      let emitted : answered_in (r.emitted ++ notes_of p) ≡ answered_in (notes_of p) = answered_two r.emitted (notes_of p) ∙ ap (λ l. l ++ answered_in (notes_of p)) mute.silent in
+      let asked : asked_for plan (events_in r.emitted) ≡ asked_for plan (events_in (r.emitted ++ notes_of p)) =
+      ap (asked_for plan) (sym (events_two r.emitted (notes_of p) ∙ ap (λ l. events_in r.emitted ++ l) paid.quiet ∙ append-nil (events_in r.emitted))) in
       record {
-        comes = λ past before. comes_unchosen past (r.told ++ notes_of p) (none_of_two (chosen_in (r.told ++ notes_of p)) (chosen_in r.told) (chosen_in (notes_of p)) (chosen_two r.told (notes_of p)) mute.unchosen paid.unchosen);
-        whole = λ none. told ∙ paid.whole none ∙ asked;
-        owes = λ e ends. (paid.front.0, ap (λ l. l ++ paid.front.0) told ∙ paid.front.1 ∙ asked, may_owe e paid.front.0 (subst IsEarly ends paid.early));
+        comes = λ past before. comes_unchosen past (r.emitted ++ notes_of p) (none_of_two (chosen_in (r.emitted ++ notes_of p)) (chosen_in r.emitted) (chosen_in (notes_of p)) (chosen_two r.emitted (notes_of p)) mute.unchosen paid.unchosen);
+        whole = λ none. emitted ∙ paid.whole none ∙ asked;
+        owes = λ e ends. (paid.front.0, ap (λ l. l ++ paid.front.0) emitted ∙ paid.front.1 ∙ asked, may_owe e paid.front.0 (subst IsEarly ends paid.early));
       }
 
-  pub reports : (r : Response) → IsMute r.told → IsEarly r.end → GoesOn (reported plan r)
+  pub reports : (r : Response) → IsMute r.emitted → IsEarly r.end → GoesOn (reported plan r)
   reports r mute early = reports_by r r.end refl mute early
 
   mute_board : (notes : List BoardNote) (more : List Note) → IsMute more → IsMute (map Board notes ++ more)
@@ -174,9 +176,9 @@ module _ (plan : Plan) where
 
   -- ---- the call of a native
 
-  -- a response tells no choice, answers nothing, and does not end between two cycles
+  -- a response emits no choice, answers nothing, and does not end between two cycles
   abbrev Mute : State → Response → Type 0
-  Mute s r = IsMute r.told × IsEarly r.end
+  Mute s r = IsMute r.emitted × IsEarly r.end
 
   mute_two : (xs ys : List Note) → IsMute xs → IsMute ys → IsMute (xs ++ ys)
   mute_two xs ys p q = record {
@@ -184,10 +186,10 @@ module _ (plan : Plan) where
     silent = none_of_two (answered_in (xs ++ ys)) (answered_in xs) (answered_in ys) (answered_two xs ys) p.silent q.silent;
   }
 
-  mute_then : (r : Response) (next : State → Response) (end : Option End) → r.end ≡ end → IsMute r.told × IsEarly r.end → IsMute (next r.state).told × IsEarly (next r.state).end
-      → let p = and_then_unless end r next in IsMute p.told × IsEarly p.end
+  mute_then : (r : Response) (next : State → Response) (end : Option End) → r.end ≡ end → IsMute r.emitted × IsEarly r.end → IsMute (next r.state).emitted × IsEarly (next r.state).end
+      → let p = and_then_unless end r next in IsMute p.emitted × IsEarly p.end
   mute_then r next (Some e) is first rest = first
-  mute_then r next None is first rest = (mute_two r.told (next r.state).told first.0 rest.0, rest.1)
+  mute_then r next None is first rest = (mute_two r.emitted (next r.state).emitted first.0 rest.0, rest.1)
 
   ask_parts : (asks : List Ask) → HoldsOfAsks asks Mute
   ask_parts asks = record {
@@ -199,14 +201,14 @@ module _ (plan : Plan) where
     further = λ s r next first rest. mute_then r next r.end refl first rest;
   }
 
-  pub call_mute : (place : Option ℕ) (a : Activation) (s : State) → let r = calling place a s in IsMute r.told × IsEarly r.end
+  pub call_mute : (place : Option ℕ) (a : Activation) (s : State) → let r = calling place a s in IsMute r.emitted × IsEarly r.end
   call_mute None a s = (mute_none, tt)
   call_mute (Some place) a s =
       let seen = sight_of s.board in
       let asks = asks_at s.natives place a.unit seen in
       let t = with_natives s (after_act_at s.natives place a.unit seen) in
       let r = each_applied 1 asks t in
-      mute_then r (λ u. telling (NativeEnded (length asks) ∷ []) u None) r.end refl (asks_hold asks Mute (ask_parts asks) t) (record { unchosen = refl; silent = refl }, tt)
+      mute_then r (λ u. emitting (NativeEnded (length asks) ∷ []) u None) r.end refl (asks_hold asks Mute (ask_parts asks) t) (record { unchosen = refl; silent = refl }, tt)
 
   acts : (source : Option Source) (a : Activation) (s : State) → GoesOn (acting plan source a s)
   acts None a s = goes_none None (λ e is. absurd cc)
@@ -244,10 +246,10 @@ module _ (plan : Plan) where
       let r = response plan quiescence s in
       let paid = answers_event plan quiescence s in
       let note : List Note = Board (happened quiescence) ∷ [] in
-      let asked : asked_by plan quiescence ≡ asked_for plan (events_in (note ++ r.told)) =
+      let asked : asked_by plan quiescence ≡ asked_for plan (events_in (note ++ r.emitted)) =
       sym (append-nil (asked_by plan quiescence)) ∙ ap (λ l. asked_for plan (quiescence ∷ l)) (sym paid.quiet) in
-      subst (λ l. Goes l r.end) (sym (append-nil (note ++ r.told))) (record {
-        comes = λ past before. comes_unchosen past (note ++ r.told) paid.unchosen;
+      subst (λ l. Goes l r.end) (sym (append-nil (note ++ r.emitted))) (record {
+        comes = λ past before. comes_unchosen past (note ++ r.emitted) paid.unchosen;
         whole = λ none. paid.whole none ∙ asked;
         owes = λ e ends. (paid.front.0, paid.front.1 ∙ asked, may_owe e paid.front.0 (subst IsEarly ends paid.early));
       })

@@ -1,4 +1,4 @@
--- The asks of a native are applied one after another, and what there is to tell of its call.
+-- Asks are applied one after another, and what there is to emit of them and of the call of a native.
 use Rattle.std.proofs.Common.{◌≡◌, ℕ, ◌+◌, List, [], ◌∷◌, ◌++◌, length, Option, None, Some, refl, subst, sym, ap, ◌∙◌}
 use Rattle.bb_agenda.specs.Activation.{Activation}
 use Rattle.bb_trace.specs.Ask.{Ask}
@@ -10,10 +10,10 @@ use Rattle.bb_trace.specs.End.{End}
 use Rattle.bb_trace.specs.declared.note.Note.{Note}
 use Rattle.bb_trace.specs.declared.note.Note.TheVariants.{NativeEnded}
 use Rattle.bb_run.specs.State.{State, with_natives}
-use Rattle.bb_run.specs.Told.{Response, and_then, idle, telling}
-use Rattle.bb_run.specs.Run.{calling, each_applied, upon_ask}
-use Rattle.bb_run.specs.proving.Telling.{IsResponse}
-use Rattle.bb_run.proofs.ResponseLemmas.{HasNoted, nothing_noted, nothing_told, part_made, part_over, rest_made}
+use Rattle.bb_run.specs.Emission.{Response, and_then, idle, emitting}
+use Rattle.bb_run.specs.Run.{asked, calling, each_applied, upon_ask}
+use Rattle.bb_run.specs.Emitting.{IsResponse}
+use Rattle.bb_run.proofs.ResponseLemmas.{HasNoted, nothing_noted, nothing_emitted, part_made, part_over, rest_made}
 
 -- ---- asks, one after another
 
@@ -39,29 +39,41 @@ module _ (old now : List Note) (whole : Response) (number : ℕ) (s : State) whe
 
   pub asks_done : (items : List Ask) → items ≡ [] → HasNoted old now whole (each_applied number items s) → IsResponse whole old now s None
   unfolding each_applied
-  asks_done items is h = rest_made old now now whole (idle s) s None (subst (HasNoted old now whole) (ap (λ xs. each_applied number xs s) is) h) (nothing_told now s)
+  asks_done items is h = rest_made old now now whole (idle s) s None (subst (HasNoted old now whole) (ap (λ xs. each_applied number xs s) is) h) (nothing_emitted now s)
+
+-- ---- all of them, and the note that tells how many
+
+module _ (old mid : List Note) (s t : State) (last : ℕ → Note) (asks : List Ask) (o : Option End) (r : IsResponse (each_applied 1 asks s) old mid t o) where
+  abbrev ends : State → Response
+  ends u = emitting (last (length asks) ∷ []) u None
+
+  pub asked_over : (end : End) → o ≡ Some end → IsResponse (asked last asks s) old mid t (Some end)
+  asked_over end some = part_over old old mid (asked last asks s) (each_applied 1 asks s) ends t end (nothing_noted old (asked last asks s)) (subst (IsResponse (each_applied 1 asks s) old mid t) some r)
+
+  pub asked_made : (new : List Note) (count : ℕ) → o ≡ None → count ≡ length asks → new ≡ mid ++ last count ∷ [] → IsResponse (asked last asks s) old new t None
+  asked_made new count none counted is =
+      let here = part_made old old mid (asked last asks s) (each_applied 1 asks s) ends t (nothing_noted old (asked last asks s)) (subst (IsResponse (each_applied 1 asks s) old mid t) none r) in
+      rest_made old mid new (asked last asks s) (ends t) t None here
+      (record { notes = is ∙ ap (λ n. mid ++ last n ∷ []) counted; state = refl; end = refl })
 
 -- ---- a call
 
 module _ (old mid : List Note) (s t : State) (place : ℕ) (a : Activation) (asks : List Ask) (natives : List Native) (o : Option End)
-    (asked : asks ≡ asks_at s.natives place a.unit (sight_of s.board)) (left : natives ≡ after_act_at s.natives place a.unit (sight_of s.board))
+    (asked_is : asks ≡ asks_at s.natives place a.unit (sight_of s.board)) (left : natives ≡ after_act_at s.natives place a.unit (sight_of s.board))
     (r : IsResponse (each_applied 1 asks (with_natives s natives)) old mid t o) where
-  abbrev ends : State → Response
-  ends u = telling (NativeEnded (length (asks_at s.natives place a.unit (sight_of s.board))) ∷ []) u None
+  abbrev asks' : List Ask
+  asks' = asks_at s.natives place a.unit (sight_of s.board)
 
-  abbrev applies : Response
-  applies = each_applied 1 (asks_at s.natives place a.unit (sight_of s.board)) (with_natives s (after_act_at s.natives place a.unit (sight_of s.board)))
+  abbrev called : State
+  called = with_natives s (after_act_at s.natives place a.unit (sight_of s.board))
 
-  made_so : IsResponse applies old mid t o
+  made_so : IsResponse (each_applied 1 asks' called) old mid t o
   made_so =
       let by : List Ask → List Native → Response = λ xs ns. each_applied 1 xs (with_natives s ns) in
-      subst (λ q. IsResponse q old mid t o) (ap (λ xs. by xs natives) asked ∙ ap (by (asks_at s.natives place a.unit (sight_of s.board))) left) r
+      subst (λ q. IsResponse q old mid t o) (ap (λ xs. by xs natives) asked_is ∙ ap (by asks') left) r
 
   pub call_over : (end : End) → o ≡ Some end → IsResponse (calling (Some place) a s) old mid t (Some end)
-  call_over end some = part_over old old mid (calling (Some place) a s) applies ends t end (nothing_noted old (calling (Some place) a s)) (subst (IsResponse applies old mid t) some made_so)
+  call_over end some = asked_over old mid called t NativeEnded asks' o made_so end some
 
   pub call_made : (new : List Note) (count : ℕ) → o ≡ None → count ≡ length asks → new ≡ mid ++ NativeEnded count ∷ [] → IsResponse (calling (Some place) a s) old new t None
-  call_made new count none counted is =
-      let here = part_made old old mid (calling (Some place) a s) applies ends t (nothing_noted old (calling (Some place) a s)) (subst (IsResponse applies old mid t) none made_so) in
-      rest_made old mid new (calling (Some place) a s) (ends t) t None here
-      (record { notes = is ∙ ap (λ n. mid ++ NativeEnded n ∷ []) (counted ∙ ap length asked); state = refl; end = refl })
+  call_made new count none counted is = asked_made old mid called t NativeEnded asks' o made_so new count none (counted ∙ ap length asked_is) is

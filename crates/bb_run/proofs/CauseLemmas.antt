@@ -31,7 +31,7 @@ use Rattle.bb_run_plan.specs.Plan.{Plan}
 use Rattle.bb_run.specs.declared.execution.Verdict.{Verdict}
 use Rattle.bb_run.specs.declared.execution.Verdict.TheVariants as verdicts
 use Rattle.bb_run.specs.State.{State, with_board, with_natives}
-use Rattle.bb_run.specs.Told.{Response, Told, telling, over, and_then, and_then_unless, segment}
+use Rattle.bb_run.specs.Emission.{Response, Emission, emitting, over, and_then, and_then_unless, segment}
 use Rattle.bb_run.specs.Asking.{attempt, end_by, entry_of, reply_by}
 use Rattle.bb_run.specs.Processing.{events_in, processing, processing_all, reported, response}
 use Rattle.bb_run.specs.Run.{rating, choice, wait, wait_for, noted, answered, calling, each_applied, execution, acting, verdict_by, verdict_of, validity, chosen_with, if_valid, cycle, if_chosen, cycles, first_state, start, run}
@@ -58,10 +58,10 @@ full_by agenda full =
 
 module _ (plan : Plan) where
   -- a part of a run has a cause, if the run ends in it
-  abbrev pub IsCaused : {X : Type 0} → Told X → Type 0
+  abbrev pub IsCaused : {X : Type 0} → Emission X → Type 0
   IsCaused p = HasCause plan p.state p.end
 
-  caused_then : {X : Type 0} (p : Told X) (next : State → Told X) (end : Option End) → p.end ≡ end → IsCaused p → IsCaused (next p.state) → IsCaused (and_then_unless end p next)
+  caused_then : {X : Type 0} (p : Emission X) (next : State → Emission X) (end : Option End) → p.end ≡ end → IsCaused p → IsCaused (next p.state) → IsCaused (and_then_unless end p next)
   caused_then p next (Some e) is first rest = first
   caused_then p next None is first rest = rest
 
@@ -109,7 +109,7 @@ module _ (plan : Plan) where
   processes_all (event ∷ events) s = let p = processing plan event s in caused_then p (processing_all plan events) p.end refl (responds event s) (processes_all events p.state)
 
   reports : (r : Response) → IsCaused r → IsCaused (reported plan r)
-  reports r first = caused_then (segment r) (processing_all plan (events_in r.told)) r.end refl first (processes_all (events_in r.told) r.state)
+  reports r first = caused_then (segment r) (processing_all plan (events_in r.emitted)) r.end refl first (processes_all (events_in r.emitted) r.state)
 
   -- ---- a cycle
 
@@ -167,7 +167,7 @@ module _ (plan : Plan) where
         let asks = asks_at s.natives place a.unit seen in
         let t = with_natives s (after_act_at s.natives place a.unit seen) in
         let r = each_applied 1 asks t in
-        caused_then r (λ u. telling (NativeEnded (length asks) ∷ []) u None) r.end refl
+        caused_then r (λ u. emitting (NativeEnded (length asks) ∷ []) u None) r.end refl
         ((asks_hold asks (Applies native s.natives place is seen) (ask_parts native s.natives place is seen) t).cause refl) tt
 
     acts_by : (act : Act) → source.act ≡ act → IsCaused (reported plan (execution source.name act a s))

@@ -17,12 +17,12 @@ use Rattle.bb_trace.specs.Roster.{after_act_at, asks_at, closings_of, place_of}
 use Rattle.bb_trace.specs.Sight.{Sight, sight_of}
 use Rattle.bb_trace.specs.End.{End}
 use Rattle.bb_trace.specs.declared.note.Note.{Note}
-use Rattle.bb_trace.specs.declared.note.Note.TheVariants.{Board, Triggered, Declined, Obviated, Retriggered, Chosen, Invalid, Ended, Refused, NativeEnded, Finished, Closed}
+use Rattle.bb_trace.specs.declared.note.Note.TheVariants.{Board, Triggered, Declined, Obviated, Retriggered, Chosen, Invalid, Ended, Refused, NativeEnded, Posted, PostEnded, Finished, Closed}
 use Rattle.bb_run_plan.specs.Plan.{Plan}
 use Rattle.bb_run.specs.declared.execution.Verdict.{Verdict}
 use Rattle.bb_run.specs.declared.execution.Verdict.TheVariants as verdicts
 use Rattle.bb_run.specs.State.{State, with_board, with_natives}
-use Rattle.bb_run.specs.Told.{Response, telling, and_then_unless}
+use Rattle.bb_run.specs.Emission.{Response, emitting, and_then_unless}
 use Rattle.bb_run.specs.Asking.{attempt, entry_of}
 use Rattle.bb_run.specs.Run.{answered, calling, chosen_with, each_applied, execution, finish, run, unfinished}
 use Rattle.bb_run.specs.Order.{ClosesEach, IsLike, closed_by, closed_in, notes_of}
@@ -90,7 +90,7 @@ module _ (natives : List Native) where
       let asks = asks_at s.natives place a.unit seen in
       let t = with_natives s (after_act_at s.natives place a.unit seen) in
       let r = each_applied 1 asks t in
-      kept_then plan Left r (λ u. telling (NativeEnded (length asks) ∷ []) u None) r.end
+      kept_then plan Left r (λ u. emitting (NativeEnded (length asks) ∷ []) u None) r.end
       (subst (AllZip IsLike natives) (sym (asks_hold asks Leaves (ask_parts asks) t)) (alike_acted natives s.natives place a.unit seen (slice_get s.natives place) refl left)) (λ u there. there)
 
   answered_left : (body : Code) (s : State) (r : Result Outcome Stop) → Left s → Left (answered body s r).state
@@ -135,6 +135,8 @@ module _ (plan : Plan) (board : Blackboard) (natives : List Native) where
   none_closed past (Ended steps found budget ∷ notes) p = none_closed (past ++ Ended steps found budget ∷ []) notes p.1
   none_closed past (Refused ask refusal ∷ notes) p = none_closed (past ++ Refused ask refusal ∷ []) notes p.1
   none_closed past (NativeEnded asks ∷ notes) p = none_closed (past ++ NativeEnded asks ∷ []) notes p.1
+  none_closed past (Posted ∷ notes) p = none_closed (past ++ Posted ∷ []) notes p.1
+  none_closed past (PostEnded asks ∷ notes) p = none_closed (past ++ PostEnded asks ∷ []) notes p.1
   none_closed past (Finished end ∷ notes) p = absurd p.0
   none_closed past (Closed closing ∷ notes) p = absurd p.0
 

@@ -17,7 +17,7 @@ use Rattle.bb_trace.specs.Reaction.{Reaction}
 use Rattle.bb_trace.specs.Source.{Source}
 use Rattle.bb_trace.specs.End.{End}
 use Rattle.bb_run.specs.State.{State}
-use Rattle.bb_run.specs.Told.{Response, after_told, and_then, and_then_unless, idle}
+use Rattle.bb_run.specs.Emission.{Response, after_emitted, and_then, and_then_unless, idle}
 use Rattle.bb_run.specs.Processing.{if_triggered, obviated_by, reacting, reacting_to_each, rerated_by, response_by, source_response, triggering}
 use Rattle.bb_run.specs.proving.Responding.{response_at, responses_at}
 
@@ -60,7 +60,7 @@ module _ (s : Schema) (event : Event) (place : ℕ) (source : Source) where
 
 unless_same : (e : Option End) (p : Response) (f g : State → Response) → ((t : State) → f t ≡ g t) → and_then_unless e p f ≡ and_then_unless e p g
 unless_same (Some end) p f g same = refl
-unless_same None p f g same = ap (after_told p.told) (same p.state)
+unless_same None p f g same = ap (after_emitted p.emitted) (same p.state)
 
 -- what comes after a part goes by what it gives of each state
 pub then_same : (p : Response) (f g : State → Response) → ((t : State) → f t ≡ g t) → and_then p f ≡ and_then p g

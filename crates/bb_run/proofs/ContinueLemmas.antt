@@ -14,7 +14,7 @@ use Rattle.bb_run_plan.specs.Plan.{Plan}
 use Rattle.bb_run.specs.declared.execution.Verdict.{Verdict}
 use Rattle.bb_run.specs.declared.execution.Verdict.TheVariants as verdicts
 use Rattle.bb_run.specs.State.{State, with_board}
-use Rattle.bb_run.specs.Told.{Response, Stretch, Told, and_then, and_then_unless, over, segment}
+use Rattle.bb_run.specs.Emission.{Response, Stretch, Emission, and_then, and_then_unless, over, segment}
 use Rattle.bb_run.specs.Continues.{HasWorldOf}
 use Rattle.bb_run.specs.Executed.{upon_choice, upon_verdict}
 use Rattle.bb_run.specs.Order.{At, notes_of}
@@ -31,7 +31,7 @@ world_then : (s t u : State) → HasWorldOf s t → HasWorldOf t u → HasWorldO
 world_then s t u p q = record { board = p.board ∙ q.board; natives = p.natives ∙ q.natives }
 
 -- what comes after a part leaves its world
-world_after : {X : Type 0} (p : Told X) (next : State → Told X) (end : Option End) → ((t : State) → HasWorldOf (next t).state t) → HasWorldOf (and_then_unless end p next).state p.state
+world_after : {X : Type 0} (p : Emission X) (next : State → Emission X) (end : Option End) → ((t : State) → HasWorldOf (next t).state t) → HasWorldOf (and_then_unless end p next).state p.state
 world_after p next (Some e) leaves = same_world p.state
 world_after p next None leaves = leaves p.state
 
@@ -49,7 +49,7 @@ module _ (plan : Plan) (reading : AsksByReading plan) where
       world_then (and_then_unless p.end p (processing_all plan events)).state p.state s (world_after p (processing_all plan events) p.end (processes events)) (responds event s)
 
   reports : (r : Response) → HasWorldOf (reported plan r).state r.state
-  reports r = world_after (segment r) (processing_all plan (events_in r.told)) r.end (processes (events_in r.told))
+  reports r = world_after (segment r) (processing_all plan (events_in r.emitted)) r.end (processes (events_in r.emitted))
 
   waits : (s : State) (c : Option Activation) → HasWorldOf (wait_for plan s c).state s
   waits s None = responds quiescence s

@@ -24,7 +24,7 @@ use Rattle.bb_run_plan.specs.Plan.{Plan}
 use Rattle.bb_run.specs.declared.execution.Verdict.{Verdict}
 use Rattle.bb_run.specs.declared.execution.Verdict.TheVariants as verdicts
 use Rattle.bb_run.specs.State.{State, with_board, with_natives}
-use Rattle.bb_run.specs.Told.{Response, Stretch, telling, and_then, and_then_unless, segment}
+use Rattle.bb_run.specs.Emission.{Response, Stretch, emitting, and_then, and_then_unless, segment}
 use Rattle.bb_run.specs.Asking.{attempt, entry_of}
 use Rattle.bb_run.specs.Processing.{events_in, processing, processing_all, reported, response}
 use Rattle.bb_run.specs.Run.{rating, choice, wait, wait_for, answered, calling, each_applied, execution, acting, validity, chosen_with, if_valid, cycle}
@@ -45,18 +45,18 @@ pub silent_board : (notes : List BoardNote) → IsSilent (map Board notes)
 silent_board [] = refl
 silent_board (note ∷ notes) = silent_board notes
 
-silent_segment : (r : Response) → IsSilent r.told → IsSilent (notes_of (segment r))
-silent_segment r p = ap chosen_in (append-nil r.told) ∙ p
+silent_segment : (r : Response) → IsSilent r.emitted → IsSilent (notes_of (segment r))
+silent_segment r p = ap chosen_in (append-nil r.emitted) ∙ p
 
 module _ (plan : Plan) where
   -- ---- what answers to an event
 
   abbrev Silent : State → Response → Type 0
-  Silent s r = IsSilent r.told
+  Silent s r = IsSilent r.emitted
 
-  silent_after : (r : Response) (next : State → Response) (end : Option End) → IsSilent r.told → IsSilent (next r.state).told → IsSilent (and_then_unless end r next).told
+  silent_after : (r : Response) (next : State → Response) (end : Option End) → IsSilent r.emitted → IsSilent (next r.state).emitted → IsSilent (and_then_unless end r next).emitted
   silent_after r next (Some e) p q = p
-  silent_after r next None p q = silent_two r.told (next r.state).told p q
+  silent_after r next None p q = silent_two r.emitted (next r.state).emitted p q
 
   response_parts : HoldsOfParts plan Silent
   response_parts = record {
@@ -71,12 +71,12 @@ module _ (plan : Plan) where
     further = λ s r next first rest. silent_after r next r.end first rest;
   }
 
-  silent_response : (event : Event) (s : State) → IsSilent (response plan event s).told
+  silent_response : (event : Event) (s : State) → IsSilent (response plan event s).emitted
   silent_response event s = holds plan Silent response_parts event s
 
   silent_then : (p : Stretch) (next : State → Stretch) (end : Option End) → IsSilent (notes_of p) → ((s : State) → IsSilent (notes_of (next s))) → IsSilent (notes_of (and_then_unless end p next))
   silent_then p next (Some e) first rest = first
-  silent_then p next None first rest = ap chosen_in (all_of_two p.told (next p.state).told) ∙ silent_two (notes_of p) (notes_of (next p.state)) first (rest p.state)
+  silent_then p next None first rest = ap chosen_in (all_of_two p.emitted (next p.state).emitted) ∙ silent_two (notes_of p) (notes_of (next p.state)) first (rest p.state)
 
   pub events_silent : (events : List Event) (s : State) → IsSilent (notes_of (processing_all plan events s))
   unfolding processing_all
@@ -85,8 +85,8 @@ module _ (plan : Plan) where
       let r = response plan event s in
       silent_then (processing plan event s) (processing_all plan events) r.end (silent_segment r (silent_response event s)) (events_silent events)
 
-  silent_reported : (r : Response) → IsSilent r.told → IsSilent (notes_of (reported plan r))
-  silent_reported r p = silent_then (segment r) (processing_all plan (events_in r.told)) r.end (silent_segment r p) (events_silent (events_in r.told))
+  silent_reported : (r : Response) → IsSilent r.emitted → IsSilent (notes_of (reported plan r))
+  silent_reported r p = silent_then (segment r) (processing_all plan (events_in r.emitted)) r.end (silent_segment r p) (events_silent (events_in r.emitted))
 
   -- ---- a wait and a cycle
 
@@ -94,14 +94,14 @@ module _ (plan : Plan) where
   wait_by s None =
       let r = response plan quiescence s in
       let note : Note = Board (happened quiescence) in
-      ap chosen_in (append-nil (note ∷ r.told)) ∙ silent_response quiescence s
+      ap chosen_in (append-nil (note ∷ r.emitted)) ∙ silent_response quiescence s
   wait_by s (Some a) = refl
 
   -- a wait makes no choice
   pub wait_silent : (s : State) → IsSilent (notes_of (wait plan s))
   wait_silent s = wait_by s (choice plan s)
 
-  answered_silent : (code : Code) (s : State) (r : Result Outcome Stop) → IsSilent (answered code s r).told
+  answered_silent : (code : Code) (s : State) (r : Result Outcome Stop) → IsSilent (answered code s r).emitted
   answered_silent code s (Ok o) = silent_two (map Board s.board.world.notes) (Ended o.steps o.found (budget code o.found) ∷ []) (silent_board s.board.world.notes) refl
   answered_silent code s (Err stop) = silent_two (map Board s.board.world.notes) [] (silent_board s.board.world.notes) refl
 
@@ -115,15 +115,15 @@ module _ (plan : Plan) where
     further = λ s r next first rest. silent_after r next r.end first rest;
   }
 
-  call_silent : (place : Option ℕ) (a : Activation) (s : State) → IsSilent (calling place a s).told
+  call_silent : (place : Option ℕ) (a : Activation) (s : State) → IsSilent (calling place a s).emitted
   call_silent None a s = refl
   call_silent (Some place) a s =
       let seen = sight_of s.board in
       let asks = asks_at s.natives place a.unit seen in
       let t = with_natives s (after_act_at s.natives place a.unit seen) in
-      silent_after (each_applied 1 asks t) (λ u. telling (NativeEnded (length asks) ∷ []) u None) (each_applied 1 asks t).end (asks_hold asks Silent (ask_parts asks) t) refl
+      silent_after (each_applied 1 asks t) (λ u. emitting (NativeEnded (length asks) ∷ []) u None) (each_applied 1 asks t).end (asks_hold asks Silent (ask_parts asks) t) refl
 
-  execution_silent : (name : List ℕ) (act : Act) (a : Activation) (s : State) → IsSilent (execution name act a s).told
+  execution_silent : (name : List ℕ) (act : Act) (a : Activation) (s : State) → IsSilent (execution name act a s).emitted
   execution_silent name (acts.Code body) a s =
       let e = attempt body.code (entry_of a.unit None) s.board in answered_silent body.code (with_board s e.1) e.0
   execution_silent name acts.Native a s = call_silent (place_of s.natives name) a s

@@ -1,4 +1,4 @@
--- What is told of a code that was executed, and of one that was asked, by how that came out.
+-- What is emitted of a code that was executed, and of one that was asked, by how that came out.
 use Rattle.std.proofs.Common.{◌≡◌, ◌⊎◌, inl, inr, Ok, Err, List, Option, None, Result, sym, subst, ap, ◌∙◌}
 use Rattle.bb_agenda.specs.Activation.{Activation}
 use Rattle.bb_code.specs.Code.{Code}
@@ -18,9 +18,9 @@ use Rattle.bb_trace.specs.declared.note.Note.{Note}
 use Rattle.bb_run.specs.declared.asking.Reply.{Reply}
 use Rattle.bb_run.specs.Asking.{asking, attempt, entry_of, reply_by, upon}
 use Rattle.bb_run.specs.State.{State, with_board}
-use Rattle.bb_run.specs.Told.{Response}
+use Rattle.bb_run.specs.Emission.{Response}
 use Rattle.bb_run.specs.Run.{answered, executing}
-use Rattle.bb_run.specs.proving.Telling.{Attempts, IsResponse, Replies}
+use Rattle.bb_run.specs.Emitting.{Attempts, IsResponse, Replies}
 
 -- what an execution that came out so attempted
 pub attempted_by : (r : Result Outcome Stopped) (e : Result Outcome Stop × Blackboard) (board : Blackboard) → Gives stops.Memory (λ o. o) (as_defensive r) e.0 → (r ≡ Err stopped.Memory) ⊎ (board ≡ e.1) → Attempts e r board

@@ -23,7 +23,7 @@ use Rattle.bb_run_plan.specs.Plan.{Plan}
 use Rattle.bb_run.specs.declared.execution.Verdict.{Verdict}
 use Rattle.bb_run.specs.declared.execution.Verdict.TheVariants as verdicts
 use Rattle.bb_run.specs.State.{State, with_board, with_natives}
-use Rattle.bb_run.specs.Told.{Response, and_then_unless, telling}
+use Rattle.bb_run.specs.Emission.{Response, and_then_unless, emitting}
 use Rattle.bb_run.specs.Asking.{attempt, entry_of}
 use Rattle.bb_run.specs.Run.{answered, calling, chosen_with, each_applied, execution, run}
 use Rattle.bb_run.specs.Causes.{HasFew}
@@ -101,7 +101,7 @@ module _ (plan : Plan) where
       let asks = asks_at s.natives place a.unit seen in
       let t = with_natives s (after_act_at s.natives place a.unit seen) in
       let r = each_applied 1 asks t in
-      kept_then plan Few r (λ u. telling (NativeEnded (length asks) ∷ []) u None) r.end (asks_hold asks StaysFew (ask_parts asks) t few) (λ u there. there)
+      kept_then plan Few r (λ u. emitting (NativeEnded (length asks) ∷ []) u None) r.end (asks_hold asks StaysFew (ask_parts asks) t few) (λ u there. there)
 
   answered_few : (body : Code) (s : State) (r : Result Outcome Stop) → Few s → Few (answered body s r).state
   answered_few body s (Ok o) few = few

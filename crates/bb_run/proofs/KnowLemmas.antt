@@ -4,15 +4,17 @@ use Rattle.bb_agenda.specs.Activation.{Activation}
 use Rattle.bb_trace.specs.Board.{Board as Blackboard}
 use Rattle.bb_trace.specs.Event.TheVariants.{Quiescence as quiescence}
 use Rattle.bb_trace.specs.End.{End}
+use Rattle.bb_trace.specs.Ask.{Ask}
 use Rattle.bb_trace.specs.Native.{Native}
 use Rattle.bb_run_plan.specs.Plan.{Plan}
 use Rattle.bb_run.specs.declared.cycles.Decision.{Decision}
 use Rattle.bb_run.specs.State.{State}
-use Rattle.bb_run.specs.Run.{choice, cycle, quiet, start}
+use Rattle.bb_run.specs.Run.{choice, cycle, cycles, quiet, start}
+use Rattle.bb_run.specs.Turns.{posting, turn}
 use Rattle.bb_run.specs.Weighed.{KnowsFoci}
-use Rattle.bb_run.specs.proving.Knowing.{Knows, MayKnow}
-use Rattle.bb_run.specs.proving.Telling.{Makes, Place, Waits}
-use Rattle.bb_run.proofs.WeighLemmas.{cycle_knows, responds, start_knows, waits}
+use Rattle.bb_run.specs.Knowing.{Knows, MayKnow}
+use Rattle.bb_run.specs.Emitting.{Makes, Place, Waits}
+use Rattle.bb_run.proofs.WeighLemmas.{cycle_knows, cycles_know, post_knows, responds, start_knows, turn_knows, waits}
 
 module _ (plan : Plan) (a b : Place) (s t : State) where
   as_is : (k : Knows plan s) (u : State) → t ≡ u → KnowsFoci plan u → Knows plan t
@@ -30,6 +32,20 @@ module _ (plan : Plan) (a b : Place) (s t : State) where
   pub cycle_known : (number : ℕ) (x : Activation) (end : Option End) → Knows plan s → Makes plan a b (cycle plan number x s) t (Ok end) → Knows plan t
   cycle_known number x end k made = as_is k (cycle plan number x s).state made.1.state (cycle_knows plan k.reading number x s k.foci)
 
+module _ (plan : Plan) (s t : State) (k : Knows plan s) where
+  known_at : (u : State) → t ≡ u → KnowsFoci plan u → Knows plan t
+  known_at u same known = record { reading = k.reading; foci = subst (KnowsFoci plan) (sym same) known }
+
+  -- after a turn, after cycles, and after asks from outside
+  pub turn_known : (made : ℕ) → t ≡ (turn plan made s).state → Knows plan t
+  turn_known made is = known_at (turn plan made s).state is (turn_knows plan k.reading made s k.foci)
+
+  pub cycles_known : (made left : ℕ) → t ≡ (cycles plan made left s).state → Knows plan t
+  cycles_known made left is = known_at (cycles plan made left s).state is (cycles_know plan k.reading made left s k.foci)
+
+  pub post_known : (asks : List Ask) → t ≡ (posting plan asks s).state → Knows plan t
+  post_known asks is = known_at (posting plan asks s).state is (post_knows plan k.reading asks s k.foci)
+
 -- after the start
-pub start_known : (plan : Plan) (a b : Place) (board : Blackboard) (natives : List Native) (t : State) (end : Option End) → MayKnow plan board → Makes plan a b (start plan board natives) t (Ok end) → Knows plan t
-start_known plan a b board natives t end may made = record { reading = may.reading; foci = subst (KnowsFoci plan) (sym made.1.state) (start_knows plan may.reading board natives may.given) }
+pub start_known : (plan : Plan) (board : Blackboard) (natives : List Native) (t : State) → MayKnow plan board → t ≡ (start plan board natives).state → Knows plan t
+start_known plan board natives t may is = record { reading = may.reading; foci = subst (KnowsFoci plan) (sym is) (start_knows plan may.reading board natives may.given) }

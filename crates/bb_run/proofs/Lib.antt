@@ -3,7 +3,7 @@ mod Rows
 -- segments, one after another
 pub mod SegmentLemmas
 -- parts of a run, one after another
-pub mod TellLemmas
+pub mod EmitLemmas
 -- the whole run
 pub mod WholeLemmas
 -- who answers an event
@@ -26,7 +26,7 @@ pub mod OrderlyParts
 pub mod OrderlyCycles
 -- what answers to an event answers what it asks for
 pub mod PaidLemmas
--- each part of a run answers the events that it tells
+-- each part of a run answers the events that it emits
 pub mod AskedLemmas
 -- a longer limit
 pub mod LimitLemmas
@@ -49,6 +49,7 @@ pub mod ReadLemmas
 -- how many cycles the parts of a run make
 pub mod CountLemmas
 -- each part of a run goes by its phases
+pub mod PhaseMoves
 pub mod PhaseLemmas
 -- each run does
 pub mod PhasedRuns
@@ -58,6 +59,9 @@ pub mod FociLemmas
 pub mod WeighLemmas
 -- the code goes on knowing them
 pub mod KnowLemmas
+-- what else a host has a run do, and what is written of it
+pub mod TurnLemmas
+pub mod CycleCounts
 -- what is pending of a source, one after another
 pub mod WaitingLemmas
 -- what an execution begins with
@@ -72,18 +76,25 @@ pub mod UnstuckRuns
 pub mod MadeLemmas
 pub mod ServeLemmas
 pub mod ServeCycles
--- each event that is told is processed
+-- each event that is emitted is processed
 pub mod VisitLemmas
 -- each event is processed in a state that is ready
 pub mod ProcessedLemmas
--- the response to an event, by what was told before
+-- the response to an event, by what was emitted before
 pub mod PastLemmas
--- where events were told, the responses to them come next
+-- where events were emitted, the responses to them come next
 pub mod RespondLemmas
 pub mod RestLemmas
 -- what lasts from one cycle to the next
 pub mod ContinueLemmas
 -- no more activations are pending than may be
 pub mod FewLemmas
--- what an execution and the call of a native tell and leave
+-- what an execution and the call of a native emit and leave
 pub mod ActLemmas
+-- which parts end a run, and cycles that are made in two stretches
+pub mod EarlyLemmas
+pub mod MeetLemmas
+-- what lasts of a run between its parts
+pub mod SteadyLemmas
+-- what crates above use
+pub mod Laws

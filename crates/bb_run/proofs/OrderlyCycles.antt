@@ -25,20 +25,20 @@ use Rattle.bb_run_plan.specs.Plan.{Plan}
 use Rattle.bb_run.specs.declared.execution.Verdict.{Verdict}
 use Rattle.bb_run.specs.declared.execution.Verdict.TheVariants as verdicts
 use Rattle.bb_run.specs.State.{State, with_board, with_natives}
-use Rattle.bb_run.specs.Told.{Response, telling, and_then, and_then_unless, segment}
+use Rattle.bb_run.specs.Emission.{Response, emitting, and_then, and_then_unless, segment}
 use Rattle.bb_run.specs.Asking.{attempt, end_by, entry_of}
 use Rattle.bb_run.specs.Processing.{reported}
 use Rattle.bb_run.specs.Run.{rating, calling, each_applied, with_notes_taken, noted, answered, execution, acting, chosen_with, if_valid, cycle, validity}
 use Rattle.bb_run.specs.Order.{notes_of, chosen_in}
 use Rattle.bb_run.proofs.OrderLemmas.{comes_none, comes_one, comes_then}
-use Rattle.bb_run.proofs.PendingLemmas.{IsKnown, stands_silent, stands_told, stands_executed, stands_invalid}
+use Rattle.bb_run.proofs.PendingLemmas.{IsKnown, stands_silent, stands_emitted, stands_executed, stands_invalid}
 use Rattle.bb_run.proofs.AskRule.{HoldsOfAsks, asks_hold}
-use Rattle.bb_run.proofs.OrderlyParts.{May, MayChoose, Agrees, Keeps, Tells, agrees_silent, keeps_none, responds_then, tells_one, keeps_more, Responds, comes_board, agrees_board, reports, IsEarly, early_end, IsEarlyVerdict, early_verdict}
+use Rattle.bb_run.proofs.OrderlyParts.{May, MayChoose, Agrees, Keeps, Emits, agrees_silent, keeps_none, responds_then, emits_one, keeps_more, Responds, comes_board, agrees_board, reports, IsEarly, early_end, IsEarlyVerdict, early_verdict}
 
 module _ (plan : Plan) (board : Blackboard) (natives : List Native) where
   -- ---- what the blackboard noted
 
-  -- nothing more is told
+  -- nothing more is emitted
   pub keeps_board : (past : List Note) (made before executed : ℕ) (s : State) (end : Option End) → IsEarly end → (end ≡ None → before ≡ executed) → Agrees plan board natives past made before s.agenda → Responds plan board natives past made executed (noted s [] end)
   keeps_board past made before executed s end early same stands =
       let notes = map Board s.board.world.notes in
@@ -46,22 +46,22 @@ module _ (plan : Plan) (board : Blackboard) (natives : List Native) where
       subst (λ l. Keeps plan board natives past l made executed (with_notes_taken s) end) (sym (append-nil notes)) (record {
         comes = comes_board plan board natives past s.board.world.notes;
         cycles = later.cycles;
-        stands = λ none. stands_told (length plan.sources) (past ++ notes) made executed s.agenda (with_notes_taken s).agenda.foci (subst (λ n. Agrees plan board natives (past ++ notes) made n s.agenda) (same none) later);
+        stands = λ none. stands_emitted (length plan.sources) (past ++ notes) made executed s.agenda (with_notes_taken s).agenda.foci (subst (λ n. Agrees plan board natives (past ++ notes) made n s.agenda) (same none) later);
         early = early;
       })
 
-  -- the end of an execution is told too
+  -- the end of an execution is emitted too
   keeps_ended : (past : List Note) (made steps found allowed : ℕ) (s : State) → Agrees plan board natives past (made + 1) made s.agenda → Responds plan board natives past (made + 1) (made + 1) (noted s (Ended steps found allowed ∷ []) None)
   keeps_ended past made steps found allowed s stands =
       let notes = map Board s.board.world.notes in
       let note : Note = Ended steps found allowed in
-      let told = agrees_board plan board natives past s.board.world.notes (made + 1) made s.agenda stands in
-      let ended = stands_silent (length plan.sources) (past ++ notes) (made + 1) made s.agenda told (note ∷ []) 1 (record { none_triggered = refl; none_chosen = refl; none_gone = refl; same_pending = λ pending. refl }) refl in
+      let emitted = agrees_board plan board natives past s.board.world.notes (made + 1) made s.agenda stands in
+      let ended = stands_silent (length plan.sources) (past ++ notes) (made + 1) made s.agenda emitted (note ∷ []) 1 (record { none_triggered = refl; none_chosen = refl; none_gone = refl; same_pending = λ pending. refl }) refl in
       let later = subst (λ l. Agrees plan board natives l (made + 1) (made + 1) s.agenda) (append_assoc past notes (note ∷ [])) ended in
       record {
-        comes = comes_then (May plan board natives) past notes (note ∷ []) (comes_board plan board natives past s.board.world.notes) (comes_one (May plan board natives) (past ++ notes) note (sym (ap (λ n. n + 1) told.executions) ∙ told.cycles));
+        comes = comes_then (May plan board natives) past notes (note ∷ []) (comes_board plan board natives past s.board.world.notes) (comes_one (May plan board natives) (past ++ notes) note (sym (ap (λ n. n + 1) emitted.executions) ∙ emitted.cycles));
         cycles = later.cycles;
-        stands = λ none. stands_told (length plan.sources) (past ++ (notes ++ note ∷ [])) (made + 1) (made + 1) s.agenda (with_notes_taken s).agenda.foci later;
+        stands = λ none. stands_emitted (length plan.sources) (past ++ (notes ++ note ∷ [])) (made + 1) (made + 1) s.agenda (with_notes_taken s).agenda.foci later;
         early = tt;
       }
 
@@ -81,24 +81,24 @@ module _ (plan : Plan) (board : Blackboard) (natives : List Native) where
     changed = λ s ask b is past made stands. keeps_board past (made + 1) made made (with_board s b) None tt (λ none. refl) stands;
     refused = λ s number refusal past made stands.
         let note : Note = Refused number refusal in
-        tells_one plan board natives past note (made + 1) made s (sym (ap (λ n. n + 1) stands.executions) ∙ stands.cycles)
+        emits_one plan board natives past note (made + 1) made s (sym (ap (λ n. n + 1) stands.executions) ∙ stands.cycles)
         (agrees_silent plan board natives past note (made + 1) made s.agenda (record { none_triggered = refl; none_chosen = refl; none_gone = refl; same_pending = λ pending. refl }) refl stands);
     full = λ s ask there is past made stands. keeps_none plan board natives past (made + 1) made s (Some finishes.Full) tt stands;
     no_memory = λ s ask is past made stands. keeps_none plan board natives past (made + 1) made s (Some finishes.Full) tt stands;
     further = λ s r next first rest past made stands.
-        responds_then plan board natives past (made + 1) made r next r.end refl (first past made stands) (λ later. rest (past ++ r.told) made later);
+        responds_then plan board natives past (made + 1) made r next r.end refl (first past made stands) (λ later. rest (past ++ r.emitted) made later);
   }
 
-  -- after its asks the end of the native's execution is told
+  -- after its asks the end of the native's execution is emitted
   native_ends : (asks : ℕ) (r : Response) (past : List Note) (made : ℕ) (end : Option End) → r.end ≡ end → Responds plan board natives past (made + 1) made r
-      → Responds plan board natives past (made + 1) (made + 1) (and_then_unless end r (λ t. telling (NativeEnded asks ∷ []) t None))
-  native_ends asks r past made (Some e) is told = keeps_over past r.told (made + 1) made (made + 1) r.state r.end e is told
-  native_ends asks r past made None is told =
+      → Responds plan board natives past (made + 1) (made + 1) (and_then_unless end r (λ t. emitting (NativeEnded asks ∷ []) t None))
+  native_ends asks r past made (Some e) is emitted = keeps_over past r.emitted (made + 1) made (made + 1) r.state r.end e is emitted
+  native_ends asks r past made None is emitted =
       let note : Note = NativeEnded asks in
-      let before = told.stands is in
-      let ended = stands_silent (length plan.sources) (past ++ r.told) (made + 1) made r.state.agenda before (note ∷ []) 1 (record { none_triggered = refl; none_chosen = refl; none_gone = refl; same_pending = λ pending. refl }) refl in
-      keeps_more plan board natives past r.told (note ∷ []) (made + 1) (made + 1) r.state None told.comes
-      (tells_one plan board natives (past ++ r.told) note (made + 1) (made + 1) r.state (sym (ap (λ n. n + 1) before.executions) ∙ before.cycles) ended)
+      let before = emitted.stands is in
+      let ended = stands_silent (length plan.sources) (past ++ r.emitted) (made + 1) made r.state.agenda before (note ∷ []) 1 (record { none_triggered = refl; none_chosen = refl; none_gone = refl; same_pending = λ pending. refl }) refl in
+      keeps_more plan board natives past r.emitted (note ∷ []) (made + 1) (made + 1) r.state None emitted.comes
+      (emits_one plan board natives (past ++ r.emitted) note (made + 1) (made + 1) r.state (sym (ap (λ n. n + 1) before.executions) ∙ before.cycles) ended)
 
   calls : (place : Option ℕ) (a : Activation) (s : State) (past : List Note) (made : ℕ) → Agrees plan board natives past (made + 1) made s.agenda → Responds plan board natives past (made + 1) (made + 1) (calling place a s)
   calls None a s past made stands =
@@ -121,7 +121,7 @@ module _ (plan : Plan) (board : Blackboard) (natives : List Native) where
   act_executes name acts.Native a s past made stands = calls (place_of s.natives name) a s past made stands
 
   acts_by : (name : List ℕ) (act : Act) (a : Activation) (s : State) (past : List Note) (made : ℕ) → Agrees plan board natives past (made + 1) made s.agenda
-      → Tells plan board natives past (made + 1) (made + 1) (reported plan (execution name act a s))
+      → Emits plan board natives past (made + 1) (made + 1) (reported plan (execution name act a s))
   acts_by name act a s past made stands = reports plan board natives past (made + 1) (made + 1) (execution name act a s) (act_executes name act a s past made stands)
 
   -- each place within a list has its item
@@ -131,7 +131,7 @@ module _ (plan : Plan) (board : Blackboard) (natives : List Native) where
   within_some (x ∷ xs) (suc i) lt none = within_some xs i (omega arith) none
 
   acts_at : (source : Option Source) (a : Activation) (s : State) (past : List Note) (made : ℕ) → slice_get plan.sources a.source ≡ source → a.source < length plan.sources → Agrees plan board natives past (made + 1) made s.agenda
-      → Tells plan board natives past (made + 1) (made + 1) (acting plan source a s)
+      → Emits plan board natives past (made + 1) (made + 1) (acting plan source a s)
   acts_at None a s past made is lt stands = absurd (within_some plan.sources a.source lt is)
   acts_at (Some source) a s past made is lt stands = acts_by source.name source.act a s past made stands
 
@@ -144,12 +144,12 @@ module _ (plan : Plan) (board : Blackboard) (natives : List Native) where
     -- what is invalid does not act
     chosen_invalid : Keeps plan board natives past (choosing ∷ Invalid a.number ∷ []) (made + 1) (made + 1) (chosen_with (made + 1) a r verdicts.Invalid s).state None
     chosen_invalid =
-        let told = stands_invalid (length plan.sources) past made made s.agenda stands (made + 1) a r there in
+        let emitted = stands_invalid (length plan.sources) past made made s.agenda stands (made + 1) a r there in
         let t = (chosen_with (made + 1) a r verdicts.Invalid s).state in
-        let ended = stands_silent (length plan.sources) (past ++ choosing ∷ []) (made + 1) made t.agenda told (Invalid a.number ∷ []) 1 (record { none_triggered = refl; none_chosen = refl; none_gone = refl; same_pending = λ pending. refl }) refl in
+        let ended = stands_silent (length plan.sources) (past ++ choosing ∷ []) (made + 1) made t.agenda emitted (Invalid a.number ∷ []) 1 (record { none_triggered = refl; none_chosen = refl; none_gone = refl; same_pending = λ pending. refl }) refl in
         let later = subst (λ l. Agrees plan board natives l (made + 1) (made + 1) t.agenda) (append_assoc past (choosing ∷ []) (Invalid a.number ∷ [])) ended in
         record {
-          comes = comes_then (May plan board natives) past (choosing ∷ []) (Invalid a.number ∷ []) (comes_one (May plan board natives) past choosing may) (comes_one (May plan board natives) (past ++ choosing ∷ []) (Invalid a.number) (sym (ap (λ n. n + 1) told.executions) ∙ told.cycles));
+          comes = comes_then (May plan board natives) past (choosing ∷ []) (Invalid a.number ∷ []) (comes_one (May plan board natives) past choosing may) (comes_one (May plan board natives) (past ++ choosing ∷ []) (Invalid a.number) (sym (ap (λ n. n + 1) emitted.executions) ∙ emitted.cycles));
           cycles = later.cycles;
           stands = λ none. later;
           early = tt;
@@ -157,7 +157,7 @@ module _ (plan : Plan) (board : Blackboard) (natives : List Native) where
 
     -- by the verdict on it
     chosen_by_verdict : (source : Option Source) (v : Verdict) → IsEarlyVerdict v → slice_get plan.sources a.source ≡ source
-        → Tells plan board natives past (made + 1) (made + 1) (and_then (segment (chosen_with (made + 1) a r v s)) (acting plan (if_valid v source) a))
+        → Emits plan board natives past (made + 1) (made + 1) (and_then (segment (chosen_with (made + 1) a r v s)) (acting plan (if_valid v source) a))
     chosen_by_verdict source verdicts.Valid early is =
         let t = (chosen_with (made + 1) a r verdicts.Valid s).state in
         let p = acting plan source a t in
@@ -173,7 +173,7 @@ module _ (plan : Plan) (board : Blackboard) (natives : List Native) where
     }
 
   -- the choice, and what its source does
-  pub cycles_once : (a : Activation) (s : State) (past : List Note) (made : ℕ) → MayChoose plan board natives past (made + 1) a (rating plan s a) → Contains (pending_of s.agenda) a → Agrees plan board natives past made made s.agenda → Tells plan board natives past (made + 1) (made + 1) (cycle plan (made + 1) a s)
+  pub cycles_once : (a : Activation) (s : State) (past : List Note) (made : ℕ) → MayChoose plan board natives past (made + 1) a (rating plan s a) → Contains (pending_of s.agenda) a → Agrees plan board natives past made made s.agenda → Emits plan board natives past (made + 1) (made + 1) (cycle plan (made + 1) a s)
   cycles_once a s past made may there stands =
       let source = slice_get plan.sources a.source in
       let code = option_and_then (λ t. t.revalidate) source in

@@ -34,7 +34,7 @@ use Rattle.bb_run_plan.specs.Plan.{Plan}
 use Rattle.bb_run.specs.declared.execution.Verdict.{Verdict}
 use Rattle.bb_run.specs.declared.execution.Verdict.TheVariants as verdicts
 use Rattle.bb_run.specs.State.{State, with_board, with_agenda}
-use Rattle.bb_run.specs.Told.{Response, Stretch, telling, idle, over, and_then, and_then_unless, segment}
+use Rattle.bb_run.specs.Emission.{Response, Stretch, emitting, idle, over, and_then, and_then_unless, segment}
 use Rattle.bb_run.specs.Asking.{attempt, asking, end_by, entry_of, reply_by, upon}
 use Rattle.bb_run.specs.Processing.{activating, events_in, if_triggered, obviated_by, processing, processing_all, reacting, reacting_to, reacting_to_each, reported, required_by, rerated_by, response, response_by, source_response, triggering}
 use Rattle.bb_run.specs.Run.{cycle, cycles, wait_for, run, validity, verdict_by, verdict_of}
@@ -118,8 +118,8 @@ module _ (plan : Plan) (board : Blackboard) (natives : List Native) where
     pub early : IsEarly end
 
   -- the notes of a stretch may come after those in the past
-  abbrev pub Tells : (past : List Note) (made executed : ℕ) → Stretch → Type 0
-  Tells past made executed p = Keeps past (notes_of p) made executed p.state p.end
+  abbrev pub Emits : (past : List Note) (made executed : ℕ) → Stretch → Type 0
+  Emits past made executed p = Keeps past (notes_of p) made executed p.state p.end
 
   -- no notes
   pub keeps_none : (past : List Note) (made executed : ℕ) (s : State) (end : Option End) → IsEarly end → Agrees past made executed s.agenda → Keeps past [] made executed s end
@@ -139,29 +139,29 @@ module _ (plan : Plan) (board : Blackboard) (natives : List Native) where
       }
 
   -- a last segment
-  keeps_last : (past notes : List Note) (made executed : ℕ) (s : State) (end : Option End) → Keeps past notes made executed s end → Tells past made executed (telling (notes ∷ []) s end)
+  keeps_last : (past notes : List Note) (made executed : ℕ) (s : State) (end : Option End) → Keeps past notes made executed s end → Emits past made executed (emitting (notes ∷ []) s end)
   keeps_last past notes made executed s end p = subst (λ l. Keeps past l made executed s end) (sym (append-nil notes)) p
 
   -- a stretch, and then the next
-  tells_then : (past : List Note) (made executed : ℕ) (p : Stretch) (next : State → Stretch) (end : Option End) → p.end ≡ end → Tells past made executed p
-      → (Agrees (past ++ notes_of p) made executed p.state.agenda → Tells (past ++ notes_of p) made executed (next p.state)) → Tells past made executed (and_then_unless end p next)
-  tells_then past made executed p next (Some end) is first rest = first
-  tells_then past made executed p next None is first rest =
+  emits_then : (past : List Note) (made executed : ℕ) (p : Stretch) (next : State → Stretch) (end : Option End) → p.end ≡ end → Emits past made executed p
+      → (Agrees (past ++ notes_of p) made executed p.state.agenda → Emits (past ++ notes_of p) made executed (next p.state)) → Emits past made executed (and_then_unless end p next)
+  emits_then past made executed p next (Some end) is first rest = first
+  emits_then past made executed p next None is first rest =
       let q = next p.state in
-      subst (λ l. Keeps past l made executed q.state q.end) (sym (all_of_two p.told q.told)) (keeps_more past (notes_of p) (notes_of q) made executed q.state q.end first.comes (rest (first.stands is)))
+      subst (λ l. Keeps past l made executed q.state q.end) (sym (all_of_two p.emitted q.emitted)) (keeps_more past (notes_of p) (notes_of q) made executed q.state q.end first.comes (rest (first.stands is)))
 
   -- ---- the response to an event
 
   -- the notes of a response may come after those in the past
   abbrev pub Responds : (past : List Note) (made executed : ℕ) → Response → Type 0
-  Responds past made executed r = Keeps past r.told made executed r.state r.end
+  Responds past made executed r = Keeps past r.emitted made executed r.state r.end
 
   -- a response, and then the next
   pub responds_then : (past : List Note) (made executed : ℕ) (r : Response) (next : State → Response) (end : Option End) → r.end ≡ end → Responds past made executed r
-      → (Agrees (past ++ r.told) made executed r.state.agenda → Responds (past ++ r.told) made executed (next r.state)) → Responds past made executed (and_then_unless end r next)
+      → (Agrees (past ++ r.emitted) made executed r.state.agenda → Responds (past ++ r.emitted) made executed (next r.state)) → Responds past made executed (and_then_unless end r next)
   responds_then past made executed r next (Some end) is first rest = first
   responds_then past made executed r next None is first rest =
-      let q = next r.state in keeps_more past r.told q.told made executed q.state q.end first.comes (rest (first.stands is))
+      let q = next r.state in keeps_more past r.emitted q.emitted made executed q.state q.end first.comes (rest (first.stands is))
 
   -- a response goes by a test
   either : (past : List Note) (made executed : ℕ) (b : Bool) (p q : Response) → Responds past made executed p → Responds past made executed q → Responds past made executed (cond b p q)
@@ -187,8 +187,8 @@ module _ (plan : Plan) (board : Blackboard) (natives : List Native) where
       subst (λ n. Agrees (past ++ note ∷ []) made n agenda) same (stands_silent (length plan.sources) past made executed agenda stands (note ∷ []) 0 silent none)
 
   -- one note that leaves this
-  pub tells_one : (past : List Note) (note : Note) (made executed : ℕ) (s : State) → May past note → Agrees (past ++ note ∷ []) made executed s.agenda → Responds past made executed (telling (note ∷ []) s None)
-  tells_one past note made executed s may later = record { comes = comes_one May past note may; cycles = later.cycles; stands = λ e. later; early = tt }
+  pub emits_one : (past : List Note) (note : Note) (made executed : ℕ) (s : State) → May past note → Agrees (past ++ note ∷ []) made executed s.agenda → Responds past made executed (emitting (note ∷ []) s None)
+  emits_one past note made executed s may later = record { comes = comes_one May past note may; cycles = later.cycles; stands = λ e. later; early = tt }
 
   -- ---- what a source does about its pending activations
 
@@ -207,7 +207,7 @@ module _ (plan : Plan) (board : Blackboard) (natives : List Native) where
 
   obviates : Reacts obviated_by
   obviates past made executed a answers.Yes s under stands =
-      tells_one past (Obviated a.number) made executed (obviated_by a answers.Yes s).state tt
+      emits_one past (Obviated a.number) made executed (obviated_by a answers.Yes s).state tt
       (stands_obviated (length plan.sources) past made executed s.agenda stands a.number (subst (λ n. a.number < n) (sym stands.numbers) under))
   obviates past made executed a answers.No s under stands = keeps_none past made executed s None tt stands
   obviates past made executed a answers.Done s under stands = keeps_none past made executed s None tt stands
@@ -216,7 +216,7 @@ module _ (plan : Plan) (board : Blackboard) (natives : List Native) where
 
   rerates : Reacts rerated_by
   rerates past made executed a (answers.Rated base) s under stands =
-      tells_one past (Retriggered a.number base) made executed (rerated_by a (answers.Rated base) s).state tt (stands_rebased (length plan.sources) past made executed s.agenda stands a.number base)
+      emits_one past (Retriggered a.number base) made executed (rerated_by a (answers.Rated base) s).state tt (stands_rebased (length plan.sources) past made executed s.agenda stands a.number base)
   rerates past made executed a answers.Yes s under stands = keeps_none past made executed s None tt stands
   rerates past made executed a answers.No s under stands = keeps_none past made executed s None tt stands
   rerates past made executed a answers.Done s under stands = keeps_none past made executed s None tt stands
@@ -234,7 +234,7 @@ module _ (plan : Plan) (board : Blackboard) (natives : List Native) where
     reacts_each reaction (a ∷ more) past made executed s all stands =
         let r = reacting_to event by reaction a s in
         responds_then past made executed r (reacting_to_each event by reaction more) r.end refl (reacts_one reaction a past made executed s (All-head (IsGiven past) a more all) stands)
-        (λ later. reacts_each reaction more (past ++ r.told) made executed r.state (All-weaker (IsGiven past) (IsGiven (past ++ r.told)) (given_still past r.told) more (All-tail (IsGiven past) a more all)) later)
+        (λ later. reacts_each reaction more (past ++ r.emitted) made executed r.state (All-weaker (IsGiven past) (IsGiven (past ++ r.emitted)) (given_still past r.emitted) more (All-tail (IsGiven past) a more all)) later)
 
     -- what is pending was given
     given_pending : (place : ℕ) (past : List Note) (made executed : ℕ) (agenda : Agenda) → Agrees past made executed agenda → All (IsGiven past) (pending_for agenda place)
@@ -256,15 +256,15 @@ module _ (plan : Plan) (board : Blackboard) (natives : List Native) where
   activates event place base past made executed s under stands =
       let a = new_activation s.agenda place (unit_of event) base in
       let full : Response = over finishes.Full s in
-      let new : Response = telling (Triggered a ∷ []) (with_agenda s (with_activation s.agenda place (unit_of event) base)) None in
+      let new : Response = emitting (Triggered a ∷ []) (with_agenda s (with_activation s.agenda place (unit_of event) base)) None in
       either past made executed (is_full s.agenda) full new
       (keeps_none past made executed s (Some finishes.Full) tt stands)
-      (tells_one past (Triggered a) made executed new.state stands.numbers (stands_triggered (length plan.sources) past made executed s.agenda stands place (unit_of event) base under))
+      (emits_one past (Triggered a) made executed new.state stands.numbers (stands_triggered (length plan.sources) past made executed s.agenda stands place (unit_of event) base under))
 
   declines : (event : Event) (place : ℕ) (past : List Note) (made executed : ℕ) (s : State) → Agrees past made executed s.agenda
-      → Responds past made executed (telling (Declined place (unit_of event) ∷ []) s None)
+      → Responds past made executed (emitting (Declined place (unit_of event) ∷ []) s None)
   declines event place past made executed s stands =
-      tells_one past (Declined place (unit_of event)) made executed s tt
+      emits_one past (Declined place (unit_of event)) made executed s tt
       (agrees_silent past (Declined place (unit_of event)) made executed s.agenda (record { none_triggered = refl; none_chosen = refl; none_gone = refl; same_pending = λ pending. refl }) refl stands)
 
   requires_by : (event : Event) (place : ℕ) (past : List Note) (made executed : ℕ) (answer : Answer) (s : State) → place < length plan.sources → Agrees past made executed s.agenda
@@ -297,9 +297,9 @@ module _ (plan : Plan) (board : Blackboard) (natives : List Native) where
       responds_then past made executed first (λ t. and_then (reacting plan.schema event place rerated_by source.retrigger t) (if_triggered plan.schema event place source)) first.end refl
       (reacts_if event obviated_by obviates place source.obviate past made executed s stands)
       (λ then. let second = reacting plan.schema event place rerated_by source.retrigger first.state in
-      responds_then (past ++ first.told) made executed second (if_triggered plan.schema event place source) second.end refl
-      (reacts_if event rerated_by rerates place source.retrigger (past ++ first.told) made executed first.state then)
-      (λ later. triggers_if event place source ((past ++ first.told) ++ second.told) made executed second.state under later))
+      responds_then (past ++ first.emitted) made executed second (if_triggered plan.schema event place source) second.end refl
+      (reacts_if event rerated_by rerates place source.retrigger (past ++ first.emitted) made executed first.state then)
+      (λ later. triggers_if event place source ((past ++ first.emitted) ++ second.emitted) made executed second.state under later))
 
   -- each source in order, with those before it
   responds : (event : Event) (place : ℕ) (sources : List Source) (past : List Note) (made executed : ℕ) (s : State) → place + length sources ≡ length plan.sources → Agrees past made executed s.agenda
@@ -311,28 +311,28 @@ module _ (plan : Plan) (board : Blackboard) (natives : List Native) where
       let left : place + 1 + length sources ≡ length plan.sources = omega (arith, count) in
       let under : place < length plan.sources = omega (arith, count) in
       responds_then past made executed r (response_by plan.schema event (place + 1) sources) r.end refl (source_responds event place source past made executed s under stands)
-      (λ later. responds event (place + 1) sources (past ++ r.told) made executed r.state left later)
+      (λ later. responds event (place + 1) sources (past ++ r.emitted) made executed r.state left later)
 
   all_respond : (event : Event) (past : List Note) (made executed : ℕ) (s : State) → Agrees past made executed s.agenda → Responds past made executed (response plan event s)
   all_respond event past made executed s stands = responds event 0 plan.sources past made executed s (omega arith) stands
 
-  processes : (event : Event) (past : List Note) (made executed : ℕ) (s : State) → Agrees past made executed s.agenda → Tells past made executed (processing plan event s)
-  processes event past made executed s stands = let r = response plan event s in keeps_last past r.told made executed r.state r.end (all_respond event past made executed s stands)
+  processes : (event : Event) (past : List Note) (made executed : ℕ) (s : State) → Agrees past made executed s.agenda → Emits past made executed (processing plan event s)
+  processes event past made executed s stands = let r = response plan event s in keeps_last past r.emitted made executed r.state r.end (all_respond event past made executed s stands)
 
-  processes_all : (events : List Event) (past : List Note) (made executed : ℕ) (s : State) → Agrees past made executed s.agenda → Tells past made executed (processing_all plan events s)
+  processes_all : (events : List Event) (past : List Note) (made executed : ℕ) (s : State) → Agrees past made executed s.agenda → Emits past made executed (processing_all plan events s)
   unfolding processing_all
   processes_all [] past made executed s stands = keeps_none past made executed s None tt stands
   processes_all (event ∷ events) past made executed s stands =
       let p = processing plan event s in
-      tells_then past made executed p (processing_all plan events) p.end refl (processes event past made executed s stands)
+      emits_then past made executed p (processing_all plan events) p.end refl (processes event past made executed s stands)
       (λ later. processes_all events (past ++ notes_of p) made executed p.state later)
 
   -- a response, and its events
-  pub reports : (past : List Note) (made executed : ℕ) (r : Response) → Responds past made executed r → Tells past made executed (reported plan r)
+  pub reports : (past : List Note) (made executed : ℕ) (r : Response) → Responds past made executed r → Emits past made executed (reported plan r)
   reports past made executed r first =
       let p = segment r in
-      tells_then past made executed p (processing_all plan (events_in r.told)) r.end refl (keeps_last past r.told made executed r.state r.end first)
-      (λ later. processes_all (events_in r.told) (past ++ notes_of p) made executed r.state later)
+      emits_then past made executed p (processing_all plan (events_in r.emitted)) r.end refl (keeps_last past r.emitted made executed r.state r.end first)
+      (λ later. processes_all (events_in r.emitted) (past ++ notes_of p) made executed r.state later)
 
   -- ---- notes of the blackboard
 
@@ -358,10 +358,10 @@ module _ (plan : Plan) (board : Blackboard) (natives : List Native) where
 
   -- ---- the wait before a cycle
 
-  pub waits_for : (past : List Note) (made executed : ℕ) (s : State) (c : Option Activation) → Agrees past made executed s.agenda → Tells past made executed (wait_for plan s c)
+  pub waits_for : (past : List Note) (made executed : ℕ) (s : State) (c : Option Activation) → Agrees past made executed s.agenda → Emits past made executed (wait_for plan s c)
   waits_for past made executed s (Some a) stands = keeps_none past made executed s None tt stands
   waits_for past made executed s None stands =
       let r = response plan quiescence s in
       let note : List BoardNote = happened quiescence ∷ [] in
-      keeps_last past (map Board note ++ r.told) made executed r.state r.end
-      (keeps_more past (map Board note) r.told made executed r.state r.end (comes_board past note) (all_respond quiescence (past ++ map Board note) made executed s (agrees_board past note made executed s.agenda stands)))
+      keeps_last past (map Board note ++ r.emitted) made executed r.state r.end
+      (keeps_more past (map Board note) r.emitted made executed r.state r.end (comes_board past note) (all_respond quiescence (past ++ map Board note) made executed s (agrees_board past note made executed s.agenda stands)))

@@ -34,7 +34,7 @@ use Rattle.bb_machine_step.specs.Values.TheVariants.{Unit as One, Bool as Truth}
 use Rattle.bb_machine_step.proofs.Laws.{after_op, by_op}
 use Rattle.bb_rules.specs.Own.{IT, EV, answers, asks_own, begins_with_own, compares_units, loads, refuses, says_no}
 use Rattle.bb_run.specs.State.{State}
-use Rattle.bb_run.specs.Told.{Response, and_then, idle}
+use Rattle.bb_run.specs.Emission.{Response, and_then, idle}
 use Rattle.bb_run.specs.Asking.{attempt, entry_of, reply_by, upon}
 use Rattle.bb_run.specs.State.{with_board}
 use Rattle.bb_run.specs.Processing.{obviated_by, reacting_to, reacting_to_each, rerated_by}

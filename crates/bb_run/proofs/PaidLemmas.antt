@@ -23,7 +23,7 @@ use Rattle.bb_trace.specs.declared.note.Note.{Note}
 use Rattle.bb_trace.specs.declared.note.Note.TheVariants.{Triggered, Declined, Obviated, Retriggered}
 use Rattle.bb_run_plan.specs.Plan.{Plan}
 use Rattle.bb_run.specs.State.{State, with_board, with_agenda}
-use Rattle.bb_run.specs.Told.{Response, telling, idle, over, and_then, and_then_unless}
+use Rattle.bb_run.specs.Emission.{Response, emitting, idle, over, and_then, and_then_unless}
 use Rattle.bb_run.specs.Asking.{attempt, asking, end_by, entry_of, reply_by, upon}
 use Rattle.bb_run.specs.Processing.{activating, event_in, events_in, if_triggered, obviated_by, reacting, reacting_to, reacting_to_each, required_by, rerated_by, response, response_by, source_response, triggering}
 use Rattle.bb_run.specs.Run.{quiet}
@@ -91,12 +91,12 @@ pays_then xs ys first notes end p q =
     }
 
 abbrev pub Answers : List (ℕ × ℕ) → Response → Type 0
-Answers owed r = Pays owed r.told r.end
+Answers owed r = Pays owed r.emitted r.end
 
 answers_then : (xs ys : List (ℕ × ℕ)) (p : Response) (next : State → Response) (end : Option End) → p.end ≡ end → Answers xs p → ((s : State) → Answers ys (next s)) → Answers (xs ++ ys) (and_then_unless end p next)
 answers_then xs ys p next (Some e) is first rest =
-    subst (Pays (xs ++ ys) p.told) (sym is) (pays_first xs ys p.told e (subst (Pays xs p.told) is first))
-answers_then xs ys p next None is first rest = let q = next p.state in pays_then xs ys p.told q.told q.end (subst (Pays xs p.told) is first) (rest p.state)
+    subst (Pays (xs ++ ys) p.emitted) (sym is) (pays_first xs ys p.emitted e (subst (Pays xs p.emitted) is first))
+answers_then xs ys p next None is first rest = let q = next p.state in pays_then xs ys p.emitted q.emitted q.end (subst (Pays xs p.emitted) is first) (rest p.state)
 
 -- a response by a test
 answers_if : (x : ℕ × ℕ) (b : Bool) (p q : Response) → Answers (x ∷ []) p → Answers [] q → Answers (cond b (x ∷ []) []) (cond b p q)
@@ -152,12 +152,12 @@ module _ (plan : Plan) (event : Event) where
   here place = (place, unit_of event)
 
   pays_one : (place : ℕ) (note : Note) → events_in (note ∷ []) ≡ [] → chosen_in (note ∷ []) ≡ [] → answered_in (note ∷ []) ≡ here place ∷ [] → Pays (here place ∷ []) (note ∷ []) None
-  pays_one place note quiet unchosen told = record { quiet = quiet; unchosen = unchosen; whole = λ e. told; front = ([], append-nil (answered_in (note ∷ [])) ∙ told); early = tt }
+  pays_one place note quiet unchosen emitted = record { quiet = quiet; unchosen = unchosen; whole = λ e. emitted; front = ([], append-nil (answered_in (note ∷ [])) ∙ emitted); early = tt }
 
   activates : (place : ℕ) (base : ℤ) (s : State) → Answers (here place ∷ []) (activating event place base s)
   activates place base s =
       let a = new_activation s.agenda place (unit_of event) base in
-      either (here place ∷ []) (is_full s.agenda) (over finishes.Full s) (telling (Triggered a ∷ []) (with_agenda s (with_activation s.agenda place (unit_of event) base)) None)
+      either (here place ∷ []) (is_full s.agenda) (over finishes.Full s) (emitting (Triggered a ∷ []) (with_agenda s (with_activation s.agenda place (unit_of event) base)) None)
       (pays_over (here place ∷ []) finishes.Full tt) (pays_one place (Triggered a) refl refl refl)
 
   requires_by : (place : ℕ) (answer : Answer) (s : State) → Answers (here place ∷ []) (required_by event place answer s)

@@ -1,4 +1,4 @@
--- The response to an event is what the sources tell by what was told before.
+-- The response to an event is what the sources emit by what was emitted before.
 use Rattle.std.proofs.Common.{◌≡◌, inl, inr, ℕ, ◌+◌, ℤ, Bool, true, false, cond, List, [], ◌∷◌, ◌++◌, length, filter, Option, Some, None, option_map, Result, Ok, Err, refl, sym, ap, subst, ◌∙◌, append_assoc, length-append}
 use Rattle.std.specs.Prelude.{All, Contains}
 use Rattle.std.specs.List.{fold}
@@ -31,7 +31,7 @@ use Rattle.bb_verify.specs.Budget.{budget}
 use Rattle.bb_verify.specs.declared.checked.TheConstants.{FOUND_LIMIT}
 use Rattle.bb_run_plan.specs.Plan.{Plan}
 use Rattle.bb_run.specs.State.{State, with_agenda, with_board}
-use Rattle.bb_run.specs.Told.{Response, Stretch, and_then, and_then_unless, idle, over}
+use Rattle.bb_run.specs.Emission.{Response, Stretch, and_then, and_then_unless, idle, over}
 use Rattle.bb_run.specs.Asking.{attempt, asking, end_by, entry_of, reply_by, upon}
 use Rattle.bb_run.specs.Causes.{code_of}
 use Rattle.bb_run.specs.Foci.{with_foci}
@@ -88,16 +88,16 @@ module _ (past : List Note) (agenda : Agenda) (by : IsBy past agenda) where
   pub by_foci : (foci : Foci) → IsBy past (with_foci agenda foci)
   by_foci foci = record { pending = by.pending; numbers = by.numbers }
 
--- ---- what is told, against what there is to tell
+-- ---- what is emitted, against what there is to emit
 
--- these notes are told of those that there are to tell, all of them unless the run is over; the blackboard stays, and the
+-- these notes are emitted of those that there are to emit, all of them unless the run is over; the blackboard stays, and the
 -- agenda goes by the notes
-pub record Says (past : List Note) (board : Blackboard) (all told : List Note) (s : State) (end : Option End) : Type 0 where
+pub record Says (past : List Note) (board : Blackboard) (all emitted : List Note) (s : State) (end : Option End) : Type 0 where
   pub left : List Note
-  pub whole : told ++ left ≡ all
+  pub whole : emitted ++ left ≡ all
   pub none_left : end ≡ None → left ≡ []
   pub same_board : s.board ≡ board
-  pub agenda : end ≡ None → IsBy (past ++ told) s.agenda
+  pub agenda : end ≡ None → IsBy (past ++ emitted) s.agenda
 
 module _ (past : List Note) (board : Blackboard) where
   says_none : (s : State) → s.board ≡ board → IsBy past s.agenda → Says past board [] [] s None
@@ -110,43 +110,43 @@ module _ (past : List Note) (board : Blackboard) where
   says_one note s same by = record { left = []; whole = refl; none_left = λ e. refl; same_board = same; agenda = λ e. by }
 
   -- the run is over in the first of it
-  says_first : (xs ys told : List Note) (s : State) (e : End) → Says past board xs told s (Some e) → Says past board (xs ++ ys) told s (Some e)
-  says_first xs ys told s e p = record {
+  says_first : (xs ys emitted : List Note) (s : State) (e : End) → Says past board xs emitted s (Some e) → Says past board (xs ++ ys) emitted s (Some e)
+  says_first xs ys emitted s e p = record {
     left = p.left ++ ys;
-    whole = sym (append_assoc told p.left ys) ∙ ap (λ l. l ++ ys) p.whole;
+    whole = sym (append_assoc emitted p.left ys) ∙ ap (λ l. l ++ ys) p.whole;
     none_left = λ none. absurd cc;
     same_board = p.same_board;
     agenda = λ none. absurd cc;
   }
 
-  -- all of the first is told, and then what comes after it
-  says_more : (xs told more : List Note) (next : List Note → List Note) (s t : State) (end : Option End) → Says past board xs told s None
-      → (IsBy (past ++ xs) s.agenda → s.board ≡ board → Says (past ++ xs) board (next (past ++ xs)) more t end) → Says past board (and_after past xs next) (told ++ more) t end
-  says_more xs told more next s t end first rest =
-      let same : told ≡ xs = sym (append-nil told) ∙ ap (λ l. told ++ l) (sym (first.none_left refl)) ∙ first.whole in
+  -- all of the first is emitted, and then what comes after it
+  says_more : (xs emitted more : List Note) (next : List Note → List Note) (s t : State) (end : Option End) → Says past board xs emitted s None
+      → (IsBy (past ++ xs) s.agenda → s.board ≡ board → Says (past ++ xs) board (next (past ++ xs)) more t end) → Says past board (and_after past xs next) (emitted ++ more) t end
+  says_more xs emitted more next s t end first rest =
+      let same : emitted ≡ xs = sym (append-nil emitted) ∙ ap (λ l. emitted ++ l) (sym (first.none_left refl)) ∙ first.whole in
       let q = rest (subst (λ l. IsBy (past ++ l) s.agenda) same (first.agenda refl)) first.same_board in
       record {
         left = q.left;
-        whole = append_assoc told more q.left ∙ ap (λ l. told ++ l) q.whole ∙ ap (λ l. l ++ next (past ++ xs)) same;
+        whole = append_assoc emitted more q.left ∙ ap (λ l. emitted ++ l) q.whole ∙ ap (λ l. l ++ next (past ++ xs)) same;
         none_left = q.none_left;
         same_board = q.same_board;
-        agenda = λ e. subst (λ l. IsBy l t.agenda) (ap (λ l. (past ++ l) ++ more) (sym same) ∙ append_assoc past told more) (q.agenda e);
+        agenda = λ e. subst (λ l. IsBy l t.agenda) (ap (λ l. (past ++ l) ++ more) (sym same) ∙ append_assoc past emitted more) (q.agenda e);
       }
 
   -- by a test
-  either : (b : Bool) (xs ys : List Note) (p q : Response) → Says past board xs p.told p.state p.end → Says past board ys q.told q.state q.end → let r = cond b p q in Says past board (cond b xs ys) r.told r.state r.end
+  either : (b : Bool) (xs ys : List Note) (p q : Response) → Says past board xs p.emitted p.state p.end → Says past board ys q.emitted q.state q.end → let r = cond b p q in Says past board (cond b xs ys) r.emitted r.state r.end
   either true xs ys p q x y = x
   either false xs ys p q x y = y
 
   -- a response, and then the next
-  says_then : (xs : List Note) (after : List Note → List Note) (r : Response) (next : State → Response) (end : Option End) → r.end ≡ end → Says past board xs r.told r.state r.end
-      → (IsBy (past ++ xs) r.state.agenda → r.state.board ≡ board → let q = next r.state in Says (past ++ xs) board (after (past ++ xs)) q.told q.state q.end)
-      → let p = and_then_unless end r next in Says past board (and_after past xs after) p.told p.state p.end
+  says_then : (xs : List Note) (after : List Note → List Note) (r : Response) (next : State → Response) (end : Option End) → r.end ≡ end → Says past board xs r.emitted r.state r.end
+      → (IsBy (past ++ xs) r.state.agenda → r.state.board ≡ board → let q = next r.state in Says (past ++ xs) board (after (past ++ xs)) q.emitted q.state q.end)
+      → let p = and_then_unless end r next in Says past board (and_after past xs after) p.emitted p.state p.end
   says_then xs after r next (Some e) is first rest =
-      subst (Says past board (and_after past xs after) r.told r.state) (sym is) (says_first xs (after (past ++ xs)) r.told r.state e (subst (Says past board xs r.told r.state) is first))
+      subst (Says past board (and_after past xs after) r.emitted r.state) (sym is) (says_first xs (after (past ++ xs)) r.emitted r.state e (subst (Says past board xs r.emitted r.state) is first))
   says_then xs after r next None is first rest =
       let q = next r.state in
-      says_more xs r.told q.told after r.state q.state q.end (subst (Says past board xs r.told r.state) is first) rest
+      says_more xs r.emitted q.emitted after r.state q.state q.end (subst (Says past board xs r.emitted r.state) is first) rest
 
   -- a stretch, and then the next
   pub says_all_then : (xs : List Note) (after : List Note → List Note) (p : Stretch) (next : State → Stretch) (end : Option End) → p.end ≡ end → Says past board xs (notes_of p) p.state p.end
@@ -156,13 +156,13 @@ module _ (past : List Note) (board : Blackboard) where
       subst (Says past board (and_after past xs after) (notes_of p) p.state) (sym is) (says_first xs (after (past ++ xs)) (notes_of p) p.state e (subst (Says past board xs (notes_of p) p.state) is first))
   says_all_then xs after p next None is first rest =
       let q = next p.state in
-      subst (λ l. Says past board (and_after past xs after) l q.state q.end) (sym (all_of_two p.told q.told))
+      subst (λ l. Says past board (and_after past xs after) l q.state q.end) (sym (all_of_two p.emitted q.emitted))
       (says_more xs (notes_of p) (notes_of q) after p.state q.state q.end (subst (Says past board xs (notes_of p) p.state) is first) rest)
 
 module _ (plan : Plan) (board : Blackboard) where
-  -- a response tells this, after these notes
-  abbrev Tells : (past all : List Note) → Response → Type 0
-  Tells past all r = Says past board all r.told r.state r.end
+  -- a response emits this, after these notes
+  abbrev Emits : (past all : List Note) → Response → Type 0
+  Emits past all r = Says past board all r.emitted r.state r.end
 
   -- a code that does not write is asked
   abbrev Reads : Checked → Type 0
@@ -172,23 +172,23 @@ module _ (plan : Plan) (board : Blackboard) where
   kept code entry b reads same = activation_reads (budget code.code FOUND_LIMIT) code.code entry b reads ∙ same
 
   replied : (past : List Note) (says : Option Answer → List Note) (next : Answer → State → Response) (r : Result Outcome Stop) (t : State) → t.board ≡ board
-      → ((answer : Answer) → Tells past (says (Some answer)) (next answer t)) → Tells past (says (answer_in r)) (upon (reply_by r) next t)
+      → ((answer : Answer) → Emits past (says (Some answer)) (next answer t)) → Emits past (says (answer_in r)) (upon (reply_by r) next t)
   replied past says next (Ok o) t same goes = goes o.answer
   replied past says next (Err stop) t same goes = says_over past board (says None) t (end_by stop) same
 
   asks : (past : List Note) (says : Option Answer → List Note) (code : Checked) (entry : Entry) (next : Answer → State → Response) (s : State) → Reads code → s.board ≡ board → IsBy past s.agenda
-      → ((answer : Answer) (t : State) → t.board ≡ board → IsBy past t.agenda → Tells past (says (Some answer)) (next answer t)) → Tells past (says (answer_of code entry board)) (asking code.code entry next s)
+      → ((answer : Answer) (t : State) → t.board ≡ board → IsBy past t.agenda → Emits past (says (Some answer)) (next answer t)) → Emits past (says (answer_of code entry board)) (asking code.code entry next s)
   asks past says code entry next s reads same by goes =
       let e = attempt code.code entry s.board in
       let left : e.1 ≡ board = kept code entry s.board reads same in
-      subst (λ (b : Blackboard). Tells past (says (answer_of code entry b)) (asking code.code entry next s)) same
+      subst (λ (b : Blackboard). Emits past (says (answer_of code entry b)) (asking code.code entry next s)) same
       (replied past says next e.0 (with_board s e.1) left (λ answer. goes answer (with_board s e.1) left by))
 
   -- ---- what becomes of what waits
 
   -- what an answer about an activation brings about
   abbrev Brings : (Activation → Option Answer → List Note) → (Activation → Answer → State → Response) → Type 0
-  Brings says by' = (past : List Note) (a : Activation) (answer : Answer) (t : State) → t.board ≡ board → IsBy past t.agenda → Tells past (says a (Some answer)) (by' a answer t)
+  Brings says by' = (past : List Note) (a : Activation) (answer : Answer) (t : State) → t.board ≡ board → IsBy past t.agenda → Emits past (says a (Some answer)) (by' a answer t)
 
   obviates : Brings if_yes obviated_by
   obviates past a answers.Yes t same by = says_one past board (Obviated a.number) (with_agenda t (with_obviated t.agenda a.number)) same (by_obviated past t.agenda by a.number)
@@ -205,7 +205,7 @@ module _ (plan : Plan) (board : Blackboard) where
   rerates past a answers.Declined t same by = says_none past board t same by
 
   module _ (event : Event) (says : Activation → Option Answer → List Note) (does : Activation → Answer → State → Response) (brings : Brings says does) where
-    each : (reaction : Reaction) (items : List Activation) (past : List Note) (s : State) → Reads reaction.code → s.board ≡ board → IsBy past s.agenda → Tells past (told_about_each board event says reaction items) (reacting_to_each event does reaction items s)
+    each : (reaction : Reaction) (items : List Activation) (past : List Note) (s : State) → Reads reaction.code → s.board ≡ board → IsBy past s.agenda → Emits past (told_about_each board event says reaction items) (reacting_to_each event does reaction items s)
     unfolding reacting_to_each
     each reaction [] past s reads same by = says_none past board s same by
     each reaction (a ∷ more) past s reads same by =
@@ -216,18 +216,18 @@ module _ (plan : Plan) (board : Blackboard) where
         (λ later kept'. each reaction more (past ++ says a (answer_of reaction.code entry board)) r.state reads kept' later)
 
     reaction_says : (place : ℕ) (reaction : Option Reaction) (past : List Note) (s : State) → ((x : Reaction) → reaction ≡ Some x → Reads x.code) → s.board ≡ board → IsBy past s.agenda
-        → Tells past (reacts plan board event says reaction (waiting_for past place)) (reacting plan.schema event place does reaction s)
+        → Emits past (reacts plan board event says reaction (waiting_for past place)) (reacting plan.schema event place does reaction s)
     reaction_says place None past s reads same by = says_none past board s same by
     reaction_says place (Some reaction) past s reads same by =
         let waiting : pending_for s.agenda place ≡ waiting_for past place = ap (filter (is_of place)) by.pending in
         either past board (any_match plan.schema reaction.clauses event) (told_about_each board event says reaction (waiting_for past place)) [] (reacting_to_each event does reaction (pending_for s.agenda place) s) (idle s)
-        (subst (λ items. Tells past (told_about_each board event says reaction items) (reacting_to_each event does reaction (pending_for s.agenda place) s)) waiting
+        (subst (λ items. Emits past (told_about_each board event says reaction items) (reacting_to_each event does reaction (pending_for s.agenda place) s)) waiting
         (each reaction (pending_for s.agenda place) past s (reads reaction refl) same by))
         (says_none past board s same by)
 
   -- ---- what triggers a source
 
-  activates : (event : Event) (place : ℕ) (base : ℤ) (past : List Note) (s : State) → s.board ≡ board → IsBy past s.agenda → Tells past (gets event place base past) (activating event place base s)
+  activates : (event : Event) (place : ℕ) (base : ℤ) (past : List Note) (s : State) → s.board ≡ board → IsBy past s.agenda → Emits past (gets event place base past) (activating event place base s)
   activates event place base past s same by = activates_if (is_full s.agenda)
     where
       a : Activation
@@ -237,18 +237,18 @@ module _ (plan : Plan) (board : Blackboard) where
       note_is = ap (λ n. Triggered (record { number = n; source = place; unit = unit_of event; base = base }) ∷ []) by.numbers
 
       new : Response
-      new = record { told = Triggered a ∷ []; state = with_agenda s (with_activation s.agenda place (unit_of event) base); end = None }
+      new = record { emitted = Triggered a ∷ []; state = with_agenda s (with_activation s.agenda place (unit_of event) base); end = None }
 
-      activates_if : (full : Bool) → let r = cond full (over finishes.Full s) new in Tells past (gets event place base past) r
+      activates_if : (full : Bool) → let r = cond full (over finishes.Full s) new in Emits past (gets event place base past) r
       activates_if true = says_over past board (gets event place base past) s finishes.Full same
-      activates_if false = subst (λ l. Tells past l new) note_is (says_one past board (Triggered a) new.state same (by_triggered past s.agenda by place (unit_of event) base))
+      activates_if false = subst (λ l. Emits past l new) note_is (says_one past board (Triggered a) new.state same (by_triggered past s.agenda by place (unit_of event) base))
 
   declines : (event : Event) (place : ℕ) (past : List Note) (s : State) → s.board ≡ board → IsBy past s.agenda → Says past board (Declined place (unit_of event) ∷ []) (Declined place (unit_of event) ∷ []) s None
   declines event place past s same by =
       let note : Note = Declined place (unit_of event) in
       says_one past board note s same (by_silent past (note ∷ []) s.agenda refl (λ pending. refl) by)
 
-  requires : (event : Event) (place : ℕ) (past : List Note) (answer : Answer) (s : State) → s.board ≡ board → IsBy past s.agenda → Tells past (gets_if_rated event place (Some answer) past) (required_by event place answer s)
+  requires : (event : Event) (place : ℕ) (past : List Note) (answer : Answer) (s : State) → s.board ≡ board → IsBy past s.agenda → Emits past (gets_if_rated event place (Some answer) past) (required_by event place answer s)
   requires event place past (answers.Rated base) s same by = activates event place base past s same by
   requires event place past answers.Declined s same by = declines event place past s same by
   requires event place past answers.Yes s same by = declines event place past s same by
@@ -256,7 +256,7 @@ module _ (plan : Plan) (board : Blackboard) where
   requires event place past answers.Done s same by = declines event place past s same by
 
   triggered : (event : Event) (place : ℕ) (rate : ℤ) (code : Option Checked) (past : List Note) (s : State) → ((x : Checked) → code ≡ Some x → Reads x) → s.board ≡ board → IsBy past s.agenda
-      → Tells past (gets_by board event place rate code past) (triggering event place rate code s)
+      → Emits past (gets_by board event place rate code past) (triggering event place rate code s)
   triggered event place rate None past s reads same by = activates event place rate past s same by
   triggered event place rate (Some code) past s reads same by =
       asks past (λ answer. gets_if_rated event place answer past) code (entry_of (unit_of event) None) (required_by event place) s (reads code refl) same by (λ answer t kept' later. requires event place past answer t kept' later)
@@ -265,7 +265,7 @@ module _ (plan : Plan) (board : Blackboard) where
 
   module _ (reading : AsksByReading plan) where
     source_responds : (event : Event) (place : ℕ) (source : Source) (past : List Note) (s : State) → Contains plan.sources source → s.board ≡ board → IsBy past s.agenda
-        → Tells past (responses_of plan board event place source past) (source_response plan.schema event place source s)
+        → Emits past (responses_of plan board event place source past) (source_response plan.schema event place source s)
     source_responds event place source past s there same by =
         let first = reacting plan.schema event place obviated_by source.obviate s in
         let gone = reacts plan board event if_yes source.obviate (waiting_for past place) in
@@ -285,7 +285,7 @@ module _ (plan : Plan) (board : Blackboard) where
         (says_none (behind ++ again) board second.state kept' last)))
 
     sources_respond : (event : Event) (place : ℕ) (sources : List Source) (past : List Note) (s : State) → All (Contains plan.sources) sources → s.board ≡ board → IsBy past s.agenda
-        → Tells past (responses_from plan board event place sources past) (response_by plan.schema event place sources s)
+        → Emits past (responses_from plan board event place sources past) (response_by plan.schema event place sources s)
     unfolding response_by
     sources_respond event place [] past s all same by = says_none past board s same by
     sources_respond event place (source ∷ more) past s all same by =
@@ -296,18 +296,18 @@ module _ (plan : Plan) (board : Blackboard) where
         (λ later kept'. sources_respond event (place + 1) more (past ++ first) r.state (All-tail (Contains plan.sources) source more all) kept' later)
 
     -- all sources respond to an event
-    pub event_told : (event : Event) (past : List Note) (s : State) → s.board ≡ board → IsBy past s.agenda → Tells past (responses_from plan board event 0 plan.sources past) (response plan event s)
-    event_told event past s same by = sources_respond event 0 plan.sources past s (All-contains_itself plan.sources) same by
+    pub event_emitted : (event : Event) (past : List Note) (s : State) → s.board ≡ board → IsBy past s.agenda → Emits past (responses_from plan board event 0 plan.sources past) (response plan event s)
+    event_emitted event past s same by = sources_respond event 0 plan.sources past s (All-contains_itself plan.sources) same by
 
     -- events are processed one after another
-    pub events_told : (events : List Event) (past : List Note) (s : State) → s.board ≡ board → IsBy past s.agenda
+    pub events_emitted : (events : List Event) (past : List Note) (s : State) → s.board ≡ board → IsBy past s.agenda
         → let p = processing_all plan events s in Says past board (responses plan board events past) (notes_of p) p.state p.end
     unfolding processing_all
-    events_told [] past s same by = says_none past board s same by
-    events_told (event ∷ events) past s same by =
+    events_emitted [] past s same by = says_none past board s same by
+    events_emitted (event ∷ events) past s same by =
         let p = processing plan event s in
         let r = response plan event s in
         let first = responses_from plan board event 0 plan.sources past in
         says_all_then past board first (responses plan board events) p (processing_all plan events) p.end refl
-        (subst (λ l. Says past board first l r.state r.end) (sym (append-nil r.told)) (event_told event past s same by))
-        (λ later kept'. events_told events (past ++ first) p.state kept' later)
+        (subst (λ l. Says past board first l r.state r.end) (sym (append-nil r.emitted)) (event_emitted event past s same by))
+        (λ later kept'. events_emitted events (past ++ first) p.state kept' later)

@@ -100,8 +100,8 @@ stands_first sources setting foci = record {
 }
 
 -- foci change nothing of what is pending
-pub stands_told : (sources : ℕ) (past : List Note) (made executed : ℕ) (agenda : Agenda) (foci : Foci) → Stands sources past made executed agenda → Stands sources past made executed (with_foci agenda foci)
-stands_told sources past made executed agenda foci s = record {
+pub stands_emitted : (sources : ℕ) (past : List Note) (made executed : ℕ) (agenda : Agenda) (foci : Foci) → Stands sources past made executed agenda → Stands sources past made executed (with_foci agenda foci)
+stands_emitted sources past made executed agenda foci s = record {
   numbers = s.numbers;
   cycles = s.cycles;
   executions = s.executions;

@@ -10,7 +10,7 @@ use Rattle.bb_trace.specs.Native.{Native}
 use Rattle.bb_trace.specs.Roster.{closings_of}
 use Rattle.bb_run_plan.specs.Plan.{Plan}
 use Rattle.bb_run.specs.State.{State}
-use Rattle.bb_run.specs.Told.{Response, Stretch, after_told, and_then_unless}
+use Rattle.bb_run.specs.Emission.{Response, Stretch, after_emitted, and_then_unless}
 use Rattle.bb_run.specs.Processing.{events_in, processing_all}
 use Rattle.bb_run.specs.Run.{first_state, noted, cycles, finish, finish_segments, unfinished, run}
 use Rattle.bb_run.specs.Foci.{setting_of}
@@ -19,52 +19,53 @@ use Rattle.bb_run.specs.Phases.{outside, rested, phase_after, GoesByPhases}
 use Rattle.bb_run.proofs.OrderLemmas.{ComesBefore, comes_before, comes_last}
 use Rattle.bb_run.proofs.OrderlyParts.{all_of_more}
 use Rattle.bb_run.proofs.OrderlyRuns.{Begins, run_finishes}
-use Rattle.bb_run.proofs.PhaseLemmas.{MayStand, SoFar, TellsLast, all_cycles, at_first, ends_then, processes_all}
+use Rattle.bb_run.proofs.PhaseLemmas.{SoFar, EmitsLast, all_cycles, ends_then, processes_all}
+use Rattle.bb_run.proofs.PhaseMoves.{MayStand, at_first}
 use Rattle.bb_run.proofs.CountLemmas.{events_silent}
 
 -- a segment stays the first
-after_first : (notes : List Note) (q : Stretch) (next : State → Stretch) (end : Option End) → and_then_unless end (after_told (notes ∷ []) q) next ≡ after_told (notes ∷ []) (and_then_unless end q next)
+after_first : (notes : List Note) (q : Stretch) (next : State → Stretch) (end : Option End) → and_then_unless end (after_emitted (notes ∷ []) q) next ≡ after_emitted (notes ∷ []) (and_then_unless end q next)
 after_first notes q next (Some e) = refl
 after_first notes q next None = refl
 
 module _ (plan : Plan) (board : Blackboard) (natives : List Native) (limit : ℕ) where
-  -- what is told first
+  -- what is emitted first
   abbrev first : Response
   first = noted (first_state plan board natives) [] None
 
-  -- the processing of the events that are told first
+  -- the processing of the events that are emitted first
   abbrev processed : Stretch
-  processed = processing_all plan (events_in first.told) first.state
+  processed = processing_all plan (events_in first.emitted) first.state
 
-  -- the run after what is told first, up to its finish
+  -- the run after what is emitted first, up to its finish
   abbrev later : Stretch
   later = and_then_unless processed.end processed (cycles plan 0 limit)
 
-  -- whatever the limit, the run begins with what is told first and the processing of that
-  begins : processed.end ≡ None → Begins plan board natives (first.told ∷ processed.told) 0 processed.state
+  -- whatever the limit, the run begins with what is emitted first and the processing of that
+  begins : processed.end ≡ None → Begins plan board natives (first.emitted ∷ processed.emitted) 0 processed.state
   begins goes = λ left any is.
       let same : any ≡ left = omega (arith, is) in
-      after_first first.told processed (cycles plan 0 any) processed.end
-      ∙ ap (λ e. after_told (first.told ∷ []) (and_then_unless e processed (cycles plan 0 any))) goes
-      ∙ ap (λ n. after_told (first.told ∷ processed.told) (cycles plan 0 n processed.state)) same
+      after_first first.emitted processed (cycles plan 0 any) processed.end
+      ∙ ap (λ e. after_emitted (first.emitted ∷ []) (and_then_unless e processed (cycles plan 0 any))) goes
+      ∙ ap (λ n. after_emitted (first.emitted ∷ processed.emitted) (cycles plan 0 n processed.state)) same
 
-  begun : unfinished plan board natives limit ≡ after_told (first.told ∷ []) later
-  begun = after_first first.told processed (cycles plan 0 limit) processed.end
+  begun : unfinished plan board natives limit ≡ after_emitted (first.emitted ∷ []) later
+  begun = after_first first.emitted processed (cycles plan 0 limit) processed.end
 
   -- the run has made no cycle so far
-  so_far : SoFar plan board natives (first.told ∷ processed.told) 0 (notes_of processed)
+  so_far : SoFar plan board natives (first.emitted ∷ processed.emitted) 0 (notes_of processed)
   so_far = record {
     notes = ap (λ l. l ++ notes_of processed) (append-nil (map Board board.world.notes));
-    count = ap (λ l. length l) (events_silent plan (events_in first.told) first.state);
+    count = ap (λ l. length l) (events_silent plan (events_in first.emitted) first.state);
   }
 
-  ends : TellsLast plan board natives [] later
+  ends : EmitsLast plan board natives [] later
   ends =
-      ends_then plan board natives [] outside processed (cycles plan 0 limit) processed.end refl (processes_all plan board natives (events_in first.told) [] outside first.state (at_first plan board natives (setting_of plan) first.state.agenda.foci))
-      (λ goes at. all_cycles plan board natives 0 limit (first.told ∷ processed.told) (notes_of processed) processed.state (begins goes) so_far at)
+      ends_then plan board natives [] outside processed (cycles plan 0 limit) processed.end refl (processes_all plan board natives (events_in first.emitted) [] outside first.state (at_first plan board natives (setting_of plan) first.state.agenda.foci))
+      (λ goes at. all_cycles plan board natives 0 limit (first.emitted ∷ processed.emitted) (notes_of processed) processed.state (begins goes) so_far at)
 
   abbrev rest : List (List Note)
-  rest = later.told ++ finish_segments later.end later.state.natives
+  rest = later.emitted ++ finish_segments later.end later.state.natives
 
   abbrev end : End
   end = (run_finishes plan board natives limit).end
@@ -73,7 +74,7 @@ module _ (plan : Plan) (board : Blackboard) (natives : List Native) (limit : ℕ
   later_ends = sym (ap (λ u. u.end) begun) ∙ (run_finishes plan board natives limit).ends
 
   notes_are : all_of rest ≡ notes_of later ++ finish end later.state.natives
-  notes_are = ap (λ e. all_of (later.told ++ finish_segments e later.state.natives)) later_ends ∙ all_of_more later.told (finish end later.state.natives)
+  notes_are = ap (λ e. all_of (later.emitted ++ finish_segments e later.state.natives)) later_ends ∙ all_of_more later.emitted (finish end later.state.natives)
 
   -- a note after the first segment that does not come with the finish
   stands : (before : List Note) (note : Note) → At (all_of rest) before note → ComesBefore note → MayStand plan board natives before note
@@ -88,7 +89,7 @@ module _ (plan : Plan) (board : Blackboard) (natives : List Native) (limit : ℕ
   pub run_goes_by_phases : GoesByPhases plan board natives (run plan board natives limit)
   run_goes_by_phases = record {
     rest = rest;
-    begins = ap (λ u. u.told ++ finish_segments u.end u.state.natives) begun ∙ ap (λ l. l ∷ rest) (append-nil (map Board board.world.notes));
+    begins = ap (λ u. u.emitted ++ finish_segments u.end u.state.natives) begun ∙ ap (λ l. l ∷ rest) (append-nil (map Board board.world.notes));
     notes = λ before note at. stands before (Board note) at tt;
     choices = λ before cycle a r at. stands before (Chosen cycle a r) at tt;
     ends = λ before steps found budget at. stands before (Ended steps found budget) at tt;

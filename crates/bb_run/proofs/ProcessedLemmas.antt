@@ -1,4 +1,4 @@
--- A run processes each event in a state that is ready, and it processes the events that it tells, in order.
+-- A run processes each event in a state that is ready, and it processes the events that it emits, in order.
 use Rattle.std.proofs.Common.{◌≡◌, ℕ, zero, suc, ◌+◌, ℤ, List, [], ◌∷◌, ◌++◌, slice_get, Option, Some, None, refl, sym, subst}
 use Rattle.std.specs.Prelude.{All, option_and_then}
 use Rattle.std.proofs.lemmas.List.Elements.{All-append, All-cons, All-head, All-nil, All-tail}
@@ -13,7 +13,7 @@ use Rattle.bb_run_plan.specs.Plan.{Plan}
 use Rattle.bb_run.specs.declared.execution.Verdict.{Verdict}
 use Rattle.bb_run.specs.declared.execution.Verdict.TheVariants as verdicts
 use Rattle.bb_run.specs.State.{State, with_board}
-use Rattle.bb_run.specs.Told.{Response}
+use Rattle.bb_run.specs.Emission.{Response}
 use Rattle.bb_run.specs.Processing.{events_in, processing}
 use Rattle.bb_run.specs.Processed.{Visits, if_any, processed, processed_acting, processed_by_cycle, processed_by_cycles, processed_in, processed_of, processed_waiting, unless_over}
 use Rattle.bb_run.specs.Run.{choice, chosen_with, cycle, execution, first_state, if_valid, noted, rating, start, validity, wait}
@@ -45,7 +45,7 @@ module _ (plan : Plan) (sound : IsWellMade plan) (natives : List Native) where
       (unless p.end (processed plan events p.state) (each_ready events p.state more (answer_to plan sound natives event s ready first).state))
 
   response_ready : (r : Response) → IsWell plan sound natives r → AllReady (processed_of plan r)
-  response_ready r is = unless r.end (processed plan (events_in r.told) r.state) (each_ready (events_in r.told) r.state is.events is.well.state)
+  response_ready r is = unless r.end (processed plan (events_in r.emitted) r.state) (each_ready (events_in r.emitted) r.state is.events is.well.state)
 
   wait_ready : (s : State) (c : Option Activation) → Fit s → AllReady (processed_waiting s c)
   wait_ready s None ready = All-cons (IsReadyFor plan) (quiescence, s) [] (is_ready plan sound natives s ready, refl) (All-nil (IsReadyFor plan))

@@ -14,22 +14,22 @@ use Rattle.bb_trace.specs.Source.{Source}
 use Rattle.bb_trace.specs.End.{End}
 use Rattle.bb_trace.specs.declared.note.Note.{Note}
 use Rattle.bb_run.specs.State.{State}
-use Rattle.bb_run.specs.Told.{Response, after_told, and_then, and_then_unless, idle}
+use Rattle.bb_run.specs.Emission.{Response, after_emitted, and_then, and_then_unless, idle}
 use Rattle.bb_run.specs.Processing.{reacting_to, reacting_to_each, response, source_response}
 use Rattle.bb_run.specs.proving.Responding.{response_at, responses_at}
 use Rattle.bb_run.specs.proving.Own.{asked_about}
-use Rattle.bb_run.specs.proving.Telling.{IsResponse}
+use Rattle.bb_run.specs.Emitting.{IsResponse}
 use Rattle.bb_run.proofs.ConcernedLemmas.{all_by_concerned}
 use Rattle.bb_run.proofs.OwnLemmas.{IgnoresNo, as_asked}
 
 -- ---- one part and then the next
 
-pub nothing_told : (notes : List Note) (s : State) → IsResponse (idle s) notes notes s None
-nothing_told notes s = record { notes = sym (append-nil notes); state = refl; end = refl }
+pub nothing_emitted : (notes : List Note) (s : State) → IsResponse (idle s) notes notes s None
+nothing_emitted notes s = record { notes = sym (append-nil notes); state = refl; end = refl }
 
 -- of the whole response these notes were made, and the rest is left
 pub record HasNoted (old new : List Note) (whole rest : Response) : Type 0 where
-  pub notes : old ++ whole.told ≡ new ++ rest.told
+  pub notes : old ++ whole.emitted ≡ new ++ rest.emitted
   pub state : whole.state ≡ rest.state
   pub end : whole.end ≡ rest.end
 
@@ -44,9 +44,9 @@ module _ (old mid new : List Note) (whole p : Response) (next : State → Respon
   -- a part was made, and the rest comes
   pub part_made : HasNoted old mid whole (and_then p next) → IsResponse p mid new s None → HasNoted old new whole (next s)
   part_made h r =
-      let goes : and_then p next ≡ after_told p.told (next s) = ap (λ e. and_then_unless e p next) (sym r.end) ∙ ap (λ t. after_told p.told (next t)) (sym r.state) in
+      let goes : and_then p next ≡ after_emitted p.emitted (next s) = ap (λ e. and_then_unless e p next) (sym r.end) ∙ ap (λ t. after_emitted p.emitted (next t)) (sym r.state) in
       record {
-        notes = h.notes ∙ ap (λ q. mid ++ q.told) goes ∙ sym (append_assoc mid p.told (next s).told) ∙ ap (λ n. n ++ (next s).told) (sym r.notes);
+        notes = h.notes ∙ ap (λ q. mid ++ q.emitted) goes ∙ sym (append_assoc mid p.emitted (next s).emitted) ∙ ap (λ n. n ++ (next s).emitted) (sym r.notes);
         state = h.state ∙ ap (λ q. q.state) goes;
         end = h.end ∙ ap (λ q. q.end) goes;
       }
@@ -56,18 +56,18 @@ module _ (old mid new : List Note) (whole p : Response) (next : State → Respon
   part_over end h r =
       let stops : and_then p next ≡ p = ap (λ e. and_then_unless e p next) (sym r.end) in
       record {
-        notes = r.notes ∙ sym (h.notes ∙ ap (λ q. mid ++ q.told) stops);
+        notes = r.notes ∙ sym (h.notes ∙ ap (λ q. mid ++ q.emitted) stops);
         state = r.state ∙ sym (h.state ∙ ap (λ q. q.state) stops);
         end = r.end ∙ sym (h.end ∙ ap (λ q. q.end) stops);
       }
 
 -- ---- the source at a place
 
--- where there is no source, nothing is told
+-- where there is no source, nothing is emitted
 pub none_responds : (schema : Schema) (event : Event) (sources read : List Source) (place : ℕ) (s : State) (notes : List Note) → None ≡ slice_get read place → read ≡ sources → IsResponse (response_at schema event sources place s) notes notes s None
 none_responds schema event sources read place s notes none are =
     let same = ap (λ o. option_map_or (λ source. source_response schema event place source s) o (idle s)) (none ∙ ap (λ xs. slice_get xs place) are) in
-    subst (λ p. IsResponse p notes notes s None) same (nothing_told notes s)
+    subst (λ p. IsResponse p notes notes s None) same (nothing_emitted notes s)
 
 -- a source that is there responds
 pub one_responds : {E : Type 0} (r : Result (Option End) E) (old new : List Note) (t : State) (schema : Schema) (event : Event) (sources read : List Source) (place : ℕ) (source : Source) (s : State) → Some source ≡ slice_get read place → read ≡ sources
@@ -101,7 +101,7 @@ module _ (old now : List Note) (whole : Response) (schema : Schema) (event : Eve
 
   pub places_done : length places ≤ i → HasNoted old now whole (responses_at schema event sources (drop i places) s) → IsResponse whole old now s None
   unfolding responses_at
-  places_done le h = rest_made old now now whole (idle s) s None (subst (HasNoted old now whole) (ap (λ ps. responses_at schema event sources ps s) (drop_all i places le)) h) (nothing_told now s)
+  places_done le h = rest_made old now now whole (idle s) s None (subst (HasNoted old now whole) (ap (λ ps. responses_at schema event sources ps s) (drop_all i places le)) h) (nothing_emitted now s)
 
 -- nothing was noted yet of what the sources that the event concerns bring about, which is all of the response
 pub begun_at : (old : List Note) (plan : Plan) (event : Event) (places : List ℕ) (s : State) → places ≡ concerned event plan.sources
@@ -136,4 +136,4 @@ module _ (old now : List Note) (whole : Response) (event : Event) (by : Activati
 
   pub activations_done : (items : List Activation) → items ≡ [] → HasNoted old now whole (reacting_to_each event by reaction items s) → IsResponse whole old now s None
   unfolding reacting_to_each
-  activations_done items is h = rest_made old now now whole (idle s) s None (subst (HasNoted old now whole) (ap (λ xs. reacting_to_each event by reaction xs s) is) h) (nothing_told now s)
+  activations_done items is h = rest_made old now now whole (idle s) s None (subst (HasNoted old now whole) (ap (λ xs. reacting_to_each event by reaction xs s) is) h) (nothing_emitted now s)

@@ -20,7 +20,7 @@ use Rattle.bb_trace.specs.End as finishes
 use Rattle.bb_trace.specs.declared.note.Note.TheVariants.{Triggered, Declined, Obviated, Retriggered}
 use Rattle.bb_run_plan.specs.Plan.{Plan}
 use Rattle.bb_run.specs.State.{State, with_board, with_agenda}
-use Rattle.bb_run.specs.Told.{Response, telling, idle, over, and_then, and_then_unless}
+use Rattle.bb_run.specs.Emission.{Response, emitting, idle, over, and_then, and_then_unless}
 use Rattle.bb_run.specs.Asking.{attempt, asking, end_by, entry_of, reply_by, upon}
 use Rattle.bb_run.specs.Processing.{activating, if_triggered, obviated_by, reacting, reacting_to, reacting_to_each, required_by, rerated_by, response, response_by, source_response, triggering}
 use Rattle.bb_run.specs.Causes.{IsAsked, code_of}
@@ -38,10 +38,10 @@ module _ (plan : Plan) (Holds : State → Response → Type 0) where
         → Holds s (over (end_by stop) (with_board s (attempt code.code entry s.board).1))
     pub went_on : (s : State) (code : Checked) (entry : Entry) (r : Response) → OfPlan code → Holds (with_board s (attempt code.code entry s.board).1) r → Holds s r
     pub triggered : (s : State) (source unit : ℕ) (base : ℤ) → source < length plan.sources → is_full s.agenda ≡ false
-        → Holds s (telling (Triggered (new_activation s.agenda source unit base) ∷ []) (with_agenda s (with_activation s.agenda source unit base)) None)
-    pub declined : (s : State) (source unit : ℕ) → Holds s (telling (Declined source unit ∷ []) s None)
-    pub obviated : (s : State) (number : ℕ) → Holds s (telling (Obviated number ∷ []) (with_agenda s (with_obviated s.agenda number)) None)
-    pub rebased : (s : State) (number : ℕ) (base : ℤ) → Holds s (telling (Retriggered number base ∷ []) (with_agenda s (with_base s.agenda number base)) None)
+        → Holds s (emitting (Triggered (new_activation s.agenda source unit base) ∷ []) (with_agenda s (with_activation s.agenda source unit base)) None)
+    pub declined : (s : State) (source unit : ℕ) → Holds s (emitting (Declined source unit ∷ []) s None)
+    pub obviated : (s : State) (number : ℕ) → Holds s (emitting (Obviated number ∷ []) (with_agenda s (with_obviated s.agenda number)) None)
+    pub rebased : (s : State) (number : ℕ) (base : ℤ) → Holds s (emitting (Retriggered number base ∷ []) (with_agenda s (with_base s.agenda number base)) None)
     pub further : (s : State) (r : Response) (next : State → Response) → Holds s r → Holds r.state (next r.state) → Holds s (and_then_unless r.end r next)
 
   module _ (parts : HoldsOfParts) where
@@ -94,7 +94,7 @@ module _ (plan : Plan) (Holds : State → Response → Type 0) where
     activates : (event : Event) (place : ℕ) (base : ℤ) (s : State) → place < length plan.sources → Holds s (activating event place base s)
     activates event place base s under =
         either s (is_full s.agenda) (over finishes.Full s)
-        (telling (Triggered (new_activation s.agenda place (unit_of event) base) ∷ []) (with_agenda s (with_activation s.agenda place (unit_of event) base)) None)
+        (emitting (Triggered (new_activation s.agenda place (unit_of event) base) ∷ []) (with_agenda s (with_activation s.agenda place (unit_of event) base)) None)
         (parts.full s) (λ room. parts.triggered s place (unit_of event) base under room)
 
     requires_by : (event : Event) (place : ℕ) → place < length plan.sources → (answer : Answer) (t : State) → Holds t (required_by event place answer t)

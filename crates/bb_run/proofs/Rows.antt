@@ -71,13 +71,13 @@ waiting : Activation
 waiting = record { number = 1; source = 0; unit = 1; base = pos 100 }
 
 -- what the run of one note begins with
-begun : (start (plan (pos 0)) one_note []).told ≡ (Board (noted.Event (happens 1 1 Create)) ∷ []) ∷ (Triggered waiting ∷ []) ∷ []
+begun : (start (plan (pos 0)) one_note []).emitted ≡ (Board (noted.Event (happens 1 1 Create)) ∷ []) ∷ (Triggered waiting ∷ []) ∷ []
 unfolding plan hail hello note_schema one_note waiting climbs response_by processing_all
 begun = refl
 
 -- the cycle of that run, with the rating that the activation has then
 first_cycle : let s = (start (plan (pos 0)) one_note []).state in
-    (cycle (plan (pos 0)) 1 waiting s).told ≡
+    (cycle (plan (pos 0)) 1 waiting s).emitted ≡
     (Chosen 1 waiting (rating (plan (pos 0)) s waiting) ∷ [])
     ∷ (Board (noted.Said (saids.Value (Text (codes "hello")) ∷ [])) ∷ Ended 3 0 3 ∷ []) ∷ []
 unfolding plan hail hello note_schema one_note waiting climbs try_map room push push_text pop_many say step steps_from response_by processing_all
@@ -106,7 +106,7 @@ two_sources = record { schema = note_schema; sources = shy ∷ hail ∷ []; floo
 second : Activation
 second = record { number = 1; source = 1; unit = 1; base = pos 100 }
 
-declined_first : (start two_sources one_note []).told ≡ (Board (noted.Event (happens 1 1 Create)) ∷ []) ∷ (Declined 0 1 ∷ Triggered second ∷ []) ∷ []
+declined_first : (start two_sources one_note []).emitted ≡ (Board (noted.Event (happens 1 1 Create)) ∷ []) ∷ (Declined 0 1 ∷ Triggered second ∷ []) ∷ []
 unfolding two_sources shy decline hail hello note_schema one_note second climbs step steps_from response_by processing_all
 declined_first = refl
 
@@ -150,14 +150,14 @@ later : Activation
 later = record { number = 2; source = 0; unit = 2; base = pos 100 }
 
 -- the second note obviates the activation of the first, before it triggers one
-obviated_by_the_next : (start (hailing (Some (upon_note (PushBool true ∷ Answer ∷ []) (Obviate 1 1))) None None) two_notes []).told ≡
+obviated_by_the_next : (start (hailing (Some (upon_note (PushBool true ∷ Answer ∷ []) (Obviate 1 1))) None None) two_notes []).emitted ≡
     (Board (noted.Event (happens 1 1 Create)) ∷ Board (noted.Event (happens 2 1 Create)) ∷ []) ∷ (Triggered waiting ∷ [])
     ∷ (Obviated 1 ∷ Triggered later ∷ []) ∷ []
 unfolding hailing upon_note asked hello note_schema one_note two_notes waiting later climbs room push pop answer step steps_from reacting_to_each response_by processing_all
 obviated_by_the_next = refl
 
 -- the second note gives the activation of the first another base
-retriggered_by_the_next : (start (hailing None (Some (upon_note (PushInt (pos 7) ∷ Rate ∷ []) (Retrigger 1 1))) None) two_notes []).told ≡
+retriggered_by_the_next : (start (hailing None (Some (upon_note (PushInt (pos 7) ∷ Rate ∷ []) (Retrigger 1 1))) None) two_notes []).emitted ≡
     (Board (noted.Event (happens 1 1 Create)) ∷ Board (noted.Event (happens 2 1 Create)) ∷ []) ∷ (Triggered waiting ∷ [])
     ∷ (Retriggered 1 (pos 7) ∷ Triggered later ∷ []) ∷ []
 unfolding hailing upon_note asked hello note_schema one_note two_notes waiting later climbs room push pop rate step steps_from reacting_to_each response_by processing_all
@@ -168,6 +168,6 @@ abbrev revalidated : Plan
 revalidated = hailing None None (Some (asked 1 (PushBool false ∷ Answer ∷ []) (Revalidate 1)))
 
 invalid_when_chosen : let s = (start revalidated one_note []).state in
-    (cycle revalidated 1 waiting s).told ≡ (Chosen 1 waiting (rating revalidated s waiting) ∷ Invalid 1 ∷ []) ∷ []
+    (cycle revalidated 1 waiting s).emitted ≡ (Chosen 1 waiting (rating revalidated s waiting) ∷ Invalid 1 ∷ []) ∷ []
 unfolding hailing asked hello note_schema one_note waiting climbs room push pop answer step steps_from response_by processing_all
 invalid_when_chosen = refl

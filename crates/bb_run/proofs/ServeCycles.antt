@@ -5,12 +5,14 @@ use Rattle.std.proofs.lemmas.List.Elements.{All-head, All-tail}
 use Rattle.bb_verify.specs.Accepted.{Checked}
 use Rattle.bb_agenda.specs.Activation.{Activation}
 use Rattle.bb_trace.specs.Act.TheVariants as acts
+use Rattle.bb_trace.specs.Ask.{Ask}
 use Rattle.bb_trace.specs.Board.{Board as Blackboard}
 use Rattle.bb_trace.specs.End.{End}
 use Rattle.bb_trace.specs.Event.{Event}
 use Rattle.bb_trace.specs.Native.{Native}
 use Rattle.bb_trace.specs.Source.{Source}
 use Rattle.bb_trace.specs.declared.note.Note.{Note}
+use Rattle.bb_trace.specs.declared.note.Note.TheVariants.{Posted, PostEnded}
 use Rattle.bb_run_plan.specs.Plan.{Plan}
 use Rattle.bb_run.specs.declared.cycles.Decision.{Decision}
 use Rattle.bb_run.specs.declared.cycles.Decision.TheVariants.{Act}
@@ -19,17 +21,18 @@ use Rattle.bb_run.specs.declared.execution.Verdict.TheVariants as verdicts
 use Rattle.bb_run.specs.Asking.{entry_of}
 use Rattle.bb_run.specs.Causes.{LacksNative}
 use Rattle.bb_run.specs.Processing.{event_in, events_in, processing}
-use Rattle.bb_run.specs.Run.{choice, chosen_with, cycle, execution, first_state, noted, start, validity, wait}
+use Rattle.bb_run.specs.Run.{asked, choice, chosen_with, cycle, cycles, execution, first_state, noted, start, validity, wait}
+use Rattle.bb_run.specs.Turns.{posting, turn}
 use Rattle.bb_run.specs.State.{State, with_board}
-use Rattle.bb_run.specs.Told.{Response}
+use Rattle.bb_run.specs.Emission.{Response, after_emitted}
 use Rattle.bb_run.specs.Unstuck.{IsEventOf, IsWellMade, SuitsSource}
-use Rattle.bb_run.specs.proving.Serving.{CanExecute, HasNative, MayServe, Serves, ServesAt}
-use Rattle.bb_run.specs.proving.Telling.{IsResponse, Makes, Place, Validates, Waits, decision_by, option_list}
+use Rattle.bb_run.specs.Serving.{CanExecute, HasNative, MayServe, Serves, ServesAt}
+use Rattle.bb_run.specs.Emitting.{IsResponse, Makes, Place, Validates, Waits, decision_by, option_list}
 use Rattle.bb_run.proofs.ReadLemmas.{same_natives}
 use Rattle.bb_run.proofs.ServeLemmas.{same_after, serves_after}
-use Rattle.bb_run.proofs.TellLemmas.{next_note}
-use Rattle.bb_run.proofs.UnstuckRuns.{Ready, act_begins, acts_by, chooses, cycle_goes, first_well, ready_on, revalidation_begins, same_board, suits_chosen, verdict_is_fine, waits_for}
-use Rattle.bb_run.proofs.UnstuckStates.{IsWell, there_at, is_ready, reports}
+use Rattle.bb_run.proofs.EmitLemmas.{next_note}
+use Rattle.bb_run.proofs.UnstuckRuns.{Ready, act_begins, acts_by, chooses, cycle_goes, cycles_go, first_well, post_goes, ready_on, revalidation_begins, same_board, suits_chosen, turn_goes, verdict_is_fine, waits_for}
+use Rattle.bb_run.proofs.UnstuckStates.{IsWell, there_at, is_ready, posts_well, reports}
 
 -- a state that is ready, with the natives that were handed in, serves
 serves_by : (plan : Plan) (sound : IsWellMade plan) (natives : List Native) → ¬ LacksNative plan natives → (p t : State) → t ≡ p → Ready plan sound natives p → Serves plan t
@@ -37,14 +40,18 @@ serves_by plan sound natives given p t same ready =
     subst (Serves plan) (sym same)
     (record { sound = sound; natives = λ lacks. given (lacks.0, lacks.1, lacks.2, sym (ready.places lacks.0.name) ∙ lacks.3); ready = is_ready plan sound natives p ready })
 
--- what a response that goes well leaves, and tells
-told_serves : (plan : Plan) (sound : IsWellMade plan) (natives : List Native) (given : ¬ LacksNative plan natives) (p : Response) → IsWell plan sound natives p → (old new read : List Note) (t : State) (end : Option End) → old ≡ [] → read ≡ new → IsResponse p old new t end
+-- what a response that goes well leaves, and emits
+emitted_serves : (plan : Plan) (sound : IsWellMade plan) (natives : List Native) (given : ¬ LacksNative plan natives) (p : Response) → IsWell plan sound natives p → (old new read : List Note) (t : State) (end : Option End) → old ≡ [] → read ≡ new → IsResponse p old new t end
     → Serves plan t × All (IsEventOf plan.schema t.board) (events_in read)
-told_serves plan sound natives given p well old new read t end none same response =
-    let all : read ≡ p.told = same ∙ (response.notes ∙ ap (λ (l : List Note). l ++ p.told) none) in (
+emitted_serves plan sound natives given p well old new read t end none same response =
+    let all : read ≡ p.emitted = same ∙ (response.notes ∙ ap (λ (l : List Note). l ++ p.emitted) none) in (
       serves_by plan sound natives given p.state t response.state well.well.state,
-      subst (λ (l : List Note). All (IsEventOf plan.schema t.board) (events_in l)) (sym all) (subst (λ (y : State). All (IsEventOf plan.schema y.board) (events_in p.told)) (sym response.state) well.events),
+      subst (λ (l : List Note). All (IsEventOf plan.schema t.board) (events_in l)) (sym all) (subst (λ (y : State). All (IsEventOf plan.schema y.board) (events_in p.emitted)) (sym response.state) well.events),
     )
+
+-- a response after the note that it is from outside
+pub posted_is : (p : Response) (old new : List Note) (t : State) (end : Option End) → old ≡ Posted ∷ [] → IsResponse p old new t end → IsResponse (after_emitted (Posted ∷ []) p) [] new t end
+posted_is p old new t end begun response = record { notes = response.notes ∙ ap (λ (l : List Note). l ++ p.emitted) begun; state = response.state; end = response.end }
 
 -- ---- events of notes, one after another
 
@@ -94,15 +101,36 @@ module _ (plan : Plan) (s : State) (serves : Serves plan s) where
   waited = (waits_for plan serves.sound s.natives s (choice plan s) ready).state
 
   pub wait_serves : (a b : Place) (t : State) (decision : Decision) → Waits plan a b s t (Ok decision) → Serves plan t
-  wait_serves a b t decision told = serves_as (wait plan s).state t told.state waited
+  wait_serves a b t decision emitted = serves_as (wait plan s).state t emitted.state waited
 
   pub wait_suits : (a b : Place) (t : State) (decision : Decision) (x : Activation) → Waits plan a b s t (Ok decision) → decision ≡ Act x → SuitsSource plan t.board x
-  wait_suits a b t decision x told is =
-      let chosen = act_chosen (wait plan s).end (choice plan (wait plan s).state) x (sym told.decision_is ∙ is) in
-      subst (λ (y : State). SuitsSource plan y.board x) (sym told.state) (suits_chosen plan serves.sound s.natives (wait plan s).state x chosen waited)
+  wait_suits a b t decision x emitted is =
+      let chosen = act_chosen (wait plan s).end (choice plan (wait plan s).state) x (sym emitted.decision_is ∙ is) in
+      subst (λ (y : State). SuitsSource plan y.board x) (sym emitted.state) (suits_chosen plan serves.sound s.natives (wait plan s).state x chosen waited)
 
   pub cycle_serves : (a b : Place) (t : State) (number : ℕ) (x : Activation) (end : Option End) → SuitsSource plan s.board x → Makes plan a b (cycle plan number x s) t (Ok end) → Serves plan t
   cycle_serves a b t number x end suits made = serves_as (cycle plan number x s).state t made.1.state (cycle_goes plan serves.sound s.natives number x s ready suits).state
+
+  -- what is chosen at once
+  pub chosen_suits : (x : Activation) → choice plan s ≡ Some x → SuitsSource plan s.board x
+  chosen_suits x is = suits_chosen plan serves.sound s.natives s x is ready
+
+  -- ---- what else a host has a run do
+
+  pub turn_serves : (t : State) (made : ℕ) → t ≡ (turn plan made s).state → Serves plan t
+  turn_serves t made is = serves_as (turn plan made s).state t is (turn_goes plan serves.sound s.natives made s ready).state
+
+  pub cycles_serve : (t : State) (made left : ℕ) → t ≡ (cycles plan made left s).state → Serves plan t
+  cycles_serve t made left is = serves_as (cycles plan made left s).state t is (cycles_go plan serves.sound s.natives made left s ready).state
+
+  pub post_serves : (t : State) (asks : List Ask) → t ≡ (posting plan asks s).state → Serves plan t
+  post_serves t asks is = serves_as (posting plan asks s).state t is (post_goes plan serves.sound s.natives asks s ready).state
+
+  -- once asks from outside were applied: the events that were emitted are of the blackboard then
+  pub posted_serves : (asks : List Ask) (old new read : List Note) (t : State) (end : Option End) → old ≡ Posted ∷ [] → read ≡ new → IsResponse (asked (λ n. PostEnded n) asks s) old new t end → Serves plan t × All (IsEventOf plan.schema t.board) (events_in read)
+  posted_serves asks old new read t end begun same response =
+      emitted_serves plan serves.sound s.natives serves.natives (after_emitted (Posted ∷ []) (asked (λ n. PostEnded n) asks s)) (posts_well plan serves.sound s.natives asks s ready) [] new read t end refl same
+      (posted_is (asked (λ n. PostEnded n) asks s) old new t end begun response)
 
   -- ---- in a cycle
 
@@ -138,21 +166,21 @@ module _ (plan : Plan) (s : State) (serves : Serves plan s) where
           ap (λ (y : State). y.board) response.state ∙ (board_kept number r verdict (with_board s board) ∙ same),
         )
 
-    -- once it was executed: the events that were told are of the blackboard then
+    -- once it was executed: the events that were emitted are of the blackboard then
     pub executed_serves : (source : Source) → slice_get plan.sources x.source ≡ Some source → (old new read : List Note) (t : State) (end : Option End) → old ≡ [] → read ≡ new → IsResponse (execution source.name source.act x s) old new t end
         → Serves plan t × All (IsEventOf plan.schema t.board) (events_in read)
     executed_serves source there old new read t end none same response =
-        told_serves plan serves.sound s.natives serves.natives (execution source.name source.act x s) (acts_by plan serves.sound s.natives source x s there ready suits source.act refl) old new read t end none same response
+        emitted_serves plan serves.sound s.natives serves.natives (execution source.name source.act x s) (acts_by plan serves.sound s.natives source x s there ready suits source.act refl) old new read t end none same response
 
 -- ---- the start
 
 module _ (plan : Plan) (board : Blackboard) (natives : List Native) (may : MayServe plan board natives) where
-  pub start_serves : (a b : Place) (t : State) (end : Option End) → Makes plan a b (start plan board natives) t (Ok end) → Serves plan t
-  start_serves a b t end made =
-      serves_by plan may.sound natives may.natives_are (start plan board natives).state t made.1.state
+  pub start_serves : (t : State) → t ≡ (start plan board natives).state → Serves plan t
+  start_serves t is =
+      serves_by plan may.sound natives may.natives_are (start plan board natives).state t is
       (reports plan may.sound natives (noted (first_state plan board natives) [] None) (first_well plan may.sound natives board 0 may.fits)).state
 
   -- once the first notes were taken
   pub noted_serves : (s t : State) (old new read : List Note) → s ≡ first_state plan board natives → old ≡ [] → read ≡ new → IsResponse (noted s [] None) old new t None → Serves plan t × All (IsEventOf plan.schema t.board) (events_in read)
   noted_serves s t old new read is none same response =
-      told_serves plan may.sound natives may.natives_are (noted s [] None) (subst (λ (y : State). IsWell plan may.sound natives (noted y [] None)) (sym is) (first_well plan may.sound natives board 0 may.fits)) old new read t None none same response
+      emitted_serves plan may.sound natives may.natives_are (noted s [] None) (subst (λ (y : State). IsWell plan may.sound natives (noted y [] None)) (sym is) (first_well plan may.sound natives board 0 may.fits)) old new read t None none same response

@@ -17,12 +17,12 @@ use Rattle.bb_run_plan.specs.Plan.{Plan}
 use Rattle.bb_run.specs.Asking.{entry_of}
 use Rattle.bb_run.specs.Processing.{obviated_by, reacting, rerated_by, response, source_response}
 use Rattle.bb_run.specs.State.{State}
-use Rattle.bb_run.specs.Told.{idle}
+use Rattle.bb_run.specs.Emission.{idle}
 use Rattle.bb_run.specs.Unstuck.{FitsPlan, IsEventOf, SuitsSource}
 use Rattle.bb_rules.specs.Own.{asks_own}
 use Rattle.bb_run.specs.proving.Own.{asked_about}
 use Rattle.bb_run.specs.proving.Responding.{response_at}
-use Rattle.bb_run.specs.proving.Serving.{CanExecute, ReactsTo, ReactsToAll, ServesAt}
+use Rattle.bb_run.specs.Serving.{CanExecute, ReactsTo, ReactsToAll, ServesAt}
 use Rattle.bb_run.proofs.UnstuckParts.{Waits, all_answer, obviate_asked, obviate_begins, obviates, reacts_if, require_begins, rerates, retrigger_asked, retrigger_begins, source_answers, suit_place}
 use Rattle.bb_run.proofs.UnstuckStates.{there_at}
 

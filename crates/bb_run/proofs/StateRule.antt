@@ -14,7 +14,7 @@ use Rattle.bb_trace.specs.declared.note.Note.{Note}
 use Rattle.bb_run_plan.specs.Plan.{Plan}
 use Rattle.bb_run.specs.declared.execution.Verdict.{Verdict}
 use Rattle.bb_run.specs.State.{State, with_board}
-use Rattle.bb_run.specs.Told.{Response, Told, over, and_then, and_then_unless, segment}
+use Rattle.bb_run.specs.Emission.{Response, Emission, over, and_then, and_then_unless, segment}
 use Rattle.bb_run.specs.Processing.{events_in, processing, processing_all, reported, response}
 use Rattle.bb_run.specs.Run.{rating, choice, wait, wait_for, noted, execution, acting, validity, chosen_with, if_valid, cycle, if_chosen, cycles, first_state, start, run}
 
@@ -26,7 +26,7 @@ module _ (plan : Plan) (Holds : State → Type 0) where
     pub asks : (source : Option Source) (a : Activation) (s : State) → slice_get plan.sources a.source ≡ source → Holds s → Holds (with_board s (validity (option_and_then (λ t. t.revalidate) source) a s.board).1)
     pub chooses : (number : ℕ) (a : Activation) (r : ℤ) (v : Verdict) (s : State) → Holds s → Holds (chosen_with number a r v s).state
 
-  pub kept_then : {X : Type 0} (p : Told X) (next : State → Told X) (end : Option End) → Holds p.state → ((s : State) → Holds s → Holds (next s).state) → Holds (and_then_unless end p next).state
+  pub kept_then : {X : Type 0} (p : Emission X) (next : State → Emission X) (end : Option End) → Holds p.state → ((s : State) → Holds s → Holds (next s).state) → Holds (and_then_unless end p next).state
   kept_then p next (Some e) first rest = first
   kept_then p next None first rest = rest p.state first
 
@@ -36,8 +36,8 @@ module _ (plan : Plan) (Holds : State → Type 0) where
     processes_all [] s k = k
     processes_all (event ∷ events) s k = let p = processing plan event s in kept_then p (processing_all plan events) p.end (kept.events event s k) (processes_all events)
 
-    reports : (r : Response) → Holds r.state → Holds (reported plan r).state
-    reports r k = kept_then (segment r) (processing_all plan (events_in r.told)) r.end k (processes_all (events_in r.told))
+    pub reports : (r : Response) → Holds r.state → Holds (reported plan r).state
+    reports r k = kept_then (segment r) (processing_all plan (events_in r.emitted)) r.end k (processes_all (events_in r.emitted))
 
     -- ---- a cycle
 
@@ -59,11 +59,11 @@ module _ (plan : Plan) (Holds : State → Type 0) where
     wait_keeps s None k = kept.events quiescence s k
     wait_keeps s (Some a) k = k
 
-    goes_if : (t : State) (c : Option Activation) (next : Activation → Told (List Note)) → Holds t → ((a : Activation) → Holds (next a).state) → Holds (if_chosen t c next).state
+    pub goes_if : (t : State) (c : Option Activation) (next : Activation → Emission (List Note)) → Holds t → ((a : Activation) → Holds (next a).state) → Holds (if_chosen t c next).state
     goes_if t None next k rest = k
     goes_if t (Some a) next k rest = rest a
 
-    cycles_keep : (made left : ℕ) (s : State) → Holds s → Holds (cycles plan made left s).state
+    pub cycles_keep : (made left : ℕ) (s : State) → Holds s → Holds (cycles plan made left s).state
     unfolding cycles
     cycles_keep made zero s k =
         let p = wait plan s in

@@ -36,7 +36,7 @@ use Rattle.bb_trace.specs.End as finishes
 use Rattle.bb_trace.specs.declared.note.Note.TheVariants.{Triggered, Declined, Obviated, Retriggered}
 use Rattle.bb_run_plan.specs.Plan.{Plan}
 use Rattle.bb_run.specs.State.{State, with_board, with_agenda}
-use Rattle.bb_run.specs.Told.{Response, Told, telling, idle, over, and_then, and_then_unless, segment}
+use Rattle.bb_run.specs.Emission.{Response, Emission, emitting, idle, over, and_then, and_then_unless, segment}
 use Rattle.bb_run.specs.Asking.{attempt, asking, entry_of, reply_by, upon}
 use Rattle.bb_run.specs.Processing.{activating, if_triggered, obviated_by, processing, processing_all, reacting, reacting_to, reacting_to_each, required_by, rerated_by, response, response_by, source_response, triggering}
 use Rattle.bb_run.specs.Causes.{IsAsked, IsPart, code_of}
@@ -47,38 +47,38 @@ use Rattle.bb_run.proofs.ReadLemmas.{plan_reads}
 
 -- ---- parts of a run, one after another
 
--- what is told keeps its budgets, the run is not stuck under this premise, and this holds of the state
-pub record GoesWell (Given : Type 0) {X : Type 0} (Fine : X → Type 0) (Holds : State → Type 0) (p : Told X) : Type 0 where
-  pub told : All Fine p.told
+-- what is emitted keeps its budgets, the run is not stuck under this premise, and this holds of the state
+pub record GoesWell (Given : Type 0) {X : Type 0} (Fine : X → Type 0) (Holds : State → Type 0) (p : Emission X) : Type 0 where
+  pub emitted : All Fine p.emitted
   pub end : Given → NotStuck p.end
   pub state : Holds p.state
 
 module _ (Given : Type 0) {X : Type 0} (Fine : X → Type 0) (Holds : State → Type 0) where
-  -- nothing is told
+  -- nothing is emitted
   pub well_idle : (s : State) → Holds s → GoesWell Given Fine Holds (idle {X = X} s)
-  well_idle s holds = record { told = All-nil Fine; end = λ given. tt; state = holds }
+  well_idle s holds = record { emitted = All-nil Fine; end = λ given. tt; state = holds }
 
   pub well_over : (end : End) (s : State) → (Given → NotStuck (Some end)) → Holds s → GoesWell Given Fine Holds (over {X = X} end s)
-  well_over end s not holds = record { told = All-nil Fine; end = not; state = holds }
+  well_over end s not holds = record { emitted = All-nil Fine; end = not; state = holds }
 
-  -- one thing is told
-  pub well_one : (x : X) (s : State) → Fine x → Holds s → GoesWell Given Fine Holds (telling (x ∷ []) s None)
-  well_one x s fine holds = record { told = All-cons Fine x [] fine (All-nil Fine); end = λ given. tt; state = holds }
+  -- one thing is emitted
+  pub well_one : (x : X) (s : State) → Fine x → Holds s → GoesWell Given Fine Holds (emitting (x ∷ []) s None)
+  well_one x s fine holds = record { emitted = All-cons Fine x [] fine (All-nil Fine); end = λ given. tt; state = holds }
 
   -- one part, and then the next
-  pub well_then : (p : Told X) (next : State → Told X) (end : Option End) → p.end ≡ end → GoesWell Given Fine Holds p → (Holds p.state → GoesWell Given Fine Holds (next p.state)) → GoesWell Given Fine Holds (and_then_unless end p next)
+  pub well_then : (p : Emission X) (next : State → Emission X) (end : Option End) → p.end ≡ end → GoesWell Given Fine Holds p → (Holds p.state → GoesWell Given Fine Holds (next p.state)) → GoesWell Given Fine Holds (and_then_unless end p next)
   well_then p next (Some e) is first rest = first
   well_then p next None is first rest =
       let q = rest first.state in
-      record { told = All-append Fine p.told (next p.state).told first.told q.told; end = q.end; state = q.state }
+      record { emitted = All-append Fine p.emitted (next p.state).emitted first.emitted q.emitted; end = q.end; state = q.state }
 
 -- what holds of the state says something else of it too
-pub well_weaker : (Given : Type 0) {X : Type 0} (Fine : X → Type 0) (Holds Other : State → Type 0) (p : Told X) → ((s : State) → Holds s → Other s) → GoesWell Given Fine Holds p → GoesWell Given Fine Other p
-well_weaker Given Fine Holds Other p from well = record { told = well.told; end = well.end; state = from p.state well.state }
+pub well_weaker : (Given : Type 0) {X : Type 0} (Fine : X → Type 0) (Holds Other : State → Type 0) (p : Emission X) → ((s : State) → Holds s → Other s) → GoesWell Given Fine Holds p → GoesWell Given Fine Other p
+well_weaker Given Fine Holds Other p from well = record { emitted = well.emitted; end = well.end; state = from p.state well.state }
 
--- a response is told as one segment
+-- a response is emitted as one segment
 pub well_segment : (Given : Type 0) (Holds : State → Type 0) (r : Response) → GoesWell Given KeepsBudget Holds r → GoesWell Given (All KeepsBudget) Holds (segment r)
-well_segment Given Holds r well = record { told = All-cons (All KeepsBudget) r.told [] well.told (All-nil (All KeepsBudget)); end = well.end; state = well.state }
+well_segment Given Holds r well = record { emitted = All-cons (All KeepsBudget) r.emitted [] well.emitted (All-nil (All KeepsBudget)); end = well.end; state = well.state }
 
 -- ---- while events are processed
 
@@ -232,7 +232,7 @@ module _ (plan : Plan) (sound : IsWellMade plan) (Given : Type 0) (b : Blackboar
       activates : (base : ℤ) (s : State) → Was source.class (unit_of event) → Waits s → Answers (activating event place base s)
       activates base s was w =
           let a = new_activation s.agenda place (unit_of event) base in
-          by_test (is_full s.agenda) (over finishes.Full s) (telling (Triggered a ∷ []) (with_agenda s (with_activation s.agenda place (unit_of event) base)) None)
+          by_test (is_full s.agenda) (over finishes.Full s) (emitting (Triggered a ∷ []) (with_agenda s (with_activation s.agenda place (unit_of event) base)) None)
           (λ full. well_over Given KeepsBudget Waits finishes.Full s (λ given. tt) w)
           (well_one Given KeepsBudget Waits (Triggered a) (with_agenda s (with_activation s.agenda place (unit_of event) base)) tt
           (record {

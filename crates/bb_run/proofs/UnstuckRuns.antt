@@ -27,6 +27,7 @@ use Rattle.bb_trace.specs.BoardNote.TheVariants.{Event as happened}
 use Rattle.bb_trace.specs.Event.{Event}
 use Rattle.bb_trace.specs.Event.TheVariants.{Quiescence as quiescence}
 use Rattle.bb_trace.specs.Law.{HasSoundCodes, IsMade}
+use Rattle.bb_trace.specs.Ask.{Ask}
 use Rattle.bb_trace.specs.Closing.{Closing}
 use Rattle.bb_trace.specs.Native.{Native}
 use Rattle.bb_trace.specs.Roster.{after_act_at, asks_at, closings_of, place_of}
@@ -36,17 +37,18 @@ use Rattle.bb_trace.specs.Source.{Source}
 use Rattle.bb_trace.specs.End.{End}
 use Rattle.bb_trace.specs.End as finishes
 use Rattle.bb_trace.specs.declared.note.Note.{Note}
-use Rattle.bb_trace.specs.declared.note.Note.TheVariants.{Board, Chosen, Invalid, Ended, Finished, Closed}
+use Rattle.bb_trace.specs.declared.note.Note.TheVariants.{Board, Chosen, Invalid, Ended, Posted, PostEnded, Finished, Closed}
 use Rattle.bb_run_plan.specs.Plan.{Plan}
 use Rattle.bb_run.specs.declared.execution.Verdict.{Verdict}
 use Rattle.bb_run.specs.declared.execution.Verdict.TheVariants as verdicts
 use Rattle.bb_run.specs.State.{State, with_board, with_natives}
-use Rattle.bb_run.specs.Told.{Response, Stretch, over, after_told, and_then, segment}
+use Rattle.bb_run.specs.Emission.{Response, Stretch, idle, over, after_emitted, and_then, segment}
 use Rattle.bb_run.specs.Asking.{attempt, entry_of, reply_by}
 use Rattle.bb_run.specs.Processing.{response}
 use Rattle.bb_run.specs.Order.{At, all_of, notes_of}
 use Rattle.bb_run.specs.Causes.{IsPart, LacksNative}
-use Rattle.bb_run.specs.Run.{rating, choice, wait, wait_for, noted, answered, calling, each_applied, executing, execution, acting, verdict_by, verdict_of, validity, chosen_with, if_valid, cycle, if_chosen, cycles, first_state, start, finish, finish_segments, unfinished, run}
+use Rattle.bb_run.specs.Turns.{posting, turn, turn_by}
+use Rattle.bb_run.specs.Run.{rating, choice, quiet, wait, wait_for, noted, answered, asked, calling, each_applied, executing, execution, acting, verdict_by, verdict_of, validity, chosen_with, if_valid, cycle, if_chosen, cycles, first_state, start, finish, finish_segments, unfinished, run}
 use Rattle.bb_run.specs.Unstuck.{AsksFor, BeginsFor, FitsPlan, IsEventOf, IsReady, IsWellMade, KeepsBudget, NotStuck, SuitsSource}
 use Rattle.bb_run.proofs.EntryLemmas.{begins_with, code_within, fits_do, fits_revalidate}
 use Rattle.bb_run.proofs.AskRule.{asks_hold}
@@ -54,7 +56,7 @@ use Rattle.bb_run.proofs.OrderlyRuns.{run_chooses}
 use Rattle.bb_run.proofs.ReadLemmas.{plan_reads, run_reads}
 use Rattle.bb_run.proofs.UnstuckParts.{GoesWell, well_idle, well_one, well_over, well_segment, well_then}
 use Rattle.bb_run.proofs.UnstuckStates as states
-use Rattle.bb_run.proofs.UnstuckStates.{AskGoes, answer_to, ask_parts, event_asks, is_ready, native_ends, reports, there_at, well_noted}
+use Rattle.bb_run.proofs.UnstuckStates.{AskGoes, answer_to, ask_parts, event_asks, is_ready, native_ends, posts_well, reports, there_at, well_noted}
 
 -- all notes of segments
 all_told : (P : Note → Type 0) (segments : List (List Note)) → All (All P) segments → All P (all_of segments)
@@ -161,7 +163,7 @@ module _ (plan : Plan) (sound : IsWellMade plan) (natives : List Native) where
     calls : (place : Option ℕ) → source.act ≡ acts.Native → place_of s.natives source.name ≡ place → IsWell (calling place a s)
     calls None native none = record {
       well = record {
-        told = All-nil KeepsBudget;
+        emitted = All-nil KeepsBudget;
         end = λ given. absurd (given (source, there, native, sym (ready.places source.name) ∙ none));
         state = ready;
       };
@@ -208,7 +210,7 @@ module _ (plan : Plan) (sound : IsWellMade plan) (natives : List Native) where
         places = ready.places;
       })
   chooses number a r verdicts.Invalid t ready fine = record {
-    told = All-cons KeepsBudget (Chosen number a r) (Invalid a.number ∷ []) tt (All-cons KeepsBudget (Invalid a.number) [] tt (All-nil KeepsBudget));
+    emitted = All-cons KeepsBudget (Chosen number a r) (Invalid a.number ∷ []) tt (All-cons KeepsBudget (Invalid a.number) [] tt (All-nil KeepsBudget));
     end = λ given. tt;
     state = record {
       board = ready.board;
@@ -217,7 +219,7 @@ module _ (plan : Plan) (sound : IsWellMade plan) (natives : List Native) where
     };
   }
   chooses number a r (verdicts.Over end) t ready fine = record {
-    told = All-cons KeepsBudget (Chosen number a r) [] tt (All-nil KeepsBudget);
+    emitted = All-cons KeepsBudget (Chosen number a r) [] tt (All-nil KeepsBudget);
     end = λ given. fine end refl;
     state = ready;
   }
@@ -253,8 +255,8 @@ module _ (plan : Plan) (sound : IsWellMade plan) (natives : List Native) where
   waits_for s None ready =
       let q = answer_to plan sound natives quiescence s ready refl in
       let note : List Note = Board (happened quiescence) ∷ [] in
-      well_segment Given Ready (after_told note (response plan quiescence s)) (record {
-        told = All-cons KeepsBudget (Board (happened quiescence)) (response plan quiescence s).told tt q.told;
+      well_segment Given Ready (after_emitted note (response plan quiescence s)) (record {
+        emitted = All-cons KeepsBudget (Board (happened quiescence)) (response plan quiescence s).emitted tt q.emitted;
         end = q.end;
         state = q.state;
       })
@@ -274,7 +276,7 @@ module _ (plan : Plan) (sound : IsWellMade plan) (natives : List Native) where
       let p = cycle plan (made + 1) a t in
       well_then Given (All KeepsBudget) Ready p (cycles plan (made + 1) left) p.end refl (cycle_goes (made + 1) a t ready (suits_chosen t a is ready)) (rest p.state)
 
-  cycles_go : (made left : ℕ) (s : State) → Ready s → GoesOn (cycles plan made left s)
+  pub cycles_go : (made left : ℕ) (s : State) → Ready s → GoesOn (cycles plan made left s)
   unfolding cycles
   cycles_go made zero s ready =
       let p = wait plan s in
@@ -283,6 +285,24 @@ module _ (plan : Plan) (sound : IsWellMade plan) (natives : List Native) where
       let p = wait plan s in
       well_then Given (All KeepsBudget) Ready p (λ t. if_chosen t (choice plan t) (λ a. and_then (cycle plan (made + 1) a t) (cycles plan (made + 1) left))) p.end refl (waits_for s (choice plan s) ready)
       (next_cycle made left p.state (choice plan p.state) refl (λ t. cycles_go (made + 1) left t))
+
+  -- ---- what else a host has a run do
+
+  rests : (t : State) (c : Option Activation) → Ready t → GoesOn (if_chosen t c (λ a. idle t))
+  rests t None ready = well_over Given (All KeepsBudget) Ready finishes.Quiescence t (λ given. tt) ready
+  rests t (Some a) ready = well_idle Given (All KeepsBudget) Ready t ready
+
+  turns : (made : ℕ) (s : State) (c : Option Activation) → choice plan s ≡ c → Ready s → GoesOn (turn_by plan made s c)
+  turns made s (Some a) is ready = cycle_goes (made + 1) a s ready (suits_chosen s a is ready)
+  turns made s None is ready =
+      let p = quiet plan s in
+      well_then Given (All KeepsBudget) Ready p (λ t. if_chosen t (choice plan t) (λ a. idle t)) p.end refl (waits_for s None ready) (rests p.state (choice plan p.state))
+
+  pub turn_goes : (made : ℕ) (s : State) → Ready s → GoesOn (turn plan made s)
+  turn_goes made s ready = turns made s (choice plan s) refl ready
+
+  pub post_goes : (asks : List Ask) (s : State) → Ready s → GoesOn (posting plan asks s)
+  post_goes asks s ready = reports plan sound natives (after_emitted (Posted ∷ []) (asked (λ n. PostEnded n) asks s)) (posts_well plan sound natives asks s ready)
 
   module _ (board : Blackboard) (limit : ℕ) (fits : FitsPlan plan board) where
     pub first_ready : Ready (first_state plan board natives)
@@ -311,7 +331,7 @@ module _ (plan : Plan) (sound : IsWellMade plan) (natives : List Native) where
     run_keeps_budgets =
         let p = unfinished plan board natives limit in
         let last = finish_segments p.end p.state.natives in
-        all_told KeepsBudget (p.told ++ last) (All-append (All KeepsBudget) p.told last goes.told (finish_keeps p.end p.state.natives))
+        all_told KeepsBudget (p.emitted ++ last) (All-append (All KeepsBudget) p.emitted last goes.emitted (finish_keeps p.end p.state.natives))
 
     pub run_ready : IsReady plan (run plan board natives limit).state
     run_ready = is_ready plan sound natives (run plan board natives limit).state goes.state

@@ -1,5 +1,5 @@
 -- States that are ready: events are processed in them, and the asks of natives leave them so.
-use Rattle.std.proofs.Common.{◌≡◌, ◌⊎◌, ◌≤◌, ◌<◌, inl, inr, ℕ, List, [], ◌∷◌, ◌++◌, Option, Some, None, Ok, refl, sym, ap, subst, ◌∙◌, arith}
+use Rattle.std.proofs.Common.{◌≡◌, ◌⊎◌, ◌≤◌, ◌<◌, inl, inr, ℕ, List, [], ◌∷◌, ◌++◌, length, Option, Some, None, Ok, refl, sym, ap, subst, ◌∙◌, arith}
 use Rattle.std.specs.Prelude.{true, All, Contains, map, slice_get}
 use Rattle.std.proofs.lemmas.List.{append-nil}
 use Rattle.std.proofs.lemmas.List.Elements.{All-append, All-cons, All-contains, All-nil, All-weaker}
@@ -29,17 +29,17 @@ use Rattle.bb_trace.specs.World.{after_take}
 use Rattle.bb_trace.specs.End.{End}
 use Rattle.bb_trace.specs.End as finishes
 use Rattle.bb_trace.specs.declared.note.Note.{Note}
-use Rattle.bb_trace.specs.declared.note.Note.TheVariants.{Board, Refused, NativeEnded}
+use Rattle.bb_trace.specs.declared.note.Note.TheVariants.{Board, Refused, NativeEnded, Posted, PostEnded}
 use Rattle.bb_run_plan.specs.Plan.{Plan}
 use Rattle.bb_run.specs.State.{State, with_board}
-use Rattle.bb_run.specs.Told.{Response, Stretch, telling, idle, over, and_then_unless, segment}
+use Rattle.bb_run.specs.Emission.{Response, Stretch, emitting, idle, over, after_emitted, and_then_unless, segment}
 use Rattle.bb_run.specs.Asking.{entry_of}
-use Rattle.bb_run.specs.Processing.{events_in, processing_all, reported, response}
+use Rattle.bb_run.specs.Processing.{event_in, events_in, processing_all, reported, response}
 use Rattle.bb_run.specs.Causes.{LacksNative}
-use Rattle.bb_run.specs.Run.{with_notes_taken, noted}
+use Rattle.bb_run.specs.Run.{asked, each_applied, with_notes_taken, noted}
 use Rattle.bb_run.specs.Unstuck.{AsksFor, FitsPlan, IsEventOf, IsReady, IsWellMade, KeepsBudget, NotStuck, SuitsSource}
 use Rattle.bb_run.proofs.EntryLemmas.{event_lasts, noted_events}
-use Rattle.bb_run.proofs.AskRule.{HoldsOfAsks}
+use Rattle.bb_run.proofs.AskRule.{HoldsOfAsks, asks_hold}
 use Rattle.bb_run.proofs.PaidLemmas.{events_two}
 use Rattle.bb_run.proofs.UnstuckParts.{GoesWell, Waits, all_answer, obviate_begins, processes_all, require_begins, retrigger_begins, well_one, well_segment, well_then, well_weaker}
 
@@ -108,7 +108,7 @@ module _ (plan : Plan) (sound : IsWellMade plan) (natives : List Native) where
       leaves = is_ready (response plan event s).state (answer_to event s ready here).state;
     }
 
-  -- ---- what was noted is told, and its events are processed
+  -- ---- what was noted is emitted, and its events are processed
 
   taken_fits : (b : Blackboard) → FitsPlan plan b → FitsPlan plan (with_world b (after_take b.world))
   taken_fits b f = record {
@@ -131,14 +131,14 @@ module _ (plan : Plan) (sound : IsWellMade plan) (natives : List Native) where
   -- a response goes well, and its events are of the blackboard that it leaves
   pub record IsWell (r : Response) : Type 0 where
     pub well : GoesWell Given KeepsBudget Ready r
-    pub events : All (IsEventOf plan.schema r.state.board) (events_in r.told)
+    pub events : All (IsEventOf plan.schema r.state.board) (events_in r.emitted)
 
   pub reports : (r : Response) → IsWell r → GoesOn (reported plan r)
-  reports r is = well_then Given (All KeepsBudget) Ready (segment r) (processing_all plan (events_in r.told)) r.end refl (well_segment Given Ready r is.well) (processes (events_in r.told) r.state is.events)
+  reports r is = well_then Given (All KeepsBudget) Ready (segment r) (processing_all plan (events_in r.emitted)) r.end refl (well_segment Given Ready r is.well) (processes (events_in r.emitted) r.state is.events)
 
   pub well_noted : (s : State) (more : List Note) (end : Option End) → Ready s → All KeepsBudget more → events_in more ≡ [] → (Given → NotStuck end) → IsWell (noted s more end)
   well_noted s more end ready fine none not = record {
-    well = record { told = board_notes s.board.world.notes more fine; end = not; state = taken_ready s ready };
+    well = record { emitted = board_notes s.board.world.notes more fine; end = not; state = taken_ready s ready };
     events = noted_events plan.schema sound.schema s.board s.board.world.notes more ready.board.world.notes none;
   }
 
@@ -178,10 +178,10 @@ module _ (plan : Plan) (sound : IsWellMade plan) (natives : List Native) where
         places = ready.places;
       }
 
-  nothing_asked : (s : State) (r : Response) → r.told ≡ [] → r.state ≡ s → (Given → NotStuck r.end) → AskGoes s r
+  nothing_asked : (s : State) (r : Response) → r.emitted ≡ [] → r.state ≡ s → (Given → NotStuck r.end) → AskGoes s r
   nothing_asked s r none same not ready = record {
     is = record {
-      well = record { told = subst (All KeepsBudget) (sym none) (All-nil KeepsBudget); end = not; state = subst Ready (sym same) ready };
+      well = record { emitted = subst (All KeepsBudget) (sym none) (All-nil KeepsBudget); end = not; state = subst Ready (sym same) ready };
       events = subst (λ l. All (IsEventOf plan.schema r.state.board) (events_in l)) (sym none) (All-nil (IsEventOf plan.schema r.state.board));
     };
     outlives = subst (λ (t : State). Outlives s.board.world.units t.board.world.units) (sym same) (same_units s.board.world.units);
@@ -195,9 +195,9 @@ module _ (plan : Plan) (sound : IsWellMade plan) (natives : List Native) where
       let two = rest one.is.well.state in
       record {
         is = record {
-          well = record { told = All-append KeepsBudget r.told q.told one.is.well.told two.is.well.told; end = two.is.well.end; state = two.is.well.state };
-          events = subst (All (IsEventOf plan.schema q.state.board)) (sym (events_two r.told q.told))
-              (All-append (IsEventOf plan.schema q.state.board) (events_in r.told) (events_in q.told) (events_last r.state.board q.state.board (events_in r.told) two.outlives one.is.events) two.is.events);
+          well = record { emitted = All-append KeepsBudget r.emitted q.emitted one.is.well.emitted two.is.well.emitted; end = two.is.well.end; state = two.is.well.state };
+          events = subst (All (IsEventOf plan.schema q.state.board)) (sym (events_two r.emitted q.emitted))
+              (All-append (IsEventOf plan.schema q.state.board) (events_in r.emitted) (events_in q.emitted) (events_last r.state.board q.state.board (events_in r.emitted) two.outlives one.is.events) two.is.events);
         };
         outlives = outlives_both s.board.world.units r.state.board.world.units q.state.board.world.units one.outlives two.outlives;
       }
@@ -218,11 +218,25 @@ module _ (plan : Plan) (sound : IsWellMade plan) (natives : List Native) where
     further = λ s r next first rest. asks_then s r next r.end refl first rest;
   }
 
-  pub native_ends : (asks : ℕ) (r : Response) (end : Option End) → r.end ≡ end → IsWell r → IsWell (and_then_unless end r (λ u. telling (NativeEnded asks ∷ []) u None))
-  native_ends asks r (Some e) is well = well
-  native_ends asks r None is it =
-      let note : Note = NativeEnded asks in
+  -- and the note that tells how many there were
+  pub asks_end : (note : Note) → KeepsBudget note → event_in note ≡ [] → (r : Response) (end : Option End) → r.end ≡ end → IsWell r → IsWell (and_then_unless end r (λ u. emitting (note ∷ []) u None))
+  asks_end note fine none r (Some e) is well = well
+  asks_end note fine none r None is it =
+      let no_events : events_in (note ∷ []) ≡ [] = ap (λ (es : List Event). es ++ []) none in
       record {
-        well = record { told = All-append KeepsBudget r.told (note ∷ []) it.well.told (All-cons KeepsBudget note [] tt (All-nil KeepsBudget)); end = λ given. tt; state = it.well.state };
-        events = subst (All (IsEventOf plan.schema r.state.board)) (sym (events_two r.told (note ∷ []) ∙ append-nil (events_in r.told))) it.events;
+        well = record { emitted = All-append KeepsBudget r.emitted (note ∷ []) it.well.emitted (All-cons KeepsBudget note [] fine (All-nil KeepsBudget)); end = λ given. tt; state = it.well.state };
+        events = subst (All (IsEventOf plan.schema r.state.board)) (sym (events_two r.emitted (note ∷ []) ∙ (ap (λ (es : List Event). events_in r.emitted ++ es) no_events ∙ append-nil (events_in r.emitted)))) it.events;
+      }
+
+  pub native_ends : (asks : ℕ) (r : Response) (end : Option End) → r.end ≡ end → IsWell r → IsWell (and_then_unless end r (λ u. emitting (NativeEnded asks ∷ []) u None))
+  native_ends asks r end is well = asks_end (NativeEnded asks) tt refl r end is well
+
+  -- asks from outside
+  pub posts_well : (asks : List Ask) (s : State) → Ready s → IsWell (after_emitted (Posted ∷ []) (asked (λ n. PostEnded n) asks s))
+  posts_well asks s ready =
+      let r = each_applied 1 asks s in
+      let it = asks_end (PostEnded (length asks)) tt refl r r.end refl (asks_hold asks AskGoes (ask_parts asks) s ready).is in
+      record {
+        well = record { emitted = All-cons KeepsBudget Posted (asked (λ n. PostEnded n) asks s).emitted tt it.well.emitted; end = it.well.end; state = it.well.state };
+        events = it.events;
       }

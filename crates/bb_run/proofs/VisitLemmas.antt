@@ -1,4 +1,4 @@
--- A run processes the events that it tells, in order.
+-- A run processes the events that it emits, in order.
 use Rattle.std.proofs.Common.{◌≡◌, ℕ, zero, suc, ◌+◌, ℤ, List, [], ◌∷◌, ◌++◌, map, slice_get, Option, Some, None, Result, Ok, Err, refl, sym, ap, subst, ◌∙◌, append_assoc}
 use Rattle.std.specs.Prelude.{option_and_then}
 use Rattle.std.proofs.lemmas.List.{append-nil, map-append}
@@ -22,11 +22,11 @@ use Rattle.bb_run_plan.specs.Plan.{Plan}
 use Rattle.bb_run.specs.declared.execution.Verdict.{Verdict}
 use Rattle.bb_run.specs.declared.execution.Verdict.TheVariants as verdicts
 use Rattle.bb_run.specs.State.{State, with_board}
-use Rattle.bb_run.specs.Told.{Response, Stretch, over, and_then, and_then_unless, segment}
+use Rattle.bb_run.specs.Emission.{Response, Stretch, over, and_then, and_then_unless, segment}
 use Rattle.bb_run.specs.Asking.{attempt, entry_of}
 use Rattle.bb_run.specs.Order.{notes_of}
 use Rattle.bb_run.specs.Processing.{events_in, processing, processing_all, reported, response}
-use Rattle.bb_run.specs.Processed.{MayLeave, ProcessesTold, Visits, if_any, processed, processed_acting, processed_by_cycle, processed_by_cycles, processed_in, processed_of, processed_waiting, unless_over}
+use Rattle.bb_run.specs.Processed.{MayLeave, ProcessesEmitted, Visits, if_any, processed, processed_acting, processed_by_cycle, processed_by_cycles, processed_in, processed_of, processed_waiting, unless_over}
 use Rattle.bb_run.specs.Run.{acting, answered, choice, chosen_with, cycle, cycles, execution, finish, first_state, if_chosen, if_valid, noted, rating, run, start, unfinished, validity, wait, wait_for}
 use Rattle.bb_run.proofs.AskedLemmas.{call_mute, events_answered}
 use Rattle.bb_run.proofs.OrderlyParts.{IsEarly, all_of_two, early_end}
@@ -51,16 +51,13 @@ leaves_early finishes.Full left early = tt
 leaves_early (finishes.Stuck reason) left early = tt
 
 module _ (plan : Plan) where
-  abbrev Told : Visits → Stretch → Type 0
-  Told = ProcessesTold
-
-  -- nothing is told
-  visits_none : (end : Option End) (s : State) → Told [] (record { told = []; state = s; end = end })
+  -- nothing is emitted
+  visits_none : (end : Option End) (s : State) → ProcessesEmitted [] (record { emitted = []; state = s; end = end })
   visits_none end s = record { left = []; all = refl; may = leaves_none end }
 
   -- one part, and then the next
-  visits_then : (xs ys : Visits) (p : Stretch) (next : State → Stretch) (end : Option End) → p.end ≡ end → Told xs p → Told ys (next p.state) → Told (xs ++ unless_over end ys) (and_then_unless end p next)
-  visits_then xs ys p next (Some e) is first rest = subst (λ l. Told l p) (sym (append-nil xs)) first
+  visits_then : (xs ys : Visits) (p : Stretch) (next : State → Stretch) (end : Option End) → p.end ≡ end → ProcessesEmitted xs p → ProcessesEmitted ys (next p.state) → ProcessesEmitted (xs ++ unless_over end ys) (and_then_unless end p next)
+  visits_then xs ys p next (Some e) is first rest = subst (λ l. ProcessesEmitted l p) (sym (append-nil xs)) first
   visits_then xs ys p next None is first rest =
       let q = next p.state in
       let none : first.left ≡ [] = subst (λ e. MayLeave e first.left) is first.may in
@@ -71,7 +68,7 @@ module _ (plan : Plan) where
             ap (λ l. l ++ rest.left) (map-append (λ (v : Event × State). v.0) xs ys ∙ ap (λ l. l ++ events_of ys) here)
             ∙ append_assoc (events_in (notes_of p)) (events_of ys) rest.left
             ∙ ap (λ l. events_in (notes_of p) ++ l) rest.all
-            ∙ sym (events_two (notes_of p) (notes_of q)) ∙ ap events_in (sym (all_of_two p.told q.told));
+            ∙ sym (events_two (notes_of p) (notes_of q)) ∙ ap events_in (sym (all_of_two p.emitted q.emitted));
         may = rest.may;
       }
 
@@ -98,19 +95,19 @@ module _ (plan : Plan) where
   front [] s = record { left = []; all = refl; may = refl }
   front (event ∷ events) s = front_by event events s (processing plan event s).end refl (front events (processing plan event s).state)
 
-  reports_by : (r : Response) (end : Option End) → r.end ≡ end → IsEarly end → Told (unless_over end (processed plan (events_in r.told) r.state)) (and_then_unless end (segment r) (processing_all plan (events_in r.told)))
+  reports_by : (r : Response) (end : Option End) → r.end ≡ end → IsEarly end → ProcessesEmitted (unless_over end (processed plan (events_in r.emitted) r.state)) (and_then_unless end (segment r) (processing_all plan (events_in r.emitted)))
   reports_by r (Some e) is early = record { left = events_in (notes_of (segment r)); all = refl; may = subst (λ f. MayLeave f (events_in (notes_of (segment r)))) (sym is) (leaves_early e (events_in (notes_of (segment r))) early) }
   reports_by r None is early =
-      let q = processing_all plan (events_in r.told) r.state in
-      let f = front (events_in r.told) r.state in
-      let quiet = (events_answered plan (events_in r.told) r.state).quiet in
+      let q = processing_all plan (events_in r.emitted) r.state in
+      let f = front (events_in r.emitted) r.state in
+      let quiet = (events_answered plan (events_in r.emitted) r.state).quiet in
       record {
         left = f.left;
-        all = f.all ∙ sym (append-nil (events_in r.told)) ∙ ap (λ l. events_in r.told ++ l) (sym quiet) ∙ sym (events_two r.told (notes_of q));
+        all = f.all ∙ sym (append-nil (events_in r.emitted)) ∙ ap (λ l. events_in r.emitted ++ l) (sym quiet) ∙ sym (events_two r.emitted (notes_of q));
         may = f.may;
       }
 
-  reports : (r : Response) → IsEarly r.end → Told (processed_of plan r) (reported plan r)
+  reports : (r : Response) → IsEarly r.end → ProcessesEmitted (processed_of plan r) (reported plan r)
   reports r early = reports_by r r.end refl early
 
   -- ---- a cycle
@@ -119,20 +116,20 @@ module _ (plan : Plan) where
   answered_early code s (Ok o) = tt
   answered_early code s (Err stop) = early_end stop
 
-  executed_early : (name : List ℕ) (act : Act) (a : Activation) (s : State) → IsEarly (execution name act a s).end
+  pub executed_early : (name : List ℕ) (act : Act) (a : Activation) (s : State) → IsEarly (execution name act a s).end
   executed_early name (acts.Code body) a s = let e = attempt body.code (entry_of a.unit None) s.board in answered_early body.code (with_board s e.1) e.0
   executed_early name acts.Native a s = (call_mute plan (place_of s.natives name) a s).1
 
-  visits_acting : (source : Option Source) (a : Activation) (s : State) → Told (processed_acting plan source a s) (acting plan source a s)
+  visits_acting : (source : Option Source) (a : Activation) (s : State) → ProcessesEmitted (processed_acting plan source a s) (acting plan source a s)
   visits_acting None a s = visits_none None s
   visits_acting (Some source) a s = reports (execution source.name source.act a s) (executed_early source.name source.act a s)
 
-  visits_choice : (number : ℕ) (a : Activation) (r : ℤ) (v : Verdict) (s : State) → Told [] (segment (chosen_with number a r v s))
+  visits_choice : (number : ℕ) (a : Activation) (r : ℤ) (v : Verdict) (s : State) → ProcessesEmitted [] (segment (chosen_with number a r v s))
   visits_choice number a r verdicts.Valid s = record { left = []; all = refl; may = refl }
   visits_choice number a r verdicts.Invalid s = record { left = []; all = refl; may = refl }
   visits_choice number a r (verdicts.Over end) s = record { left = []; all = refl; may = leaves_none (Some end) }
 
-  visits_cycle : (number : ℕ) (a : Activation) (s : State) → Told (processed_by_cycle plan number a s) (cycle plan number a s)
+  visits_cycle : (number : ℕ) (a : Activation) (s : State) → ProcessesEmitted (processed_by_cycle plan number a s) (cycle plan number a s)
   visits_cycle number a s =
       let source = slice_get plan.sources a.source in
       let v = validity (option_and_then (λ t. t.revalidate) source) a s.board in
@@ -141,20 +138,20 @@ module _ (plan : Plan) where
       let acts = if_valid v.0 source in
       visits_then [] (processed_acting plan acts a p.state) p (acting plan acts a) p.end refl (visits_choice number a (rating plan s a) v.0 t) (visits_acting acts a p.state)
 
-  visits_wait : (s : State) (c : Option Activation) → Told (processed_waiting s c) (wait_for plan s c)
+  visits_wait : (s : State) (c : Option Activation) → ProcessesEmitted (processed_waiting s c) (wait_for plan s c)
   visits_wait s None =
       let r = response plan quiescence s in
       let quiet = (answers_event plan quiescence s).quiet in
       record {
         left = [];
-        all = ap (λ l. quiescence ∷ l) (sym (events_two r.told [] ∙ append-nil (events_in r.told) ∙ quiet));
+        all = ap (λ l. quiescence ∷ l) (sym (events_two r.emitted [] ∙ append-nil (events_in r.emitted) ∙ quiet));
         may = leaves_none r.end;
       }
   visits_wait s (Some a) = visits_none None s
 
   -- ---- cycles up to the end
 
-  last : (t : State) (c : Option Activation) → Told [] (if_chosen t c (λ a. over finishes.Limit t))
+  last : (t : State) (c : Option Activation) → ProcessesEmitted [] (if_chosen t c (λ a. over finishes.Limit t))
   last t None = visits_none (Some finishes.Quiescence) t
   last t (Some a) = visits_none (Some finishes.Limit) t
 
@@ -162,20 +159,20 @@ module _ (plan : Plan) where
   nothing_later None = refl
   nothing_later (Some end) = refl
 
-  visits_next : (made left : ℕ) (t : State) (c : Option Activation) → ((s : State) → Told (processed_by_cycles plan (made + 1) left s) (cycles plan (made + 1) left s))
-      → Told (if_any c (λ a. let p = cycle plan (made + 1) a t in processed_by_cycle plan (made + 1) a t ++ unless_over p.end (processed_by_cycles plan (made + 1) left p.state)))
+  visits_next : (made left : ℕ) (t : State) (c : Option Activation) → ((s : State) → ProcessesEmitted (processed_by_cycles plan (made + 1) left s) (cycles plan (made + 1) left s))
+      → ProcessesEmitted (if_any c (λ a. let p = cycle plan (made + 1) a t in processed_by_cycle plan (made + 1) a t ++ unless_over p.end (processed_by_cycles plan (made + 1) left p.state)))
       (if_chosen t c (λ a. and_then (cycle plan (made + 1) a t) (cycles plan (made + 1) left)))
   visits_next made left t None rest = visits_none (Some finishes.Quiescence) t
   visits_next made left t (Some a) rest =
       let p = cycle plan (made + 1) a t in
       visits_then (processed_by_cycle plan (made + 1) a t) (processed_by_cycles plan (made + 1) left p.state) p (cycles plan (made + 1) left) p.end refl (visits_cycle (made + 1) a t) (rest p.state)
 
-  visits_cycles : (made left : ℕ) (s : State) → Told (processed_by_cycles plan made left s) (cycles plan made left s)
+  visits_cycles : (made left : ℕ) (s : State) → ProcessesEmitted (processed_by_cycles plan made left s) (cycles plan made left s)
   unfolding cycles processed_by_cycles
   visits_cycles made zero s =
       let p = wait plan s in
       let waits = processed_waiting s (choice plan s) in
-      subst (λ l. Told l (and_then p (λ t. if_chosen t (choice plan t) (λ a. over finishes.Limit t)))) (ap (λ l. waits ++ l) (nothing_later p.end) ∙ append-nil waits)
+      subst (λ l. ProcessesEmitted l (and_then p (λ t. if_chosen t (choice plan t) (λ a. over finishes.Limit t)))) (ap (λ l. waits ++ l) (nothing_later p.end) ∙ append-nil waits)
       (visits_then waits [] p (λ t. if_chosen t (choice plan t) (λ a. over finishes.Limit t)) p.end refl (visits_wait s (choice plan s)) (last p.state (choice plan p.state)))
   visits_cycles made (suc left) s =
       let p = wait plan s in
@@ -191,8 +188,8 @@ module _ (plan : Plan) where
   closings_quiet [] = refl
   closings_quiet (c ∷ cs) = closings_quiet cs
 
-  pub run_processes_told : (board : Blackboard) (natives : List Native) (limit : ℕ) → ProcessesTold (processed_in plan board natives limit) (run plan board natives limit)
-  run_processes_told board natives limit =
+  pub run_processes_emitted : (board : Blackboard) (natives : List Native) (limit : ℕ) → ProcessesEmitted (processed_in plan board natives limit) (run plan board natives limit)
+  run_processes_emitted board natives limit =
       let first : Response = noted (first_state plan board natives) [] None in
       let p = start plan board natives in
       let u = unfinished plan board natives limit in

@@ -40,24 +40,25 @@ use Rattle.bb_trace.specs.Ask.{Ask}
 use Rattle.bb_trace.specs.Native.{Native}
 use Rattle.bb_trace.specs.Roster.{after_act_at, asks_at, place_of}
 use Rattle.bb_trace.specs.Sight.{sight_of}
-use Rattle.bb_trace.specs.declared.note.Note.TheVariants.{NativeEnded}
+use Rattle.bb_trace.specs.declared.note.Note.TheVariants.{NativeEnded, Posted, PostEnded}
 use Rattle.bb_trace.proofs.Laws.{applied_leads}
 use Rattle.bb_run_plan.specs.Plan.{Plan}
 use Rattle.bb_run.specs.declared.execution.Verdict.{Verdict}
 use Rattle.bb_run.specs.declared.execution.Verdict.TheVariants as verdicts
 use Rattle.bb_run.specs.State.{State, with_board, with_natives}
-use Rattle.bb_run.specs.Told.{Response, telling, and_then_unless}
+use Rattle.bb_run.specs.Emission.{Response, after_emitted, idle, emitting, and_then_unless}
 use Rattle.bb_run.specs.Asking.{attempt, entry_of}
 use Rattle.bb_run.specs.Foci.{focus_from, text_in, number_in, truth_in, focus_of, foci_on, told_unit, told_note, told_notes, first_agenda}
 use Rattle.bb_run.specs.Processing.{response}
 use Rattle.bb_run.specs.Reads.{AsksByReading}
-use Rattle.bb_run.specs.Run.{rating, choice, wait_for, with_notes_taken, noted, answered, calling, each_applied, execution, validity, chosen_with, cycle, first_state, start, run}
+use Rattle.bb_run.specs.Run.{rating, choice, quiet, wait_for, with_notes_taken, noted, answered, asked, calling, each_applied, execution, validity, chosen_with, cycle, cycles, if_chosen, first_state, start, run}
 use Rattle.bb_run.specs.Weighed.{KnowsFoci, NumbersGiven}
 use Rattle.bb_run.proofs.FociLemmas.{fold_range}
 use Rattle.bb_run.proofs.ReadLemmas.{run_reads}
 use Rattle.bb_run.proofs.AskRule.{HoldsOfAsks, asks_hold}
 use Rattle.bb_run.proofs.ResponseRule.{HoldsOfParts, holds}
-use Rattle.bb_run.proofs.StateRule.{IsKept, cycle_keeps, kept_then, run_keeps, start_keeps, wait_keeps}
+use Rattle.bb_run.specs.Turns.{posting, turn, turn_by}
+use Rattle.bb_run.proofs.StateRule.{IsKept, cycle_keeps, cycles_keep, goes_if, kept_then, reports, run_keeps, start_keeps, wait_keeps}
 
 -- ---- what the agenda is told of one unit
 
@@ -291,7 +292,7 @@ module _ (plan : Plan) (reading : AsksByReading plan) where
       let asks = asks_at s.natives place a.unit seen in
       let t = with_natives s (after_act_at s.natives place a.unit seen) in
       let r = each_applied 1 asks t in
-      kept_then plan Knows r (λ u. telling (NativeEnded (length asks) ∷ []) u None) r.end (asks_hold asks KnowsStill (ask_parts asks) t (knows_same plan s t refl refl refl k)) (λ u known. known)
+      kept_then plan Knows r (λ u. emitting (NativeEnded (length asks) ∷ []) u None) r.end (asks_hold asks KnowsStill (ask_parts asks) t (knows_same plan s t refl refl refl k)) (λ u known. known)
 
   executes : (name : List ℕ) (act : Act) (a : Activation) (s : State) → Knows s → Knows (execution name act a s).state
   executes name (acts.Code body) a s k =
@@ -329,6 +330,26 @@ module _ (plan : Plan) (reading : AsksByReading plan) where
 
   pub waits : (s : State) (c : Option Activation) → Knows s → Knows (wait_for plan s c).state
   waits s c k = wait_keeps plan Knows kept s c k
+
+  pub cycles_know : (made left : ℕ) (s : State) → Knows s → Knows (cycles plan made left s).state
+  cycles_know made left s k = cycles_keep plan Knows kept made left s k
+
+  -- ---- what else a host has a run do
+
+  turns : (made : ℕ) (s : State) (c : Option Activation) → Knows s → Knows (turn_by plan made s c).state
+  turns made s (Some a) k = cycle_knows (made + 1) a s k
+  turns made s None k =
+      let p = quiet plan s in
+      kept_then plan Knows p (λ t. if_chosen t (choice plan t) (λ a. idle t)) p.end (waits s None k) (λ t known. goes_if plan Knows kept t (choice plan t) (λ a. idle t) known (λ a. known))
+
+  pub turn_knows : (made : ℕ) (s : State) → Knows s → Knows (turn plan made s).state
+  turn_knows made s k = turns made s (choice plan s) k
+
+  pub post_knows : (asks : List Ask) (s : State) → Knows s → Knows (posting plan asks s).state
+  post_knows asks s k =
+      let r = each_applied 1 asks s in
+      reports plan Knows kept (after_emitted (Posted ∷ []) (asked (λ n. PostEnded n) asks s))
+      (kept_then plan Knows r (λ u. emitting (PostEnded (length asks) ∷ []) u None) r.end (asks_hold asks KnowsStill (ask_parts asks) s k) (λ u known. known))
 
   -- ---- the whole run
 

@@ -1,4 +1,4 @@
--- What the act of a source tells and leaves: the execution of a code, or the call of a native, read off its asks.
+-- What the act of a source emits and leaves: the execution of a code, or the call of a native, read off its asks.
 use Rattle.std.specs.Prelude.{◌≡◌, ℕ, ◌+◌, List, [], ◌∷◌, ◌++◌, length, None, is_none, Result, Ok, Err, is_ok}
 use Rattle.std.specs.List.{fold}
 use Rattle.bb_agenda.specs.Activation.{Activation}
@@ -17,20 +17,20 @@ use Rattle.bb_trace.specs.declared.note.Note.TheVariants.{Ended, NativeEnded, Re
 use Rattle.bb_verify.specs.Budget.{budget}
 use Rattle.bb_run.specs.Asking.{attempt, entry_of}
 use Rattle.bb_run.specs.State.{State}
-use Rattle.bb_run.specs.Told.{Response}
+use Rattle.bb_run.specs.Emission.{Response}
 use Rattle.bb_run.specs.Responds.{noted_on, taken}
 
 -- ---- the execution of a code
 
--- what is told of its end: its steps, the units that it found, and its budget; nothing where it came to no answer
-abbrev pub told_of_end : Code → Result Outcome Stop → List Note
-told_of_end code (Ok o) = Ended o.steps o.found (budget code o.found) ∷ []
-told_of_end code (Err stop) = []
+-- what is emitted of its end: its steps, the units that it found, and its budget; nothing where it came to no answer
+abbrev pub emitted_of_end : Code → Result Outcome Stop → List Note
+emitted_of_end code (Ok o) = Ended o.steps o.found (budget code o.found) ∷ []
+emitted_of_end code (Err stop) = []
 
 -- a code is executed for the unit of an activation
 pub record IsExecution (s : State) (code : Code) (a : Activation) (r : Response) : Type 0 where
-  -- what the blackboard noted in it is told, and then its end
-  pub told : let e = attempt code (entry_of a.unit None) s.board in r.told ≡ noted_on e.1 ++ told_of_end code e.0
+  -- what the blackboard noted in it is emitted, and then its end
+  pub emitted : let e = attempt code (entry_of a.unit None) s.board in r.emitted ≡ noted_on e.1 ++ emitted_of_end code e.0
   -- it leaves its blackboard, with the notes taken, and all natives
   pub board : r.state.board ≡ taken (attempt code (entry_of a.unit None) s.board).1
   pub natives : r.state.natives ≡ s.natives
@@ -39,11 +39,11 @@ pub record IsExecution (s : State) (code : Code) (a : Activation) (r : Response)
 
 -- ---- the call of a native
 
--- what is told of the ask of a number: what the blackboard noted, or that it was refused
-abbrev pub told_of_ask : (number : ℕ) → Result Blackboard Denial → List Note
-told_of_ask number (Ok board) = noted_on board
-told_of_ask number (Err (denials.Refused refusal)) = Refused number refusal ∷ []
-told_of_ask number (Err _) = []
+-- what is emitted of the ask of a number: what the blackboard noted, or that it was refused
+abbrev pub emitted_of_ask : (number : ℕ) → Result Blackboard Denial → List Note
+emitted_of_ask number (Ok board) = noted_on board
+emitted_of_ask number (Err (denials.Refused refusal)) = Refused number refusal ∷ []
+emitted_of_ask number (Err _) = []
 
 -- the blackboard that an ask leaves, with its notes taken: the same where it was not applied
 abbrev pub left_by : (before : Blackboard) → Result Blackboard Denial → Blackboard
@@ -54,11 +54,11 @@ left_by before (Err denial) = before
 abbrev pub after_asks : Blackboard → List Ask → Blackboard
 after_asks board asks = fold (λ b ask. left_by b (applied ask b)) board asks
 
--- what is told of asks, of which the first has this number
-abbrev pub told_of_asks : (number : ℕ) → List Ask → Blackboard → List Note
-told_of_asks number [] board = []
-told_of_asks number (ask ∷ more) board =
-    told_of_ask number (applied ask board) ++ told_of_asks (number + 1) more (left_by board (applied ask board))
+-- what is emitted of asks, of which the first has this number
+abbrev pub emitted_of_asks : (number : ℕ) → List Ask → Blackboard → List Note
+emitted_of_asks number [] board = []
+emitted_of_asks number (ask ∷ more) board =
+    emitted_of_ask number (applied ask board) ++ emitted_of_asks (number + 1) more (left_by board (applied ask board))
 
 -- what the native at a place asks for an activation
 abbrev pub asks_of : State → (place : ℕ) → Activation → List Ask
@@ -66,10 +66,10 @@ asks_of s place a = asks_at s.natives place a.unit (sight_of s.board)
 
 -- the native at a place is called for an activation
 pub record IsCall (s : State) (place : ℕ) (a : Activation) (r : Response) : Type 0 where
-  -- all its asks are told of, from number 1 on, and how many there are; where the run is over, this is left out
+  -- all its asks are reported, from number 1 on, and how many there are; where the run is over, this is left out
   pub left : List Note
-  pub told : let asks = asks_of s place a in
-      r.told ++ left ≡ told_of_asks 1 asks s.board ++ NativeEnded (length asks) ∷ []
+  pub emitted : let asks = asks_of s place a in
+      r.emitted ++ left ≡ emitted_of_asks 1 asks s.board ++ NativeEnded (length asks) ∷ []
   pub whole : r.end ≡ None → left ≡ []
   -- all were applied
   pub board : r.end ≡ None → r.state.board ≡ after_asks s.board (asks_of s place a)

@@ -15,7 +15,7 @@ use Rattle.bb_trace.specs.End as ends
 use Rattle.bb_run.specs.declared.asking.Reply.{Reply}
 use Rattle.bb_run.specs.declared.asking.Reply.TheVariants.{Answer, Over}
 use Rattle.bb_run.specs.State.{State, with_board}
-use Rattle.bb_run.specs.Told.{Response, over}
+use Rattle.bb_run.specs.Emission.{Response, over}
 
 -- what the code of a part begins with: the activation's unit, and the event's where the part answers an event
 abbrev pub entry_of : (unit : ℕ) → Option ℕ → Entry

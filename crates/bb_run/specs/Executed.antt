@@ -11,17 +11,17 @@ use Rattle.bb_run_plan.specs.Plan.{Plan}
 use Rattle.bb_run.specs.declared.execution.Verdict.{Verdict}
 use Rattle.bb_run.specs.declared.execution.Verdict.TheVariants as verdicts
 use Rattle.bb_run.specs.State.{State, with_board, with_agenda}
-use Rattle.bb_run.specs.Told.{Response, telling, over}
+use Rattle.bb_run.specs.Emission.{Response, emitting, over}
 use Rattle.bb_run.specs.Run.{execution, finish, validity}
 
--- what is told upon a choice: what the execution of an act for its unit tells, or that the activation is invalid
+-- what is emitted upon a choice: what the execution of an act for its unit emits, or that the activation is invalid
 abbrev pub upon_verdict : Verdict → Source → Activation → State → Response
 upon_verdict verdicts.Valid source a s =
     execution source.name source.act a (with_agenda s (with_executed s.agenda a.number))
-upon_verdict verdicts.Invalid source a s = telling (Invalid a.number ∷ []) s None
+upon_verdict verdicts.Invalid source a s = emitting (Invalid a.number ∷ []) s None
 upon_verdict (verdicts.Over end) source a s = over end s
 
--- what is told upon a choice, by the verdict of the source's revalidation
+-- what is emitted upon a choice, by the verdict of the source's revalidation
 abbrev pub upon_choice : Source → Activation → State → Response
 upon_choice source a s = let v = validity source.revalidate a s.board in upon_verdict v.0 source a (with_board s v.1)
 
@@ -35,6 +35,6 @@ pub record IsFollowed (plan : Plan) (s : State) (a : Activation) (after : List N
   -- the source of the activation is there
   pub source : Source
   pub source_is : slice_get plan.sources a.source ≡ Some source
-  -- what is told upon the choice comes first, and the finish where the run ends there
+  -- what is emitted upon the choice comes first, and the finish where the run ends there
   pub rest : List Note
-  pub begins : let told = upon_choice source a s in after ≡ (told.told ++ finish_by told.end told.state.natives) ++ rest
+  pub begins : let emitted = upon_choice source a s in after ≡ (emitted.emitted ++ finish_by emitted.end emitted.state.natives) ++ rest

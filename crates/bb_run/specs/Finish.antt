@@ -6,7 +6,7 @@ use Rattle.bb_trace.specs.End as ends
 use Rattle.bb_run.specs.declared.finish.Finish.{Finish}
 use Rattle.bb_run.specs.declared.finish.Finish.TheVariants as finishes
 use Rattle.bb_run_plan.specs.Plan.{Plan}
-use Rattle.bb_run.specs.Told.{Stretch}
+use Rattle.bb_run.specs.Emission.{Stretch}
 use Rattle.bb_trace.specs.TraceText.{trace_text}
 
 -- the end that the machine's run has, if the run was not cut short
@@ -31,6 +31,6 @@ WritesFront plan run finishes.Quiescence old new = ⊤
 WritesFront plan run finishes.Limit old new = ⊤
 WritesFront plan run finishes.Full old new = ⊤
 WritesFront plan run finishes.Memory old new =
-    (count : ℕ) × Appends old new (trace_text plan (take count run.told))
+    (count : ℕ) × Appends old new (trace_text plan (take count run.emitted))
 WritesFront plan run finishes.Write old new =
-    (count : ℕ) × Appends old new (take count (trace_text plan run.told))
+    (count : ℕ) × Appends old new (take count (trace_text plan run.emitted))

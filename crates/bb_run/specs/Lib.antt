@@ -1,7 +1,7 @@
 -- the state of a run with one part of it changed
 pub mod State
--- what a part of a run tells, the state that it leaves, and the end
-pub mod Told
+-- what a part of a run emits, the state that it leaves, and the end
+pub mod Emission
 -- what a code of a source answers
 pub mod Asking
 -- the foci of a blackboard, and what the agenda is told of them
@@ -10,6 +10,8 @@ pub mod Foci
 pub mod Processing
 -- the run
 pub mod Run
+-- a turn of a run, and asks from outside
+pub mod Turns
 -- what every run is like
 pub mod Order
 -- whether the sources are asked what the events ask for
@@ -26,11 +28,11 @@ pub mod Processed
 pub mod Unstuck
 -- what leaves the blackboard as it was
 pub mod Reads
--- what the sources tell in response to events
+-- what the sources emit in response to events
 pub mod Responses
--- what comes in a run where events were told
+-- what comes in a run where events were emitted
 pub mod Responds
--- what the act of a source tells and leaves
+-- what the act of a source emits and leaves
 pub mod Acts
 -- what lasts from one cycle to the next
 pub mod Continues
@@ -38,14 +40,26 @@ pub mod Continues
 pub mod Weighed
 -- the end of a run by what `run` returns, and what was written where it was cut short
 pub mod Finish
+-- what a part of the run's code emits, against the definitions
+pub mod Emitting
+-- what the definitions see of the state of the code
+pub mod Seen
+-- what the code needs so that each code is executed for units that fit its part
+pub mod Serving
+-- what the code needs to rate by the foci of the blackboard
+pub mod Knowing
 -- for proofs only
 pub mod proving
--- of bb_trace: what a run goes by, what it tells, and the text of that
+-- of bb_trace: what a run goes by, what it emits, and the text of that
 pub use Rattle.bb_trace.specs.TraceText
 pub use Rattle.bb_trace.specs.End
+pub use Rattle.bb_trace.specs.Page
+pub use Rattle.bb_trace.specs.declared.halt.Halt
 pub use Rattle.bb_trace.specs.declared.note.Note
 pub use Rattle.bb_run_plan.specs.Plan
 pub use Rattle.bb_run_plan.specs.declared.plan.TheConstants as Limits
+-- of bb_agenda: what is pending
+pub use Rattle.bb_agenda.specs.Activation
 -- of bb_board: the blackboard that a run begins with, and the document of its first units
 pub use Rattle.bb_trace.specs.Board
 pub use Rattle.bb_trace.specs.Load

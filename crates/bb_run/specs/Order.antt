@@ -16,7 +16,7 @@ use Rattle.bb_trace.specs.Native.{Native}
 use Rattle.bb_trace.specs.Refusal.{Refusal}
 use Rattle.bb_trace.specs.Roster.{closings_of}
 use Rattle.bb_run_plan.specs.Plan.{Plan}
-use Rattle.bb_run.specs.Told.{Stretch}
+use Rattle.bb_run.specs.Emission.{Stretch}
 use Rattle.bb_run.specs.Run.{choice, finish, rating}
 
 -- ---- what notes say
@@ -27,7 +27,7 @@ all_of segments = flat_map (λ segment. segment) segments
 
 -- all notes of a stretch
 abbrev pub notes_of : Stretch → List Note
-notes_of p = all_of p.told
+notes_of p = all_of p.emitted
 
 -- the note is one of these notes, and these come before it
 abbrev pub At : (notes before : List Note) → Note → Type 0
@@ -141,7 +141,7 @@ pub record ExecutesInTurn (notes : List Note) : Type 0 where
 
 -- ---- how every run ends
 
--- the run has an end, which it tells once, and after it what each native says at its close, in order
+-- the run has an end, which it emits once, and after it what each native says at its close, in order
 pub record IsFinished (run : Stretch) : Type 0 where
   pub end : End
   -- the run ends in this way
@@ -179,8 +179,8 @@ pub record KeepsLimit (plan : Plan) (limit : ℕ) (run : Stretch) : Type 0 where
 
 -- after these notes an activation is chosen in the last state of a run, and its line prints this rating
 pub record IsChosenAfter (plan : Plan) (run : Stretch) (before : List Note) (a : Activation) (r : ℤ) : Type 0 where
-  -- the run tells these notes, and then ends by its limit
-  pub told : notes_of run ≡ before ++ finish ends.Limit run.state.natives
+  -- the run emits these notes, and then ends by its limit
+  pub emitted : notes_of run ≡ before ++ finish ends.Limit run.state.natives
   -- what is pending in its last state is what is pending by the notes
   pub agenda : pending_of run.state.agenda ≡ pending_after before
   -- the activation is the choice in that state
@@ -194,9 +194,9 @@ pub record IsChosenAfter (plan : Plan) (run : Stretch) (before : List Note) (a :
 
 -- ---- how runs of two limits compare
 
--- a run and one with a longer limit: they are the same, or the first ends by its limit, and the longer one tells the
+-- a run and one with a longer limit: they are the same, or the first ends by its limit, and the longer one emits the
 -- same up to that finish
 abbrev pub Extends : Stretch → Stretch → Type 0
 Extends run longer =
     (longer ≡ run) ⊎ ((run.end ≡ Some ends.Limit) × ((front : List (List Note)) × ((rest : List (List Note)) ×
-    ((run.told ≡ front ++ finish ends.Limit run.state.natives ∷ []) × (longer.told ≡ front ++ rest)))))
+    ((run.emitted ≡ front ++ finish ends.Limit run.state.natives ∷ []) × (longer.emitted ≡ front ++ rest)))))

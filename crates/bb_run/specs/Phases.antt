@@ -14,7 +14,7 @@ use Rattle.bb_trace.specs.Native.{Native}
 use Rattle.bb_trace.specs.Refusal.{Refusal}
 use Rattle.bb_run_plan.specs.Plan.{Plan}
 use Rattle.bb_run.specs.State.{State}
-use Rattle.bb_run.specs.Told.{Stretch, after_told}
+use Rattle.bb_run.specs.Emission.{Stretch, after_emitted}
 use Rattle.bb_run.specs.Run.{choice, cycles, unfinished}
 use Rattle.bb_run.specs.Order.{At, all_of, chosen_in, pending_after, triggered_in}
 
@@ -47,10 +47,10 @@ after_in phase _ = phase
 abbrev pub phase_after : List Note → Phase
 phase_after notes = fold after_in outside notes
 
--- each run whose limit is `made` or more tells these segments first, and goes on from this state
-abbrev pub Reaches : Plan → Blackboard → List Native → (told : List (List Note)) → (made : ℕ) → State → Type 0
-Reaches plan board natives told made s =
-    (left : ℕ) → unfinished plan board natives (made + left) ≡ after_told told (cycles plan made left s)
+-- each run whose limit is `made` or more emits these segments first, and goes on from this state
+abbrev pub Reaches : Plan → Blackboard → List Native → (emitted : List (List Note)) → (made : ℕ) → State → Type 0
+Reaches plan board natives emitted made s =
+    (left : ℕ) → unfinished plan board natives (made + left) ≡ after_emitted emitted (cycles plan made left s)
 
 -- the note is quiescence, and comes where it may
 pub record IsQuiet (plan : Plan) (board : Blackboard) (natives : List Native) (before : List Note) (note : BoardNote)
@@ -58,22 +58,22 @@ pub record IsQuiet (plan : Plan) (board : Blackboard) (natives : List Native) (b
   pub is : note ≡ happened quiescence
   -- no cycle is open, and quiescence has not come since the last
   pub phase : phase_after before ≡ outside
-  -- after what had been noted and these notes, with as many cycles as they tell, a run is in this state
-  pub told : List (List Note)
-  pub notes : all_of told ≡ map Board board.world.notes ++ before
+  -- after what had been noted and these notes, with as many cycles as they emit, a run is in this state
+  pub emitted : List (List Note)
+  pub notes : all_of emitted ≡ map Board board.world.notes ++ before
   pub state : State
-  pub there : Reaches plan board natives told (length (chosen_in before)) state
+  pub there : Reaches plan board natives emitted (length (chosen_in before)) state
   -- what is pending in it is what is pending by the notes, and none of that can be chosen
   pub pending : pending_of state.agenda ≡ pending_after before
   -- the next activation has the number after those that the notes tell
   pub next : next_number state.agenda ≡ length (triggered_in before) + 1
   pub nothing : choice plan state ≡ None
 
--- what the blackboard had noted is told first; after that the run goes by its phases
+-- what the blackboard had noted is emitted first; after that the run goes by its phases
 pub record GoesByPhases (plan : Plan) (board : Blackboard) (natives : List Native) (run : Stretch) : Type 0 where
   pub rest : List (List Note)
   -- the first segment is what had been noted
-  pub begins : run.told ≡ map Board board.world.notes ∷ rest
+  pub begins : run.emitted ≡ map Board board.world.notes ∷ rest
   -- after the first segment a note of the blackboard comes in a cycle, or is quiescence where it may come
   pub notes : (before : List Note) (note : BoardNote) → At (all_of rest) before (Board note)
       → (phase_after before ≡ inside) ⊎ IsQuiet plan board natives before note

@@ -11,7 +11,7 @@ use Rattle.bb_trace.specs.End.{End}
 use Rattle.bb_trace.specs.End as ends
 use Rattle.bb_run_plan.specs.Plan.{Plan}
 use Rattle.bb_run.specs.State.{State, with_board}
-use Rattle.bb_run.specs.Told.{Response, Stretch}
+use Rattle.bb_run.specs.Emission.{Response, Stretch}
 use Rattle.bb_run.specs.Order.{notes_of}
 use Rattle.bb_run.specs.Processing.{events_in, processing}
 use Rattle.bb_run.specs.Run.{choice, chosen_with, cycle, execution, first_state, if_valid, noted, rating}
@@ -34,7 +34,7 @@ processed plan (event ∷ events) s =
 
 -- the visits of a response that is reported
 abbrev pub processed_of : Plan → Response → Visits
-processed_of plan r = unless_over r.end (processed plan (events_in r.told) r.state)
+processed_of plan r = unless_over r.end (processed plan (events_in r.emitted) r.state)
 
 -- the visit before a cycle: quiescence, where nothing can be chosen
 abbrev pub processed_waiting : State → Option Activation → Visits
@@ -84,8 +84,8 @@ MayLeave (Some ends.Full) left = Unit {0}
 MayLeave (Some (ends.Stuck reason)) left = Unit {0}
 MayLeave _ left = left ≡ []
 
--- a run processes the events that it tells, in order; where it is full or stuck, the first of them
-pub record ProcessesTold (visits : Visits) (run : Stretch) : Type 0 where
+-- a run processes the events that it emits, in order; where it is full or stuck, the first of them
+pub record ProcessesEmitted (visits : Visits) (run : Stretch) : Type 0 where
   pub left : List Event
   pub all : map (λ (v : Event × State). v.0) visits ++ left ≡ events_in (notes_of run)
   pub may : MayLeave run.end left

@@ -20,20 +20,20 @@ use Rattle.bb_trace.specs.declared.note.Note.{Note}
 use Rattle.bb_trace.specs.declared.note.Note.TheVariants as notes
 use Rattle.bb_run_plan.specs.Plan.{Plan}
 use Rattle.bb_run.specs.State.{State, with_agenda}
-use Rattle.bb_run.specs.Told.{Response, Stretch, telling, idle, over, and_then, segment}
+use Rattle.bb_run.specs.Emission.{Response, Stretch, emitting, idle, over, and_then, segment}
 use Rattle.bb_run.specs.Asking.{asking, entry_of}
 
 -- ---- what a source does about its pending activations
 
 -- a yes makes a pending activation needless
 abbrev pub obviated_by : Activation → Answer → State → Response
-obviated_by a Yes s = telling (notes.Obviated a.number ∷ []) (with_agenda s (with_obviated s.agenda a.number)) None
+obviated_by a Yes s = emitting (notes.Obviated a.number ∷ []) (with_agenda s (with_obviated s.agenda a.number)) None
 obviated_by a _ s = idle s
 
 -- a rating becomes the base of a pending activation
 abbrev pub rerated_by : Activation → Answer → State → Response
 rerated_by a (Rated base) s =
-    telling (notes.Retriggered a.number base ∷ []) (with_agenda s (with_base s.agenda a.number base)) None
+    emitting (notes.Retriggered a.number base ∷ []) (with_agenda s (with_base s.agenda a.number base)) None
 rerated_by a _ s = idle s
 
 -- the code of a reaction is asked about a pending activation
@@ -60,13 +60,13 @@ reacting schema event place by (Some reaction) s =
 abbrev pub activating : Event → ℕ → ℤ → State → Response
 activating event place base s =
     if is_full s.agenda then over Full s
-    else telling (notes.Triggered (new_activation s.agenda place (unit_of event) base) ∷ [])
+    else emitting (notes.Triggered (new_activation s.agenda place (unit_of event) base) ∷ [])
     (with_agenda s (with_activation s.agenda place (unit_of event) base)) None
 
 -- an answer that is a rating makes an activation with this base; by any other the source declines
 abbrev pub required_by : Event → ℕ → Answer → State → Response
 required_by event place (Rated base) s = activating event place base s
-required_by event place _ s = telling (notes.Declined place (unit_of event) ∷ []) s None
+required_by event place _ s = emitting (notes.Declined place (unit_of event) ∷ []) s None
 
 -- a source that is triggered asks its requirement, if it has one
 abbrev pub triggering : Event → ℕ → ℤ → Option Checked → State → Response
@@ -97,7 +97,7 @@ response_by schema event place (source ∷ sources) s =
 abbrev pub response : Plan → Event → State → Response
 response plan event s = response_by plan.schema event 0 plan.sources s
 
--- the processing of an event is told as one segment
+-- the processing of an event is emitted as one segment
 abbrev pub processing : Plan → Event → State → Stretch
 processing plan event s = segment (response plan event s)
 
@@ -113,8 +113,8 @@ event_in _ = []
 
 -- the events of notes, in order
 abbrev pub events_in : List Note → List Event
-events_in told = flat_map event_in told
+events_in emitted = flat_map event_in emitted
 
--- a response is told, and then its events are processed
+-- a response is emitted, and then its events are processed
 abbrev pub reported : Plan → Response → Stretch
-reported plan r = and_then (segment r) (processing_all plan (events_in r.told))
+reported plan r = and_then (segment r) (processing_all plan (events_in r.emitted))

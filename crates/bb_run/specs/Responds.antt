@@ -1,4 +1,4 @@
--- What comes in a run where events were told: the responses of the sources to them, and then its next turn.
+-- What comes in a run where events were emitted: the responses of the sources to them, and then its next turn.
 use Rattle.std.specs.Prelude.{◌≡◌, ℕ, ◌-◌, ℤ, List, [], ◌∷◌, ◌++◌, length, map, Some, None, slice_get}
 use Rattle.bb_agenda.specs.Activation.{Activation}
 use Rattle.bb_trace.specs.Board.{Board as Blackboard, with_world}
@@ -47,34 +47,34 @@ abbrev pub MayComeNext : (left : List Note) → List Note → Type 0
 MayComeNext left [] = ⊥
 MayComeNext left (note ∷ more) = MayFollow left note
 
--- events were told last of what is past: the responses to them come next, and then the finish, quiescence or a choice
+-- events were emitted last of what is past: the responses to them come next, and then the finish, quiescence or a choice
 pub record Answers (plan : Plan) (board : Blackboard) (events : List Event) (past after : List Note) : Type 0 where
-  pub told : List Note
+  pub emitted : List Note
   pub left : List Note
   pub rest : List Note
-  pub comes : after ≡ told ++ rest
-  -- all responses are told, but for those that are left out
-  pub all : told ++ left ≡ responses plan board events past
+  pub comes : after ≡ emitted ++ rest
+  -- all responses are emitted, but for those that are left out
+  pub all : emitted ++ left ≡ responses plan board events past
   pub next : MayComeNext left rest
 
--- an activation was chosen in this state: after what is told upon the choice come the responses to the events of that,
+-- an activation was chosen in this state: after what is emitted upon the choice come the responses to the events of that,
 -- unless the run is over
 abbrev pub AnswersChoice : Plan → State → Activation → (past after : List Note) → Type 0
 AnswersChoice plan s a past after =
     (source : Source) (more : List Note) → slice_get plan.sources a.source ≡ Some source →
-    let told = upon_choice source a s in told.end ≡ None → after ≡ told.told ++ more
-    → Answers plan told.state.board (events_in told.told) (past ++ told.told) more
+    let emitted = upon_choice source a s in emitted.end ≡ None → after ≡ emitted.emitted ++ more
+    → Answers plan emitted.state.board (events_in emitted.emitted) (past ++ emitted.emitted) more
 
--- the sources respond to what is told in a run where it is told
+-- the sources respond to what is emitted in a run where it is emitted
 pub record Responds (plan : Plan) (board : Blackboard) (natives : List Native) (limit : ℕ) : Type 0 where
   -- what the blackboard had noted comes first, and then the responses to its events
   pub first : (after : List Note) → notes_of (run plan board natives limit) ≡ noted_on board ++ after
       → Answers plan (taken board) (events_in (noted_on board)) (noted_on board) after
-  -- what is told upon a choice comes after it, and then the responses to the events of that
+  -- what is emitted upon a choice comes after it, and then the responses to the events of that
   pub choices : (before after : List Note) (cycle : ℕ) (a : Activation) (r : ℤ)
       → notes_of (run plan board natives limit) ≡ before ++ Chosen cycle a r ∷ after
       → AnswersChoice plan (run plan board natives (cycle - 1)).state a (before ++ Chosen cycle a r ∷ []) after
-  -- quiescence is told between cycles, and then the responses to it, on the blackboard as it is after so many cycles
+  -- quiescence is emitted between cycles, and then the responses to it, on the blackboard as it is after so many cycles
   pub quiet : (before after : List Note) → phase_after before ≡ outside
       → let past = noted_on board ++ before in
       notes_of (run plan board natives limit) ≡ past ++ Board (happened quiescence) ∷ after

@@ -1,4 +1,4 @@
--- What the sources tell in response to events: read off what was told before, the clauses of the plan, and what codes
+-- What the sources emit in response to events: read off what was emitted before, the clauses of the plan, and what codes
 -- answer on a blackboard.
 use Rattle.std.specs.Prelude.{ℕ, ◌+◌, ℤ, List, [], ◌∷◌, ◌++◌, length, filter, Option, Some, None, Result, Ok, Err}
 use Rattle.std.specs.Prelude.{if◌then◌else◌}
@@ -108,7 +108,7 @@ responses_from plan board event place [] past = []
 responses_from plan board event place (source ∷ more) past =
     and_after past (responses_of plan board event place source past) (responses_from plan board event (place + 1) more)
 
--- to events that were told, in order: all sources respond to the first, and then to the next
+-- to events that were emitted, in order: all sources respond to the first, and then to the next
 abbrev pub responses : Plan → Blackboard → List Event → (past : List Note) → List Note
 responses plan board [] past = []
 responses plan board (event ∷ events) past =

@@ -40,7 +40,7 @@ use Rattle.bb_run.specs.declared.execution.Verdict.{Verdict}
 use Rattle.bb_run.specs.declared.execution.Verdict.TheVariants as verdicts
 use Rattle.bb_run.specs.State.{State, with_board, with_agenda, with_natives}
 use Rattle.bb_run.specs.Foci.{foci_on, told_notes, with_foci, rated_source, first_agenda}
-use Rattle.bb_run.specs.Told.{Response, Stretch, telling, idle, over, after_told, and_then, segment}
+use Rattle.bb_run.specs.Emission.{Response, Stretch, emitting, idle, over, after_emitted, and_then, segment}
 use Rattle.bb_run.specs.Asking.{attempt, end_by, entry_of, reply_by}
 use Rattle.bb_run.specs.Processing.{response, reported}
 
@@ -52,9 +52,9 @@ rating plan s a = rated plan.schema (map rated_source plan.sources) (foci_on s.b
 abbrev pub choice : Plan → State → Option Activation
 choice plan s = chosen (rating plan s) plan.floor (pending_of s.agenda)
 
--- quiescence is told, and the sources respond to it
+-- quiescence is emitted, and the sources respond to it
 abbrev pub quiet : Plan → State → Stretch
-quiet plan s = segment (after_told (Board (happened quiescence) ∷ []) (response plan quiescence s))
+quiet plan s = segment (after_emitted (Board (happened quiescence) ∷ []) (response plan quiescence s))
 
 -- before a cycle quiescence comes where nothing can be chosen
 abbrev pub wait_for : Plan → State → Option Activation → Stretch
@@ -72,11 +72,11 @@ with_notes_taken s = record s {
   agenda = with_foci s.agenda (told_notes s.board.schema s.board.world.units s.board.world.notes s.agenda.foci);
 }
 
--- what the blackboard noted is told, and then these notes
+-- what the blackboard noted is emitted, and then these notes
 abbrev pub noted : State → List Note → Option End → Response
-noted s more end = telling (map Board s.board.world.notes ++ more) (with_notes_taken s) end
+noted s more end = emitting (map Board s.board.world.notes ++ more) (with_notes_taken s) end
 
--- what an execution tells: the run is over where it did not come to an answer
+-- what an execution emits: the run is over where it did not come to an answer
 abbrev pub answered : Code → State → Result Outcome Stop → Response
 answered code s (Ok o) = noted s (Ended o.steps o.found (budget code o.found) ∷ []) None
 answered code s (Err stop) = noted s [] (Some (end_by stop))
@@ -85,7 +85,7 @@ answered code s (Err stop) = noted s [] (Some (end_by stop))
 -- over; an execution of the definitions has all memory it needs
 abbrev pub upon_ask : (number : ℕ) → Result Blackboard Denial → State → Response
 upon_ask number (Ok board) s = noted (with_board s board) [] None
-upon_ask number (Err (denials.Refused refusal)) s = telling (Refused number refusal ∷ []) s None
+upon_ask number (Err (denials.Refused refusal)) s = emitting (Refused number refusal ∷ []) s None
 upon_ask number (Err denials.Full) s = over finishes.Full s
 upon_ask number (Err denials.Memory) s = over finishes.Full s
 
@@ -95,14 +95,16 @@ each_applied number [] s = idle s
 each_applied number (ask ∷ more) s =
     and_then (upon_ask number (applied ask s.board) s) (each_applied (number + 1) more)
 
--- the native at a place is called, its asks are applied, and their number is told; without a native the run is stuck
+-- asks are applied, and a note tells how many there were
+abbrev pub asked : (last : ℕ → Note) → List Ask → State → Response
+asked last asks s = and_then (each_applied 1 asks s) (λ t. emitting (last (length asks) ∷ []) t None)
+
+-- the native at a place is called, and its asks are applied; without a native the run is stuck
 abbrev pub calling : Option ℕ → Activation → State → Response
 calling None a s = over (finishes.Stuck Missing) s
 calling (Some place) a s =
     let seen = sight_of s.board in
-    let asks = asks_at s.natives place a.unit seen in
-    and_then (each_applied 1 asks (with_natives s (after_act_at s.natives place a.unit seen)))
-    (λ t. telling (NativeEnded (length asks) ∷ []) t None)
+    asked NativeEnded (asks_at s.natives place a.unit seen) (with_natives s (after_act_at s.natives place a.unit seen))
 
 -- a code is executed for an activation
 abbrev pub executing : Code → Activation → State → Response
@@ -134,20 +136,20 @@ validity None a board = (verdicts.Valid, board)
 validity (Some code) a board =
     let e = attempt code.code (entry_of a.unit None) board in (verdict_by (reply_by e.0), e.1)
 
--- the choice of a cycle is told, with the verdict on it; then the activation is no longer pending
+-- the choice of a cycle is emitted, with the verdict on it; then the activation is no longer pending
 abbrev pub chosen_with : (number : ℕ) → Activation → ℤ → Verdict → State → Response
 chosen_with number a r verdicts.Valid s =
-    telling (Chosen number a r ∷ []) (with_agenda s (with_executed s.agenda a.number)) None
+    emitting (Chosen number a r ∷ []) (with_agenda s (with_executed s.agenda a.number)) None
 chosen_with number a r verdicts.Invalid s =
-    telling (Chosen number a r ∷ Invalid a.number ∷ []) (with_agenda s (with_obviated s.agenda a.number)) None
-chosen_with number a r (verdicts.Over end) s = telling (Chosen number a r ∷ []) s (Some end)
+    emitting (Chosen number a r ∷ Invalid a.number ∷ []) (with_agenda s (with_obviated s.agenda a.number)) None
+chosen_with number a r (verdicts.Over end) s = emitting (Chosen number a r ∷ []) s (Some end)
 
 -- the source that acts: that of the activation, where it is still of use
 abbrev pub if_valid : Verdict → Option Source → Option Source
 if_valid verdicts.Valid source = source
 if_valid _ source = None
 
--- a cycle by the source of its activation: it is revalidated, the choice is told, and the source acts
+-- a cycle by the source of its activation: it is revalidated, the choice is emitted, and the source acts
 abbrev pub cycle_of : Plan → (number : ℕ) → Option Source → Activation → State → Stretch
 cycle_of plan number source a s =
     let v = validity (option_and_then (λ t. t.revalidate) source) a s.board in
@@ -174,7 +176,7 @@ cycles plan made (suc left) s =
 abbrev pub first_state : Plan → Blackboard → List Native → State
 first_state plan board natives = record { board = board; agenda = first_agenda plan board; natives = natives }
 
--- what the creation of the first units noted is told, and its events are processed
+-- what the creation of the first units noted is emitted, and its events are processed
 abbrev pub start : Plan → Blackboard → List Native → Stretch
 start plan board natives = reported plan (noted (first_state plan board natives) [] None)
 
@@ -182,14 +184,14 @@ start plan board natives = reported plan (noted (first_state plan board natives)
 abbrev pub finish : End → List Native → List Note
 finish end natives = Finished end ∷ map Closed (closings_of natives)
 
--- the segment that tells the end, if there is one
+-- the segment that emits the end, if there is one
 abbrev pub finish_segments : Option End → List Native → List (List Note)
 finish_segments None natives = []
 finish_segments (Some end) natives = finish end natives ∷ []
 
--- a stretch with its end told last
+-- a stretch with its end emitted last
 abbrev pub with_finish : Stretch → Stretch
-with_finish p = telling (p.told ++ finish_segments p.end p.state.natives) p.state p.end
+with_finish p = emitting (p.emitted ++ finish_segments p.end p.state.natives) p.state p.end
 
 -- the start, and then at most `limit` cycles
 abbrev pub unfinished : Plan → Blackboard → List Native → (limit : ℕ) → Stretch

@@ -4,8 +4,8 @@
 ghost use Rattle.std.specs.Prelude.{◌≡◌, ◌≤◌, IfOk};
 ghost use Rattle.bb_verify.specs.declared.checked.TheConstants.{FOUND_LIMIT};
 ghost use Rattle.bb_run.specs.Asking.{attempt, entry_of, reply_by};
-ghost use Rattle.bb_run.specs.proving.Serving.{CanExecute};
-ghost use Rattle.bb_run.specs.proving.Telling.{Attempts, Replies};
+ghost use Rattle.bb_run.specs.Serving.{CanExecute};
+ghost use Rattle.bb_run.specs.Emitting.{Attempts, Replies};
 
 use bb_exec::{Answer, Entry, Outcome, Stop, exec};
 use bb_schema::UnitId;

@@ -1,11 +1,12 @@
-//! What a cycle does where its source has a native for its act: the native is called, and its asks are applied to the
-//! blackboard one by one. The execution of an act (execution.rt) calls it.
+//! Asks are applied to the blackboard one by one: those of a native, which a cycle calls where its source has one for
+//! its act (execution.rt), and those from outside (moves.rt).
 
 ghost use Rattle.std.specs.Prelude.{◌≡◌, ◌<◌, IfOk, Some, length, map};
 ghost use Rattle.bb_trace.specs.Applied.{applied};
-ghost use Rattle.bb_run.specs.Run.{calling, each_applied, upon_ask};
-ghost use Rattle.bb_run.specs.proving.Seen.{seen};
-ghost use Rattle.bb_run.specs.proving.Telling.{IsResponse};
+ghost use Rattle.bb_trace.specs.declared.note.Note.TheVariants.{PostEnded};
+ghost use Rattle.bb_run.specs.Run.{asked, calling, each_applied, upon_ask};
+ghost use Rattle.bb_run.specs.Seen.{seen};
+ghost use Rattle.bb_run.specs.Emitting.{IsResponse};
 
 use crate::noting::take_noted;
 use crate::state::State;
@@ -79,5 +80,22 @@ pub(crate) fn call<N: NativeSource>(
         return Ok(Some(end));
     }
     notes.push(Note::NativeEnded { asks: count })?;
+    Ok(None)
+}
+
+/// Applies asks from outside the run, and appends the notes of that. Returns the end of the run if it ends there.
+pub(crate) fn apply_posted<N: NativeSource>(
+    asks: Vec<Ask>,
+    state: &mut State<N>,
+    notes: &mut Vec<Note>,
+) -> Result<Option<End>, AllocError>
+    ensures { IfOk result (IsResponse (asked PostEnded asks.items (seen N.meaning state.old))
+        notes.old.items notes.new.items (seen N.meaning state.new)) }
+{
+    let count = asks.len() as u64;
+    if let Some(end) = apply_each(asks, state, notes)? {
+        return Ok(Some(end));
+    }
+    notes.push(Note::PostEnded { asks: count })?;
     Ok(None)
 }

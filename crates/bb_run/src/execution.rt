@@ -1,5 +1,5 @@
 //! What a cycle does with its activation: it asks whether it is still of use, and executes its source's act. The cycle
-//! (cycles.rt) has the notes told.
+//! (cycles.rt) has the notes emitted.
 
 ghost use Rattle.std.specs.Prelude.{◌≡◌, IfOk, None, Some, map, option_map};
 ghost use Rattle.bb_agenda.specs.Rating.{rating_in};
@@ -7,9 +7,9 @@ ghost use Rattle.bb_trace.specs.Act.TheVariants.{Code as DoesCode, Native};
 ghost use Rattle.bb_verify.specs.Accepted.{Checked};
 ghost use Rattle.bb_run.specs.Asking.{entry_of};
 ghost use Rattle.bb_run.specs.Run.{chosen_with, executing, execution, validity, verdict_by};
-ghost use Rattle.bb_run.specs.proving.Seen.{seen};
-ghost use Rattle.bb_run.specs.proving.Serving.{CanExecute, HasNative};
-ghost use Rattle.bb_run.specs.proving.Telling.{IsResponse, Validates};
+ghost use Rattle.bb_run.specs.Seen.{seen};
+ghost use Rattle.bb_run.specs.Serving.{CanExecute, HasNative};
+ghost use Rattle.bb_run.specs.Emitting.{IsResponse, Validates};
 
 use crate::asking::{Reply, ask, attempt, entry_of};
 use crate::calling::call;

@@ -105,7 +105,7 @@ fn focus_of(board: &Board, unit: UnitId) -> Result<Option<Focus>, AllocError>
     Ok(focus_from(source, area, weight, active))
 }
 
-// Tells the agenda which focus a unit is, or that it is none.
+// Emits the agenda which focus a unit is, or that it is none.
 fn tell_unit(agenda: &mut Agenda, board: &Board, unit: UnitId) -> Result<(), AllocError>
     ensures { IfOk result (λ _. agenda.new ≡ def.with_foci agenda.old
         (def.told_unit board.now.schema board.now.world.units agenda.old.foci unit)) }
@@ -116,7 +116,7 @@ fn tell_unit(agenda: &mut Agenda, board: &Board, unit: UnitId) -> Result<(), All
     }
 }
 
-// Tells the agenda of the unit that a note names.
+// Emits the agenda of the unit that a note names.
 fn tell_note(agenda: &mut Agenda, board: &Board, note: &BoardNote) -> Result<(), AllocError>
     ensures { IfOk result (λ _. agenda.new ≡ def.with_foci agenda.old
         (def.told_note board.now.schema board.now.world.units agenda.old.foci note.now)) }
@@ -127,7 +127,7 @@ fn tell_note(agenda: &mut Agenda, board: &Board, note: &BoardNote) -> Result<(),
     }
 }
 
-/// Tells the agenda of the units that notes of the blackboard name.
+/// Emits the agenda of the units that notes of the blackboard name.
 pub(crate) fn tell_notes(
     agenda: &mut Agenda,
     board: &Board,
@@ -142,7 +142,7 @@ pub(crate) fn tell_notes(
     Ok(())
 }
 
-/// Tells the agenda of all units that were created on the blackboard. 0 names no unit.
+/// Emits the agenda of all units that were created on the blackboard. 0 names no unit.
 pub(crate) fn tell_all(agenda: &mut Agenda, board: &Board) -> Result<(), AllocError>
     ensures { IfOk result (λ _. agenda.new ≡ def.with_foci agenda.old
         (def.told_all board.now.schema board.now.world.units agenda.old.foci)) }

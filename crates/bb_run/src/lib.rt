@@ -10,25 +10,30 @@
 mod asking;
 mod calling;
 mod cycles;
+mod ending;
 mod execution;
 mod finish;
 mod foci;
-mod laws;
 mod noting;
+mod orderly;
 mod processing;
 mod reacting;
 mod runner;
 mod state;
 mod triggering;
+mod whole;
 
+pub use bb_agenda::Activation;
 pub use bb_run_plan::{Plan, SOURCE_LIMIT};
 pub use bb_trace::{
     Act, Ask, Board, ClassPlace, Classes, ClauseList, ClausePlace, Closed, Closing, Denial,
-    DimValue, DocumentPlace, End, ListItem, ListKey, NativeSource, Node, OperandKind, Out, Pattern,
-    Pipe, Query, Refusal, Relation, Roster, RuleFault, SharedSchema, Source, UnitsFault, UnitsFlaw,
-    View, close_each, put_all,
+    DimValue, DocumentPlace, End, EndKind, Halt, ListItem, ListKey, NativeSource, Node,
+    OperandKind, Out, Page, Pattern, Pipe, Query, Refusal, Relation, Roster, RuleFault,
+    SharedSchema, Source, UnitsFault, UnitsFlaw, View, close_each, put_all,
 };
-pub use cycles::run;
+pub use cycles::choose;
 pub use finish::Finish;
-pub use laws::runs_are_orderly;
-pub use state::Start;
+pub use orderly::runs_are_orderly;
+pub use runner::Runner;
+pub use state::{Start, State};
+pub use whole::{first_state, run};

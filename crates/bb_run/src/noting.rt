@@ -5,8 +5,8 @@ ghost use Rattle.std.specs.Prelude.{◌≡◌, ◌++◌, IfOk, Option, map};
 ghost use Rattle.bb_trace.specs.End.{End};
 ghost use Rattle.bb_trace.specs.declared.note.Note.TheVariants.{Board as BoardNote};
 ghost use Rattle.bb_run.specs.Run.{noted};
-ghost use Rattle.bb_run.specs.proving.Seen.{seen};
-ghost use Rattle.bb_run.specs.proving.Telling.{IsResponse, option_list};
+ghost use Rattle.bb_run.specs.Seen.{seen};
+ghost use Rattle.bb_run.specs.Emitting.{IsResponse, option_list};
 
 use crate::foci::tell_notes;
 use crate::state::State;

@@ -9,9 +9,9 @@ ghost use Rattle.bb_verify.specs.Accepted.{Checked};
 ghost use Rattle.bb_run.specs.Asking.{entry_of};
 ghost use Rattle.bb_run.specs.Processing.{if_triggered, obviated_by, reacting, rerated_by, response, source_response};
 ghost use Rattle.bb_run.specs.proving.Responding.{response_at};
-ghost use Rattle.bb_run.specs.proving.Seen.{seen};
-ghost use Rattle.bb_run.specs.proving.Serving.{CanExecute, ReactsToAll, ServesAt};
-ghost use Rattle.bb_run.specs.proving.Telling.{IsResponse};
+ghost use Rattle.bb_run.specs.Seen.{seen};
+ghost use Rattle.bb_run.specs.Serving.{CanExecute, ReactsToAll, ServesAt};
+ghost use Rattle.bb_run.specs.Emitting.{IsResponse};
 
 use crate::reacting::{obviate_all, retrigger_all};
 use crate::state::State;

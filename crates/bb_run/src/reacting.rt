@@ -4,9 +4,9 @@ ghost use Rattle.std.specs.Prelude.{◌≡◌, IfOk, None, filter};
 ghost use Rattle.bb_agenda.specs.Agenda.{is_on, pending_for};
 ghost use Rattle.bb_run.specs.Processing.{obviated_by, reacting_to, reacting_to_each, rerated_by};
 ghost use Rattle.bb_run.specs.proving.Own.{asked_about};
-ghost use Rattle.bb_run.specs.proving.Seen.{seen};
-ghost use Rattle.bb_run.specs.proving.Serving.{ReactsTo, ReactsToAll};
-ghost use Rattle.bb_run.specs.proving.Telling.{IsResponse};
+ghost use Rattle.bb_run.specs.Seen.{seen};
+ghost use Rattle.bb_run.specs.Serving.{ReactsTo, ReactsToAll};
+ghost use Rattle.bb_run.specs.Emitting.{IsResponse};
 
 use crate::asking::{Reply, ask, entry_of};
 use crate::state::State;

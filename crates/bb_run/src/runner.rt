@@ -1,14 +1,14 @@
-//! What the run writes: segments, and the parts of the run that tell them. The cycles (cycles.rt) are made through it.
+//! What the run writes: segments, and the parts of the run that emit them. The cycles (cycles.rt) are made through it.
 
 ghost use Rattle.std.specs.Prelude.{◌≡◌, ◌≤◌, ◌∷◌, [], All, false, length};
 ghost use Rattle.bb_trace.specs.Page.{stopped_by_write};
 ghost use Rattle.bb_run.specs.Processing.{event_in, events_in, processing, processing_all, reported};
 ghost use Rattle.bb_run.specs.Run.{quiet};
-ghost use Rattle.bb_run.specs.Told.{telling};
+ghost use Rattle.bb_run.specs.Emission.{emitting};
 ghost use Rattle.bb_run.specs.Unstuck.{IsEventOf};
-ghost use Rattle.bb_run.specs.proving.Seen.{seen};
-ghost use Rattle.bb_run.specs.proving.Serving.{Serves, ServesAt};
-ghost use Rattle.bb_run.specs.proving.Telling.{Makes, Same, Tells, at, option_list};
+ghost use Rattle.bb_run.specs.Seen.{seen};
+ghost use Rattle.bb_run.specs.Serving.{Serves, ServesAt};
+ghost use Rattle.bb_run.specs.Emitting.{Makes, Same, Emits, at, option_list};
 
 use crate::processing::respond;
 use crate::state::State;
@@ -18,7 +18,7 @@ use std::alloc::Global;
 
 /// What makes a run and writes it: the page, and where that is written.
 #[derive(Drop)]
-pub(crate) struct Runner<'a, O: Out> {
+pub struct Runner<'a, O: Out> {
     pub page: &'a mut Page,
     pub out: &'a mut O,
 }
@@ -39,22 +39,22 @@ impl<O: Out> Runner<'_, O> {
         self.page.alloc()
     }
 
-    /// Tells a segment, and writes the page if it is long.
-    pub(crate) fn tell(&mut self, plan: &Plan, notes: &[Note]) -> Result<(), Halt>
+    /// Emits a segment, and writes the page if it is long.
+    pub(crate) fn emit(&mut self, plan: &Plan, notes: &[Note]) -> Result<(), Halt>
         requires open { O.has_failed self.old.out.now ≡ false }
         ensures same { Same self.old self.new }
-        ensures told { Tells plan.now (at O.taken self.old) (at O.taken self.new) (notes.now ∷ []) result }
+        ensures emitted { Emits plan.now (at O.taken self.old) (at O.taken self.new) (notes.now ∷ []) result }
         ensures failed { O.has_failed self.new.out.now ≡ stopped_by_write result }
     {
         self.page.add_segment(plan, notes)?;
         self.page.spill(self.out)
     }
 
-    // Tells a segment, and writes the page.
-    fn tell_now(&mut self, plan: &Plan, notes: &[Note]) -> Result<(), Halt>
+    // Emits a segment, and writes the page.
+    fn emit_now(&mut self, plan: &Plan, notes: &[Note]) -> Result<(), Halt>
         requires open { O.has_failed self.old.out.now ≡ false }
         ensures same { Same self.old self.new }
-        ensures told { Tells plan.now (at O.taken self.old) (at O.taken self.new) (notes.now ∷ []) result }
+        ensures emitted { Emits plan.now (at O.taken self.old) (at O.taken self.new) (notes.now ∷ []) result }
         ensures failed { O.has_failed self.new.out.now ≡ stopped_by_write result }
     {
         self.page.add_segment(plan, notes)?;
@@ -77,11 +77,11 @@ impl<O: Out> Runner<'_, O> {
     {
         let mut notes = Vec::new(self.alloc());
         let end = respond(plan, event, state, &mut notes)?;
-        self.tell(plan, &notes)?;
+        self.emit(plan, &notes)?;
         Ok(end)
     }
 
-    // Processes the events that notes tell, one after another, until the run ends.
+    // Processes the events among notes, one after another, until the run ends.
     fn process_all<N: NativeSource>(
         &mut self,
         plan: &Plan,
@@ -108,7 +108,7 @@ impl<O: Out> Runner<'_, O> {
         Ok(None)
     }
 
-    /// Tells of quiescence, and processes it. The page is written at once, since whoever follows the run waits for it.
+    /// Emits quiescence, and processes it. The page is written at once, since whoever follows the run waits for it.
     pub(crate) fn quiesce<N: NativeSource>(
         &mut self,
         plan: &Plan,
@@ -124,11 +124,11 @@ impl<O: Out> Runner<'_, O> {
         let mut notes = Vec::new(self.alloc());
         notes.push(Note::Board(Noted::Event(Event::Quiescence)))?;
         let end = respond(plan, Event::Quiescence, state, &mut notes)?;
-        self.tell_now(plan, &notes)?;
+        self.emit_now(plan, &notes)?;
         Ok(end)
     }
 
-    /// Tells the notes of a response, and processes their events unless the run ended in it.
+    /// Emits the notes of a response, and processes their events unless the run ended in it.
     pub(crate) fn report<N: NativeSource>(
         &mut self,
         plan: &Plan,
@@ -141,10 +141,10 @@ impl<O: Out> Runner<'_, O> {
         requires events { All (IsEventOf plan.now.schema state.old.board) (events_in notes.now) }
         ensures same { Same self.old self.new }
         ensures made { Makes plan.now (at O.taken self.old) (at O.taken self.new)
-            (reported plan.now (telling notes.now (seen N.meaning state.old) end)) (seen N.meaning state.new) result }
+            (reported plan.now (emitting notes.now (seen N.meaning state.old) end)) (seen N.meaning state.new) result }
         ensures failed { O.has_failed self.new.out.now ≡ stopped_by_write result }
     {
-        self.tell(plan, notes)?;
+        self.emit(plan, notes)?;
         if let Some(end) = end {
             return Ok(Some(end));
         }

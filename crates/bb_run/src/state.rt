@@ -1,4 +1,5 @@
-//! The state of a run, which its parts (processing.rt, calling.rt, execution.rt, cycles.rt) change.
+//! The state of a run, which its parts (processing.rt, calling.rt, execution.rt, cycles.rt) change, and what it begins
+//! with.
 
 ghost use Rattle.std.specs.Prelude.{◌≡◌, map};
 ghost use Rattle.bb_trace.specs.Roster.{closings_of};
@@ -13,24 +14,24 @@ pub struct Start<N: NativeSource> {
 }
 
 /// The state of a run: the blackboard, the agenda and the natives. Contracts see them by `seen`.
-pub(crate) struct State<N: NativeSource> {
+pub struct State<N: NativeSource> {
     pub board: Board,
     pub agenda: Agenda,
     pub roster: Roster<N>,
 }
 
 impl<N: NativeSource> State<N> {
-    /// Closes each native, in order, and drops the rest.
-    pub(crate) fn close(self) -> Closed
-        ensures { result ≡ closings_of (map N.meaning self.roster.natives.items) }
+    /// Closes each native, in order, and gives what each said and the blackboard. It takes no memory.
+    pub fn close(self) -> (Closed, Board)
+        ensures closed { result.0 ≡ closings_of (map N.meaning self.roster.natives.items) }
+        ensures board { result.1 ≡ self.board }
     {
         let State {
             board,
             agenda,
             roster,
         } = self;
-        drop(board);
         drop(agenda);
-        roster.close_all()
+        (roster.close_all(), board)
     }
 }

@@ -4,9 +4,9 @@ ghost use Rattle.std.specs.Prelude.{◌≡◌, IfOk, None};
 ghost use Rattle.bb_run.specs.Asking.{asking, entry_of};
 ghost use Rattle.bb_run.specs.Processing.{activating, required_by};
 ghost use Rattle.bb_trace.specs.Events.{unit_of};
-ghost use Rattle.bb_run.specs.proving.Seen.{seen};
-ghost use Rattle.bb_run.specs.proving.Serving.{CanExecute};
-ghost use Rattle.bb_run.specs.proving.Telling.{IsResponse};
+ghost use Rattle.bb_run.specs.Seen.{seen};
+ghost use Rattle.bb_run.specs.Serving.{CanExecute};
+ghost use Rattle.bb_run.specs.Emitting.{IsResponse};
 
 use crate::asking::{Reply, ask, entry_of};
 use crate::state::State;

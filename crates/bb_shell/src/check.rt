@@ -4,7 +4,7 @@
 ghost use Rattle.std.specs.Prelude.{◌≡◌, ◌⊎◌, Ok, true, false, map, IfErr, IfOk, OnErr};
 ghost use Rattle.bb_basis.specs.Results.{Gives, map_err};
 ghost use Rattle.bb_schema.specs.Reading.{schema_of};
-ghost use Rattle.bb_run.specs.Roster.{all_open};
+ghost use Rattle.bb_run_held.specs.Roster.{all_open};
 ghost use Rattle.bb_shell.specs.Fitting.{names_in, native_names};
 ghost use Rattle.bb_shell.specs.Check.{WritesCheck, sources_in};
 ghost use Rattle.bb_shell.specs.Written.{is_cut};
@@ -14,7 +14,7 @@ use crate::given::given;
 use crate::texts::read_schema;
 use crate::written::{Done, write};
 use bb_refusal::InputFault;
-use bb_run::{Closing, NativeSource, Out, Roster, Source};
+use bb_run_held::{Closing, NativeSource, Out, Roster, Source};
 use bb_schema::Schema;
 use std::alloc::Global;
 

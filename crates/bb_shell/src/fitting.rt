@@ -6,13 +6,13 @@ ghost use Rattle.std.specs.List.{list_any};
 ghost use Rattle.std.specs.Str.{bytes_eq};
 ghost use Rattle.std.specs.Vec.{vec_capacity};
 ghost use Rattle.bb_basis.specs.Results.{Gives};
-ghost use Rattle.bb_run.specs.Closing.{Closing};
+ghost use Rattle.bb_run_held.specs.Closing.{Closing};
 ghost use Rattle.bb_shell.specs.declared.fitting.Unfit.TheVariants.{Memory as OutOfMemory};
 ghost use Rattle.bb_shell.specs.Fitting.{fitted, has_native, is_native, lacks_native, names_in, names_of};
 ghost use Rattle.bb_shell.specs.Fitting.{source_after};
 
 use bb_basis::{Names, Text};
-use bb_run::{Act, Closing, RuleFault, SOURCE_LIMIT, Source};
+use bb_run_held::{Act, Closing, RuleFault, SOURCE_LIMIT, Source};
 use std::alloc::{AllocError, Global};
 use std::marker::Model;
 
@@ -34,10 +34,10 @@ pub(crate) struct SourceSet {
 
 impl Model for SourceSet {
     ghost use Rattle.std.specs.Prelude.{◌≡◌, ◌≤◌, List, length};
-    ghost use Rattle.bb_run.specs.Limits.{SOURCE_LIMIT};
-    ghost use Rattle.bb_run.specs.Source.{Source as Placed};
+    ghost use Rattle.bb_run_held.specs.Limits.{SOURCE_LIMIT};
+    ghost use Rattle.bb_run_held.specs.Source.{Source as Placed};
     ghost use Rattle.bb_shell.specs.Fitting.{names_of};
-    ghost use Rattle.bb_run.specs.proving.Codes.{sources_code};
+    ghost use Rattle.bb_run_held.specs.proving.Codes.{sources_code};
 
     ghost Value = { List Placed };
 

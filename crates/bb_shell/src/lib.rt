@@ -26,16 +26,16 @@ pub use bb_bundle::BundleFault;
 pub use bb_compile_scope::{CompileFault, TextFlaw};
 pub use bb_lang::{LangFault, Place};
 pub use bb_refusal::InputFault;
-pub use bb_run::{
+pub use bb_run_held::{
     Ask, Board, ClassPlace, ClauseList, ClausePlace, Closed, Closing, DimValue, DocumentPlace, End,
-    Finish, ListItem, ListKey, NativeSource, Node, OperandKind, Out, Pattern, Pipe, Query,
-    Relation, Roster, RuleFault, Source, UnitsFault, UnitsFlaw, View, close_each, put_all,
-    runs_are_orderly,
+    Finish, Halt, ListItem, ListKey, NativeSource, Node, OperandKind, Out, Pattern, Pause, Pipe,
+    Query, Relation, Roster, RuleFault, Running, Source, UnitsFault, UnitsFlaw, View, close_each,
+    put_all, runs_are_orderly,
 };
 pub use bb_schema::{SchemaFault, SchemaFlaw, UnitId, Value};
 pub use bb_verify::{Flaw, Part, VerifyFault};
 pub use check::{Check, check_sources, check_texts};
 pub use compile::compile_texts;
 pub use shell::Shell;
-pub use texts::run_texts;
+pub use texts::{Texts, run_texts};
 pub use written::Done;

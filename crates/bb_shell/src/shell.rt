@@ -1,18 +1,27 @@
 //! A blackboard with the sources that run on it. Hosts make one and run it, and `run_texts` makes one of an input.
 
-ghost use Rattle.std.specs.Prelude.{◌≡◌, ◌≤◌, false, length, map, All, Some, IfOk, IfSome};
+ghost use Rattle.std.specs.Prelude.{◌≡◌, ◌≤◌, true, false, length, map, All, None, Some, IfOk, IfSome};
 ghost use Rattle.std.specs.Io.KnownBytes.{Appends};
 ghost use Rattle.bb_basis.specs.Results.{Gives};
-ghost use Rattle.bb_run.specs.Finish.{WritesFront, end_of, is_write};
-ghost use Rattle.bb_run.specs.Law.{IsMade};
-ghost use Rattle.bb_run.specs.Run.{run};
-ghost use Rattle.bb_run.specs.TraceText.{trace_text};
+ghost use Rattle.bb_run_held.specs.Finish.{WritesFront, end_of, is_write};
+ghost use Rattle.bb_run_held.specs.Law.{IsMade};
+ghost use Rattle.bb_run_held.specs.Page.{stopped_by_write};
+ghost use Rattle.bb_run_held.specs.Roster.{all_open};
+ghost use Rattle.bb_run_held.specs.Run.{run};
+ghost use Rattle.bb_run_held.specs.Seen.{seen};
+ghost use Rattle.bb_run_held.specs.TraceText.{trace_text};
+ghost use Rattle.bb_run_held.specs.Making.{Begins, stands};
+ghost use Rattle.bb_run_held.specs.Moves.{started};
 ghost use Rattle.bb_shell.specs.Fitting.{HasAct, names_in, native_names};
+ghost use Rattle.bb_shell.specs.Meaning.{meaning};
 ghost use Rattle.bb_shell.specs.Shell.{shell_of};
 
 use crate::fitting::{Unfit, fit_all};
-use bb_run::{
-    Board, Closing, Finish, NativeSource, Out, Plan, Roster, RuleFault, Source, Start, run,
+use crate::texts::{Texts, read_input};
+use bb_refusal::InputFault;
+use bb_run_held::{
+    Board, Closing, Finish, Halt, NativeSource, Out, Plan, Roster, RuleFault, Running, Source,
+    Start, run,
 };
 use std::alloc::Global;
 
@@ -59,6 +68,35 @@ impl<N: NativeSource> Shell<N> {
         }
     }
 
+    /// A shell of the texts of an input, with the natives that were handed in: schema, first units, the sources that are
+    /// text and then those of a bundle. An input is refused at the first step that refuses it, in the order of
+    /// `run_texts`; then each native is closed, in order.
+    pub fn of_texts(
+        alloc: Global,
+        texts: &Texts<'_>,
+        natives: Vec<N>,
+        floor: i64,
+    ) -> Result<Shell<N>, InputFault>
+        requires { all_open (map N.meaning natives.items) ≡ true }
+        ensures means { Gives InputFault.Memory (λ s. record { plan = s.plan; board = s.board }) result
+            (meaning (native_names (map N.meaning natives.items)) texts.now.schema.now texts.now.units.now
+            texts.now.sources.now texts.now.bundle.now floor) }
+        ensures natives { IfOk result (λ s. map N.meaning s.roster.natives.items ≡ map N.meaning natives.items) }
+    {
+        let roster = Roster::new(alloc, natives)?;
+        match read_input(alloc, roster.handed_in(), texts, floor) {
+            Ok((plan, board)) => Ok(Shell {
+                plan,
+                board,
+                roster,
+            }),
+            Err(fault) => {
+                drop(roster.close_all());
+                Err(fault)
+            }
+        }
+    }
+
     /// Runs the shell, at most `limit` cycles, and writes the trace. Each native is closed once, in order, whatever
     /// comes of the run. `Memory`: memory ran out. `Write`: the output failed.
     pub fn run<O: Out>(self, alloc: Global, limit: u32, out: &mut O) -> Finish
@@ -66,7 +104,7 @@ impl<N: NativeSource> Shell<N> {
         ensures finish { IfSome (end_of result) (λ end.
             (run self.plan self.board (map N.meaning self.roster.natives.items) limit).end ≡ Some end) }
         ensures text { IfSome (end_of result) (λ _. Appends (O.taken out.old) (O.taken out.new)
-            (trace_text self.plan (run self.plan self.board (map N.meaning self.roster.natives.items) limit).told)) }
+            (trace_text self.plan (run self.plan self.board (map N.meaning self.roster.natives.items) limit).emitted)) }
         ensures front { WritesFront self.plan (run self.plan self.board (map N.meaning self.roster.natives.items) limit)
             result (O.taken out.old) (O.taken out.new) }
         ensures failed { O.has_failed out.new ≡ is_write result }
@@ -77,6 +115,24 @@ impl<N: NativeSource> Shell<N> {
             roster,
         } = self;
         run(alloc, &plan, Start { board, roster }, limit, out)
+    }
+
+    /// Begins a run that the host holds: tells what the creation of the first units noted, processes its events, and
+    /// writes that. `Memory`: memory ran out. `Write`: the output failed. Then each native is closed, in order, and the
+    /// blackboard is dropped.
+    pub fn start<O: Out>(self, alloc: Global, out: &mut O) -> Result<Running<N>, Halt>
+        requires open { O.has_failed out.old ≡ false }
+        ensures begun { Begins self.plan (started self.plan self.board (map N.meaning self.roster.natives.items))
+            (λ r. stands (seen N.meaning r.state) r.made r.pause) (O.taken out.old) (O.taken out.new) result }
+        ensures kept { IfOk result (λ r. (r.plan ≡ self.plan) × (r.cut ≡ None)) }
+        ensures failed { O.has_failed out.new ≡ stopped_by_write result }
+    {
+        let Shell {
+            plan,
+            board,
+            roster,
+        } = self;
+        Running::start(alloc, plan, Start { board, roster }, out)
     }
 }
 

@@ -4,21 +4,20 @@ ghost use Rattle.std.specs.Prelude.{◌≡◌, ◌⊎◌, true, false, map, All,
 ghost use Rattle.std.specs.Io.KnownBytes.{Appends};
 ghost use Rattle.bb_basis.specs.Results.{Gives, map_err};
 ghost use Rattle.bb_schema.specs.Reading.{schema_of};
-ghost use Rattle.bb_run.specs.Board.{is_fresh, new_board};
-ghost use Rattle.bb_run.specs.Load.{loaded};
-ghost use Rattle.bb_run.specs.Law.{IsMade};
-ghost use Rattle.bb_run.specs.Roster.{all_open};
-ghost use Rattle.bb_run.specs.Finish.{WritesFront, end_of, is_write};
+ghost use Rattle.bb_run_held.specs.Board.{is_fresh, new_board};
+ghost use Rattle.bb_run_held.specs.Load.{loaded};
+ghost use Rattle.bb_run_held.specs.Law.{IsMade};
+ghost use Rattle.bb_run_held.specs.Roster.{all_open};
+ghost use Rattle.bb_run_held.specs.Finish.{WritesFront, end_of, is_write};
 ghost use Rattle.bb_shell.specs.Fitting.{names_in, native_names};
 ghost use Rattle.bb_shell.specs.Meaning.{Meaning, meaning};
-ghost use Rattle.bb_run.specs.Run.{run};
-ghost use Rattle.bb_run.specs.TraceText.{trace_text};
+ghost use Rattle.bb_run_held.specs.Run.{run};
+ghost use Rattle.bb_run_held.specs.TraceText.{trace_text};
 
 use crate::given::given;
+use crate::shell::Shell;
 use bb_refusal::InputFault;
-use bb_run::{
-    Board, Closing, Finish, NativeSource, Out, Plan, Roster, SharedSchema, Start, UnitsFault, run,
-};
+use bb_run_held::{Board, Closing, Finish, NativeSource, Out, Plan, SharedSchema, UnitsFault};
 use bb_schema::{Schema, SchemaFault};
 use std::alloc::Global;
 
@@ -50,7 +49,7 @@ pub fn run_texts<N: NativeSource, O: Out>(
         × (meaning (native_names (map N.meaning natives.items)) schema.now units.now sources.now bundle.now floor
         ≡ Ok m)
         × IfSome (end_of f) (λ _. Appends (O.taken out.old) (O.taken out.new)
-        (trace_text m.plan (run m.plan m.board (map N.meaning natives.items) limit).told))) }
+        (trace_text m.plan (run m.plan m.board (map N.meaning natives.items) limit).emitted))) }
 
     // At `Memory` the output took the text of the first segments of the run, at `Write` the front of its trace.
     ensures front { IfOk result (λ f. (m : Meaning)
@@ -68,33 +67,31 @@ pub fn run_texts<N: NativeSource, O: Out>(
         ≡ Err e)) }
     ensures quiet { OnErr result (out.new ≡ out.old) }
 {
-    let roster = Roster::new(alloc, natives)?;
     let texts = Texts {
         schema,
         units,
         sources,
         bundle,
     };
-    match read_input(alloc, roster.handed_in(), &texts, floor) {
-        Ok((plan, board)) => Ok(run(alloc, &plan, Start { board, roster }, limit, out)),
-        Err(fault) => {
-            drop(roster.close_all());
-            Err(fault)
-        }
-    }
+    let shell = Shell::of_texts(alloc, &texts, natives, floor)?;
+    Ok(shell.run(alloc, limit, out))
 }
 
-// The texts of an input.
+/// The texts of an input.
 #[derive(Clone, Copy)]
-struct Texts<'a> {
-    schema: &'a str,
-    units: &'a str,
-    sources: &'a str,
-    bundle: &'a str,
+pub struct Texts<'a> {
+    /// The document of the schema.
+    pub schema: &'a str,
+    /// The document of the first units.
+    pub units: &'a str,
+    /// The sources that are text.
+    pub sources: &'a str,
+    /// The sources of a bundle.
+    pub bundle: &'a str,
 }
 
-// What an input means. The sources were made under its schema, of codes that the verifier accepted under it.
-fn read_input(
+/// What an input means. The sources were made under its schema, of codes that the verifier accepted under it.
+pub(crate) fn read_input(
     alloc: Global,
     natives: &[Closing],
     texts: &Texts,

@@ -5,6 +5,8 @@
 #[cfg(test)]
 mod asking;
 #[cfg(test)]
+mod held;
+#[cfg(test)]
 mod input;
 #[cfg(test)]
 mod looking;

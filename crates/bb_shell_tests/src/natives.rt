@@ -13,28 +13,28 @@ use std::cell::Cell;
 use std::rc::Rc;
 use std::test::Fail;
 
-/// A native with a number, which it appends to those that were told before when it is closed.
+/// A native with a number, which it appends to those of the natives closed before, when it is closed.
 #[derive(Drop)]
-pub(crate) struct Teller {
+pub(crate) struct Recorder {
     number: u64,
-    told: Rc<Cell<u64>>,
+    closings: Rc<Cell<u64>>,
     is_open: bool,
 }
 
-impl NativeSource for Teller {
+impl NativeSource for Recorder {
     ghost use Rattle.std.specs.Prelude.{[], pos, codes};
 
-    ghost meaning = { λ teller. record {
-      name = codes "teller";
+    ghost meaning = { λ recorder. record {
+      name = codes "recorder";
       held = [];
-      is_open = teller.is_open;
+      is_open = recorder.is_open;
       asks = λ held unit seen. [];
       next = λ held unit seen. held;
       closing = λ held. pos 0;
     } };
 
     fn name(&self) -> &str {
-        "teller"
+        "recorder"
     }
 
     fn act(&mut self, alloc: Global, _unit: UnitId, _view: &View<'_>) -> Result<Vec<Ask>, Memory> {
@@ -43,8 +43,8 @@ impl NativeSource for Teller {
 
     fn close(&mut self) -> i64 {
         self.is_open = false;
-        let before = self.told.get();
-        self.told
+        let before = self.closings.get();
+        self.closings
             .set(before.wrapping_mul(10).wrapping_add(self.number));
         0
     }
@@ -85,38 +85,38 @@ impl NativeSource for Counter {
     }
 }
 
-fn open_teller(number: u64, told: &Rc<Cell<u64>>) -> Result<Teller, Memory>
-    ensures { IfOk result (λ teller. teller.is_open ≡ true) }
+fn open_recorder(number: u64, closings: &Rc<Cell<u64>>) -> Result<Recorder, Memory>
+    ensures { IfOk result (λ recorder. recorder.is_open ≡ true) }
 {
-    Ok(Teller {
+    Ok(Recorder {
         number,
-        told: told.clone()?,
+        closings: closings.clone()?,
         is_open: true,
     })
 }
 
 /// No natives.
-pub(crate) fn no_natives(alloc: Global) -> Vec<Teller>
-    ensures { all_open (map ⟦<Teller as NativeSource>⟧.meaning result.items) ≡ true }
+pub(crate) fn no_natives(alloc: Global) -> Vec<Recorder>
+    ensures { all_open (map ⟦<Recorder as NativeSource>⟧.meaning result.items) ≡ true }
 {
     Vec::new(alloc)
 }
 
 /// Two natives of one name.
-pub(crate) fn tellers(alloc: Global, told: &Rc<Cell<u64>>) -> Result<Vec<Teller>, Memory>
-    ensures { IfOk result (λ natives. all_open (map ⟦<Teller as NativeSource>⟧.meaning natives.items) ≡ true) }
+pub(crate) fn recorders(alloc: Global, closings: &Rc<Cell<u64>>) -> Result<Vec<Recorder>, Memory>
+    ensures { IfOk result (λ natives. all_open (map ⟦<Recorder as NativeSource>⟧.meaning natives.items) ≡ true) }
 {
     let mut natives = Vec::new(alloc);
-    natives.push(open_teller(1, told)?)?;
-    natives.push(open_teller(2, told)?)?;
+    natives.push(open_recorder(1, closings)?)?;
+    natives.push(open_recorder(2, closings)?)?;
     Ok(natives)
 }
 
-// Runs an input with two natives. Returns the number of its refusal, 0 if there is none, what the natives told when
+// Runs an input with two natives. Returns the number of its refusal, 0 if there is none, what the natives appended when
 // they were closed, and the number of bytes that were written.
 fn run_with(alloc: Global, input: Input<'_>) -> Result<(u8, u64, usize), Fail> {
-    let told = Rc::new(alloc, Cell::new(0u64))?;
-    let natives = tellers(alloc, &told)?;
+    let closings = Rc::new(alloc, Cell::new(0u64))?;
+    let natives = recorders(alloc, &closings)?;
     let mut out = Pipe::new(Vec::new(alloc));
     let answer = run_texts(
         alloc,
@@ -134,7 +134,7 @@ fn run_with(alloc: Global, input: Input<'_>) -> Result<(u8, u64, usize), Fail> {
         Ok(_) => 0,
         Err(fault) => fault.number(),
     };
-    Ok((number, told.get(), bytes.len()))
+    Ok((number, closings.get(), bytes.len()))
 }
 
 #[test]
@@ -196,9 +196,9 @@ fn each_refusal_closes_all(rt: HostRuntime) -> Result<(), Fail> {
         ),
     ];
     for (number, input) in inputs {
-        let (given, told, written) = run_with(alloc, input)?;
+        let (given, closings, written) = run_with(alloc, input)?;
         assert_eq!(rt; given, number);
-        assert_eq!(rt; told, 12);
+        assert_eq!(rt; closings, 12);
         assert_eq!(rt; written, 0);
     }
     Ok(())
@@ -208,8 +208,8 @@ fn each_refusal_closes_all(rt: HostRuntime) -> Result<(), Fail> {
 #[test]
 fn natives_without_a_source(rt: HostRuntime) -> Result<(), Fail> {
     let alloc = rt.alloc();
-    let told = Rc::new(alloc, Cell::new(0u64))?;
-    let natives = tellers(alloc, &told)?;
+    let closings = Rc::new(alloc, Cell::new(0u64))?;
+    let natives = recorders(alloc, &closings)?;
     let mut out = Pipe::new(Vec::new(alloc));
     let finish = run_texts(
         alloc,
@@ -230,10 +230,10 @@ fn natives_without_a_source(rt: HostRuntime) -> Result<(), Fail> {
         end steps 3 found 0 budget 3\n\
         quiescence\n\
         finish quiescence\n\
-        closed teller 0\n\
-        closed teller 0\n";
+        closed recorder 0\n\
+        closed recorder 0\n";
     assert!(rt; out.into_inner().as_slice() == expected.as_bytes());
-    assert_eq!(rt; told.get(), 12);
+    assert_eq!(rt; closings.get(), 12);
     Ok(())
 }
 
@@ -261,9 +261,9 @@ fn count_one_note<N: NativeSource>(alloc: Global, natives: Vec<N>) -> Result<Vec
 #[test]
 fn natives_in_boxes(rt: HostRuntime) -> Result<(), Fail> {
     let alloc = rt.alloc();
-    let told = Rc::new(alloc, Cell::new(0u64))?;
+    let closings = Rc::new(alloc, Cell::new(0u64))?;
     let mut natives: Vec<Box<dyn NativeSource>> = Vec::new(alloc);
-    natives.push(Box::new(alloc, open_teller(5, &told)?)?)?;
+    natives.push(Box::new(alloc, open_recorder(5, &closings)?)?)?;
     natives.push(Box::new(
         alloc,
         Counter {
@@ -278,40 +278,40 @@ fn natives_in_boxes(rt: HostRuntime) -> Result<(), Fail> {
         end native 0\n\
         quiescence\n\
         finish quiescence\n\
-        closed teller 0\n\
+        closed recorder 0\n\
         closed counter 7\n";
     assert!(rt; trace.as_slice() == expected.as_bytes());
-    assert_eq!(rt; told.get(), 5);
+    assert_eq!(rt; closings.get(), 5);
     Ok(())
 }
 
 #[test]
 fn a_check_and_a_bundle_close_all(rt: HostRuntime) -> Result<(), Fail> {
     let alloc = rt.alloc();
-    let told = Rc::new(alloc, Cell::new(0u64))?;
-    let natives = tellers(alloc, &told)?;
+    let closings = Rc::new(alloc, Cell::new(0u64))?;
+    let natives = recorders(alloc, &closings)?;
     let mut out = Pipe::new(Vec::new(alloc));
     let checked = check_texts(alloc, NOTE_SCHEMA, "", HAIL, natives, &mut out)?;
     assert!(rt; matches!(checked, Done::Written));
-    assert_eq!(rt; told.get(), 12);
-    let natives = tellers(alloc, &told)?;
+    assert_eq!(rt; closings.get(), 12);
+    let natives = recorders(alloc, &closings)?;
     let compiled = compile_texts(alloc, NOTE_SCHEMA, "", natives, &mut out)?;
     assert!(rt; matches!(compiled, Done::Written));
-    assert_eq!(rt; told.get(), 1212);
+    assert_eq!(rt; closings.get(), 1212);
     assert!(rt; out.into_inner().as_slice() == b"hail do ops 3 budget 3 3\nchecked 1\n".as_slice());
-    let natives = tellers(alloc, &told)?;
+    let natives = recorders(alloc, &closings)?;
     let mut none = Pipe::new(Vec::new(alloc));
     match check_texts(alloc, "{", "", HAIL, natives, &mut none) {
         Err(InputFault::Schema(_)) => {}
         _ => return Err(Fail::from("the schema is refused")),
     }
-    assert_eq!(rt; told.get(), 121_212);
-    let natives = tellers(alloc, &told)?;
+    assert_eq!(rt; closings.get(), 121_212);
+    let natives = recorders(alloc, &closings)?;
     match compile_texts(alloc, "{", "", natives, &mut none) {
         Err(InputFault::Schema(_)) => {}
         _ => return Err(Fail::from("the schema is refused")),
     }
-    assert_eq!(rt; told.get(), 12_121_212);
+    assert_eq!(rt; closings.get(), 12_121_212);
     assert!(rt; none.into_inner().as_slice() == b"".as_slice());
     Ok(())
 }

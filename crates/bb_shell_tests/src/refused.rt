@@ -2,7 +2,7 @@
 //! order, whatever it is.
 
 use crate::input::{FIRST, Input};
-use crate::natives::tellers;
+use crate::natives::recorders;
 use bb_main::{Intake, Mode, serve};
 use bb_shell::{Finish, InputFault, Pipe, run_texts};
 use std::alloc::Global;
@@ -14,23 +14,23 @@ use std::test::Fail;
 
 // One note, for which the native is called, and the source that says "hello" of it.
 const CALLED: Input<'static> = Input {
-    sources: "source teller on note { when create note; rate 200; native; }",
+    sources: "source recorder on note { when create note; rate 200; native; }",
     ..FIRST
 };
 
 // The trace of its run.
 const TRACE: &str = "create 1 note\n\
-    trigger 1 teller unit 1 rating 200\n\
+    trigger 1 recorder unit 1 rating 200\n\
     trigger 2 hail unit 1 rating 100\n\
-    cycle 1 act 1 teller unit 1 rating 200\n\
+    cycle 1 act 1 recorder unit 1 rating 200\n\
     end native 0\n\
     cycle 2 act 2 hail unit 1 rating 100\n\
     say \"hello\"\n\
     end steps 3 found 0 budget 3\n\
     quiescence\n\
     finish quiescence\n\
-    closed teller 0\n\
-    closed teller 0\n";
+    closed recorder 0\n\
+    closed recorder 0\n";
 
 // A writer that takes no more than `room` bytes, and then fails.
 #[derive(Drop)]
@@ -60,12 +60,12 @@ impl Write for Full {
 struct Ended {
     answer: Result<Finish, InputFault>,
     taken: Vec<u8>,
-    told: u64,
+    closings: u64,
 }
 
 fn run(alloc: Global, room: usize) -> Result<Ended, Fail> {
-    let told = Rc::new(alloc, Cell::new(0u64))?;
-    let natives = tellers(alloc, &told)?;
+    let closings = Rc::new(alloc, Cell::new(0u64))?;
+    let natives = recorders(alloc, &closings)?;
     let mut out = Pipe::new(Full {
         taken: Vec::new(alloc),
         room,
@@ -84,7 +84,7 @@ fn run(alloc: Global, room: usize) -> Result<Ended, Fail> {
     Ok(Ended {
         answer,
         taken: out.into_inner().taken,
-        told: told.get(),
+        closings: closings.get(),
     })
 }
 
@@ -92,7 +92,7 @@ fn run(alloc: Global, room: usize) -> Result<Ended, Fail> {
 #[test]
 fn a_run_closes_all_whatever_memory_there_is(rt: HostRuntime) -> Result<(), Fail> {
     let ended = run(rt.alloc(), usize::MAX)?;
-    assert_eq!(rt; ended.told, 12);
+    assert_eq!(rt; ended.closings, 12);
     let whole = TRACE.as_bytes();
     match &ended.answer {
         Ok(Finish::Quiescence) => assert!(rt; ended.taken.as_slice() == whole),
@@ -116,7 +116,7 @@ fn each_refused_write_closes_all(rt: HostRuntime) -> Result<(), Fail> {
             "room for {room}"
         );
         assert!(rt; ended.taken.as_slice() == &whole[..room], "room for {room}");
-        assert_eq!(rt; ended.told, 12);
+        assert_eq!(rt; ended.closings, 12);
     }
     let ended = run(rt.alloc(), whole.len())?;
     assert!(rt; matches!(ended.answer, Ok(Finish::Quiescence)) && ended.taken.as_slice() == whole);
@@ -127,7 +127,7 @@ fn each_refused_write_closes_all(rt: HostRuntime) -> Result<(), Fail> {
 const SECTIONS: &str = "%schema\n\
     {\"classes\":[{\"name\":\"note\"}]}\n\
     %sources\n\
-    source teller on note { when create note; rate 200; native; }\n";
+    source recorder on note { when create note; rate 200; native; }\n";
 
 // A reader that gives its bytes, and then fails.
 #[derive(Drop)]
@@ -152,8 +152,8 @@ fn each_refused_read_closes_all(rt: HostRuntime) -> Result<(), Fail> {
     let alloc = rt.alloc();
     let whole = SECTIONS.as_bytes();
     for length in 0..=whole.len() {
-        let told = Rc::new(alloc, Cell::new(0u64))?;
-        let natives = tellers(alloc, &told)?;
+        let closings = Rc::new(alloc, Cell::new(0u64))?;
+        let natives = recorders(alloc, &closings)?;
         let mut reader = Intake::new(Cut {
             bytes: &whole[..length],
         });
@@ -165,7 +165,7 @@ fn each_refused_read_closes_all(rt: HostRuntime) -> Result<(), Fail> {
             written.as_slice() == b"refused input read\n".as_slice(),
             "behind {length}"
         );
-        assert_eq!(rt; told.get(), 12);
+        assert_eq!(rt; closings.get(), 12);
     }
     Ok(())
 }

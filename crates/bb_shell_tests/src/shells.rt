@@ -6,7 +6,7 @@ ghost use Rattle.bb_verify.specs.Accepted.{Checked as Accepted};
 ghost use Rattle.bb_shell.specs.Law.{IsAccepted, IsMade};
 
 use crate::input::{HAIL, NOTE_SCHEMA, ONE_NOTE};
-use crate::natives::{Teller, no_natives};
+use crate::natives::{Recorder, no_natives};
 use bb_bundle::{ActDraft, Parts, SourceCode, SourceDraft, unbundle};
 use bb_code::Code;
 use bb_schema::Schema;
@@ -66,7 +66,7 @@ fn hails(alloc: Global, schema: &Schema, count: u8) -> Result<Vec<Source>, Fail>
 }
 
 // A roster of no natives.
-fn no_roster(alloc: Global) -> Result<Roster<Teller>, Fail> {
+fn no_roster(alloc: Global) -> Result<Roster<Recorder>, Fail> {
     Ok(Roster::new(alloc, no_natives(alloc))?)
 }
 
@@ -77,11 +77,16 @@ fn one_note(alloc: Global) -> Result<Board, Fail> {
     Ok(board)
 }
 
-// What a run of one note and one source writes, with this floor.
-fn trace(alloc: Global, floor: i64) -> Result<Vec<u8>, Fail> {
+/// A shell of one note and the source that says "hello" of each note, with this floor.
+pub(crate) fn one_note_shell(alloc: Global, floor: i64) -> Result<Shell<Recorder>, Fail> {
     let board = one_note(alloc)?;
     let sources = hails(alloc, board.schema(), 1)?;
-    let shell = Shell::new(alloc, board, sources, no_roster(alloc)?, floor)?;
+    Ok(Shell::new(alloc, board, sources, no_roster(alloc)?, floor)?)
+}
+
+// What a run of one note and one source writes, with this floor.
+fn trace(alloc: Global, floor: i64) -> Result<Vec<u8>, Fail> {
+    let shell = one_note_shell(alloc, floor)?;
     let mut out = Pipe::new(Vec::new(alloc));
     match shell.run(alloc, 100, &mut out) {
         Finish::Quiescence => Ok(out.into_inner()),

@@ -1,6 +1,6 @@
 //! Natives that a program hands in with an input that is refused before its sections are looked at.
 
-use crate::natives::tellers;
+use crate::natives::recorders;
 use bb_main::{Intake, Mode, serve};
 use bb_shell::Pipe;
 use std::alloc::Global;
@@ -38,13 +38,13 @@ fn closes_all<R: Read + Drop>(
     reader: R,
     line: &str,
 ) -> Result<bool, Fail> {
-    let told = Rc::new(alloc, Cell::new(0u64))?;
-    let natives = tellers(alloc, &told)?;
+    let closings = Rc::new(alloc, Cell::new(0u64))?;
+    let natives = recorders(alloc, &closings)?;
     let mut reader = Intake::new(reader);
     let mut writer = Pipe::new(Vec::new(alloc));
     let status = serve(alloc, mode, 100, 0, natives, &mut reader, &mut writer);
     let written: Vec<u8> = writer.into_inner();
-    Ok(status == 2 && told.get() == 12 && written.as_slice() == line.as_bytes())
+    Ok(status == 2 && closings.get() == 12 && written.as_slice() == line.as_bytes())
 }
 
 #[test]

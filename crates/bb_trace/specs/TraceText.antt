@@ -25,6 +25,7 @@ use Rattle.bb_trace.specs.End as ends
 use Rattle.bb_trace.specs.declared.note.Note.{Note}
 use Rattle.bb_trace.specs.declared.note.Note.TheVariants.{Board, Triggered, Declined, Obviated, Retriggered}
 use Rattle.bb_trace.specs.declared.note.Note.TheVariants.{Chosen, Invalid, Ended, Refused, NativeEnded, Finished, Closed}
+use Rattle.bb_trace.specs.declared.note.Note.TheVariants.{Posted, PostEnded}
 use Rattle.bb_run_plan.specs.Plan.{Plan}
 
 -- the name of a class, empty where there is none
@@ -117,6 +118,10 @@ refused_text ask number = codes "refused ask " ++ decimal ask ++ codes " " ++ de
 abbrev pub native_ended_text : (asks : ℕ) → List ℕ
 native_ended_text asks = codes "end native " ++ decimal asks
 
+-- the end of asks from outside
+abbrev pub post_ended_text : (asks : ℕ) → List ℕ
+post_ended_text asks = codes "end post " ++ decimal asks
+
 -- a native that was closed, and what it said
 abbrev pub closed_text : Closing → List ℕ
 closed_text c = codes "closed " ++ c.name ++ codes " " ++ signed_decimal c.number
@@ -141,6 +146,8 @@ note_text plan (Invalid number) = codes "invalid " ++ decimal number
 note_text plan (Ended steps found budget) = ended_text steps found budget
 note_text plan (Refused ask refusal) = refused_text ask (refusal_number refusal)
 note_text plan (NativeEnded asks) = native_ended_text asks
+note_text plan Posted = codes "post"
+note_text plan (PostEnded asks) = post_ended_text asks
 note_text plan (Finished end) = end_text end
 note_text plan (Closed closing) = closed_text closing
 

@@ -47,6 +47,8 @@ pub(crate) fn add_note(
         } => add_end(text, *steps, *found, *budget),
         Note::Refused { ask, refusal } => add_refused(text, *ask, *refusal),
         Note::NativeEnded { asks } => writeln!(text, "end native {asks}"),
+        Note::Posted => writeln!(text, "post"),
+        Note::PostEnded { asks } => writeln!(text, "end post {asks}"),
         Note::Finished(end) => add_finish(text, *end),
         Note::Closed(closing) => add_closed(text, closing),
     }

@@ -42,13 +42,19 @@ pub enum Note {
         found: u32,
         budget: u128,
     },
-    /// An ask of a native, by its number from 1, was refused.
+    /// An ask of a native or from outside, by its number from 1, was refused.
     Refused {
         ask: u64,
         refusal: Refusal,
     },
     /// The end of a native's execution, with the number of its asks.
     NativeEnded {
+        asks: u64,
+    },
+    /// Asks from outside the run follow.
+    Posted,
+    /// The end of asks from outside, with their number.
+    PostEnded {
         asks: u64,
     },
     /// The end of the run.

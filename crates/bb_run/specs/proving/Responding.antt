@@ -6,7 +6,7 @@ use Rattle.bb_trace.specs.Event.{Event}
 use Rattle.bb_trace.specs.Source.{Source}
 use Rattle.bb_run.specs.Processing.{source_response}
 use Rattle.bb_run.specs.State.{State}
-use Rattle.bb_run.specs.Told.{Response, and_then, idle}
+use Rattle.bb_run.specs.Emission.{Response, and_then, idle}
 
 -- the response of the source at a place, if there is one
 abbrev pub response_at : Schema → Event → List Source → (place : ℕ) → State → Response

@@ -2,7 +2,7 @@ use Rattle.std.proofs.Common.{◌∙◌, Err, subst, sym}
 use Rattle.bb_exec.specs.declared.stop.Stop.{Stop}
 use Rattle.bb_rules.specs.Questions.{IsQuestion}
 use Rattle.bb_run.specs.Asking.{attempt}
-use Rattle.bb_run.specs.proving.Telling.{Attempts}
+use Rattle.bb_run.specs.Emitting.{Attempts}
 use Rattle.bb_run.proofs.ReadLemmas.{asked_kept}
 use Rattle.bb_run.proofs.asking.ask.Goals as goal
 

@@ -2,8 +2,8 @@ use Rattle.std.proofs.Common.{None, Result, subst, sym}
 use Rattle.bb_trace.specs.Board.{Board}
 use Rattle.bb_trace.specs.Denial.{Denial}
 use Rattle.bb_run.specs.Run.{upon_ask}
-use Rattle.bb_run.specs.proving.Seen.{seen}
-use Rattle.bb_run.specs.proving.Telling.{IsResponse}
+use Rattle.bb_run.specs.Seen.{seen}
+use Rattle.bb_run.specs.Emitting.{IsResponse}
 use Rattle.bb_run.proofs.calling.apply_one.Goals as goal
 
 pub returns-in_ok-take_noted-in-Ok : goal.returns-in_ok-take_noted-in-Ok

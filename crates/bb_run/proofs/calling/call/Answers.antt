@@ -1,6 +1,6 @@
 use Rattle.std.proofs.Common.{◌≡◌, ◌∙◌, ap, arith, length, map}
 use Rattle.bb_trace.specs.Roster.{after_act_at, asks_at}
-use Rattle.bb_run.specs.proving.Seen.{seen}
+use Rattle.bb_run.specs.Seen.{seen}
 use Rattle.bb_run.proofs.CallLemmas.{call_made, call_over}
 use Rattle.bb_run.proofs.calling.call.Goals as goal
 

@@ -1,6 +1,6 @@
 use Rattle.std.proofs.Common.{ℕ, List, ◌∙◌, ap, map, subst, sym}
 use Rattle.bb_trace.specs.Source.{Source}
-use Rattle.bb_run.specs.proving.Serving.{HasNative}
+use Rattle.bb_run.specs.Serving.{HasNative}
 use Rattle.bb_run.proofs.execution.execute.Goals as goal
 
 pub execute_code-requires : goal.execute_code-requires

@@ -6,8 +6,8 @@ use Rattle.bb_trace.specs.declared.note.Note.TheVariants.{Ended}
 use Rattle.bb_run.specs.Asking.{attempt}
 use Rattle.bb_run.specs.State.{with_board}
 use Rattle.bb_run.specs.Run.{noted}
-use Rattle.bb_run.specs.proving.Seen.{seen}
-use Rattle.bb_run.specs.proving.Telling.{Attempts, IsResponse}
+use Rattle.bb_run.specs.Seen.{seen}
+use Rattle.bb_run.specs.Emitting.{Attempts, IsResponse}
 use Rattle.bb_run.proofs.ExecutionLemmas.{execution_noted}
 use Rattle.bb_run.proofs.execution.execute_code.Goals as goal
 

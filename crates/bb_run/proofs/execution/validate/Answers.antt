@@ -1,6 +1,6 @@
 use Rattle.std.proofs.Common.{subst, sym}
 use Rattle.bb_machine.specs.Entry.{Entry}
-use Rattle.bb_run.specs.proving.Serving.{CanExecute}
+use Rattle.bb_run.specs.Serving.{CanExecute}
 use Rattle.bb_run.proofs.execution.validate.Goals as goal
 
 pub ask-requires : goal.ask-requires

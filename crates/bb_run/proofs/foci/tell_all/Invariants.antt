@@ -6,5 +6,5 @@ use Rattle.bb_run.proofs.foci.tell_all.Given as goal
 abbrev pub invariant-loop-unit : goal.invariant-loop-unit
 invariant-loop-unit l = record {
   same : l.agenda ≡ with_foci l.fn.agenda l.agenda.foci;
-  told : l.agenda.foci ≡ fold (told_unit l.board.schema l.board.world.units) l.fn.agenda.foci (range_with_len 0 l.unit);
+  emitted : l.agenda.foci ≡ fold (told_unit l.board.schema l.board.world.units) l.fn.agenda.foci (range_with_len 0 l.unit);
 }

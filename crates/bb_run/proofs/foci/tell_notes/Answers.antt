@@ -12,11 +12,11 @@ pub loop-note-preserved : goal.loop-note-preserved
 loop-note-preserved c =
     let f = told_note c.args.board.now.schema c.args.board.now.world.units in
     let foci = f c.loop-note.agenda.foci c.note-item.result in
-    let told = c.in_ok-tell_note.ensures in
+    let emitted = c.in_ok-tell_note.ensures in
     record {
-      same = foci_again c.args.agenda.now c.loop-note.agenda c.tell_note.new.agenda foci c.loop-note.invariant.same told;
+      same = foci_again c.args.agenda.now c.loop-note.agenda c.tell_note.new.agenda foci c.loop-note.invariant.same emitted;
       left =
-          ap (λ x. fold f x (drop (c.loop-note.note-index + 1) c.args.notes.now)) (foci_are c.loop-note.agenda c.tell_note.new.agenda foci told)
+          ap (λ x. fold f x (drop (c.loop-note.note-index + 1) c.args.notes.now)) (foci_are c.loop-note.agenda c.tell_note.new.agenda foci emitted)
           ∙ sym (fold_next f c.loop-note.agenda.foci c.args.notes.now c.loop-note.note-index c.note-item.result c.loop-note-test.true c.note-item.is)
           ∙ c.loop-note.invariant.left;
     }

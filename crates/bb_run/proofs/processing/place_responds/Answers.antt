@@ -1,4 +1,4 @@
-use Rattle.bb_run.specs.proving.Seen.{seen}
+use Rattle.bb_run.specs.Seen.{seen}
 use Rattle.bb_run.proofs.ResponseLemmas.{none_responds, one_responds}
 use Rattle.bb_run.proofs.processing.place_responds.Goals as goal
 

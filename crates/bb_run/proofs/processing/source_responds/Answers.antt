@@ -2,8 +2,8 @@ use Rattle.std.proofs.Common.{◌≡◌, ◌∙◌, ap, subst, sym, true}
 use Rattle.bb_schema.specs.Schema.{Schema}
 use Rattle.bb_trace.specs.Match.{any_match}
 use Rattle.bb_run.specs.Processing.{obviated_by, reacting, rerated_by}
-use Rattle.bb_run.specs.proving.Seen.{seen}
-use Rattle.bb_run.specs.proving.Serving.{ServesAt}
+use Rattle.bb_run.specs.Seen.{seen}
+use Rattle.bb_run.specs.Serving.{ServesAt}
 use Rattle.bb_run.proofs.ServeLemmas.{can_require, obviates_all, retriggers_all, serves_obviated, serves_retriggered}
 use Rattle.bb_run.proofs.processing.source_responds.Goals as goal
 

@@ -5,8 +5,8 @@ use Rattle.bb_machine.specs.Answer.{Answer}
 use Rattle.bb_machine.specs.Answer.TheVariants.{Rated}
 use Rattle.bb_run.specs.Processing.{rerated_by}
 use Rattle.bb_run.specs.State.{with_agenda}
-use Rattle.bb_run.specs.proving.Seen.{seen}
-use Rattle.bb_run.specs.proving.Telling.{IsResponse}
+use Rattle.bb_run.specs.Seen.{seen}
+use Rattle.bb_run.specs.Emitting.{IsResponse}
 use Rattle.bb_run.proofs.reacting.rerate.Goals as goal
 
 pub returns-clause-noted : goal.returns-clause-noted

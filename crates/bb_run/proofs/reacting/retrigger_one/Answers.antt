@@ -4,7 +4,7 @@ use Rattle.bb_run.specs.declared.asking.Reply.TheVariants.{Answer, Over}
 use Rattle.bb_run.specs.Asking.{entry_of}
 use Rattle.bb_run.specs.Processing.{rerated_by}
 use Rattle.bb_run.specs.State.{with_board}
-use Rattle.bb_run.specs.proving.Seen.{seen}
+use Rattle.bb_run.specs.Seen.{seen}
 use Rattle.bb_run.proofs.ExecutionLemmas.{reply_noted}
 use Rattle.bb_run.proofs.reacting.retrigger_one.Goals as goal
 

@@ -1,17 +1,17 @@
 use Rattle.std.proofs.Common.{Some}
 use Rattle.std.proofs.lemmas.Result.{err_from_is_err_and}
 use Rattle.bb_run.specs.Run.{acting, execution}
-use Rattle.bb_run.specs.proving.Seen.{seen}
-use Rattle.bb_run.specs.proving.Telling.{at}
+use Rattle.bb_run.specs.Seen.{seen}
+use Rattle.bb_run.specs.Emitting.{at}
 use Rattle.bb_run.proofs.SegmentLemmas.{cut_by_memory}
 use Rattle.bb_run.proofs.ServeCycles.{can_act, executed_serves, has_native}
-use Rattle.bb_run.proofs.TellLemmas.{reported_as}
+use Rattle.bb_run.proofs.EmitLemmas.{reported_as}
 use Rattle.bb_run.proofs.runner.Runner.act.Goals as goal
 
 pub returns-in_err-end-clause-made : goal.returns-in_err-end-clause-made
 returns-in_err-end-clause-made g c =
     let p = err_from_is_err_and c.from_residual.result c.from_residual.ensures.1 in
-    rw (p.1, p.2) (cut_by_memory c.args.plan.now (at g.O.Out.taken c.args.self.now) (acting c.args.plan.now (Some c.args.source.now) c.args.activation (seen g.N.NativeSource.meaning c.args.state.now)).told)
+    rw (p.1, p.2) (cut_by_memory c.args.plan.now (at g.O.Out.taken c.args.self.now) (acting c.args.plan.now (Some c.args.source.now) c.args.activation (seen g.N.NativeSource.meaning c.args.state.now)).emitted)
 
 pub returns-clause-made : goal.returns-clause-made
 returns-clause-made g c =

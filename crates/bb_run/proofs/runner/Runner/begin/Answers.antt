@@ -4,11 +4,11 @@ use Rattle.bb_agenda.specs.Agenda.{Agenda}
 use Rattle.bb_run.specs.State.{with_agenda}
 use Rattle.bb_run.specs.Processing.{reported}
 use Rattle.bb_run.specs.Run.{noted, start}
-use Rattle.bb_run.specs.proving.Seen.{seen}
-use Rattle.bb_run.specs.proving.Telling.{Makes, at}
+use Rattle.bb_run.specs.Seen.{seen}
+use Rattle.bb_run.specs.Emitting.{Makes, at}
 use Rattle.bb_run.proofs.SegmentLemmas.{cut_by_memory}
 use Rattle.bb_run.proofs.ServeCycles.{noted_serves}
-use Rattle.bb_run.proofs.TellLemmas.{reported_as}
+use Rattle.bb_run.proofs.EmitLemmas.{reported_as}
 use Rattle.bb_run.proofs.runner.Runner.begin.Goals as goal
 
 pub returns-clause-made : goal.returns-clause-made
@@ -23,7 +23,7 @@ returns-clause-made g c =
 pub returns-in_err-take_noted-clause-made : goal.returns-in_err-take_noted-clause-made
 returns-in_err-take_noted-clause-made g c =
     let p = err_from_is_err_and c.from_residual.result c.from_residual.ensures.1 in
-    rw (p.1, p.2) (cut_by_memory c.args.plan.now (at g.O.Out.taken c.args.self.now) (start c.args.plan.now c.args.state.now.board (map g.N.NativeSource.meaning c.args.state.now.roster.natives.items)).told)
+    rw (p.1, p.2) (cut_by_memory c.args.plan.now (at g.O.Out.taken c.args.self.now) (start c.args.plan.now c.args.state.now.board (map g.N.NativeSource.meaning c.args.state.now.roster.natives.items)).emitted)
 
 pub report-requires-clause-serves : goal.report-requires-clause-serves
 report-requires-clause-serves g c =

@@ -1,0 +1,6 @@
+-- What the crates above use of runs: what goes on holding from one part of a run to the next, and what is said of one that was cut short.
+pub use Rattle.bb_run.proofs.ServeCycles.{chosen_suits}
+pub use Rattle.bb_run.proofs.SteadyLemmas.{may_serve, steady_again, steady_lasts, turn_steady, cycles_steady, post_steady, start_steady}
+pub use Rattle.bb_run.proofs.WholeLemmas.{none_written, wrote_first, wrote_front}
+pub use Rattle.bb_run.proofs.MeetLemmas.{IsOver, Meets, choices_after, cycles_again, cycles_meet, start_early}
+pub use Rattle.bb_run.proofs.OrderlyParts.{IsEarly}

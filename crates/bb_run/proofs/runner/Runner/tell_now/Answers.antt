@@ -1,7 +1,0 @@
-use Rattle.bb_trace.specs.Page.{flushed}
-use Rattle.bb_run.proofs.SegmentLemmas.{segment_told}
-use Rattle.bb_run.proofs.runner.Runner.tell_now.Goals as goal
-
-pub returns-clause-told : goal.returns-clause-told
-returns-clause-told g c =
-    segment_told c.args.plan.now (g.O.Out.taken c.args.self.now.out.now) (g.O.Out.taken c.flush.new.out) c.args.self.now.page.now c.add_segment.new.self c.flush.new.self c.args.notes.now c.flush.result c.in_ok-add_segment.ensures.added (flushed c.flush.ensures.written)

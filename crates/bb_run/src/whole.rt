@@ -1,0 +1,252 @@
+//! A whole run of the blackboard machine, from its start to its finish. `run_texts` calls `run`.
+
+ghost use Rattle.std.specs.Prelude.{◌≡◌, [], All, Some, IfOk, IfSome, false, map};
+ghost use Rattle.std.specs.Io.KnownBytes.{Appends};
+ghost use Rattle.bb_run.specs.Foci.{first_agenda};
+ghost use Rattle.bb_trace.specs.Law.{IsMade};
+ghost use Rattle.bb_trace.specs.Page.{stopped_by_write};
+ghost use Rattle.bb_trace.specs.TraceText.{trace_text};
+ghost use Rattle.bb_run.specs.Causes.{LacksNative};
+ghost use Rattle.bb_run.specs.Finish.{WritesFront, end_of, is_write};
+ghost use Rattle.bb_run.specs.Run.{run, start, unfinished};
+ghost use Rattle.bb_run.specs.Turns.{settled};
+ghost use Rattle.bb_run.specs.Knowing.{Knows, MayKnow};
+ghost use Rattle.bb_run.specs.Seen.{seen};
+ghost use Rattle.bb_run.specs.Serving.{MayServe, Serves};
+ghost use Rattle.bb_run.specs.Emitting.{EndsRun, Finishes, Makes, Same, Writes, at};
+
+use crate::finish::Finish;
+use crate::foci::{rated_sources, tell_all};
+use crate::noting::take_noted;
+use crate::runner::Runner;
+use crate::state::{Start, State};
+use bb_agenda::Agenda;
+use bb_run_plan::Plan;
+use bb_trace::{Board, End, Halt, NativeSource, Out, Page};
+use std::alloc::{AllocError, Global};
+
+impl<O: Out> Runner<'_, O> {
+    /// Emits what the creation of the first units noted, and processes its events.
+    pub fn begin<N: NativeSource>(
+        &mut self,
+        plan: &Plan,
+        state: &mut State<N>,
+    ) -> Result<Option<End>, Halt>
+        requires open { O.has_failed self.old.out.now ≡ false }
+        requires new { state.old.agenda ≡ first_agenda plan.now state.old.board }
+        requires serves { MayServe plan.now state.old.board
+            (map N.meaning state.old.roster.natives.items) }
+        ensures same { Same self.old self.new }
+        ensures made { Makes plan.now (at O.taken self.old) (at O.taken self.new)
+            (start plan.now state.old.board (map N.meaning state.old.roster.natives.items))
+            (seen N.meaning state.new) result }
+        ensures failed { O.has_failed self.new.out.now ≡ stopped_by_write result }
+    {
+        let mut notes = Vec::new(self.alloc());
+        take_noted(state, None, &mut notes)?;
+        self.report(plan, &notes, None, state)
+    }
+
+    // Makes the whole run but for its last segment.
+    fn run_unfinished<N: NativeSource>(
+        &mut self,
+        plan: &Plan,
+        limit: u64,
+        state: &mut State<N>,
+    ) -> Result<End, Halt>
+        requires open { O.has_failed self.old.out.now ≡ false }
+        requires new { state.old.agenda ≡ first_agenda plan.now state.old.board }
+        requires may { MayKnow plan.now state.old.board }
+        requires serves { MayServe plan.now state.old.board
+            (map N.meaning state.old.roster.natives.items) }
+        ensures same { Same self.old self.new }
+        ensures made { Finishes plan.now (at O.taken self.old) (at O.taken self.new)
+            (unfinished plan.now state.old.board (map N.meaning state.old.roster.natives.items) limit)
+            (seen N.meaning state.new) result }
+        ensures failed { O.has_failed self.new.out.now ≡ stopped_by_write result }
+    {
+        if let Some(end) = self.begin(plan, state)? {
+            return Ok(end);
+        }
+        let mut made = 0;
+        self.make_cycles(plan, &mut made, limit, state)
+    }
+
+    // Makes the whole run, and writes all of its text. Each native is closed, whatever comes of it.
+    fn make_run<N: NativeSource>(
+        &mut self,
+        plan: &Plan,
+        limit: u64,
+        state: State<N>,
+    ) -> Result<End, Halt>
+        requires open { O.has_failed self.old.out.now ≡ false }
+        requires new { state.agenda ≡ first_agenda plan.now state.board }
+        requires may { MayKnow plan.now state.board }
+        requires serves { MayServe plan.now state.board (map N.meaning state.roster.natives.items) }
+        requires empty { self.old.page.now ≡ [] }
+        ensures same { Same self.old self.new }
+        ensures end { IfOk result (λ end.
+            (run plan.now state.board (map N.meaning state.roster.natives.items) limit).end ≡ Some end) }
+        ensures written { Writes plan.now (O.taken self.old.out.now) (O.taken self.new.out.now)
+            (run plan.now state.board (map N.meaning state.roster.natives.items) limit).emitted result }
+        ensures failed { O.has_failed self.new.out.now ≡ stopped_by_write result }
+    {
+        let mut state = state;
+        let made = self.run_unfinished(plan, limit, &mut state);
+        let (closed, board) = state.close();
+        drop(board);
+        self.end_by(plan, made, closed)
+    }
+
+    /// Ends a run after `made` cycles, which came to this end or to none yet: then it first comes to rest, or to its
+    /// limit. Each native is closed, whatever comes of it, and the blackboard is what is left.
+    pub fn finish<N: NativeSource>(
+        &mut self,
+        plan: &Plan,
+        made: u64,
+        ended: Option<End>,
+        state: State<N>,
+    ) -> (Result<End, Halt>, Board)
+        requires open { O.has_failed self.old.out.now ≡ false }
+        requires knows { Knows plan.now (seen N.meaning state) }
+        requires serves { Serves plan.now (seen N.meaning state) }
+        requires empty { self.old.page.now ≡ [] }
+        ensures same { Same self.old self.new }
+        ensures ends { EndsRun plan.now (O.taken self.old.out.now) (O.taken self.new.out.now)
+            (settled plan.now made ended (seen N.meaning state)) result.0 }
+        ensures board { IfOk result.0 (λ _. result.1
+            ≡ (settled plan.now made ended (seen N.meaning state)).state.board) }
+        ensures failed { O.has_failed self.new.out.now ≡ stopped_by_write result.0 }
+    {
+        let mut state = state;
+        let settled = self.settle(plan, made, ended, &mut state);
+        let (closed, board) = state.close();
+        (self.end_by(plan, settled, closed), board)
+    }
+
+    // Has a run come to rest, or to its limit, where it came to no end.
+    fn settle<N: NativeSource>(
+        &mut self,
+        plan: &Plan,
+        made: u64,
+        ended: Option<End>,
+        state: &mut State<N>,
+    ) -> Result<End, Halt>
+        requires open { O.has_failed self.old.out.now ≡ false }
+        requires knows { Knows plan.now (seen N.meaning state.old) }
+        requires serves { Serves plan.now (seen N.meaning state.old) }
+        ensures same { Same self.old self.new }
+        ensures made { Finishes plan.now (at O.taken self.old) (at O.taken self.new)
+            (settled plan.now made ended (seen N.meaning state.old)) (seen N.meaning state.new) result }
+        ensures failed { O.has_failed self.new.out.now ≡ stopped_by_write result }
+    {
+        if let Some(end) = ended {
+            return Ok(end);
+        }
+        let mut last = made;
+        self.make_cycles(plan, &mut last, made, state)
+    }
+}
+
+// The agenda that a run begins with: nothing is pending, and it was told of the foci that the blackboard has.
+fn first_agenda(alloc: Global, plan: &Plan, board: &Board) -> Result<Agenda, AllocError>
+    ensures agenda { IfOk result (λ agenda. agenda ≡ first_agenda plan.now board.now) }
+    ensures may { IfOk result (λ _. MayKnow plan.now board.now) }
+{
+    // For the proof: the numbers of the live units were given out.
+    board.fits();
+    let sources = rated_sources(alloc, plan.sources())?;
+    let mut agenda = Agenda::new(alloc, plan.shared_schema()?, sources);
+    tell_all(&mut agenda, board)?;
+    Ok(agenda)
+}
+
+/// The state that a run begins with, and the facts by which it may. Where memory runs out each native is closed, in
+/// order, and the blackboard is dropped.
+pub fn first_state<N: NativeSource>(
+    alloc: Global,
+    plan: &Plan,
+    start: Start<N>,
+) -> Result<State<N>, AllocError>
+    ensures agenda { IfOk result (λ s. s.agenda ≡ first_agenda plan.now s.board) }
+    ensures board { IfOk result (λ s. s.board ≡ start.board) }
+    ensures natives { IfOk result (λ s.
+        map N.meaning s.roster.natives.items ≡ map N.meaning start.roster.natives.items) }
+    ensures may { IfOk result (λ _. MayKnow plan.now start.board) }
+{
+    let Start { board, roster } = start;
+    match first_agenda(alloc, plan, &board) {
+        Ok(agenda) => Ok(State {
+            board,
+            agenda,
+            roster,
+        }),
+        Err(refused) => {
+            drop(roster.close_all());
+            Err(refused)
+        }
+    }
+}
+
+// Makes the whole run, and writes all of its text.
+fn write_run<N: NativeSource, O: Out>(
+    alloc: Global,
+    plan: &Plan,
+    start: Start<N>,
+    limit: u64,
+    out: &mut O,
+) -> Result<End, Halt>
+    requires open { O.has_failed out.old ≡ false }
+    requires serves { MayServe plan.now start.board (map N.meaning start.roster.natives.items) }
+    ensures end { IfOk result (λ end.
+        (run plan.now start.board (map N.meaning start.roster.natives.items) limit).end ≡ Some end) }
+    ensures written { Writes plan.now (O.taken out.old) (O.taken out.new)
+        (run plan.now start.board (map N.meaning start.roster.natives.items) limit).emitted result }
+    ensures failed { O.has_failed out.new ≡ stopped_by_write result }
+{
+    let state = first_state(alloc, plan, start)?;
+    let mut page = Page::new(alloc);
+    let mut runner = Runner {
+        page: &mut page,
+        out,
+    };
+    runner.make_run(plan, limit, state)
+}
+
+/// Runs a blackboard from its first state with the natives that were handed in, at most `limit` cycles, and writes the
+/// trace. At its end each native is closed once, in order, also if the run was cut short. `Memory`: memory ran out.
+/// `Write`: the output failed. The blackboard is one of the plan's schema, and the sources were made under it, of codes
+/// that the verifier accepted under it; each has a code for its act, or there is a native of its name. So no execution
+/// can get stuck.
+pub fn run<N: NativeSource, O: Out>(
+    alloc: Global,
+    plan: &Plan,
+    start: Start<N>,
+    limit: u32,
+    out: &mut O,
+) -> Finish
+    requires made { ∥ All (IsMade plan.now.schema) plan.now.sources ∥₁ }
+    requires acts { ¬ LacksNative plan.now (map N.meaning start.roster.natives.items) }
+    requires of_schema { start.board.schema ≡ plan.now.schema }
+    requires open { O.has_failed out.old ≡ false }
+    ensures finish { IfSome (end_of result) (λ end.
+        (run plan.now start.board (map N.meaning start.roster.natives.items) limit).end ≡ Some end) }
+    ensures text { IfSome (end_of result) (λ _. Appends (O.taken out.old) (O.taken out.new)
+        (trace_text plan.now (run plan.now start.board (map N.meaning start.roster.natives.items) limit).emitted)) }
+    ensures front { WritesFront plan.now (run plan.now start.board (map N.meaning start.roster.natives.items) limit)
+        result (O.taken out.old) (O.taken out.new) }
+    ensures failed { O.has_failed out.new ≡ is_write result }
+{
+    // For the proof: what holds of every schema, plan and blackboard.
+    plan.schema().fits();
+    let _ = plan.sources();
+    // For the proof: what holds of the blackboard.
+    start.board.fits();
+    match write_run(alloc, plan, start, u64::from(limit), out) {
+        Ok(end) => Finish::from(end),
+        Err(halt) => match halt {
+            Halt::Memory => Finish::Memory,
+            Halt::Write => Finish::Write,
+        },
+    }
+}

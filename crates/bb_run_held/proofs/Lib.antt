@@ -1,0 +1,4 @@
+-- moves that are made in two, and runs that are made of moves
+pub mod ApartLemmas
+-- where a move leaves a run
+pub mod HeldLemmas

@@ -1,0 +1,102 @@
+-- A run that its host holds: what each of its moves emits, and where the run stands after it.
+use Rattle.std.specs.Prelude.{ℕ, ◌+◌, List, [], ◌∷◌, ◌++◌, Option, Some, None}
+use Rattle.bb_run.specs.Activation.{Activation}
+use Rattle.bb_run.specs.Ask.{Ask}
+use Rattle.bb_run.specs.Board.{Board as Blackboard}
+use Rattle.bb_run.specs.End.{End}
+use Rattle.bb_run.specs.End as ends
+use Rattle.bb_run.specs.Native.{Native}
+use Rattle.bb_run.specs.Note.{Note}
+use Rattle.bb_run.specs.Plan.{Plan}
+use Rattle.bb_run.specs.Run.{choice, cycles, start, with_finish}
+use Rattle.bb_run.specs.State.{State}
+use Rattle.bb_run.specs.Emission.{Stretch, after_emitted}
+use Rattle.bb_run.specs.Turns.{choices_of, posting, settled, turn}
+use Rattle.bb_run_held.specs.declared.pause.Pause.{Pause}
+use Rattle.bb_run_held.specs.declared.pause.Pause.TheVariants.{Going, Resting, Over}
+
+-- what a host has a run do
+pub data Move : Type 0 where
+  -- a cycle, or quiescence where nothing can be chosen
+  one_turn : Move
+  -- at most so many cycles more, and quiescence after them where nothing can be chosen then
+  advance : (cycles : ℕ) → Move
+  -- what happened in the world outside
+  post : List Ask → Move
+
+-- where a run stands between two moves
+pub record Standing : Type 0 where
+  pub state : State
+  -- the number of cycles that were made
+  pub made : ℕ
+  pub pause : Pause
+
+-- what a move emits, and where the run stands after it
+pub record Moved : Type 0 where
+  pub emitted : List (List Note)
+  pub standing : Standing
+
+-- how a run stands after a part of it that ended in this way
+abbrev pub pause_by : Option End → Pause
+pause_by None = Going
+pause_by (Some ends.Limit) = Going
+pause_by (Some ends.Quiescence) = Resting
+pause_by (Some end) = Over end
+
+-- after a stretch, with so many cycles made
+abbrev pub after : (made : ℕ) → Stretch → Moved
+after made p = record { emitted = p.emitted; standing = record { state = p.state; made = made; pause = pause_by p.end } }
+
+-- a cycle more was made where something could be chosen
+abbrev pub made_by : (made : ℕ) → Option Activation → ℕ
+made_by made None = made
+made_by made (Some a) = made + 1
+
+-- nothing happens
+abbrev pub unmoved : Standing → Moved
+unmoved t = record { emitted = []; standing = t }
+
+-- after cycles, which are counted on
+abbrev pub advanced : Plan → (made count : ℕ) → State → Moved
+advanced plan made count s = let p = cycles plan made count s in after (made + choices_of p) p
+
+-- a move of a run that stands so: one that can't be made there changes nothing
+abbrev pub moved_in : Plan → Pause → Move → Standing → Moved
+moved_in plan Going one_turn t = after (made_by t.made (choice plan t.state)) (turn plan t.made t.state)
+moved_in plan Going (advance n) t = advanced plan t.made n t.state
+moved_in plan Going (post asks) t = after t.made (posting plan asks t.state)
+moved_in plan Resting (post asks) t = after t.made (posting plan asks t.state)
+moved_in plan _ _ t = unmoved t
+
+abbrev pub moved : Plan → Move → Standing → Moved
+moved plan m t = moved_in plan t.pause m t
+
+-- moves one after another
+unfoldable pub played : Plan → List Move → Standing → Moved
+played plan [] t = unmoved t
+played plan (m ∷ ms) t =
+    let p = moved plan m t in
+    let q = played plan ms p.standing in
+    record { emitted = p.emitted ++ q.emitted; standing = q.standing }
+
+-- the start of a run: what their creation noted is emitted, and their events are processed
+abbrev pub started : Plan → Blackboard → List Native → Moved
+started plan board natives = after 0 (start plan board natives)
+
+-- the end that a run came to, if it came to one
+abbrev pub ended : Pause → Option End
+ended Going = None
+ended Resting = Some ends.Quiescence
+ended (Over end) = Some end
+
+-- a run that its host ends, its finish last
+abbrev pub finished : Plan → Standing → Stretch
+finished plan t = with_finish (settled plan t.made (ended t.pause) t.state)
+
+-- a run that its host begins, gives one move of so many cycles, and ends
+abbrev pub alone : Plan → Blackboard → List Native → (limit : ℕ) → Stretch
+alone plan board natives limit =
+    let first = started plan board natives in
+    let moves = moved plan (advance limit) first.standing in
+    let last = finished plan moves.standing in
+    after_emitted first.emitted (after_emitted moves.emitted last)

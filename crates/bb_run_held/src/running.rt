@@ -1,0 +1,387 @@
+//! A run between two moves of its host. Hosts in Rattle hold one.
+
+ghost use Rattle.std.specs.Prelude.{◌≡◌, ◌+◌, All, IfOk, IfSome, None, Some, false, is_some, map};
+ghost use Rattle.std.specs.Io.KnownBytes.{Appends};
+ghost use Rattle.bb_run.specs.Causes.{LacksNative};
+ghost use Rattle.bb_run.specs.Emitting.{Makes as MakesStretch, Same, at};
+ghost use Rattle.bb_run.specs.Finish.{WritesFront, end_of, is_write};
+ghost use Rattle.bb_run.specs.Knowing.{Knows};
+ghost use Rattle.bb_run.specs.Law.{IsMade};
+ghost use Rattle.bb_run.specs.Page.{stopped_by_write};
+ghost use Rattle.bb_run.specs.Roster.{closings_of};
+ghost use Rattle.bb_run.specs.Run.{choice};
+ghost use Rattle.bb_run.specs.Seen.{seen};
+ghost use Rattle.bb_run.specs.Serving.{Lasts, Serves};
+ghost use Rattle.bb_run.specs.TraceText.{trace_text};
+ghost use Rattle.bb_run_held.specs.Making.{Begins, Makes, halt_of, stands};
+ghost use Rattle.bb_run.specs.Sight.{sight_of};
+ghost use Rattle.bb_run.specs.Turns.{posting, turn};
+ghost use Rattle.bb_run_held.specs.Moves.{advance, advanced, after, finished, made_by, moved, one_turn, post, started};
+
+use crate::pause::{Pause, ended, pause_by};
+use bb_run::{
+    Activation, Ask, Board, Closed, End, Finish, Halt, NativeSource, Out, Page, Plan, Runner,
+    Start, State, View, choose, first_state,
+};
+use std::alloc::Global;
+
+/// A run between two moves of its host: its plan, its blackboard and agenda, and the natives that were handed in. It
+/// can't be dropped, as the natives have to be closed: `finish` and `close` spend it. After a move that was cut short,
+/// for want of memory or as the output failed, no other can be made, and the blackboard is one in the midst of that move.
+pub struct Running<N: NativeSource> {
+    alloc: Global,
+    plan: Plan,
+    state: State<N>,
+    made: u64,
+    pause: Pause,
+    cut: Option<Halt>,
+    ghost lasts: { cut ≡ None → Lasts plan (seen N.meaning state) },
+}
+
+// Makes the cycle of this number and counts it, or emits quiescence where nothing can be chosen.
+fn take_turn<N: NativeSource, O: Out>(
+    runner: &mut Runner<'_, O>,
+    plan: &Plan,
+    number: u64,
+    made: &mut u64,
+    state: &mut State<N>,
+) -> Result<Option<End>, Halt>
+    requires open { O.has_failed runner.old.out.now ≡ false }
+    requires knows { Knows plan.now (seen N.meaning state.old) }
+    requires serves { Serves plan.now (seen N.meaning state.old) }
+    requires next { number ≡ made.old + 1 }
+    ensures same { Same runner.old runner.new }
+    ensures made { MakesStretch plan.now (at O.taken runner.old) (at O.taken runner.new)
+        (turn plan.now made.old (seen N.meaning state.old)) (seen N.meaning state.new) result }
+    ensures counted { made.new ≡ made_by made.old (choice plan.now (seen N.meaning state.old)) }
+    ensures failed { O.has_failed runner.new.out.now ≡ stopped_by_write result }
+{
+    match choose(plan, state) {
+        Some(activation) => {
+            *made = number;
+            runner.make_cycle(plan, number, activation, state)
+        }
+        None => runner.rest(plan, state),
+    }
+}
+
+impl<N: NativeSource> Running<N> {
+    /// Begins a run from a blackboard's first state with the natives that were handed in: emits what the creation of the
+    /// first units noted, and processes its events. At an error each native is closed, and the blackboard is dropped.
+    /// The blackboard is one of the plan's schema, and the sources were made under it, of codes that the verifier
+    /// accepted under it; each has a code for its act, or there is a native of its name.
+    pub fn start<O: Out>(
+        alloc: Global,
+        plan: Plan,
+        start: Start<N>,
+        out: &mut O,
+    ) -> Result<Running<N>, Halt>
+        requires made { ∥ All (IsMade plan.schema) plan.sources ∥₁ }
+        requires acts { ¬ LacksNative plan (map N.meaning start.roster.natives.items) }
+        requires of_schema { start.board.schema ≡ plan.schema }
+        requires open { O.has_failed out.old ≡ false }
+        ensures begun { Begins plan (started plan start.board (map N.meaning start.roster.natives.items))
+            (λ r. stands (seen N.meaning r.state) r.made r.pause) (O.taken out.old) (O.taken out.new) result }
+        ensures kept { IfOk result (λ r. (r.plan ≡ plan) × (r.cut ≡ None)) }
+        ensures failed { O.has_failed out.new ≡ stopped_by_write result }
+    {
+        // For the proof: what holds of every schema, plan and blackboard.
+        plan.schema().fits();
+        let _ = plan.sources();
+        start.board.fits();
+        let mut state = first_state(alloc, &plan, start)?;
+        let mut page = Page::new(alloc);
+        let mut runner = Runner {
+            page: &mut page,
+            out,
+        };
+        let emitted = runner.begin(&plan, &mut state);
+        match runner.written(emitted) {
+            Ok(end) => Ok(Running {
+                alloc,
+                plan,
+                state,
+                made: 0,
+                pause: pause_by(end),
+                cut: None,
+            }),
+            Err(halt) => {
+                let (closed, board) = state.close();
+                drop(closed);
+                drop(board);
+                Err(halt)
+            }
+        }
+    }
+
+    /// Makes a cycle, or emits quiescence where nothing can be chosen. Where the run does not go on, nothing happens.
+    /// `Memory`, `Write`: the run is cut short in it.
+    pub fn turn<O: Out>(&mut self, out: &mut O) -> Result<Pause, Halt>
+        requires open { O.has_failed out.old ≡ false }
+        requires whole { self.old.cut ≡ None }
+        ensures made { Makes self.old.plan
+            (moved self.old.plan one_turn (stands (seen N.meaning self.old.state) self.old.made self.old.pause))
+            (stands (seen N.meaning self.new.state) self.new.made self.new.pause)
+            (O.taken out.old) (O.taken out.new) result }
+        ensures kept { (self.new.plan ≡ self.old.plan) × (self.new.cut ≡ halt_of result) }
+        ensures failed { O.has_failed out.new ≡ stopped_by_write result }
+    {
+        match &self.pause {
+            Pause::Going => self.turn_on(out),
+            Pause::Resting => Ok(Pause::Resting),
+            Pause::Over(end) => Ok(Pause::Over(*end)),
+        }
+    }
+
+    // Makes a cycle, or emits quiescence, where the run goes on.
+    fn turn_on<O: Out>(&mut self, out: &mut O) -> Result<Pause, Halt>
+        requires open { O.has_failed out.old ≡ false }
+        requires whole { self.old.cut ≡ None }
+        ensures made { Makes self.old.plan
+            (after (made_by self.old.made (choice self.old.plan (seen N.meaning self.old.state)))
+            (turn self.old.plan self.old.made (seen N.meaning self.old.state)))
+            (stands (seen N.meaning self.new.state) self.new.made self.new.pause)
+            (O.taken out.old) (O.taken out.new) result }
+        ensures kept { (self.new.plan ≡ self.old.plan) × (self.new.cut ≡ halt_of result) }
+        ensures failed { O.has_failed out.new ≡ stopped_by_write result }
+    {
+        // For the proof: what holds of every schema, plan and blackboard.
+        self.plan.schema().fits();
+        let _ = self.plan.sources();
+        self.state.board.fits();
+        // A cycle takes an activation, and those are numbered below 2^63, so this is never so.
+        let Some(number) = self.made.checked_add(1) else {
+            self.cut = Some(Halt::Memory);
+            return Err(Halt::Memory);
+        };
+        let mut page = Page::new(self.alloc);
+        let mut runner = Runner {
+            page: &mut page,
+            out,
+        };
+        let emitted = take_turn(
+            &mut runner,
+            &self.plan,
+            number,
+            &mut self.made,
+            &mut self.state,
+        );
+        match runner.written(emitted) {
+            Ok(end) => {
+                self.pause = pause_by(end);
+                Ok(self.pause)
+            }
+            Err(halt) => {
+                self.cut = Some(halt);
+                Err(halt)
+            }
+        }
+    }
+
+    /// Makes at most so many cycles more, and emits quiescence after them where nothing can be chosen then. Where the
+    /// run does not go on, nothing happens. `Memory`, `Write`: the run is cut short in it.
+    pub fn advance<O: Out>(&mut self, cycles: u32, out: &mut O) -> Result<Pause, Halt>
+        requires open { O.has_failed out.old ≡ false }
+        requires whole { self.old.cut ≡ None }
+        ensures made { Makes self.old.plan
+            (moved self.old.plan (advance cycles) (stands (seen N.meaning self.old.state) self.old.made self.old.pause))
+            (stands (seen N.meaning self.new.state) self.new.made self.new.pause)
+            (O.taken out.old) (O.taken out.new) result }
+        ensures kept { (self.new.plan ≡ self.old.plan) × (self.new.cut ≡ halt_of result) }
+        ensures failed { O.has_failed out.new ≡ stopped_by_write result }
+    {
+        match &self.pause {
+            Pause::Going => self.advance_on(cycles, out),
+            Pause::Resting => Ok(Pause::Resting),
+            Pause::Over(end) => Ok(Pause::Over(*end)),
+        }
+    }
+
+    // Makes at most so many cycles more, where the run goes on.
+    fn advance_on<O: Out>(&mut self, count: u32, out: &mut O) -> Result<Pause, Halt>
+        requires open { O.has_failed out.old ≡ false }
+        requires whole { self.old.cut ≡ None }
+        ensures made { Makes self.old.plan
+            (advanced self.old.plan self.old.made count (seen N.meaning self.old.state))
+            (stands (seen N.meaning self.new.state) self.new.made self.new.pause)
+            (O.taken out.old) (O.taken out.new) result }
+        ensures kept { (self.new.plan ≡ self.old.plan) × (self.new.cut ≡ halt_of result) }
+        ensures failed { O.has_failed out.new ≡ stopped_by_write result }
+    {
+        // For the proof: what holds of every schema, plan and blackboard.
+        self.plan.schema().fits();
+        let _ = self.plan.sources();
+        self.state.board.fits();
+        // As for a turn, this is never so.
+        let Some(last) = self.made.checked_add(u64::from(count)) else {
+            self.cut = Some(Halt::Memory);
+            return Err(Halt::Memory);
+        };
+        let mut page = Page::new(self.alloc);
+        let mut runner = Runner {
+            page: &mut page,
+            out,
+        };
+        let emitted = runner.make_cycles(&self.plan, &mut self.made, last, &mut self.state);
+        match runner.written(emitted) {
+            Ok(end) => {
+                self.pause = pause_by(Some(end));
+                Ok(self.pause)
+            }
+            Err(halt) => {
+                self.cut = Some(halt);
+                Err(halt)
+            }
+        }
+    }
+
+    /// Tells the run what happened in the world outside: applies asks as those of a native are, in order, and processes
+    /// their events. Where the run is over, nothing happens. `Memory`, `Write`: the run is cut short in it.
+    pub fn post<O: Out>(&mut self, asks: Vec<Ask>, out: &mut O) -> Result<Pause, Halt>
+        requires open { O.has_failed out.old ≡ false }
+        requires whole { self.old.cut ≡ None }
+        ensures made { Makes self.old.plan
+            (moved self.old.plan (post asks.items) (stands (seen N.meaning self.old.state) self.old.made self.old.pause))
+            (stands (seen N.meaning self.new.state) self.new.made self.new.pause)
+            (O.taken out.old) (O.taken out.new) result }
+        ensures kept { (self.new.plan ≡ self.old.plan) × (self.new.cut ≡ halt_of result) }
+        ensures failed { O.has_failed out.new ≡ stopped_by_write result }
+    {
+        match &self.pause {
+            Pause::Going => self.post_on(asks, out),
+            Pause::Resting => self.post_on(asks, out),
+            Pause::Over(end) => Ok(Pause::Over(*end)),
+        }
+    }
+
+    // Applies asks from outside, where the run is not over.
+    fn post_on<O: Out>(&mut self, asks: Vec<Ask>, out: &mut O) -> Result<Pause, Halt>
+        requires open { O.has_failed out.old ≡ false }
+        requires whole { self.old.cut ≡ None }
+        ensures made { Makes self.old.plan
+            (after self.old.made (posting self.old.plan asks.items (seen N.meaning self.old.state)))
+            (stands (seen N.meaning self.new.state) self.new.made self.new.pause)
+            (O.taken out.old) (O.taken out.new) result }
+        ensures kept { (self.new.plan ≡ self.old.plan) × (self.new.cut ≡ halt_of result) }
+        ensures failed { O.has_failed out.new ≡ stopped_by_write result }
+    {
+        // For the proof: what holds of every schema, plan and blackboard.
+        self.plan.schema().fits();
+        let _ = self.plan.sources();
+        self.state.board.fits();
+        let mut page = Page::new(self.alloc);
+        let mut runner = Runner {
+            page: &mut page,
+            out,
+        };
+        let emitted = runner.post(&self.plan, asks, &mut self.state);
+        match runner.written(emitted) {
+            Ok(end) => {
+                self.pause = pause_by(end);
+                Ok(self.pause)
+            }
+            Err(halt) => {
+                self.cut = Some(halt);
+                Err(halt)
+            }
+        }
+    }
+
+    /// Ends the run: where it still goes on it first comes to rest, or to its limit. Emits its end, and what each native
+    /// says at its close, and gives the blackboard. A run that was cut short says so again, and writes nothing.
+    pub fn finish<O: Out>(self, out: &mut O) -> (Finish, Board)
+        requires open { O.has_failed out.old ≡ false }
+        requires whole { self.cut ≡ None }
+        ensures finish { IfSome (end_of result.0) (λ end.
+            (finished self.plan (stands (seen N.meaning self.state) self.made self.pause)).end ≡ Some end) }
+        ensures text { IfSome (end_of result.0) (λ _. Appends (O.taken out.old) (O.taken out.new)
+            (trace_text self.plan (finished self.plan (stands (seen N.meaning self.state) self.made self.pause)).emitted)) }
+        ensures front { WritesFront self.plan (finished self.plan (stands (seen N.meaning self.state) self.made self.pause))
+            result.0 (O.taken out.old) (O.taken out.new) }
+        ensures board { IfSome (end_of result.0) (λ _. result.1
+            ≡ (finished self.plan (stands (seen N.meaning self.state) self.made self.pause)).state.board) }
+        ensures failed { O.has_failed out.new ≡ is_write result.0 }
+    {
+        let Running {
+            alloc,
+            plan,
+            state,
+            made,
+            pause,
+            cut: _cut,
+        } = self;
+        // For the proof: what holds of every schema, plan and blackboard.
+        plan.schema().fits();
+        let _ = plan.sources();
+        state.board.fits();
+        let mut page = Page::new(alloc);
+        let mut runner = Runner {
+            page: &mut page,
+            out,
+        };
+        let (ended, board) = runner.finish(&plan, made, ended(&pause), state);
+        match ended {
+            Ok(end) => (Finish::from(end), board),
+            Err(Halt::Memory) => (Finish::Memory, board),
+            Err(Halt::Write) => (Finish::Write, board),
+        }
+    }
+
+    /// Closes each native once, in order, and gives what each said, and the blackboard. It writes nothing, so the trace
+    /// has no finish, and it takes no memory.
+    pub fn close(self) -> (Closed, Board)
+        ensures closed { result.0 ≡ closings_of (map N.meaning self.state.roster.natives.items) }
+        ensures board { result.1 ≡ self.state.board }
+    {
+        let Running {
+            alloc: _alloc,
+            plan,
+            state,
+            made: _made,
+            pause: _pause,
+            cut: _cut,
+        } = self;
+        drop(plan);
+        state.close()
+    }
+
+    /// What can be seen of the blackboard, also of a run that was cut short.
+    pub fn view(&self) -> View<'_>
+        ensures { result ≡ sight_of self.now.state.board }
+    {
+        View::new(&self.state.board)
+    }
+
+    /// Whether the run was cut short, so that no other move can be made.
+    pub fn was_cut(&self) -> bool
+        ensures { result ≡ is_some self.now.cut }
+    {
+        self.cut.is_some()
+    }
+
+    /// How the run stands.
+    pub fn pause(&self) -> Pause
+        ensures { result ≡ self.now.pause }
+    {
+        self.pause
+    }
+
+    /// The number of cycles that were made.
+    pub fn made(&self) -> u64
+        ensures { result ≡ self.now.made }
+    {
+        self.made
+    }
+
+    /// What a turn would choose, if anything can be chosen.
+    pub fn next(&self) -> Option<Activation>
+        requires whole { self.now.cut ≡ None }
+        ensures { result ≡ choice self.now.plan (seen N.meaning self.now.state) }
+    {
+        // For the proof: what holds of every schema, plan and blackboard.
+        self.plan.schema().fits();
+        let _ = self.plan.sources();
+        self.state.board.fits();
+        choose(&self.plan, &self.state)
+    }
+}
