@@ -9,7 +9,8 @@ PLAIN = r'[^"\\\x00-\x1f]*'
 TEXT = rf'"{PLAIN}(?:\\(?:["\\bfnrt]|u00(?:0[0-7bef]|1[0-9a-f])){PLAIN})*"'
 VALUE = rf"(?:{Z}|{NAME}|\[{Z},{Z}\]|\#{N}|{TEXT})"
 
-# The forms of lines, each under its first word. `refused`, `end native` and `closed` tell of natives of a host.
+# The forms of lines, each under its first word. `refused`, `end native` and `closed` tell of natives of a host, `post`
+# and `end post` of what a host posted.
 FORMS = {
     "create": rf"create {N} {NAME}",
     "set": rf"set {N}\.{NAME}",
@@ -26,7 +27,8 @@ FORMS = {
     "invalid": rf"invalid {N}",
     "say": rf"say(?: {VALUE})*",
     "refused": rf"refused ask {N} ([1-6])",
-    "end": rf"end (?:steps {N} found {N} budget {N}|native {N})",
+    "post": r"post",
+    "end": rf"end (?:steps {N} found {N} budget {N}|native {N}|post {N})",
     "quiescence": r"quiescence",
     "finish": r"finish (quiescence|limit|full)",
     "closed": rf"closed {NAME} {Z}",

@@ -18,7 +18,7 @@ function stepPanel(step) {
 }
 
 function stepHead(step) {
-  const title = step.cycle ? `Cycle ${step.cycle}` : step.kind === "start" ? "Start" : "Quiescence";
+  const title = step.cycle ? `Cycle ${step.cycle}` : { start: "Start", post: "Post", quiescence: "Quiescence" }[step.kind];
   const last = step.first + step.kept + step.missing - 1;
   return head(title, last > step.first ? `lines ${step.first} to ${last}` : `line ${step.first}`);
 }
@@ -129,14 +129,16 @@ function effects(step, lines) {
   if (step.kind === "quiescence" || run.isInvalid(step)) return null;
   const did = lines.filter(({ word, text }) => CHANGE.test(text) || word === "say" || word === "refused");
   const end = lines.find(({ word }) => word === "end");
-  const isCut = step.cycle > 0 && !run.finish && step === run.steps.at(-1);
+  const isCut = step.kind !== "start" && !run.finish && step === run.steps.at(-1);
   const told = end ? endTold(end.text) : isCut ? remark("It has no end: the trace is cut in it.") : null;
-  if (!step.cycle) return listed("First units", did, lineItem, "There are none.");
+  if (step.kind === "start") return listed("First units", did, lineItem, "There are none.");
+  if (step.kind === "post") return listed("What happened outside?", did, lineItem, "Nothing.", told);
   return listed("What did it change and say?", did, lineItem, "It changed nothing and said nothing.", told);
 }
 
 function endTold(text) {
   const [steps, found, budget] = text.match(/\d+/g);
+  if (text.startsWith("end post")) return remark(`The host posted ${plural(BigInt(steps), "ask")}.`);
   if (!found) return remark(`A native of the host ended, after ${plural(BigInt(steps), "ask")}.`);
   const [made, longest] = [plural(BigInt(steps), "step"), plural(BigInt(found), "unit")];
   return remark(`Ended after ${made}, with a budget of ${budget}; its longest sequence had ${longest}.`);
@@ -144,7 +146,7 @@ function endTold(text) {
 
 function reactions(step, lines) {
   const all = lines.filter((it) => REACTION.test(it.text));
-  if (!all.length && !(step.cycle && lines.some((it) => it.word === "end"))) return null;
+  if (!all.length && !lines.some((it) => it.word === "end")) return null;
   const actOf = (it) => run.actOf.get(Number(it.text.split(" ")[1]));
   const isSame = (it) => it.word === "retrigger" && !run.turnOf(actOf(it), it.number);
   const same = all.filter(isSame).map((it) => actOf(it).number);

@@ -139,7 +139,7 @@ class Reader:
     # Changes
 
     def take_change(self, line: Line, unit: Unit) -> None:
-        self.want(("first units", "code"), "a change outside of the first units and of cycles")
+        self.want(("first units", "code", "post"), "a change outside of the first units, of cycles and of posts")
         line.about = unit
         self.events.append((line.number, unit.number))
 
@@ -188,7 +188,7 @@ class Reader:
 
     def take_reaction(self, line: Line, source: Source, rank: tuple[int, int], unit: int | None = None) -> None:
         """A source answers to one of the events, in their order; its answers to one event have rising ranks."""
-        self.want(("first units", "reactions"), "a reaction in a cycle that has no `end` yet")
+        self.want(("first units", "reactions"), f"a reaction in a {self.step.kind} that has no `end` yet")
         if self.state == "first units":
             self.want_all_firsts()
         self.state = "reactions"
@@ -273,7 +273,7 @@ class Reader:
             self.refuse(otherwise)
 
     def take_cycle(self, line: Line, match: re.Match) -> None:
-        self.want(("first units", "reactions"), "a cycle in a cycle that has no `end` yet")
+        self.want(("first units", "reactions"), f"a cycle in a {self.step.kind} that has no `end` yet")
         cycle, act, name, unit, rating = int(match[1]), *match.group(2, 3, 4), int(match[5])
         if cycle != self.run.cycles + 1:
             self.refuse(f"cycle {cycle} where {self.run.cycles + 1} is due")
@@ -298,21 +298,32 @@ class Reader:
         self.state = "reactions"
 
     def take_say(self, line: Line, match: re.Match) -> None:
-        self.want(("code",), f"`{line.text.partition(' ')[0]}` outside of a cycle")
+        self.want(("code", "post"), f"`{line.text.partition(' ')[0]}` outside of a cycle and of a post")
 
     take_refused = take_say
 
     def take_end(self, line: Line, match: re.Match) -> None:
-        self.take_say(line, match)
+        """The end of a code or of a native, or of a post."""
+        if match[5]:
+            self.want(("post",), "`end post` outside of a post")
+        else:
+            self.want(("code",), "`end` outside of a cycle")
         line.about = self.step.chosen
         self.state = "reactions"
+
+    # What the host posts
+
+    def take_post(self, line: Line, match: re.Match) -> None:
+        self.want(("first units", "reactions"), f"`post` in a {self.step.kind} that has no `end` yet")
+        self.begin(Step("post", line.number), "post")
+        self.idle = False
 
     # Quiescence, and the end
 
     def take_quiescence(self, line: Line, match: re.Match) -> None:
-        self.want(("first units", "reactions"), "`quiescence` in a cycle that has no `end` yet")
+        self.want(("first units", "reactions"), f"`quiescence` in a {self.step.kind} that has no `end` yet")
         if self.idle:
-            self.refuse("`quiescence` again, with no cycle since")
+            self.refuse("`quiescence` again, with no cycle and no post since")
         self.begin(Step("quiescence", line.number), "reactions")
         self.idle = True
         self.events.append((line.number, 0))
@@ -320,9 +331,9 @@ class Reader:
     def take_finish(self, line: Line, match: re.Match) -> None:
         self.run.finish = match[1]
         if match[1] in ("quiescence", "limit"):
-            self.want(("first units", "reactions"), f"`finish {match[1]}` in a cycle that has no `end` yet")
+            self.want(("first units", "reactions"), f"`finish {match[1]}` in a {self.step.kind} that has no `end` yet")
         if match[1] == "quiescence" and not self.idle:
-            self.refuse("`finish quiescence` without `quiescence`, or with a cycle since")
+            self.refuse("`finish quiescence` without `quiescence`, or with a cycle or a post since")
         self.want_all_firsts()
         self.state = "finished"
 

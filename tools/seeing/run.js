@@ -76,10 +76,10 @@ class Run {
   }
 
   nameSteps() {
-    let quiet = 0;
+    const counts = { quiescence: 0, post: 0 };
     for (const step of this.steps) {
-      if (step.kind === "quiescence") quiet += 1;
-      step.id = step.cycle ? `cycle-${step.cycle}` : step.kind === "quiescence" ? `quiescence-${quiet}` : step.kind;
+      if (step.kind in counts) counts[step.kind] += 1;
+      step.id = step.cycle ? `cycle-${step.cycle}` : step.kind in counts ? `${step.kind}-${counts[step.kind]}` : step.kind;
     }
     this.stepById = new Map(this.steps.map((step) => [step.id, step]));
   }
@@ -127,7 +127,9 @@ class Run {
 
   nameOf(step) {
     if (step.cycle) return `cycle ${step.cycle}`;
-    return { start: "the start", quiescence: "quiescence", gap: "cycles that are not shown" }[step.kind];
+    return {
+      start: "the start", quiescence: "quiescence", post: "a post of the host", gap: "cycles that are not shown",
+    }[step.kind];
   }
 
   // Whether a cycle's choice was not executed.

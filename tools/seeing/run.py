@@ -63,7 +63,7 @@ class Line:
 
 @dataclass(slots=True)
 class Step:
-    """The start, a cycle, or a quiescence: its first lines, and how many more there were."""
+    """The start, a cycle, a post, or a quiescence: its first lines, and how many more there were."""
 
     kind: str
     first: int

@@ -203,6 +203,7 @@ class Timeline {
   columnName(step) {
     if (step.kind === "gap") return "⋯";
     if (step.kind === "start") return this.width >= 30 ? "start" : "s";
+    if (step.kind === "post") return this.width >= 30 ? "post" : "p";
     if (step.kind === "quiescence") return this.width >= 72 ? "quiescence" : this.width >= 48 ? "quiesc." : "q";
     return String(step.cycle);
   }
