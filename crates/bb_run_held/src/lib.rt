@@ -4,7 +4,7 @@
 //! - In: a `Plan`, a `Board` and a roster of natives (`Start`), moves one after another, and an output for each.
 //! - Out: how the run stands after each move, with its trace written; at the end the blackboard.
 //! - Callers rely on: each move emits what the abstract blackboard machine emits there (`specs/Moves`), and where a host
-//!   comes back shows nowhere in the trace.
+//!   comes back from `advance` shows nowhere in the trace.
 #![tactic(auto)]
 
 mod orderly;

@@ -9,7 +9,7 @@ ghost use Rattle.bb_run_held.specs.Moves.{Standing, advance, alone, moved, playe
 
 /// What the moves of any held run are like, whatever the plan, the blackboard and the natives.
 ///
-/// - `apart`: where the host comes back shows nowhere: so many cycles more, and then others, emit what all of them emit
+/// - `apart`: where `advance` comes back shows nowhere: so many cycles more, and then others, emit what all of them emit
 ///   in one move, and leave the run where that leaves it.
 /// - `alone`: a run is a start, one move of as many cycles as its limit, and a finish.
 pub fn moves_are_orderly()

@@ -288,7 +288,7 @@ impl<N: NativeSource> Running<N> {
     }
 
     /// Ends the run: where it still goes on it first comes to rest, or to its limit. Emits its end, and what each native
-    /// says at its close, and gives the blackboard. A run that was cut short says so again, and writes nothing.
+    /// says at its close, and gives the blackboard. A run that was cut short can't be finished, only closed.
     pub fn finish<O: Out>(self, out: &mut O) -> (Finish, Board)
         requires open { O.has_failed out.old ≡ false }
         requires whole { self.cut ≡ None }
