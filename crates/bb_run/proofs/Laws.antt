@@ -4,3 +4,5 @@ pub use Rattle.bb_run.proofs.SteadyLemmas.{may_serve, steady_again, steady_lasts
 pub use Rattle.bb_run.proofs.WholeLemmas.{none_written, wrote_first, wrote_front}
 pub use Rattle.bb_run.proofs.MeetLemmas.{IsOver, Meets, choices_after, cycles_again, cycles_meet, start_early}
 pub use Rattle.bb_run.proofs.OrderlyParts.{IsEarly}
+pub use Rattle.bb_run.proofs.CountLemmas.{cycle_chooses, wait_silent}
+pub use Rattle.bb_run.proofs.EarlyLemmas.{cycle_early, wait_early}

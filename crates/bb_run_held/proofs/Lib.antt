@@ -2,3 +2,5 @@
 pub mod ApartLemmas
 -- where a move leaves a run
 pub mod HeldLemmas
+-- one move of many cycles, and turns
+pub mod TurnLemmas

@@ -1,5 +1,5 @@
 -- A run that its host holds: what each of its moves emits, and where the run stands after it.
-use Rattle.std.specs.Prelude.{ℕ, ◌+◌, List, [], ◌∷◌, ◌++◌, Option, Some, None}
+use Rattle.std.specs.Prelude.{ℕ, ◌+◌, Bool, true, false, List, [], ◌∷◌, ◌++◌, Option, Some, None}
 use Rattle.bb_run.specs.Activation.{Activation}
 use Rattle.bb_run.specs.Ask.{Ask}
 use Rattle.bb_run.specs.Board.{Board as Blackboard}
@@ -7,8 +7,9 @@ use Rattle.bb_run.specs.End.{End}
 use Rattle.bb_run.specs.End as ends
 use Rattle.bb_run.specs.Native.{Native}
 use Rattle.bb_run.specs.Note.{Note}
+use Rattle.bb_run.specs.Note.TheVariants.{Posted, PostEnded}
 use Rattle.bb_run.specs.Plan.{Plan}
-use Rattle.bb_run.specs.Run.{choice, cycles, start, with_finish}
+use Rattle.bb_run.specs.Run.{asked, choice, cycles, start, with_finish}
 use Rattle.bb_run.specs.State.{State}
 use Rattle.bb_run.specs.Emission.{Stretch, after_emitted}
 use Rattle.bb_run.specs.Turns.{choices_of, posting, settled, turn}
@@ -51,6 +52,16 @@ after made p = record { emitted = p.emitted; standing = record { state = p.state
 abbrev pub made_by : (made : ℕ) → Option Activation → ℕ
 made_by made None = made
 made_by made (Some a) = made + 1
+
+-- asks may be posted: the run is not over
+abbrev pub takes_posts : Pause → Bool
+takes_posts (Over end) = false
+takes_posts _ = true
+
+-- the first segment that a post emits: that something was posted, what the asks bring about in order, and their number,
+-- unless the blackboard became full
+abbrev pub post_segment : List Ask → State → List Note
+post_segment asks s = Posted ∷ (asked PostEnded asks s).emitted
 
 -- nothing happens
 abbrev pub unmoved : Standing → Moved

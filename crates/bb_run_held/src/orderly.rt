@@ -1,20 +1,30 @@
 //! What the moves of a held run are like. No code calls it.
 
-ghost use Rattle.std.specs.Prelude.{◌≡◌, ◌+◌, ◌∷◌, [], ℕ, List};
+ghost use Rattle.std.specs.Prelude.{◌≡◌, ◌+◌, ◌∷◌, [], ℕ, List, replicate, true};
+ghost use Rattle.bb_run.specs.Ask.{Ask};
 ghost use Rattle.bb_run.specs.Board.{Board};
 ghost use Rattle.bb_run.specs.Native.{Native};
+ghost use Rattle.bb_run.specs.Note.{Note};
 ghost use Rattle.bb_run.specs.Plan.{Plan};
 ghost use Rattle.bb_run.specs.Run.{run};
-ghost use Rattle.bb_run_held.specs.Moves.{Standing, advance, alone, moved, played};
+ghost use Rattle.bb_run_held.specs.Moves.{Standing, advance, alone, moved, one_turn, played};
+ghost use Rattle.bb_run_held.specs.Moves.{post, post_segment, takes_posts};
 
 /// What the moves of any held run are like, whatever the plan, the blackboard and the natives.
 ///
 /// - `apart`: where `advance` comes back shows nowhere: so many cycles more, and then others, emit what all of them emit
 ///   in one move, and leave the run where that leaves it.
+/// - `turns`: one move of many cycles emits what some number of turns emit, and leaves the run where they leave it.
 /// - `alone`: a run is a start, one move of as many cycles as its limit, and a finish.
+/// - `posts`: what is posted stands in one segment, the first of its move: each ask, in order, and what it brings about
+///   on the blackboard that the move found.
 pub fn moves_are_orderly()
     ensures apart { (plan : Plan) (t : Standing) (m n : ℕ) →
         played plan (advance m ∷ advance n ∷ []) t ≡ moved plan (advance (m + n)) t }
+    ensures turns { (plan : Plan) (t : Standing) (n : ℕ) →
+        (k : ℕ) × (played plan (replicate k one_turn) t ≡ moved plan (advance n) t) }
     ensures alone { (plan : Plan) (board : Board) (natives : List Native) (limit : ℕ) →
         alone plan board natives limit ≡ run plan board natives limit }
+    ensures posts { (plan : Plan) (t : Standing) (asks : List Ask) → takes_posts t.pause ≡ true →
+        (later : List (List Note)) × ((moved plan (post asks) t).emitted ≡ post_segment asks t.state ∷ later) }
 {}

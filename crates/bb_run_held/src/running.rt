@@ -296,7 +296,8 @@ impl<N: NativeSource> Running<N> {
             (finished self.plan (stands (seen N.meaning self.state) self.made self.pause)).end ≡ Some end) }
         ensures text { IfSome (end_of result.0) (λ _. Appends (O.taken out.old) (O.taken out.new)
             (trace_text self.plan (finished self.plan (stands (seen N.meaning self.state) self.made self.pause)).emitted)) }
-        ensures front { WritesFront self.plan (finished self.plan (stands (seen N.meaning self.state) self.made self.pause))
+        ensures front { WritesFront self.plan
+            (finished self.plan (stands (seen N.meaning self.state) self.made self.pause))
             result.0 (O.taken out.old) (O.taken out.new) }
         ensures board { IfSome (end_of result.0) (λ _. result.1
             ≡ (finished self.plan (stands (seen N.meaning self.state) self.made self.pause)).state.board) }
