@@ -9,7 +9,6 @@ use Rattle.bb_compile_scope.specs.declared.scope.Mark.{Mark}
 use Rattle.bb_compile_scope.specs.Scope.{mark_of}
 use Rattle.bb_compile_buffer.specs.declared.buffer.Buffer.{Buffer}
 use Rattle.bb_compile_emit.specs.Statements.{after_end, statement_code, statements_code}
-use Rattle.bb_compile_accepted.specs.Plain.{is_plain}
 use Rattle.bb_compile_accepted.proofs.BranchLemmas.{ElseEnded, ElseOn, if_laid, with_laid}
 use Rattle.bb_compile_accepted.proofs.LoopLaid.{for_laid}
 use Rattle.bb_compile_accepted.proofs.GuardLemmas.{Branches, behind_first, if_branches, with_branches, branches_else}
@@ -52,14 +51,3 @@ module _ (schema : Schema) (part : Part) where
       InStatement (for_of name sequence body) loops place now s t h =
           let f = for_laid schema part loops place name sequence body s t now h in
           K s × InBlock body (loops - 1) false f.ended f.inner f.end f.block_is
-
-    -- a text without such statements
-    pub plain_before : (b : BlockTree) (loops : ℕ) (was now : Bool) (s t : Buffer) → is_plain b ≡ true → (h : statements_code schema part loops was b s ≡ Ok (now, t)) → InBlock b loops was now s t h
-    unfolding InBlock InStatement statements_code
-    plain_before no_statement loops was now s t plain h = tt
-    plain_before (before_others place (action a) others) loops was now s t plain h =
-        let one = bind_ok (statement_code schema part loops place (action a) (after_end was s)) (λ p. statements_code schema part loops (was || p.0) others p.1) (now, t) h in
-        (tt, plain_before others loops (was || one.0.0) now one.0.1 t plain one.2)
-    plain_before (before_others place (if_of test then other) others) loops was now s t plain h = absurd cc
-    plain_before (before_others place (with_of binding then other) others) loops was now s t plain h = absurd cc
-    plain_before (before_others place (for_of name sequence body) others) loops was now s t plain h = absurd cc

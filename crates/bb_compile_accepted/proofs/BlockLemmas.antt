@@ -20,7 +20,6 @@ use Rattle.bb_compile_buffer.specs.Buffers.{settled, kept, leave}
 use Rattle.bb_compile_emit.specs.Actions.{action_code}
 use Rattle.bb_compile_emit.specs.Statements.{action_of, statements_code}
 use Rattle.bb_compile_accepted.specs.Loopless.{is_loopless}
-use Rattle.bb_compile_accepted.specs.Plain.{is_plain}
 use Rattle.bb_compile_accepted.proofs.BufferLemmas.{Clean, Grown, both_grown, grown_none, grown_on, count_of}
 use Rattle.bb_compile_accepted.proofs.PutLemmas.{pair_ok}
 use Rattle.bb_compile_accepted.proofs.BranchLemmas.{AbsentLaid, ElseEnded, ElseOn, settled_clean}
@@ -28,14 +27,6 @@ use Rattle.bb_compile_accepted.proofs.GuardLemmas.{Guard, Branches, branches_abs
 use Rattle.bb_compile_accepted.proofs.AimLemmas.{aims, same_more, more_after, aims_grown, aimed_behind, behind_count, aimed_before, jump_count, closed_is, end_count}
 use Rattle.bb_compile_accepted.proofs.GrownLemmas.{Adds}
 use Rattle.bb_compile_accepted.proofs.LabelLemmas.{listed, labels_of, label_at, labelled_at, other_place}
-
--- a text without any block of a statement is one
-pub plain_loopless : (b : BlockTree) → is_plain b ≡ true → is_loopless b ≡ true
-plain_loopless no_statement plain = refl
-plain_loopless (before_others place (action a) others) plain = plain_loopless others plain
-plain_loopless (before_others place (if_of test then other) others) plain = absurd cc
-plain_loopless (before_others place (with_of binding then other) others) plain = absurd cc
-plain_loopless (before_others place (for_of name sequence body) others) plain = absurd cc
 
 -- what comes of a statement without blocks, taken apart
 pub record Stated (schema : Schema) (part : Part) (a : Action) (s t : Buffer) (now : Bool) : Type 0 where

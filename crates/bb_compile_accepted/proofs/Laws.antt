@@ -6,9 +6,8 @@ pub use Rattle.bb_compile_accepted.proofs.PutLemmas.{pair_ok, triple_ok, clean_b
 pub use Rattle.bb_compile_accepted.proofs.HeldLemmas.{find_sound, named_slot}
 pub use Rattle.bb_compile_accepted.proofs.ExprLemmas.{class_there}
 pub use Rattle.bb_compile_accepted.proofs.StoreLemmas.{declared_on, declare_is}
-pub use Rattle.bb_compile_accepted.proofs.PartLemmas.{part_accepted}
 pub use Rattle.bb_compile_accepted.proofs.TextLemmas.{PartLaid, part_laid, text_accepted}
-pub use Rattle.bb_compile_accepted.proofs.BeforeLemmas.{InEither, InOther, plain_before}
+pub use Rattle.bb_compile_accepted.proofs.BeforeLemmas.{InEither, InOther}
 unfoldable pub use Rattle.bb_compile_accepted.proofs.BeforeLemmas.{InBlock, InStatement}
 pub use Rattle.bb_compile_accepted.proofs.BranchLemmas.{TestLaid, AbsentLaid, ElseEnded, ElseOn, if_laid, with_laid}
 pub use Rattle.bb_compile_accepted.proofs.GuardLemmas.{Guard, Branches, branches_absent, branches_else}
@@ -16,7 +15,7 @@ pub use Rattle.bb_compile_accepted.proofs.GuardLemmas.{Puts, exits_of, tested_pu
 unfoldable pub use Rattle.bb_compile_accepted.proofs.GuardLemmas.{test_guard, named_guard, head_guard, if_branches, with_branches}
 pub use Rattle.bb_compile_accepted.proofs.HeadLemmas.{OfClass, IsAlive, IsBoth, Tested, AsLaid, LinkLaid, HeadLaid, binding_laid}
 pub use Rattle.bb_compile_accepted.proofs.AimLemmas.{AreAimed, same_more, more_after, block_count, aims_grown, aims_count, aims_has, aims_there, aimed_behind, aimed_before, jump_count, open_is, closed_is, end_count, open_has, jump_there}
-pub use Rattle.bb_compile_accepted.proofs.BlockLemmas.{stated, plain_loopless}
+pub use Rattle.bb_compile_accepted.proofs.BlockLemmas.{stated}
 pub use Rattle.bb_compile_accepted.proofs.TextLays.{block_clean, statement_clean, block_now, block_grown}
 pub use Rattle.bb_compile_accepted.proofs.LoopLaid.{SequenceLaid, ForLaid, for_laid}
 pub use Rattle.bb_compile_accepted.proofs.LoopRuns.{LoopRuns, loop_runs, loop_grown, loop_clean, inner_clean, loop_has, LoopKeeps, loop_keeps}

@@ -1,6 +1,6 @@
 -- worked codes
 mod Rows
--- codes without jumps
+-- ops one after another
 pub mod StraightLemmas
 -- kinds that the verifier knows, and the compiler
 pub mod UnderLemmas
@@ -130,7 +130,7 @@ pub mod ForGoes
 pub mod AcceptLemmas
 -- what a part begins with, and a code that is walked
 pub mod WholeLemmas
--- whole parts without blocks
+-- what parts begin with, and codes within their limits
 pub mod PartLemmas
 -- where ops may stand between loops
 pub mod NestLemmas

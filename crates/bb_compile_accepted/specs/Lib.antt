@@ -1,5 +1,3 @@
--- texts without branches and loops
-pub mod Plain
 -- texts without `for`
 pub mod Loopless
 -- parts with classes of the schema

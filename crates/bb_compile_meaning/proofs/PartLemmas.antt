@@ -43,13 +43,12 @@ use Rattle.bb_machine_step.specs.Stuck.TheVariants as reasons
 use Rattle.bb_machine_step.proofs.Laws.{activation_schema, by_op}
 use Rattle.bb_machine.specs.NeverWrong.{Begins, EntryFits, NeverStuck, Stands, after}
 use Rattle.bb_machine.proofs.Laws.{activation_fits, activation_never_stuck, each_stands}
-use Rattle.bb_compile_accepted.proofs.Laws.{Has, put_ok, op_at, plain_loopless, PartLaid, part_laid, Finds, InBlock, plain_before, part_accepted, text_accepted}
+use Rattle.bb_compile_accepted.proofs.Laws.{Has, put_ok, op_at, PartLaid, part_laid, Finds, InBlock, text_accepted}
 use Rattle.bb_verify.proofs.Laws.{checked_facts}
 use Rattle.bb_compile_meaning.specs.Meaning.{End, Meaning, Name, meaningless}
 use Rattle.bb_compile_meaning.specs.Meaning as comes
 use Rattle.bb_compile_meaning.specs.Statements.{Scene, statements}
 use Rattle.bb_compile_meaning.specs.Parts.{first_names, first_scene, ended, meaning}
-use Rattle.bb_compile_meaning.specs.Plain.{is_plain}
 use Rattle.bb_compile_meaning.specs.Classes.{HasClasses}
 use Rattle.bb_compile_meaning.specs.Loopless.{is_loopless}
 use Rattle.bb_compile_meaning.specs.Told.{IsTold}
@@ -242,15 +241,6 @@ module _ (part : Part) (frames : List Frame) (code : Code) (entry : Entry) (b : 
 
 begins_so : (part : Part) (code : Code) (frames : List Frame) (entry : Entry) (b : Board) → IsCode code → checked b.schema part code ≡ Ok (record { code = code; part = part; frames = frames }) → EntryFits b.schema b.world part entry → Begins part frames code entry b
 begins_so part code frames entry b is accepted entry_fits = record { accepted = checked_facts b.schema part code (record { code = code; part = part; frames = frames }) accepted is.ops.some; units = entry_fits }
-
-pub plain_told : (part : Part) (code : Code) (entry : Entry) (b : Board) → IsCode code → schemas.Fits b.schema → Fits b.schema b.world → (place : Place) (block : BlockTree) (limit : ℕ) → is_plain block ≡ true → part_code b.schema part place block ≡ Ok code
-    → EntryFits b.schema b.world part entry → length code.ops ≤ limit → IsTold (meaning part block entry b) (activation limit code entry b)
-plain_told part code entry b is sf fits place block limit plain code_is entry_fits enough =
-    let it = part_accepted b.schema sf part place block plain code code_is in
-    let laid = part_laid b.schema part place block code code_is in
-    let count = few_steps b.schema part place block code (plain_loopless block plain) (begin_tidy part) laid in
-    part_told part it.0 code entry b is sf fits (begins_so part code it.0 entry b is it.1 entry_fits) place block limit (omega (arith, count, enough)) laid
-    (plain_before b.schema part (λ s. Finds b.schema sf it.0 (length s.ops) s.scope.kinds) block LOOP_NESTING false laid.now (empty_buffer part place) laid.behind plain laid.block_is)
 
 pub loopless_told : (part : Part) (code : Code) (entry : Entry) (b : Board) → IsCode code → schemas.Fits b.schema → Fits b.schema b.world → (place : Place) (block : BlockTree) (limit : ℕ) → is_loopless block ≡ true → HasClasses b.schema part → part_code b.schema part place block ≡ Ok code
     → EntryFits b.schema b.world part entry → length code.ops ≤ limit → IsTold (meaning part block entry b) (activation limit code entry b)

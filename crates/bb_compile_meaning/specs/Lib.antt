@@ -10,8 +10,6 @@ pub mod Expressions
 pub mod Statements
 -- what the text of a part means
 pub mod Parts
--- texts without branches and loops
-pub use Rattle.bb_compile_accepted.specs.Plain
 -- texts without `for`
 pub use Rattle.bb_compile_accepted.specs.Loopless
 -- parts with classes of the schema

@@ -18,7 +18,6 @@ ghost use Rattle.bb_machine.specs.NeverWrong.{EntryFits};
 ghost use Rattle.bb_compile_meaning.specs.Parts.{meaning};
 ghost use Rattle.bb_compile_meaning.specs.Classes.{HasClasses};
 ghost use Rattle.bb_compile_meaning.specs.Loopless.{is_loopless};
-ghost use Rattle.bb_compile_meaning.specs.Plain.{is_plain};
 ghost use Rattle.bb_compile_meaning.specs.Sources.{is_loopless_source, AreAccepted, AreMeant, once_each, within_budget};
 ghost use Rattle.bb_compile_meaning.specs.Told.{IsTold};
 
@@ -40,29 +39,22 @@ pub fn compiled_source_is_accepted(schema: &Schema)
 
 /// What the code of a part means, whatever its statements and expressions are.
 ///
-/// - `means`: where the execution begins with units that fit the part, and the part has no `if`, no `with` and no `for`,
-///   it gives the answer of the text and leaves the blackboard of the text, with its notes; it finds no room for one
-///   more unit exactly where the text finds none; it is never stuck; and as many steps as the code has ops are enough
-///   for that.
-/// - `branches`: so it is for a part with `if`, `with`, `else` and chains of them, where the classes of the part are
-///   classes of the schema.
-/// - `loops`: so it is for every part, with `for` too, where the execution may make as many steps as the budget of its
-///   code allows for the longest sequence that there can be.
+/// - `means`: where the classes of the part are classes of the schema, the execution begins with units that fit the part,
+///   and it may make as many steps as the budget of its code allows for the longest sequence that there can be, it gives
+///   the answer of the text and leaves the blackboard of the text, with its notes; it finds no room for one more unit
+///   exactly where the text finds none; and it is never stuck.
+/// - `once_each`: where the part has no `for`, as many steps as the code has ops are enough for that.
 ///
 /// That the verifier accepts the code is no premise: it does (`compiled_code_is_accepted` of bb_compile_accepted).
 pub fn compiled_code_means_its_text(code: &Code, board: &Board)
     ensures means { (part : Part) (place : Place) (block : BlockTree) (entry : Entry) (limit : ℕ) →
-        is_plain block ≡ true → part_code board.now.schema part place block ≡ Ok code.now →
-        EntryFits board.now.schema board.now.world part entry → length code.now.ops ≤ limit →
+        HasClasses board.now.schema part → part_code board.now.schema part place block ≡ Ok code.now →
+        EntryFits board.now.schema board.now.world part entry → budget code.now FOUND_LIMIT ≤ limit →
         IsTold (meaning part block entry board.now) (activation limit code.now entry board.now) }
-    ensures branches { (part : Part) (place : Place) (block : BlockTree) (entry : Entry) (limit : ℕ) →
+    ensures once_each { (part : Part) (place : Place) (block : BlockTree) (entry : Entry) (limit : ℕ) →
         is_loopless block ≡ true → HasClasses board.now.schema part →
         part_code board.now.schema part place block ≡ Ok code.now →
         EntryFits board.now.schema board.now.world part entry → length code.now.ops ≤ limit →
-        IsTold (meaning part block entry board.now) (activation limit code.now entry board.now) }
-    ensures loops { (part : Part) (place : Place) (block : BlockTree) (entry : Entry) (limit : ℕ) →
-        HasClasses board.now.schema part → part_code board.now.schema part place block ≡ Ok code.now →
-        EntryFits board.now.schema board.now.world part entry → budget code.now FOUND_LIMIT ≤ limit →
         IsTold (meaning part block entry board.now) (activation limit code.now entry board.now) }
 {
     // For the proof: what holds of every code, schema and blackboard.
@@ -73,18 +65,18 @@ pub fn compiled_code_means_its_text(code: &Code, board: &Board)
 
 /// What a compiled source means.
 ///
-/// - `means`: what `compile` gives for the tree of a source of which no part has a `for` has the tree's name, class,
-///   rate and clauses, a part exactly where the tree has one, for the classes that the tree names, and each of its codes
-///   means the part's text, in as many steps as the code has ops (`compiled_code_means_its_text`).
-/// - `loops`: so it is for every source, in as many steps as the budget of each code allows.
+/// - `means`: what `compile` gives for the tree of a source has the tree's name, class, rate and clauses, a part exactly
+///   where the tree has one, for the classes that the tree names, and each of its codes means the part's text, in as many
+///   steps as its budget allows (`compiled_code_means_its_text`).
+/// - `once_each`: where no part has a `for`, in as many steps as the code has ops.
 ///
 /// That the codes are within the limits of codes is no premise: they are.
 pub fn compiled_source_means_its_text(board: &Board)
     ensures means { (text : SourceText) (draft : SourceDraft AnyCode) →
+        compiled board.now.schema text ≡ Ok draft → AreMeant within_budget board.now text draft }
+    ensures once_each { (text : SourceText) (draft : SourceDraft AnyCode) →
         is_loopless_source text ≡ true → compiled board.now.schema text ≡ Ok draft →
         AreMeant once_each board.now text draft }
-    ensures loops { (text : SourceText) (draft : SourceDraft AnyCode) →
-        compiled board.now.schema text ≡ Ok draft → AreMeant within_budget board.now text draft }
 {
     // For the proof: what holds of every schema and blackboard.
     board.schema().fits();

@@ -74,7 +74,7 @@ module _ (plan : Plan) where
       let all : choices_of whole ≡ choices_of c + choices_of r = choices_after c.emitted r in
       let number : (made + 1) + choices_of r ≡ made + choices_of whole = omega (arith, all, counted) in
       let goes : moved plan one_turn t ≡ after (made + 1) (record c { end = None }) =
-          first ∙ ap (λ e. after (made + 1) (record c { end = e })) is in
+      first ∙ ap (λ e. after (made + 1) (record c { end = e })) is in
       renumbered t whole ((made + 1) + choices_of r) (made + choices_of whole) number
       (turn_first t (after (made + 1) (record c { end = None })) (advanced plan (made + 1) n c.state) goes (rest c.state))
 
@@ -115,7 +115,7 @@ module _ (plan : Plan) where
       let number : made + choices_of r ≡ made + choices_of p = omega (arith, all, silent) in
       let here : moved plan one_turn t ≡ after made (after_emitted w.emitted (idle w.state)) = first in
       let plain : moved plan one_turn t ≡ record { emitted = w.emitted; standing = going made w.state } =
-          here ∙ ap (λ l. record { emitted = l; standing = going made w.state }) (append-nil w.emitted) in
+      here ∙ ap (λ l. record { emitted = l; standing = going made w.state }) (append-nil w.emitted) in
       subst (λ x. let q = after_emitted w.emitted x in IsTurns t (after (made + choices_of q) q)) (sym (goes a refl))
       (renumbered t p (made + choices_of r) (made + choices_of p) number
       (turn_first t (record { emitted = w.emitted; standing = going made w.state }) (advanced plan made n w.state) plain (rest a refl)))

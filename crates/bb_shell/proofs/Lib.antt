@@ -8,3 +8,7 @@ pub mod GatherLemmas
 pub mod MadeLemmas
 -- what an input means is well made
 pub mod UnstuckLemmas
+-- sources that fit together
+pub mod FitLemmas
+-- for crates above
+pub mod Laws

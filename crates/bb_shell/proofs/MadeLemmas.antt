@@ -1,13 +1,10 @@
 -- The sources of an input are made of codes that the verifier accepted under its schema.
-use Rattle.std.proofs.Common.{◌≡◌, ℕ, List, [], ◌∷◌, ◌++◌, length, Option, Some, None, Result, Ok, Err, subst}
-use Rattle.std.specs.Prelude.{All, nat_le, if◌then◌else◌}
-use Rattle.std.specs.List.{list_any}
-use Rattle.std.specs.Str.{bytes_eq}
-use Rattle.std.proofs.lemmas.List.Elements.{All-append, All-cons, All-head, All-nil, All-tail}
+use Rattle.std.proofs.Common.{◌≡◌, ℕ, List, Option, Some, None, Ok, subst}
+use Rattle.std.specs.Prelude.{All}
 use Rattle.bb_basis.proofs.ListLemmas.{all_any}
 use Rattle.bb_basis.proofs.PlacedLemmas.{map_err_ok}
-use Rattle.bb_basis.specs.Results.{◌>>=◌, map_err, try_fold, try_map}
-use Rattle.bb_basis.proofs.ResultLemmas.{All-try_map, bind_ok, guard_ok, same_ok}
+use Rattle.bb_basis.specs.Results.{◌>>=◌, map_err, try_map}
+use Rattle.bb_basis.proofs.ResultLemmas.{All-try_map, bind_ok, same_ok}
 use Rattle.bb_schema.specs.Schema.{Schema}
 use Rattle.bb_code.specs.Code.{Code}
 use Rattle.bb_verify.specs.Accepted.{Checked, checked}
@@ -22,17 +19,14 @@ use Rattle.bb_bundle.specs.declared.draft.SourceDraft.{SourceDraft}
 use Rattle.bb_run_held.specs.Classes.{Classes}
 use Rattle.bb_run_held.specs.MadeSource.{classes_of, obviate_part, retrigger_part, source_of}
 use Rattle.bb_run_held.specs.Law.{AreAccepted, IsAccepted, IsMade}
-use Rattle.bb_run_held.specs.RuleFault.TheVariants as rules
 use Rattle.bb_run_held.specs.Source.{Source}
-use Rattle.bb_run_held.specs.Limits.{SOURCE_LIMIT}
 use Rattle.bb_rules.proofs.Laws.{source_made_of}
 use Rattle.bb_shell.specs.declared.accepting.CodeFault.TheVariants as faults
-use Rattle.bb_shell.specs.declared.fitting.Unfit.{Unfit}
-use Rattle.bb_shell.specs.declared.fitting.Unfit.TheVariants as unfits
 use Rattle.bb_refusal.specs.declared.input_fault.InputFault.TheVariants as inputs
 use Rattle.bb_shell.specs.Accepting.{accepted_code, accepted_part, accepted_reaction, accepted_act, accepted_parts, accepted_draft, accepted_source, in_source}
-use Rattle.bb_shell.specs.Fitting.{fitted, lacks_native, names_of, source_after}
+use Rattle.bb_shell.specs.Fitting.{fitted}
 use Rattle.bb_shell.specs.Sources.{codes_in, given, in_input, resolved_source, sources_for}
+use Rattle.bb_shell.proofs.FitLemmas.{fitted_keeps}
 
 -- ---- the codes of a source
 
@@ -113,30 +107,6 @@ module _ (s : Schema) where
   source_are draft made h =
       let one = bind_ok (map_err (inputs.Rule draft.header.name) (classes_of s draft)) (λ classes. map_err (in_source draft.header.name) (accepted_draft s classes draft)) made h in
       drafts_are one.0 draft made (map_err_ok (in_source draft.header.name) (accepted_draft s one.0 draft) made one.2)
-
--- ---- sources that fit together
-
-module _ (natives : List (List ℕ)) (P : Source → Type 0) where
-  after_keeps : (before : List Source) (x : Source) (after : List Source) → All P before → P x → source_after natives before x ≡ Ok after → All P after
-  after_keeps before x after all here h =
-      let count = length before in
-      let whole : Result (List Source) Unfit = Ok (before ++ x ∷ []) in
-      let native : Result (List Source) Unfit = if lacks_native natives x then Err (unfits.Source x.name (rules.Native count)) else whole in
-      let limit : Result (List Source) Unfit = if nat_le SOURCE_LIMIT count then Err (unfits.Source x.name (rules.Limit count)) else native in
-      let one = guard_ok (list_any (bytes_eq x.name) (names_of before)) (unfits.Source x.name (rules.Twice count)) limit after h in
-      let two = guard_ok (nat_le SOURCE_LIMIT count) (unfits.Source x.name (rules.Limit count)) native after one.1 in
-      let three = guard_ok (lacks_native natives x) (unfits.Source x.name (rules.Native count)) whole after two.1 in
-      subst (All P) (same_ok (before ++ x ∷ []) after three.1) (All-append P before (x ∷ []) all (All-cons P x [] here (All-nil P)))
-
-  all_fit : (before xs after : List Source) → All P before → All P xs → try_fold (source_after natives) before xs ≡ Ok after → All P after
-  unfolding try_fold
-  all_fit before [] after all rest h = subst (All P) (same_ok before after h) all
-  all_fit before (x ∷ xs) after all rest h =
-      let one = bind_ok (source_after natives before x) (λ t. try_fold (source_after natives) t xs) after h in
-      all_fit one.0 xs after (after_keeps before x one.0 all (All-head P x xs rest) one.1) (All-tail P x xs rest) one.2
-
-  pub fitted_keeps : (xs after : List Source) → All P xs → fitted natives xs ≡ Ok after → All P after
-  fitted_keeps xs after all h = all_fit [] xs after (All-nil P) all h
 
 -- ---- all sources of an input
 

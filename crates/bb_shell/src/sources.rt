@@ -93,7 +93,8 @@ fn gather_fit(
     source_set: SourceSet,
     draft: SourceDraft<Checked>,
 ) -> Result<Resolution, AllocError>
-    ensures { IfOk result (λ g. resolution_as g ≡ with_draft (names_in natives.now) schema.now (Ok (Ok source_set)) draft) }
+    ensures { IfOk result (λ g.
+        resolution_as g ≡ with_draft (names_in natives.now) schema.now (Ok (Ok source_set)) draft) }
 {
     match resolve(alloc, schema, draft)? {
         Ok(source) => join(alloc, natives, source_set, source),

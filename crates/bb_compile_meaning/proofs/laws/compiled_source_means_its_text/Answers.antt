@@ -5,6 +5,6 @@ use Rattle.bb_compile_meaning.proofs.laws.compiled_source_means_its_text.Goals a
 
 pub returns : goal.returns
 returns c = record {
-  means = λ text draft loopless is. loopless_meant c.args.board.now (subst schemas.Fits c.schema.ensures c.fits.ensures) c.fits-2.ensures text draft loopless is;
-  loops = λ text draft is. source_meant c.args.board.now (subst schemas.Fits c.schema.ensures c.fits.ensures) c.fits-2.ensures text draft is;
+  means = λ text draft is. source_meant c.args.board.now (subst schemas.Fits c.schema.ensures c.fits.ensures) c.fits-2.ensures text draft is;
+  once_each = λ text draft loopless is. loopless_meant c.args.board.now (subst schemas.Fits c.schema.ensures c.fits.ensures) c.fits-2.ensures text draft loopless is;
 }

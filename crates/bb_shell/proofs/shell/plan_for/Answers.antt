@@ -4,7 +4,7 @@ use Rattle.bb_schema.specs.Schema.{Schema}
 use Rattle.bb_run_held.specs.Law.{IsMade}
 use Rattle.bb_run_held.specs.Plan.{Plan}
 use Rattle.bb_shell.specs.Fitting.{HasAct, names_in}
-use Rattle.bb_shell.proofs.MadeLemmas.{fitted_keeps}
+use Rattle.bb_shell.proofs.FitLemmas.{fitted_keeps}
 use Rattle.bb_shell.proofs.UnstuckLemmas.{fitted_acts}
 use Rattle.bb_shell.proofs.shell.plan_for.Goals as goal
 

@@ -1,0 +1,4 @@
+-- what the sources of an input are made of
+pub mod GivenLemmas
+-- which sources the verifier refuses
+pub mod RefusedLemmas

@@ -1,0 +1,2 @@
+-- what an input's sources that are text come to
+pub mod Texts
