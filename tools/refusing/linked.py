@@ -13,6 +13,8 @@ HERE = Path(__file__).resolve().parent
 WRAPPED = ",".join(f"--wrap={it}" for it in ("malloc", "realloc", "read", "write"))
 SECONDS = 60
 REFUSED, MEMORY, FAILED = 2, 5, 6
+# The status of a host whose own request was refused.
+HOST_FAILED = 1
 UNREAD = b"refused input read\n"
 # The statuses of a test: it passed, or it returned its error. One whose assertion does not hold is aborted.
 PASSED, RETURNED = 0, 101
@@ -27,14 +29,14 @@ TESTS = {
 
 
 class Linked:
-    """A program over refuse.c."""
+    """A program over refuse.c, of its object, or of its source and what that is to be linked with."""
 
-    def __init__(self, made, room):
+    def __init__(self, made, room, *others):
         if not made.is_file():
             raise Wrong(f"{made} is not there, which a build leaves")
         kit = Path(subprocess.run(["rt", "doc"], check=True, capture_output=True, text=True).stdout.strip()).parent
         self.program = Path(room) / made.stem
-        words = [os.environ.get("CC", "cc"), "-O1", f"-Wl,{WRAPPED}", "-o", self.program, made, HERE / "refuse.c"]
+        words = [os.environ.get("CC", "cc"), "-O1", f"-Wl,{WRAPPED}", "-o", self.program, made, HERE / "refuse.c", *others]
         subprocess.run([*words, kit / "c/libos_c.a", kit / "c/liblibc_c.a"], check=True)
 
     def run(self, words, given, **refused):
@@ -118,6 +120,34 @@ def try_program(crates, room, rows):
         yield f"{row.name}: memory", try_memory(bb, row)
         yield f"{row.name}: room", try_room(bb, row)
         yield f"{row.name}: reads", try_reads(bb, row)
+
+
+def try_host(crates, room):
+    """Each request of the host in C that holds a run is refused, alone and with all behind it. It tells the decisions that
+    the run came to, and ends for want of memory, or as it would have."""
+    examples = crates.parent / "examples"
+    include = f"-I{crates / 'bb_c/include'}"
+    host = Linked(examples / "c/press.c", room, include, crates / "bb_c/out/libbb_c.a")
+    words, given = [examples / "press.bb"], (examples / "c/press.jobs").read_bytes()
+    whole = host.run(words, given)
+    if whole.returncode != 0 or not whole.stdout:
+        raise Wrong(f"press, nothing refused: status {whole.returncode}, {whole.stderr!r}")
+
+    def end_of(number, **how):
+        ran = host.run(words, given, REFUSED=number, **how)
+        if ran.returncode == 0 and ran.stdout == whole.stdout:
+            return "as it would have"
+        if ran.returncode == MEMORY and whole.stdout.startswith(ran.stdout):
+            return "for want of memory"
+        if ran.returncode == HOST_FAILED and not ran.stdout:
+            return "before the run"
+        raise Wrong(f"press, request {number} for memory refused {how}: status {ran.returncode}, {ran.stdout[-80:]!r}")
+
+    def ends(number):
+        end_of(number, LASTING=1)
+        return end_of(number)
+
+    return tried(ends, range(1, host.requests(words, given) + 1))
 
 
 def try_test(program, test):

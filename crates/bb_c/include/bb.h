@@ -29,6 +29,8 @@ enum {
 /* The version of these calls. It rises where one changes its meaning. */
 uint32_t bb_version(void);
 
+/* ---- A whole run in one call */
+
 /* Serves an input of `input_len` bytes as the program `bb` does without its natives, with at most `limit` cycles and no
    activation rated below `floor`. What is written goes into `output`, with no byte behind it, and the number of its
    bytes into `written`. Answers how it ended. Any bytes may be an input: what is no UTF-8, or too long, is refused.
@@ -61,6 +63,129 @@ static inline uint8_t bb_serve_nullable(const uint8_t *input, size_t input_len, 
     size_t not_wanted = 0;
     return bb_serve(input == NULL ? &no_input : input, input_len, mode, limit, floor,
                     output == NULL ? &no_output : output, output_len, written == NULL ? &not_wanted : written);
+}
+
+/* ---- A run that the host holds
+
+   A host may begin a run, have it make some cycles, come back, say what happened meanwhile, and go on. Where it came
+   back shows nowhere in the trace: 3 cycles and then 4 write what 7 write.
+
+       bb_run run = BB_RUN_NONE;
+       uint8_t stands = bb_open(&run, input, input_len, 0);
+       while (stands == BB_GOING)
+           stands = bb_turn(&run);
+       bb_finish(&run);
+       bb_close(&run);
+
+   No check sees what the caller keeps, beside what is said of `bb_serve`:
+
+   - A handle is the caller's, and what it points to is the library's, from `bb_open` to `bb_close`. It begins as
+     BB_RUN_NONE, and only the library writes its fields. Of the copies of one that is open a single one is used. One
+     that is forgotten leaks its run.
+   - Nothing that a call passes overlaps anything else that it passes, the handle too. Bytes that are handed in are
+     copied. No pointer is null, also where it is to no bytes: `bb_bytes` makes one of null.
+   - A run stays on the thread that opened it, as its texts are counted without locks. Runs share nothing, so each
+     thread may have its own. No call is made from a signal handler, or from the forked child of a process that has
+     threads. */
+
+/* A run, or none. */
+typedef struct bb_run {
+    void *at;
+    uint8_t is_open;
+} bb_run;
+
+#define BB_RUN_NONE {NULL, 0}
+
+/* A literal, as its bytes and their number. */
+#define BB_S(text) (const uint8_t *)(text), sizeof(text) - 1
+
+/* What a call on a run returns. A move (`bb_open`, `bb_turn`, `bb_advance`, `bb_post`) says how the run stands:
+   BB_RESTING, BB_GOING, or BB_FULL where it is over, for want of room for one more unit or activation. Each call may
+   return these:
+
+   - BB_REFUSED: the input, a name or a value is refused, and nothing was done.
+   - BB_MEMORY: memory ran out. After a move, in it or before, the run can be read and closed, and nothing else. Any
+     other call did nothing, and may be tried again.
+   - BB_MISUSE: there is no such run, or it was finished; or, for `bb_open`, there is one. Nothing was done. */
+enum {
+    BB_OK = 0,      /* the call was made */
+    BB_NONE = 1,    /* what is looked up is not there */
+    BB_RESTING = 0, /* quiescence was told, and it changed nothing: only a post can have the run go on */
+    BB_GOING = 3,   /* something can be chosen, or a turn tells quiescence */
+    BB_MISUSE = 9
+};
+
+/* Begins the run of an input, with no natives and no activation rated below `floor`: tells the first units, and what
+   the sources do about them. Where it is refused, `bb_serve` with a limit of 0 says why. */
+uint8_t bb_open(bb_run *run, const uint8_t *input, size_t input_len, int64_t floor);
+
+/* Makes a cycle, or tells quiescence where nothing can be chosen. Where the run rests, or is over, nothing happens. */
+uint8_t bb_turn(bb_run *run);
+
+/* Makes at most so many cycles more, and tells quiescence after them where nothing can be chosen then. */
+uint8_t bb_advance(bb_run *run, uint32_t cycles);
+
+/* Asks gather in a run until they are posted: that a unit be created, be given a value or a link, enter or leave a
+   space, be deleted, or that a text be said. Refused are bytes that are no UTF-8, an interval that ends before it begins,
+   and a label, or a set of labels, that the schema does not have. Whatever else may be wrong with an ask is found when
+   it is applied, and told in the trace as `refused ask I R`. */
+uint8_t bb_ask_new(bb_run *run, const uint8_t *class_name, size_t class_name_len);
+uint8_t bb_ask_int(bb_run *run, uint64_t unit, const uint8_t *slot, size_t slot_len, int64_t value);
+uint8_t bb_ask_bool(bb_run *run, uint64_t unit, const uint8_t *slot, size_t slot_len, uint8_t value);
+uint8_t bb_ask_interval(bb_run *run, uint64_t unit, const uint8_t *slot, size_t slot_len, int64_t low, int64_t high);
+uint8_t bb_ask_text(bb_run *run, uint64_t unit, const uint8_t *slot, size_t slot_len, const uint8_t *value,
+                    size_t value_len);
+uint8_t bb_ask_label(bb_run *run, uint64_t unit, const uint8_t *slot, size_t slot_len, const uint8_t *set,
+                     size_t set_len, const uint8_t *label, size_t label_len);
+uint8_t bb_ask_link(bb_run *run, uint64_t unit, const uint8_t *slot, size_t slot_len, uint64_t other);
+uint8_t bb_ask_unlink(bb_run *run, uint64_t unit, const uint8_t *slot, size_t slot_len, uint64_t other);
+uint8_t bb_ask_enter(bb_run *run, uint64_t unit, const uint8_t *space, size_t space_len);
+uint8_t bb_ask_leave(bb_run *run, uint64_t unit, const uint8_t *space, size_t space_len);
+uint8_t bb_ask_delete(bb_run *run, uint64_t unit);
+uint8_t bb_ask_say(bb_run *run, const uint8_t *text, size_t text_len);
+
+/* Forgets the asks that were gathered since the last post. */
+uint8_t bb_discard(bb_run *run);
+
+/* Posts the asks that were gathered: they are applied in order, and the sources answer to what they changed. Then none
+   are gathered. Where the run is over nothing is applied. */
+uint8_t bb_post(bb_run *run);
+
+/* The number that the next new unit gets, asks that wait left out. 0: there is no run, or it was finished. */
+uint64_t bb_next(bb_run *run);
+
+/* What stands on the blackboard between two moves. Each call returns BB_OK; or BB_NONE, and writes nothing: there is no
+   such unit, its class has no such slot, the slot holds a value of another kind, or the run was finished. Of bytes as
+   much as there is room for goes into `to`, and the length of all into `len`: where that is more than `to_len`, the rest
+   is missing. A label goes by its name. Partners come in order of addition, and by an ordinary slot there are none. */
+uint8_t bb_class(bb_run *run, uint64_t unit, uint8_t *to, size_t to_len, size_t *len);
+uint8_t bb_int(bb_run *run, uint64_t unit, const uint8_t *slot, size_t slot_len, int64_t *value);
+uint8_t bb_bool(bb_run *run, uint64_t unit, const uint8_t *slot, size_t slot_len, uint8_t *value);
+uint8_t bb_interval(bb_run *run, uint64_t unit, const uint8_t *slot, size_t slot_len, int64_t *low, int64_t *high);
+uint8_t bb_text(bb_run *run, uint64_t unit, const uint8_t *slot, size_t slot_len, uint8_t *to, size_t to_len,
+                size_t *len);
+uint8_t bb_label(bb_run *run, uint64_t unit, const uint8_t *slot, size_t slot_len, uint8_t *to, size_t to_len,
+                 size_t *len);
+uint8_t bb_links(bb_run *run, uint64_t unit, const uint8_t *slot, size_t slot_len, uint64_t *to, size_t to_len,
+                 size_t *count);
+
+/* Reads of the trace what was not read yet: as much as there is room for goes into `to`, and its length into `len`. The
+   length is 0 once all was read. Each byte is read once; after each move all that it told can be. */
+uint8_t bb_read(bb_run *run, uint8_t *to, size_t to_len, size_t *len);
+
+/* Ends a run, and tells its end: where it still goes on it comes to rest first, or ends by its limit. Returns how it
+   ended: BB_DONE, BB_LIMIT, BB_FULL or BB_MEMORY. Then it can be read and closed, and nothing else. */
+uint8_t bb_finish(bb_run *run);
+
+/* Closes a run, finished or not, and gives all its memory back. Then the handle is none; one that is none may be closed
+   too. */
+void bb_close(bb_run *run);
+
+/* A pointer to bytes that is not null, of one that may be where there are none. */
+static inline const uint8_t *bb_bytes(const void *bytes)
+{
+    static const uint8_t none = 0;
+    return bytes == NULL ? &none : (const uint8_t *)bytes;
 }
 
 #ifdef __cplusplus

@@ -1,1 +1,4 @@
+pub mod Handle
+pub mod Heap
 pub mod ServedLemmas
+pub mod OpenLemmas

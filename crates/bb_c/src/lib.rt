@@ -1,8 +1,23 @@
 //! The shell for hosts in C, C++, Rust and Python: a static library, whose calls `include/bb.h` declares.
 #![tactic(auto)]
 
+mod asks;
 mod input;
+mod looking;
+mod moves;
+mod pointer;
+mod reading;
 mod room;
+mod run;
 mod serving;
+mod status;
 
+pub use asks::{
+    bb_ask_bool, bb_ask_delete, bb_ask_enter, bb_ask_int, bb_ask_interval, bb_ask_label,
+    bb_ask_leave, bb_ask_link, bb_ask_new, bb_ask_say, bb_ask_text, bb_ask_unlink, bb_discard,
+};
+pub use looking::{bb_bool, bb_class, bb_int, bb_interval, bb_label, bb_links, bb_text};
+pub use moves::{bb_advance, bb_close, bb_finish, bb_open, bb_post, bb_turn};
+pub use reading::{bb_next, bb_read};
+pub use run::Run;
 pub use serving::{bb_serve, bb_version};

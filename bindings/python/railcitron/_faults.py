@@ -1,0 +1,25 @@
+"""What calls raise."""
+
+
+class Fault(Exception):
+    """What any call of this package raises, but for the wrong types and values of Python's own."""
+
+
+class Refused(Fault):
+    """An input, a name or a value is refused. `line` is the line that tells it, as the program writes it."""
+
+    def __init__(self, line):
+        super().__init__(line)
+        self.line = line
+
+
+class Full(Fault):
+    """The run is over, for want of room for one more unit or activation. It can be read, finished and closed."""
+
+
+class OutOfMemory(Fault, MemoryError):
+    """Memory ran out. Out of a move: the run can be read and closed, and nothing else."""
+
+
+class Misuse(Fault):
+    """There is no such run: it was finished or closed, or it is another thread's or another process's."""

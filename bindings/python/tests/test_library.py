@@ -1,0 +1,129 @@
+"""The package over the library itself.
+
+    RAILCITRON_LIBRARY=libbb.so python3 bindings/python/tests/test_library.py
+"""
+
+import sys
+import unittest
+from concurrent.futures import ThreadPoolExecutor
+from pathlib import Path
+
+sys.dont_write_bytecode = True
+sys.path.insert(0, str(Path(__file__).resolve().parent.parent))
+import railcitron  # noqa: E402
+from railcitron import Interval, Label  # noqa: E402
+
+SCHEMA = """%schema
+{"labels": [{"name": "hue", "values": ["red", "blue"]}],
+ "classes": [{"name": "note",
+              "slots": [{"name": "text", "kind": "text"}, {"name": "count", "kind": "int"}, {"name": "hue", "kind": "label", "of": "hue"},
+                        {"name": "span", "kind": "interval"}, {"name": "seen", "kind": "bool"}],
+              "links": [{"name": "next", "to": "note", "many": true, "inverse": "last"}, {"name": "last", "to": "note", "many": true, "inverse": "next"}]}],
+ "spaces": [{"name": "wall", "classes": ["note"], "dims": []}]}
+"""
+HAIL = "%sources\nsource hail on note { when create note; rate 100; do { say it; } }\n"
+DATA = f"{SCHEMA}{HAIL}".encode()
+
+
+class Library(unittest.TestCase):
+    def test_every_ask(self):
+        with railcitron.Run(DATA) as run:
+            with run.post() as asks:
+                one, two = asks.new("note"), asks.new("note")
+                asks.set(one, "text", "ü")
+                asks.set(one, "count", -(1 << 63))
+                asks.set(one, "hue", Label("hue", "blue"))
+                asks.set(one, "span", Interval(-1, 1))
+                asks.set(one, "seen", True)
+                asks.link(one, "next", two)
+                asks.unlink(one, "next", two)
+                asks.enter(one, "wall")
+                asks.leave(one, "wall")
+                asks.delete(two)
+                asks.say("“said”")
+                asks.set(9, "count", 1)
+            self.assertEqual((one, two, run.next), (1, 2, 3))
+            told = run.read().splitlines()
+            self.assertEqual(told[:3], ["post", "create 1 note", "create 2 note"])
+            self.assertEqual(told[told.index("end post 14") - 2 :][:3], ['say "“said”"', "refused ask 14 1", "end post 14"])
+            self.assertTrue(run.turn())
+            self.assertFalse(run.advance(10))
+            self.assertIn("say #1\n", run.read())
+            self.assertEqual(run.finish(), "finish quiescence\n")
+            self.assertEqual(run.ending, "quiescence")
+            self.assertRaises(railcitron.Misuse, run.turn)
+
+    def test_looks(self):
+        with railcitron.Run(DATA) as run:
+            with run.post() as asks:
+                one, *others = (asks.new("note") for _ in range(21))
+                asks.set(one, "text", 300 * "ü")
+                asks.set(one, "count", -(1 << 63))
+                asks.set(one, "hue", Label("hue", "blue"))
+                asks.set(one, "span", Interval(-1, 1))
+                asks.set(one, "seen", True)
+                for other in reversed(others):
+                    asks.link(one, "next", other)
+            held = [run.get(one, slot) for slot in ("text", "count", "hue", "span", "seen")]
+            self.assertEqual(held, [300 * "ü", -(1 << 63), "blue", Interval(-1, 1), True])
+            self.assertEqual([run.get(2, slot) for slot in ("text", "count", "hue", "seen")], ["", 0, "red", False])
+            self.assertEqual((run.links(one, "next"), run.links(2, "last"), run.links(one, "count")), (others[::-1], [one], []))
+            self.assertEqual((run.class_of(one), run.class_of(22), run.class_of(0)), ("note", None, None))
+            self.assertEqual((run.units("note"), run.units("focus")), ([one, *others], []))
+            for unit, slot in ((22, "count"), (one, "size"), (one, "next")):
+                self.assertRaises(KeyError, run.get, unit, slot)
+            self.assertRaises(KeyError, run.links, one, "size")
+            run.finish()
+            self.assertIsNone(run.class_of(one))
+            self.assertRaises(KeyError, run.get, one, "count")
+        self.assertRaises(railcitron.Misuse, run.get, one, "count")
+
+    def test_where_it_came_back_shows_nowhere(self):
+        notes = ",".join(f'{{"name":"n{it}","class":"note"}}' for it in range(20))
+        data = f'{SCHEMA}%units\n{{"units":[{notes}]}}\n{HAIL}'.encode()
+
+        def trace(cycles):
+            with railcitron.Run(data) as run:
+                told = run.read()
+                while run.advance(cycles):
+                    told += run.read()
+                return told + run.finish()
+
+        self.assertEqual({trace(it) for it in (1, 3, 7, 1000)}, {trace(2)})
+
+    def test_refused(self):
+        with self.assertRaises(railcitron.Refused) as caught:
+            railcitron.Run(b"%schema\n{")
+        self.assertEqual(caught.exception.line, "refused schema 1")
+        with railcitron.Run(DATA) as run:
+            with self.assertRaises(railcitron.Refused), run.post() as asks:
+                asks.new("note")
+                asks.set(1, "hue", Label("hue", "green"))
+            with self.assertRaises(railcitron.Refused), run.post() as asks:
+                asks.set(1, "span", Interval(1, 0))
+            with run.post():
+                pass
+            self.assertEqual(run.read(), "post\nend post 0\n")
+
+    def test_runs_on_threads(self):
+        def trace(_):
+            with railcitron.Run(DATA) as run:
+                with run.post() as asks:
+                    asks.new("note")
+                while run.turn():
+                    pass
+                return run.finish()
+
+        with ThreadPoolExecutor(8) as pool:
+            self.assertEqual(len({*pool.map(trace, range(200))}), 1)
+
+    def test_closing_twice(self):
+        run = railcitron.Run(DATA)
+        run.close()
+        run.close()
+        self.assertRaises(railcitron.Misuse, run.read)
+        self.assertEqual(run.next, 0)
+
+
+if __name__ == "__main__":
+    unittest.main()

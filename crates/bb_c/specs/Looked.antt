@@ -1,0 +1,39 @@
+-- What a call that looks at the blackboard of a run returns.
+use Rattle.std.specs.Prelude.{◌≡◌, ◌⊎◌, ℕ, List, length, Option, Some, None, option_and_then}
+use Rattle.std.specs.Str.{IsUtf8}
+use Rattle.bb_c_run.specs.Looking.{class_at, filled, label_name_at, partners_at, value_at}
+use Rattle.bb_c_run.specs.Value.{Value}
+use Rattle.bb_c_run.specs.declared.held.Held.{Held}
+use Rattle.bb_c.specs.Called.{IsRefused}
+use Rattle.bb_c.specs.declared.status.TheConstants.{OK, NONE, MISUSE}
+
+-- what is looked up: it is there, and this came of it; or it isn't, and nothing was done
+abbrev pub Comes : {X : Type 0} → Option X → (came : X → Type 0) → (same : Type 0) → (status : ℕ) → Type 0
+Comes (Some x) came same status = came x × (status ≡ OK)
+Comes None came same status = same × (status ≡ NONE)
+
+-- a look at what a handle holds
+abbrev pub Looks : {X : Type 0} → Option Held → (Held → Option X) → (came : X → Type 0) → (same : Type 0) → (status : ℕ) → Type 0
+Looks None find came same status = same × (status ≡ MISUSE)
+Looks (Some h) find came same status = Comes (find h) came same status
+
+-- a name that was passed is a text, and this came of it; or it is refused, and nothing was done
+abbrev pub IfText : (name : List ℕ) → (came same : Type 0) → (status : ℕ) → Type 0
+IfText name came same status = (IsUtf8 name × came) ⊎ (same × IsRefused (IsUtf8 name) status)
+
+-- what a value in a slot is, where it is of a kind
+abbrev pub of_value : {X : Type 0} → (Value → Option X) → (unit : ℕ) → (slot : List ℕ) → Held → Option X
+of_value of unit slot h = option_and_then of (value_at h.running unit slot)
+
+abbrev pub class_of : (unit : ℕ) → Held → Option (List ℕ)
+class_of unit h = class_at h.running unit
+
+abbrev pub label_name_of : (unit : ℕ) → (slot : List ℕ) → Held → Option (List ℕ)
+label_name_of unit slot h = label_name_at h.running unit slot
+
+abbrev pub partners_of : (unit : ℕ) → (slot : List ℕ) → Held → Option (List ℕ)
+partners_of unit slot h = partners_at h.running unit slot
+
+-- as much of a list as there is room for, and its length
+abbrev pub Fills : (room filled' : List ℕ) → (len : ℕ) → List ℕ → Type 0
+Fills room filled' len found = (filled' ≡ filled found room) × (len ≡ length found)

@@ -1,0 +1,241 @@
+//! The calls that look up what stands on the blackboard of a run.
+
+ghost use Rattle.std.specs.Prelude.{◌≡◌, ◌⊎◌, if◌then◌else◌};
+ghost use Rattle.bb_c_run.specs.Looking.{interval_of, number_of, text_of, truth_of};
+ghost use Rattle.bb_c.specs.Looked.{Fills, IfText, Looks, class_of, label_name_of, of_value, partners_of};
+ghost use Rattle.bb_c.specs.declared.status.TheConstants.{MEMORY};
+
+use crate::run::Run;
+use crate::status::{MEMORY, MISUSE, NONE, OK, REFUSED};
+use std::alloc::Global;
+use std::str;
+
+/// The number in an ordinary slot of a unit. As all calls that look something up, it returns 0; 1 where there is no such
+/// unit or slot, or it holds something else; 2 where the name is no UTF-8; or 9 where there is no run. At another number
+/// than 0 nothing is written. Of a run that was finished there are no units.
+#[unsafe(no_mangle)]
+pub extern "C" fn bb_int(
+    alloc: Global,
+    run: &mut Run,
+    unit: u64,
+    slot: &[u8],
+    value: &mut i64,
+) -> u8
+    ensures told { IfText slot.now (Looks run.old.sitting (of_value number_of unit slot.now)
+        (λ z. value.new ≡ z)
+        (value.new ≡ value.old) result)
+        (value.new ≡ value.old) result }
+    ensures kept { run.new.sitting ≡ run.old.sitting }
+{
+    let Ok(slot) = str::from_utf8(slot) else {
+        return REFUSED;
+    };
+    let Some(held) = run.take(alloc) else {
+        return MISUSE;
+    };
+    let found = held.number(unit, slot);
+    run.put(held);
+    match found {
+        Some(number) => {
+            *value = number;
+            OK
+        }
+        None => NONE,
+    }
+}
+
+/// The truth value in an ordinary slot of a unit: 1 or 0.
+#[unsafe(no_mangle)]
+pub extern "C" fn bb_bool(
+    alloc: Global,
+    run: &mut Run,
+    unit: u64,
+    slot: &[u8],
+    value: &mut u8,
+) -> u8
+    ensures told { IfText slot.now (Looks run.old.sitting (of_value truth_of unit slot.now)
+        (λ b. value.new ≡ if b then 1 else 0)
+        (value.new ≡ value.old) result)
+        (value.new ≡ value.old) result }
+    ensures kept { run.new.sitting ≡ run.old.sitting }
+{
+    let Ok(slot) = str::from_utf8(slot) else {
+        return REFUSED;
+    };
+    let Some(held) = run.take(alloc) else {
+        return MISUSE;
+    };
+    let found = held.truth(unit, slot);
+    run.put(held);
+    match found {
+        Some(is_true) => {
+            *value = u8::from(is_true);
+            OK
+        }
+        None => NONE,
+    }
+}
+
+/// The first and the last number of the interval in an ordinary slot of a unit.
+#[unsafe(no_mangle)]
+pub extern "C" fn bb_interval(
+    alloc: Global,
+    run: &mut Run,
+    unit: u64,
+    slot: &[u8],
+    low: &mut i64,
+    high: &mut i64,
+) -> u8
+    ensures told { IfText slot.now (Looks run.old.sitting (of_value interval_of unit slot.now)
+        (λ i. (low.new ≡ i.0) × (high.new ≡ i.1))
+        ((low.new ≡ low.old) × (high.new ≡ high.old)) result)
+        ((low.new ≡ low.old) × (high.new ≡ high.old)) result }
+    ensures kept { run.new.sitting ≡ run.old.sitting }
+{
+    let Ok(slot) = str::from_utf8(slot) else {
+        return REFUSED;
+    };
+    let Some(held) = run.take(alloc) else {
+        return MISUSE;
+    };
+    let found = held.interval(unit, slot);
+    run.put(held);
+    match found {
+        Some((first, last)) => {
+            *low = first;
+            *high = last;
+            OK
+        }
+        None => NONE,
+    }
+}
+
+/// The text in an ordinary slot of a unit: as much as there is room for, and the number of its bytes.
+#[unsafe(no_mangle)]
+pub extern "C" fn bb_text(
+    alloc: Global,
+    run: &mut Run,
+    unit: u64,
+    slot: &[u8],
+    to: &mut [u8],
+    len: &mut usize,
+) -> u8
+    ensures told { IfText slot.now (Looks run.old.sitting (of_value text_of unit slot.now)
+        (Fills to.old to.new len.new)
+        ((to.new ≡ to.old) × (len.new ≡ len.old)) result)
+        ((to.new ≡ to.old) × (len.new ≡ len.old)) result }
+    ensures kept { run.new.sitting ≡ run.old.sitting }
+{
+    let Ok(slot) = str::from_utf8(slot) else {
+        return REFUSED;
+    };
+    let Some(held) = run.take(alloc) else {
+        return MISUSE;
+    };
+    let found = held.text(unit, slot, to);
+    run.put(held);
+    match found {
+        Some(count) => {
+            *len = count;
+            OK
+        }
+        None => NONE,
+    }
+}
+
+/// The name of the label in an ordinary slot of a unit: as much as there is room for, and the number of its bytes.
+#[unsafe(no_mangle)]
+pub extern "C" fn bb_label(
+    alloc: Global,
+    run: &mut Run,
+    unit: u64,
+    slot: &[u8],
+    to: &mut [u8],
+    len: &mut usize,
+) -> u8
+    ensures told { IfText slot.now (Looks run.old.sitting (label_name_of unit slot.now)
+        (Fills to.old to.new len.new)
+        ((to.new ≡ to.old) × (len.new ≡ len.old)) result)
+        ((to.new ≡ to.old) × (len.new ≡ len.old)) result }
+    ensures kept { run.new.sitting ≡ run.old.sitting }
+{
+    let Ok(slot) = str::from_utf8(slot) else {
+        return REFUSED;
+    };
+    let Some(held) = run.take(alloc) else {
+        return MISUSE;
+    };
+    let found = held.label_name(unit, slot, to);
+    run.put(held);
+    match found {
+        Some(count) => {
+            *len = count;
+            OK
+        }
+        None => NONE,
+    }
+}
+
+/// The name of the class of a unit: as much as there is room for, and the number of its bytes.
+#[unsafe(no_mangle)]
+pub extern "C" fn bb_class(
+    alloc: Global,
+    run: &mut Run,
+    unit: u64,
+    to: &mut [u8],
+    len: &mut usize,
+) -> u8
+    ensures told { Looks run.old.sitting (class_of unit)
+        (Fills to.old to.new len.new)
+        ((to.new ≡ to.old) × (len.new ≡ len.old)) result }
+    ensures kept { run.new.sitting ≡ run.old.sitting }
+{
+    let Some(held) = run.take(alloc) else {
+        return MISUSE;
+    };
+    let found = held.class(unit, to);
+    run.put(held);
+    match found {
+        Some(count) => {
+            *len = count;
+            OK
+        }
+        None => NONE,
+    }
+}
+
+/// The partners of a unit by a link slot, in order of addition: as many as there is room for, and their number. By an
+/// ordinary slot there are none. Returns 5 where there is no memory.
+#[unsafe(no_mangle)]
+pub extern "C" fn bb_links(
+    alloc: Global,
+    run: &mut Run,
+    unit: u64,
+    slot: &[u8],
+    to: &mut [u64],
+    count: &mut usize,
+) -> u8
+    ensures told { IfText slot.now (Looks run.old.sitting (partners_of unit slot.now)
+        (Fills to.old to.new count.new)
+        ((to.new ≡ to.old) × (count.new ≡ count.old)) result
+        ⊎ (((to.new ≡ to.old) × (count.new ≡ count.old)) × (result ≡ MEMORY)))
+        ((to.new ≡ to.old) × (count.new ≡ count.old)) result }
+    ensures kept { run.new.sitting ≡ run.old.sitting }
+{
+    let Ok(slot) = str::from_utf8(slot) else {
+        return REFUSED;
+    };
+    let Some(held) = run.take(alloc) else {
+        return MISUSE;
+    };
+    let found = held.partners(unit, slot, to);
+    run.put(held);
+    match found {
+        Ok(Some(number)) => {
+            *count = number;
+            OK
+        }
+        Ok(None) => NONE,
+        Err(_) => MEMORY,
+    }
+}

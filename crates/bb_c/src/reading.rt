@@ -1,0 +1,37 @@
+//! The calls that look at a run.
+
+ghost use Rattle.std.specs.Prelude.{◌≡◌};
+ghost use Rattle.bb_c.specs.Called.{Reads, next_of};
+
+use crate::run::Run;
+use crate::status::{MISUSE, OK};
+use std::alloc::Global;
+
+/// Reads of the trace what was not read yet, as much as there is room for, and the number of its bytes. Returns 0, or 9
+/// if there is no run.
+#[unsafe(no_mangle)]
+pub extern "C" fn bb_read(alloc: Global, run: &mut Run, to: &mut [u8], len: &mut usize) -> u8
+    ensures { Reads run.old.sitting run.new.sitting to.old to.new len.new result }
+{
+    let Some(mut held) = run.take(alloc) else {
+        *len = 0;
+        return MISUSE;
+    };
+    *len = held.read(to);
+    run.put(held);
+    OK
+}
+
+/// The number that the next new unit gets, or 0 if there is no run, or it was finished.
+#[unsafe(no_mangle)]
+pub extern "C" fn bb_next(alloc: Global, run: &mut Run) -> u64
+    ensures next { result ≡ next_of run.old.sitting }
+    ensures kept { run.new.sitting ≡ run.old.sitting }
+{
+    let Some(held) = run.take(alloc) else {
+        return 0;
+    };
+    let next = held.next_unit();
+    run.put(held);
+    next
+}

@@ -1,0 +1,40 @@
+//! The statuses of the calls on a run that is held, as `include/bb.h` names them.
+
+ghost use Rattle.std.specs.Prelude.{◌≡◌};
+ghost use Rattle.bb_c.specs.Called.{status_of};
+
+use bb_c_run::Stands;
+
+/// The call was made; of a move, that the run rests.
+pub(crate) const OK: u8 = 0;
+
+/// What is looked up is not there.
+pub(crate) const NONE: u8 = 1;
+
+/// The input or a name is refused.
+pub(crate) const REFUSED: u8 = 2;
+
+/// The run goes on.
+pub(crate) const GOING: u8 = 3;
+
+/// The run is over: its blackboard or its agenda is full.
+pub(crate) const FULL: u8 = 4;
+
+/// Memory ran out.
+pub(crate) const MEMORY: u8 = 5;
+
+/// There is no such run: none was begun, or it was finished.
+pub(crate) const MISUSE: u8 = 9;
+
+/// The status that says how a run stands.
+pub(crate) fn status_of(stands: Stands) -> u8
+    ensures { result ≡ status_of stands }
+{
+    match stands {
+        Stands::Resting => OK,
+        Stands::Going => GOING,
+        Stands::Full => FULL,
+        Stands::Memory => MEMORY,
+        Stands::Finished => MISUSE,
+    }
+}

@@ -1,0 +1,76 @@
+-- What a host in another language sees of the blackboard of a run that is held.
+use Rattle.std.specs.Prelude.{◌++◌, ℕ, ℤ, Bool, List, drop, length, take, Option, Some, None, option_and_then, option_map}
+use Rattle.bb_schema.specs.Schema.{name_of_class, name_of_label, slot_named}
+use Rattle.bb_units.specs.Units.{class_of, value_of}
+use Rattle.bb_links.specs.Links.{ends}
+use Rattle.bb_shell.specs.Running.{Running}
+use Rattle.bb_shell.specs.Sight.{Sight, sight_of}
+use Rattle.bb_shell.specs.Value.{Value}
+use Rattle.bb_shell.specs.Value.TheVariants as values
+use Rattle.bb_c_run.specs.declared.no_native.NoNative.{NoNative}
+
+-- the name of the class of a unit, if there is such a unit
+abbrev pub class_in : Sight → (unit : ℕ) → Option (List ℕ)
+class_in seen n = option_and_then (λ class. name_of_class seen.schema class) (class_of seen.world.units n)
+
+-- the slot of this name that a unit has
+abbrev pub slot_in : Sight → (unit : ℕ) → (name : List ℕ) → Option ℕ
+slot_in seen n name = option_and_then (λ class. slot_named seen.schema class name) (class_of seen.world.units n)
+
+-- the value of an ordinary slot
+abbrev pub value_in : Sight → (unit : ℕ) → (slot : List ℕ) → Option Value
+value_in seen n name = option_and_then (λ slot. value_of seen.world.units n slot) (slot_in seen n name)
+
+-- the partners of a unit by a slot, in order of addition; none by one that is no link slot
+abbrev pub partners_in : Sight → (unit : ℕ) → (slot : List ℕ) → Option (List ℕ)
+partners_in seen n name = option_map (λ slot. ends seen.world.links n slot) (slot_in seen n name)
+
+-- what a value is, where it is of this kind
+abbrev pub number_of : Value → Option ℤ
+number_of (values.Int z) = Some z
+number_of _ = None
+
+abbrev pub truth_of : Value → Option Bool
+truth_of (values.Bool b) = Some b
+truth_of _ = None
+
+abbrev pub interval_of : Value → Option (ℤ × ℤ)
+interval_of (values.Interval low high) = Some (low, high)
+interval_of _ = None
+
+abbrev pub text_of : Value → Option (List ℕ)
+text_of (values.Text t) = Some t
+text_of _ = None
+
+-- the name of a label
+abbrev pub label_name_of : Sight → Value → Option (List ℕ)
+label_name_of seen (values.Label set label) = name_of_label seen.schema set label
+label_name_of seen _ = None
+
+-- room into which as much of a list went as it has places
+abbrev pub filled : {X : Type 0} → List X → (room : List X) → List X
+filled found room = take (length room) found ++ drop (length found) room
+
+-- the same of a list that may not be there
+abbrev pub filled_if : {X : Type 0} → Option (List X) → (room : List X) → List X
+filled_if None room = room
+filled_if (Some found) room = filled found room
+
+-- ---- of a run
+
+-- what can be seen of it, until it was finished
+abbrev pub sight_in : {b : _} → Option (Running NoNative b) → Option Sight
+sight_in None = None
+sight_in (Some r) = Some (sight_of r.state.board)
+
+abbrev pub class_at : {b : _} → Option (Running NoNative b) → (unit : ℕ) → Option (List ℕ)
+class_at r n = option_and_then (λ seen. class_in seen n) (sight_in r)
+
+abbrev pub value_at : {b : _} → Option (Running NoNative b) → (unit : ℕ) → (slot : List ℕ) → Option Value
+value_at r n slot = option_and_then (λ seen. value_in seen n slot) (sight_in r)
+
+abbrev pub label_name_at : {b : _} → Option (Running NoNative b) → (unit : ℕ) → (slot : List ℕ) → Option (List ℕ)
+label_name_at r n slot = option_and_then (λ seen. option_and_then (label_name_of seen) (value_in seen n slot)) (sight_in r)
+
+abbrev pub partners_at : {b : _} → Option (Running NoNative b) → (unit : ℕ) → (slot : List ℕ) → Option (List ℕ)
+partners_at r n slot = option_and_then (λ seen. partners_in seen n slot) (sight_in r)

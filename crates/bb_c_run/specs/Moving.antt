@@ -1,0 +1,52 @@
+-- What moves do with a run that a host in another language holds.
+use Rattle.std.specs.Prelude.{◌≡◌, ◌++◌, ◌⊎◌, ℕ, List, take, Option, Some, None}
+use Rattle.bb_shell.specs.Emitting.{WroteUntil}
+use Rattle.bb_shell.specs.Emission.{Stretch}
+use Rattle.bb_shell.specs.Plan.{Plan}
+use Rattle.bb_shell.specs.TraceText.{trace_text}
+use Rattle.bb_shell.specs.Moves.{Move, Standing, finished, moved, pause_by}
+use Rattle.bb_shell.specs.Running.{Running}
+use Rattle.bb_shell.specs.Note.{Note}
+use Rattle.bb_shell.specs.Halt.{Halt}
+use Rattle.bb_c_run.specs.Sitting.{standing, stands_by}
+use Rattle.bb_c_run.specs.declared.no_native.NoNative.{NoNative}
+use Rattle.bb_c_run.specs.declared.stands.Stands.{Stands}
+use Rattle.bb_c_run.specs.declared.stands.Stands.TheVariants as stand
+
+-- memory ran out: before, and nothing was written, or in these segments, of which a front was written
+abbrev pub CutShort : Plan → List (List Note) → (was now : List ℕ) → Type 0
+CutShort plan segments was now = (now ≡ was) ⊎ ((halt : Halt) × WroteUntil plan (Some was) (Some now) segments halt)
+
+-- a move was made, and what it emits can be read
+abbrev pub Goes : {b : _} → Move → (r t : Running NoNative b) → (was now : List ℕ) → Stands → Type 0
+Goes m r t was now s =
+    let p = moved r.plan m (standing r) in
+    (standing t ≡ p.standing) × (now ≡ was ++ trace_text r.plan p.emitted) × (s ≡ stands_by p.standing.pause)
+
+-- a move of a run: it was made, or cut short for want of memory
+abbrev pub Makes : {b : _} → Move → (r : Running NoNative b) → Option (Running NoNative b) → (was now : List ℕ) → Stands → Type 0
+Makes m r None was now s = ⊥
+Makes m r (Some t) was now s =
+    (t.plan ≡ r.plan) × (Goes m r t was now s ⊎ ((s ≡ stand.Memory) × CutShort r.plan (moved r.plan m (standing r)).emitted was now))
+
+-- a move of what is held: of a run that was finished nothing comes
+abbrev pub Moves : {b : _} → Move → (old new : Option (Running NoNative b)) → (was now : List ℕ) → Stands → Type 0
+Moves m None new was now s = (new ≡ None) × (now ≡ was) × (s ≡ stand.Finished)
+Moves m (Some r) new was now s = Makes m r new was now s
+
+-- memory ran out: before, and nothing was written, or in the end of a run, of whose segments the first, or whose text's
+-- front, was written
+abbrev pub EndsEarly : Plan → Stretch → (was now : List ℕ) → Type 0
+EndsEarly plan p was now =
+    (now ≡ was) ⊎ ((count : ℕ) × ((now ≡ was ++ trace_text plan (take count p.emitted)) ⊎ (now ≡ was ++ take count (trace_text plan p.emitted))))
+
+-- a run was ended, and its finish can be read; or memory ran out
+abbrev pub Concludes : Plan → Stretch → (was now : List ℕ) → Stands → Type 0
+Concludes plan p was now s =
+    ((now ≡ was ++ trace_text plan p.emitted) × (s ≡ stands_by (pause_by p.end)))
+    ⊎ ((s ≡ stand.Memory) × EndsEarly plan p was now)
+
+-- the end of what is held
+abbrev pub Ends : {b : _} → Option (Running NoNative b) → (was now : List ℕ) → Stands → Type 0
+Ends None was now s = (now ≡ was) × (s ≡ stand.Finished)
+Ends (Some r) was now s = Concludes r.plan (finished r.plan (standing r)) was now s

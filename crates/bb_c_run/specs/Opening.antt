@@ -1,0 +1,30 @@
+-- The run that the bytes of an input begin, with no natives.
+use Rattle.std.specs.Prelude.{◌≡◌, ℕ, ℤ, List, [], Option, Some, None, IsSomeAnd, Result, Ok, Err}
+use Rattle.bb_main_input.specs.Input.{input_of}
+use Rattle.bb_main_input.specs.Sections.{Texts}
+use Rattle.bb_main_input.specs.declared.section_fault.SectionFault.{SectionFault}
+use Rattle.bb_shell.specs.InputFault.{InputFault}
+use Rattle.bb_shell.specs.Moves.{started}
+use Rattle.bb_shell.specs.TraceText.{trace_text}
+use Rattle.bb_shell.specs.Meaning.{Meaning, meaning}
+use Rattle.bb_c_run.specs.Sitting.{standing, unread}
+use Rattle.bb_c_run.specs.declared.held.Held.{Held}
+
+abbrev pub unless_refused : Result Meaning InputFault → Option Meaning
+unless_refused (Ok m) = Some m
+unless_refused (Err fault) = None
+
+abbrev pub in_sections : (floor : ℤ) → Result Texts SectionFault → Option Meaning
+in_sections floor (Ok t) = unless_refused (meaning [] t.schema t.units t.sources t.bundle floor)
+in_sections floor (Err fault) = None
+
+-- what the bytes of an input mean; nothing where it is refused
+abbrev pub meaning_of : (input : List ℕ) → (floor : ℤ) → Option Meaning
+meaning_of input floor = in_sections floor (input_of input)
+
+-- a run was begun with what an input means: its start can be read, and no ask is gathered
+abbrev pub Begins : Meaning → Held → Type 0
+Begins m h =
+    let p = started m.plan m.board [] in
+    IsSomeAnd h.running (λ r. (r.plan ≡ m.plan) × (standing r ≡ p.standing) × (r.cut ≡ None))
+    × (unread h.trace ≡ trace_text m.plan p.emitted) × (h.asks.items ≡ [])

@@ -1,0 +1,119 @@
+//! What a host sees of the blackboard of a run that is held. `Held` hands it on.
+
+ghost use Rattle.std.specs.Prelude.{◌≡◌, IfErr, IfOk, length, option_and_then, option_map};
+ghost use Rattle.bb_c_run.specs.Looking.{class_in, filled, filled_if, interval_of, label_name_of, number_of};
+ghost use Rattle.bb_c_run.specs.Looking.{partners_in, slot_in, text_of, truth_of, value_in};
+
+use bb_schema::SlotId;
+use bb_shell::{Memory, UnitId, Value, View};
+
+/// Copies as much of some items as there is room for, and returns their number.
+pub(crate) fn fill<T: Copy>(found: &[T], room: &mut [T]) -> usize
+    ensures count { result ≡ length found.now }
+    ensures filled { room.new ≡ filled found.now room.old }
+{
+    let count = found.len().min(room.len());
+    room[..count].copy_from_slice(&found[..count]);
+    found.len()
+}
+
+/// The name of the class of a unit, if there is such a unit.
+pub(crate) fn class<'v>(view: &'v View<'_>, unit: UnitId) -> Option<&'v str>
+    ensures { option_map (λ n. n.now) result ≡ class_in view.now unit }
+{
+    if !view.live(unit) {
+        return None;
+    }
+    view.schema().class_name(view.class_of(unit))
+}
+
+// The slot of this name that a unit has, if there is such a unit.
+fn slot_of(view: &View<'_>, unit: UnitId, name: &str) -> Option<SlotId>
+    ensures { result ≡ slot_in view.now unit name.now }
+{
+    if !view.live(unit) {
+        return None;
+    }
+    view.schema().slot(view.class_of(unit), name)
+}
+
+// The value of an ordinary slot of a unit, if there is such a unit and such a slot.
+fn value<'v>(view: &'v View<'_>, unit: UnitId, slot: &str) -> Option<&'v Value>
+    ensures { option_map (λ v. v.now) result ≡ value_in view.now unit slot.now }
+{
+    let slot = slot_of(view, unit, slot)?;
+    if !view.has(unit, slot) {
+        return None;
+    }
+    Some(view.get(unit, slot))
+}
+
+/// The number that an ordinary slot holds, if it holds one.
+pub(crate) fn number(view: &View<'_>, unit: UnitId, slot: &str) -> Option<i64>
+    ensures { result ≡ option_and_then number_of (value_in view.now unit slot.now) }
+{
+    match value(view, unit, slot)? {
+        Value::Int(number) => Some(*number),
+        _ => None,
+    }
+}
+
+/// The truth value that an ordinary slot holds, if it holds one.
+pub(crate) fn truth(view: &View<'_>, unit: UnitId, slot: &str) -> Option<bool>
+    ensures { result ≡ option_and_then truth_of (value_in view.now unit slot.now) }
+{
+    match value(view, unit, slot)? {
+        Value::Bool(is_true) => Some(*is_true),
+        _ => None,
+    }
+}
+
+/// The first and the last number of the interval that an ordinary slot holds, if it holds one.
+pub(crate) fn interval(view: &View<'_>, unit: UnitId, slot: &str) -> Option<(i64, i64)>
+    ensures { result ≡ option_and_then interval_of (value_in view.now unit slot.now) }
+{
+    match value(view, unit, slot)? {
+        Value::Interval(low, high) => Some((*low, *high)),
+        _ => None,
+    }
+}
+
+/// The text that an ordinary slot holds, if it holds one.
+pub(crate) fn text<'v>(view: &'v View<'_>, unit: UnitId, slot: &str) -> Option<&'v str>
+    ensures { option_map (λ t. t.now) result ≡ option_and_then text_of (value_in view.now unit slot.now) }
+{
+    match value(view, unit, slot)? {
+        Value::Text(text) => Some(text.as_str()),
+        _ => None,
+    }
+}
+
+/// The name of the label that an ordinary slot holds, if it holds one.
+pub(crate) fn label_name<'v>(view: &'v View<'_>, unit: UnitId, slot: &str) -> Option<&'v str>
+    ensures { option_map (λ n. n.now) result
+        ≡ option_and_then (label_name_of view.now) (value_in view.now unit slot.now) }
+{
+    match value(view, unit, slot)? {
+        Value::Label(set, label) => view.schema().label_name(*set, *label),
+        _ => None,
+    }
+}
+
+/// Copies as many partners of a unit by a slot as there is room for, in order of addition, and returns their number; none
+/// where there is no such unit or slot.
+pub(crate) fn partners(
+    view: &View<'_>,
+    unit: UnitId,
+    slot: &str,
+    room: &mut [UnitId],
+) -> Result<Option<usize>, Memory>
+    ensures count { IfOk result (λ n. n ≡ option_map length (partners_in view.now unit slot.now)) }
+    ensures filled { IfOk result (λ _. room.new ≡ filled_if (partners_in view.now unit slot.now) room.old) }
+    ensures err { IfErr result (λ _. room.new ≡ room.old) }
+{
+    let Some(slot) = slot_of(view, unit, slot) else {
+        return Ok(None);
+    };
+    let found = view.links(unit, slot)?;
+    Ok(Some(fill(found.as_slice(), room)))
+}

@@ -1,0 +1,184 @@
+/* A host in C that schedules. It holds a run of examples/press.bb, whose first units are two presses. Jobs come on its
+   standard input, by rising time, a line each: TIME HOURS DUE NAME. It posts each as it comes, and that a press is free
+   when its job has ended, lets the sources decide, tells each decision, and at the end how many jobs are printed. Its
+   status is that in which the run ends, or 1 where the host itself failed.
+
+       press examples/press.bb < examples/c/press.jobs */
+#include "bb.h"
+
+#include <inttypes.h>
+#include <stdio.h>
+#include <stdlib.h>
+#include <string.h>
+
+enum { PRESSES = 2, NAME = 32, LINE = 256 };
+
+/* A job as it comes, or none. */
+struct job {
+    int64_t time, hours, due;
+    char name[NAME];
+    int is_there;
+};
+
+/* A run, the time, when the job of each press ends (0: it has none), and the line of the trace that is being read. */
+struct shop {
+    bb_run run;
+    int64_t now, ends[PRESSES];
+    char line[LINE];
+    size_t len;
+};
+
+static int fail(const char *why)
+{
+    fprintf(stderr, "press: %s\n", why);
+    return EXIT_FAILURE;
+}
+
+/* All bytes of a file, or NULL. */
+static uint8_t *read_file(const char *path, size_t *len)
+{
+    FILE *file = fopen(path, "rb");
+    long size = file != NULL && fseek(file, 0, SEEK_END) == 0 ? ftell(file) : -1;
+    uint8_t *bytes = size < 0 ? NULL : malloc((size_t)size + 1);
+    if (bytes != NULL) {
+        rewind(file);
+        *len = fread(bytes, 1, (size_t)size, file);
+    }
+    if (file != NULL)
+        fclose(file);
+    return bytes;
+}
+
+static struct job next_job(void)
+{
+    struct job job;
+    job.is_there = scanf("%" SCNd64 " %" SCNd64 " %" SCNd64 " %31s", &job.time, &job.hours, &job.due, job.name) == 4;
+    return job;
+}
+
+/* Tells a decision: a line `say #UNIT "PRESS" "begins" "JOB" HOURS DUE`. Other lines are of no use here. */
+static void tell(struct shop *shop)
+{
+    uint64_t unit;
+    char press[NAME], job[NAME];
+    int64_t hours, due;
+    const char *form = "say #%" SCNu64 " \"%31[^\"]\" \"begins\" \"%31[^\"]\" %" SCNd64 " %" SCNd64;
+    if (sscanf(shop->line, form, &unit, press, job, &hours, &due) != 5 || unit < 1 || unit > PRESSES)
+        return;
+    int64_t end = shop->ends[unit - 1] = shop->now + hours;
+    printf("%" PRId64 ": %s begins %s, until %" PRId64 "%s\n", shop->now, press, job, end, end > due ? ", late" : "");
+}
+
+/* Reads what the run told since it was read last, line by line. The end of a line that is too long is dropped. */
+static void read_trace(struct shop *shop)
+{
+    uint8_t bytes[LINE];
+    size_t len;
+    while (bb_read(&shop->run, bytes, sizeof bytes, &len) == BB_OK && len > 0)
+        for (size_t i = 0; i < len; i++) {
+            int is_end = bytes[i] == '\n';
+            shop->line[shop->len] = is_end ? 0 : (char)bytes[i];
+            if (is_end)
+                tell(shop);
+            shop->len = is_end ? 0 : shop->len + (shop->len + 1 < LINE);
+        }
+}
+
+/* Posts what was asked, unless a call failed, and makes turns until the run rests. Returns how it stands then. */
+static uint8_t decide(struct shop *shop, uint8_t asked)
+{
+    uint8_t stands = asked == BB_OK ? bb_post(&shop->run) : asked;
+    while (stands == BB_GOING)
+        stands = bb_turn(&shop->run);
+    read_trace(shop);
+    return stands;
+}
+
+/* A job comes, as the next unit. */
+static uint8_t job_comes(struct shop *shop, const struct job *job)
+{
+    bb_run *run = &shop->run;
+    uint64_t unit = bb_next(run);
+    uint8_t asked = bb_ask_new(run, BB_S("job"));
+    if (asked == BB_OK)
+        asked = bb_ask_text(run, unit, BB_S("name"), (const uint8_t *)job->name, strlen(job->name));
+    if (asked == BB_OK)
+        asked = bb_ask_int(run, unit, BB_S("hours"), job->hours);
+    if (asked == BB_OK)
+        asked = bb_ask_int(run, unit, BB_S("due"), job->due);
+    if (asked == BB_OK)
+        asked = bb_ask_enter(run, unit, BB_S("tray"));
+    shop->now = job->time;
+    return decide(shop, asked);
+}
+
+static uint8_t press_is_free(struct shop *shop, int press)
+{
+    shop->now = shop->ends[press];
+    shop->ends[press] = 0;
+    return decide(shop, bb_ask_bool(&shop->run, (uint64_t)press + 1, BB_S("free"), 1));
+}
+
+/* Tells how many jobs the blackboard has as printed. */
+static void tell_printed(struct shop *shop)
+{
+    static const char printed[] = "printed";
+    uint8_t state[NAME];
+    size_t len, count = 0;
+    for (uint64_t unit = 1; unit < bb_next(&shop->run); unit++)
+        if (bb_label(&shop->run, unit, BB_S("state"), state, sizeof state, &len) == BB_OK)
+            count += len == strlen(printed) && memcmp(state, printed, len) == 0;
+    printf("%zu jobs are printed\n", count);
+}
+
+/* The press whose job ends first, or -1 where none has one. */
+static int first_to_end(const struct shop *shop)
+{
+    int first = -1;
+    for (int press = 0; press < PRESSES; press++)
+        if (shop->ends[press] != 0 && (first < 0 || shop->ends[press] < shop->ends[first]))
+            first = press;
+    return first;
+}
+
+/* Takes what happens outside in its order, as long as the run comes to rest after it. Returns how the run stands. */
+static uint8_t work(struct shop *shop, uint8_t stands)
+{
+    struct job job = next_job();
+    while (stands == BB_RESTING) {
+        int press = first_to_end(shop);
+        if (press >= 0 && (!job.is_there || shop->ends[press] <= job.time)) {
+            stands = press_is_free(shop, press);
+        } else if (job.is_there) {
+            stands = job_comes(shop, &job);
+            job = next_job();
+        } else {
+            break;
+        }
+    }
+    return stands;
+}
+
+int main(int count, char **words)
+{
+    if (bb_version() != BB_VERSION)
+        return fail("the library is of another version than its header");
+    if (count != 2)
+        return fail("usage: press INPUT < JOBS");
+    size_t len;
+    uint8_t *input = read_file(words[1], &len);
+    if (input == NULL)
+        return fail("the input can't be read");
+    struct shop shop = {BB_RUN_NONE, 0, {0}, "", 0};
+    uint8_t stands = bb_open(&shop.run, input, len, 0);
+    free(input);
+    while (stands == BB_GOING)
+        stands = bb_turn(&shop.run);
+    stands = work(&shop, stands);
+    if (stands == BB_RESTING) {
+        tell_printed(&shop);
+        stands = bb_finish(&shop.run);
+    }
+    bb_close(&shop.run);
+    return fflush(stdout) == 0 ? stands : fail("the decisions can't be written");
+}
