@@ -27,11 +27,8 @@ fn a_day(rt: HostRuntime) -> Result<(), Fail> {
     assert_eq!(rt; held.turn(), Stands::Finished);
     let mut taken = Vec::new(alloc);
     let mut room = [0u8; 7];
-    loop {
+    for _piece in 0..100 {
         let count = held.read(&mut room);
-        if count == 0 {
-            break;
-        }
         taken.extend_from_slice(&room[..count])?;
     }
     let expected = "quiescence\n\
