@@ -102,7 +102,13 @@ impl Serving {
     ) -> Result<Option<Difference>, AllocError> {
         let (served, taken) = self.serve(alloc, input)?;
         let output = wanted.output.as_slice();
-        let difference = differs(alloc, &served, taken.as_slice(), wanted.status, output)?;
+        let difference = differs(
+            alloc,
+            served.status,
+            taken.as_slice(),
+            wanted.status,
+            output,
+        )?;
         match &wanted.said {
             Some(said) if difference.is_none() => {
                 let advice = served.advice.as_deref().unwrap_or("");
@@ -122,7 +128,7 @@ impl Serving {
         said: &str,
     ) -> Result<Option<Difference>, AllocError> {
         let (served, taken) = self.serve(alloc, input)?;
-        let difference = differs(alloc, &served, taken.as_slice(), 2, line)?;
+        let difference = differs(alloc, served.status, taken.as_slice(), 2, line)?;
         if difference.is_some() || said.is_empty() {
             return Ok(difference);
         }
@@ -132,15 +138,14 @@ impl Serving {
     }
 }
 
-// The first difference of an output, or else that of the status.
-fn differs(
+/// The first difference of an output, or else that of the status.
+pub(crate) fn differs(
     alloc: Global,
-    served: &Served,
+    given: u8,
     taken: &[u8],
     status: u8,
     output: &[u8],
 ) -> Result<Option<Difference>, AllocError> {
-    let given = served.status;
     let difference = Difference::of(alloc, output, taken)?;
     if difference.is_some() || given == status {
         return Ok(difference);
@@ -152,8 +157,8 @@ fn differs(
     }))
 }
 
-// Whether a header hands in the natives of the program; else there are none.
-fn has_natives(header: &Header<'_>) -> Result<bool, Fault> {
+/// Whether a header hands in the natives of the program; else there are none.
+pub(crate) fn has_natives(header: &Header<'_>) -> Result<bool, Fault> {
     match header.option("natives") {
         None => Ok(false),
         Some("program") => Ok(true),
@@ -161,8 +166,8 @@ fn has_natives(header: &Header<'_>) -> Result<bool, Fault> {
     }
 }
 
-// The natives of the program, or none.
-fn natives(alloc: Global, are_handed_in: bool) -> Result<Vec<ProgramNative>, AllocError>
+/// The natives of the program, or none.
+pub(crate) fn natives(alloc: Global, are_handed_in: bool) -> Result<Vec<ProgramNative>, AllocError>
     ensures { IfOk result (λ natives. all_open (map ⟦<ProgramNative as NativeSource>⟧.meaning natives.items) ≡ true) }
 {
     if !are_handed_in {

@@ -9,6 +9,7 @@
 mod bent;
 mod board;
 mod executions;
+mod histories;
 mod inputs;
 mod schema_calls;
 mod schemas;

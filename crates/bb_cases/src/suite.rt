@@ -1,5 +1,6 @@
 //! All cases: the entries of a file are run one after the other, and reported. `main` runs file after file.
 
+use crate::histories::compare_history;
 use crate::inputs::compare_input;
 use crate::schemas::compare_schema;
 use crate::tables::Table;
@@ -67,7 +68,7 @@ impl Suite {
                 Ok(()) => return Ok(()),
                 Err(fault) => Err(fault),
             },
-            "inputs" | "bytes" | "assembly" | "verify" | "runs" => {
+            "inputs" | "bytes" | "assembly" | "verify" | "histories" | "runs" => {
                 match self.run_table(spot, entry) {
                     Ok(()) => return Ok(()),
                     Err(fault) => Err(fault),
@@ -83,6 +84,7 @@ impl Suite {
         let scope = Scope::new(self.alloc, &self.names);
         match entry.first.header.kind {
             "input" => compare_input(self.alloc, scope, entry),
+            "moves" => compare_history(self.alloc, scope, entry),
             "code" => compare_code(self.alloc, &self.names, entry),
             "schema" => compare_schema(self.alloc, scope, entry),
             _ => Err(Fault::Kind),

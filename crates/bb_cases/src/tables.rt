@@ -8,6 +8,7 @@ use bb_cases_format::{
     AsmFault, Code, CodeFault, Difference, Entry, Fault, Names, Row, Scene, Scope, assemble,
     bytes_of, code_of, expanded, expanded_text, number, respelled,
 };
+use bb_cases_histories::add_history;
 use bb_cases_machines::Asked;
 use bb_schema::Schema;
 use bb_verify::{Part, verify};
@@ -25,6 +26,8 @@ enum Common<'a> {
     Assembly,
     // Codes, and the fault of verifying them.
     Verify { schema: Schema, part: Part },
+    // Texts of moves, and the fault of reading them.
+    Histories(Schema),
     // Executions of codes.
     Runs(&'a Scene),
 }
@@ -54,12 +57,17 @@ impl<'a> Table<'a> {
                 schema: schema_of(alloc, names.copied(header.option("schema"))?.as_str())?,
                 part: part_of(header.option("part"))?,
             },
+            "histories" => Common::Histories(schema_of(
+                alloc,
+                names.copied(header.option("schema"))?.as_str(),
+            )?),
             _ => Common::Runs(names.board(header.option("board").ok_or(Fault::Options)?)?),
         };
         match &common {
             Common::Inputs { .. } => {}
             Common::Bytes | Common::Assembly => header.check(&[])?,
             Common::Verify { .. } => header.check(&["schema", "part", "head"])?,
+            Common::Histories(_) => header.check(&["schema"])?,
             Common::Runs(_) => header.check(&["board", "head"])?,
         }
         let head = match header.option("head") {
@@ -118,6 +126,7 @@ impl<'a> Table<'a> {
                 let code = self.headed_code(text)?;
                 Ok(add_verdict(given, &verify(self.alloc, schema, *part, code))?)
             }
+            Common::Histories(schema) => add_history(self.alloc, given, schema, text),
             Common::Runs(scene) => self.add_run(given, scene, front, text),
         }
     }

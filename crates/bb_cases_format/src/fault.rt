@@ -79,6 +79,12 @@ pub enum Fault {
     /// A unit to delete is not there.
     #[error("the unit to delete is not there")]
     Delete,
+    /// A history has no line `%moves`, or its text of moves is refused.
+    #[error("moves are due, below a line `%moves`")]
+    Moves,
+    /// The input of a history is refused.
+    #[error("the input is refused")]
+    Input,
     /// A line asks for no call.
     #[error("no call of a schema is written so")]
     Call,

@@ -5,8 +5,6 @@
 #[cfg(test)]
 mod asking;
 #[cfg(test)]
-mod held;
-#[cfg(test)]
 mod input;
 #[cfg(test)]
 mod looking;

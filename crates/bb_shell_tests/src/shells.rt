@@ -77,8 +77,8 @@ fn one_note(alloc: Global) -> Result<Board, Fail> {
     Ok(board)
 }
 
-/// A shell of one note and the source that says "hello" of each note, with this floor.
-pub(crate) fn one_note_shell(alloc: Global, floor: i64) -> Result<Shell<Recorder>, Fail> {
+// A shell of one note and the source that says "hello" of each note, with this floor.
+fn one_note_shell(alloc: Global, floor: i64) -> Result<Shell<Recorder>, Fail> {
     let board = one_note(alloc)?;
     let sources = hails(alloc, board.schema(), 1)?;
     Ok(Shell::new(alloc, board, sources, no_roster(alloc)?, floor)?)

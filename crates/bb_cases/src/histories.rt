@@ -1,0 +1,27 @@
+//! Cases of histories: what comes of one is compared. The suite calls it.
+
+use crate::inputs::{differs, has_natives, natives};
+use bb_cases_format::{Difference, Entry, Fault, Scope, expanded_text, number};
+use bb_cases_histories::History;
+use std::alloc::Global;
+
+/// Compares a case of a history.
+pub(crate) fn compare_history(
+    alloc: Global,
+    scope: Scope<'_>,
+    entry: &Entry<'_>,
+) -> Result<Option<Difference>, Fault> {
+    let header = &entry.first.header;
+    header.check(&["floor", "natives"])?;
+    let gives = entry.second("gives")?;
+    gives.header.check(&[])?;
+    let status = number(gives.header.name)?;
+    let floor = header.number("floor", 0)?;
+    let has_natives = has_natives(header)?;
+    let wanted = expanded_text(scope, gives.text(alloc)?.as_str())?;
+    let text = expanded_text(scope, entry.first.text(alloc)?.as_str())?;
+    let history = History::of_text(alloc, text.as_str())?;
+    let told = history.run(alloc, natives(alloc, has_natives)?, floor)?;
+    let trace = told.trace.as_slice();
+    Ok(differs(alloc, told.status, trace, status, wanted.as_bytes())?)
+}

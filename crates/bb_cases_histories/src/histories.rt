@@ -1,0 +1,119 @@
+//! A history is read, and its run is begun, moved and finished. Cases and tables (bb_cases) call it.
+
+ghost use Rattle.std.specs.Prelude.{◌≡◌, None, false, map, true};
+ghost use Rattle.bb_moves.specs.Roster.{all_open};
+
+use bb_cases_format::Fault;
+use bb_main_input::Sections;
+use bb_moves::{
+    Finish, Halt, Move, MovesFault, NativeSource, Out, Pipe, Running, Schema, SchemaFault, Shell,
+    Texts, moves_of, replay,
+};
+use std::alloc::Global;
+use std::fmt::Write;
+
+// The line that the moves stand below, behind the input.
+const MOVES: &str = "%moves\n";
+
+/// An input, and the moves that are made of its run.
+#[derive(Drop)]
+pub struct History<'a> {
+    sections: Sections<'a>,
+    moves: Vec<Move>,
+}
+
+/// With what status a run ends, and its trace.
+#[derive(Drop)]
+pub struct Told {
+    pub status: u8,
+    pub trace: Vec<u8>,
+}
+
+// A schema that is not refused.
+fn schema_of(alloc: Global, text: &str) -> Result<Schema, Fault> {
+    match Schema::read(alloc, text) {
+        Ok(schema) => Ok(schema),
+        Err(SchemaFault::Memory) => Err(Fault::Memory),
+        Err(_) => Err(Fault::Schema),
+    }
+}
+
+impl<'a> History<'a> {
+    /// An input with moves below a line `%moves`.
+    pub fn of_text(alloc: Global, text: &'a str) -> Result<History<'a>, Fault> {
+        let (input, moves) = text.split_once(MOVES).ok_or(Fault::Moves)?;
+        let sections = Sections::of_bytes(input.as_bytes())
+            .ok()
+            .ok_or(Fault::Input)?;
+        let schema = schema_of(alloc, sections.schema)?;
+        match moves_of(alloc, &schema, moves) {
+            Ok(moves) => Ok(History { sections, moves }),
+            Err(MovesFault::Memory) => Err(Fault::Memory),
+            Err(MovesFault::At { .. }) => Err(Fault::Moves),
+        }
+    }
+
+    /// Begins the run with natives and a floor, makes the moves, and finishes it.
+    pub fn run<N: NativeSource>(
+        self,
+        alloc: Global,
+        natives: Vec<N>,
+        floor: i64,
+    ) -> Result<Told, Fault>
+        requires { all_open (map N.meaning natives.items) ≡ true }
+    {
+        let History { sections, moves } = self;
+        let texts = Texts {
+            schema: sections.schema,
+            units: sections.units,
+            sources: sections.sources,
+            bundle: sections.bundle,
+        };
+        let Ok(shell) = Shell::of_texts(alloc, &texts, natives, floor) else {
+            return Err(Fault::Input);
+        };
+        let mut out = Pipe::new(Vec::new(alloc));
+        match replay(alloc, shell, moves, &mut out) {
+            Ok(running) => Ok(Told {
+                status: finished(running, &mut out),
+                trace: out.into_inner(),
+            }),
+            Err(Halt::Memory) => Err(Fault::Memory),
+            Err(Halt::Write) => Err(Fault::Memory),
+        }
+    }
+}
+
+// The status of a run that is finished.
+fn finished<N: NativeSource>(running: Running<N>, out: &mut Pipe<Vec<u8>>) -> u8
+    requires whole { running.cut ≡ None }
+    requires open { ⟦<Pipe<Vec<u8>> as Out>⟧.has_failed out.old ≡ false }
+{
+    let (finish, board) = running.finish(out);
+    drop(board);
+    match finish {
+        Finish::Quiescence => 0,
+        Finish::Limit => 3,
+        Finish::Full => 4,
+        Finish::Memory => 5,
+        Finish::Write => 6,
+    }
+}
+
+/// Appends the line and the number of the first flaw of a text of moves, or `ok`.
+pub fn add_history(
+    alloc: Global,
+    given: &mut String,
+    schema: &Schema,
+    text: &str,
+) -> Result<(), Fault> {
+    match moves_of(alloc, schema, text) {
+        Ok(_) => given.push_str("ok\n")?,
+        Err(MovesFault::Memory) => return Err(Fault::Memory),
+        Err(MovesFault::At { line, flaw }) => {
+            let number = flaw.number();
+            writeln!(given, "{line} {number}")?;
+        }
+    }
+    Ok(())
+}

@@ -1,0 +1,2 @@
+-- what the code has read so far
+pub mod Reading
