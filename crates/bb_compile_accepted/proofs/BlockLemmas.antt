@@ -11,7 +11,7 @@ use Rattle.bb_verify_frame.specs.Schema.{Schema}
 use Rattle.bb_lang.specs.Action.{Action}
 use Rattle.bb_compile_scope.specs.declared.scope.Mark.{Mark}
 use Rattle.bb_compile_emit.specs.declared.exits.Exits.{Exits}
-use Rattle.bb_lang.specs.Blocks.{BlockTree, no_statement, before_others, action, if_of, with_of, for_of, absent, otherwise}
+use Rattle.bb_lang.specs.Blocks.{BlockTree, absent, otherwise}
 use Rattle.bb_compile_scope.specs.Place.{Place}
 use Rattle.bb_compile_scope.specs.Ending.{ends}
 use Rattle.bb_compile_scope.specs.Scope.{mark_of}
@@ -19,7 +19,6 @@ use Rattle.bb_compile_buffer.specs.declared.buffer.Buffer.{Buffer}
 use Rattle.bb_compile_buffer.specs.Buffers.{settled, kept, leave}
 use Rattle.bb_compile_emit.specs.Actions.{action_code}
 use Rattle.bb_compile_emit.specs.Statements.{action_of, statements_code}
-use Rattle.bb_compile_accepted.specs.Loopless.{is_loopless}
 use Rattle.bb_compile_accepted.proofs.BufferLemmas.{Clean, Grown, both_grown, grown_none, grown_on, count_of}
 use Rattle.bb_compile_accepted.proofs.PutLemmas.{pair_ok}
 use Rattle.bb_compile_accepted.proofs.BranchLemmas.{AbsentLaid, ElseEnded, ElseOn, settled_clean}

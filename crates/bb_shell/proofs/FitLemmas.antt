@@ -11,7 +11,6 @@ use Rattle.bb_verify.specs.PartType.{Part}
 use Rattle.bb_run_held.specs.RuleFault.TheVariants as rules
 use Rattle.bb_run_held.specs.Source.{Source}
 use Rattle.bb_run_held.specs.Limits.{SOURCE_LIMIT}
-use Rattle.bb_refusal.specs.declared.input_fault.InputFault.{InputFault}
 use Rattle.bb_refusal.specs.declared.input_fault.InputFault.TheVariants as inputs
 use Rattle.bb_shell.specs.declared.fitting.Unfit.{Unfit}
 use Rattle.bb_shell.specs.declared.fitting.Unfit.TheVariants as unfits

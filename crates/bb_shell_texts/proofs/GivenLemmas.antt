@@ -1,5 +1,5 @@
 -- What the sources of an input are made of: each has the codes that its text or its bundle gives, at its place.
-use Rattle.std.proofs.Common.{◌≡◌, ℕ, zero, suc, List, [], ◌∷◌, ◌++◌, slice_get, Option, Some, None, option_map, Result, Ok, Err, refl, sym, ap, subst, ◌∙◌}
+use Rattle.std.proofs.Common.{◌≡◌, ℕ, zero, suc, List, [], ◌∷◌, ◌++◌, slice_get, Option, Some, None, option_map, Result, Ok, refl, sym, ap, subst, ◌∙◌}
 use Rattle.bb_basis.specs.Results.{◌>>=◌, map_err, try_map}
 use Rattle.bb_basis.proofs.PlacedLemmas.{map_err_ok}
 use Rattle.bb_basis.proofs.ResultLemmas.{bind_ok, ok_or_ok, same_ok}
@@ -25,7 +25,6 @@ use Rattle.bb_rules.specs.declared.place.ClassPlace.TheVariants as places
 use Rattle.bb_rules.specs.declared.place.ClauseList.{ClauseList}
 use Rattle.bb_rules.specs.declared.place.ClauseList.TheVariants as lists
 use Rattle.bb_rules.specs.declared.resolve.Classes.{Classes}
-use Rattle.bb_rules.specs.declared.source.Act.{Act}
 use Rattle.bb_rules.specs.declared.source.Reaction.{Reaction}
 use Rattle.bb_rules.specs.Parts.{Source}
 use Rattle.bb_rules.specs.Source.{act_of, class_of, classes_of, clauses_of, made_of, obviate_part, parts_fit, reaction_class, reaction_of, retrigger_part, source_of}

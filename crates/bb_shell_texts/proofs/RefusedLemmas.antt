@@ -7,7 +7,7 @@ use Rattle.bb_basis.proofs.PlacedLemmas.{map_err_ok}
 use Rattle.bb_basis.proofs.ResultLemmas.{bind_ok, ok_or_ok, same_ok}
 use Rattle.bb_schema.specs.Schema.{Schema, class_named}
 use Rattle.bb_code.specs.Code.{Code}
-use Rattle.bb_verify.specs.Accepted.{Checked, checked}
+use Rattle.bb_verify.specs.Accepted.{Checked}
 use Rattle.bb_verify.specs.VerifyFault.{VerifyFault}
 use Rattle.bb_verify.specs.PartType.{Part}
 use Rattle.bb_verify.specs.PartType.TheVariants.{Require, Obviate, Retrigger, Revalidate, Do}
