@@ -5,9 +5,10 @@ ghost use Rattle.std.specs.Prelude.{◌≡◌, ◌≤◌, ◌↔◌, Ok, Some, l
 ghost use Rattle.bb_pattern.specs.Fits.{query_fits};
 ghost use Rattle.bb_pattern.specs.Values.{kind_of_operand};
 ghost use Rattle.bb_units.specs.Layout.{layout_of, can_hold};
-ghost use Rattle.bb_units.specs.Units.{is_live, class_of, value_of, has_slot};
+ghost use Rattle.bb_units.specs.Units.{live_units, is_live, class_of, value_of, has_slot};
 ghost use Rattle.bb_units.specs.declared.units.TheConstants.{UNIT_LIMIT};
-ghost use Rattle.bb_links.specs.Links.{ends};
+ghost use Rattle.bb_links.specs.Links.{ends, pairs_by};
+ghost use Rattle.bb_board_state.specs.Members.{spaces_of};
 ghost use Rattle.bb_board_state.specs.Answer.{answer};
 ghost use Rattle.bb_board_state.specs.World.{class_at};
 ghost use Rattle.bb_board_state.specs.May.{has_link, may_set, may_link, was};
@@ -80,6 +81,13 @@ impl Board {
         ensures { result ≡ self.now.world.units.next }
     {
         self.world.next()
+    }
+
+    /// The numbers of the live units, rising. It fails only for want of memory.
+    pub fn units(&self) -> Result<Vec<UnitId>, Memory>
+        ensures { IfOk result (λ found. found.items ≡ live_units self.now.world.units) }
+    {
+        self.world.units()
     }
 
     /// Whether a number names a unit.
@@ -165,6 +173,21 @@ impl Board {
         ensures few { IfOk result (λ found. length found.items ≤ UNIT_LIMIT) }
     {
         self.world.links(unit, slot)
+    }
+
+    /// The pairs of the couple of a slot, in order of addition, each with the unit at side A first. A slot that is no
+    /// link slot has none. It fails only for want of memory.
+    pub fn pairs(&self, slot: SlotId) -> Result<Vec<(UnitId, UnitId)>, Memory>
+        ensures { IfOk result (λ found. found.items ≡ pairs_by self.now.world.links slot) }
+    {
+        self.world.pairs(slot)
+    }
+
+    /// The spaces that a unit is in, rising.
+    pub fn spaces_of(&self, unit: UnitId) -> &[SpaceId]
+        ensures { result.now ≡ spaces_of self.now.world.spaces unit }
+    {
+        self.world.spaces_of(unit)
     }
 
     /// The first partner of a unit by a slot, which is the only one where the slot is singular.

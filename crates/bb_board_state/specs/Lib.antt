@@ -1,5 +1,7 @@
 -- what a query answers
 pub use Rattle.bb_query.specs.Answer
+-- which spaces a unit is in
+pub use Rattle.bb_space.specs.Spaces as Members
 -- what events and changes are of
 pub mod Events
 -- the state of a blackboard, and what each change makes of it

@@ -2,6 +2,7 @@ pub mod PairLemmas
 pub mod CutLemmas
 pub mod FitLemmas
 pub mod StampLemmas
+pub mod ListedLemmas
 pub mod RowLemmas
 pub mod FollowLemmas
 pub mod ClearLemmas

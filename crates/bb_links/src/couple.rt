@@ -64,6 +64,13 @@ impl Couple {
         self.pairs.first(side, unit)
     }
 
+    /// The pairs in order of addition, the unit at side A first.
+    pub(crate) fn pairs(&self, alloc: Global) -> Result<Vec<(UnitId, UnitId)>, Memory>
+        ensures { IfOk result (λ list. list.items ≡ self.now.pairs) }
+    {
+        self.pairs.list(alloc)
+    }
+
     // Whether a side is singular.
     fn is_singular(&self, side: Side) -> bool
         ensures { result ≡ is_singular self.now.singular side }

@@ -3,7 +3,7 @@
 ghost use Rattle.std.specs.Prelude.{◌≡◌, ◌<◌, ℕ, Some, IfOk, OnOk, OnErr, true, length, map, slice_get};
 ghost use Rattle.bb_schema.specs.Couples.{couples, couple_of};
 ghost use Rattle.bb_links.specs.Couples.{no_links, end_of, taken, are_linked, forgotten, after_link, after_unlink, after_forget};
-ghost use Rattle.bb_links.specs.Links.{ends};
+ghost use Rattle.bb_links.specs.Links.{ends, pairs_by};
 ghost use Rattle.bb_links.specs.Layout.{end_among};
 ghost use Rattle.bb_links.specs.Fits.{Fits};
 ghost use Rattle.bb_links.specs.proving.Lists.{listed};
@@ -168,6 +168,17 @@ impl Couples {
         match end_at(&self.ends, slot) {
             None => None,
             Some((couple, side)) => self.couples[couple as usize].first(side, unit),
+        }
+    }
+
+    /// The pairs of the couple of a slot, in order of addition, each with the unit at side A first, in a list of their
+    /// own. A slot that is no link slot has none.
+    pub fn pairs(&self, alloc: Global, slot: SlotId) -> Result<Vec<(UnitId, UnitId)>, Memory>
+        ensures { IfOk result (λ list. list.items ≡ pairs_by self.now slot) }
+    {
+        match end_at(&self.ends, slot) {
+            None => Ok(Vec::new(alloc)),
+            Some((couple, _)) => self.couples[couple as usize].pairs(alloc),
         }
     }
 

@@ -1,9 +1,12 @@
 //! The pairs of one couple, in order of addition. `couple.rt` changes them and reads them.
 
-ghost use Rattle.std.specs.Prelude.{◌≡◌, ◌<◌, ◌+◌, ◌^◌, [], ◌∷◌, ◌++◌, false, OnOk, OnErr, IfOk, SomeIff, slice_get};
+ghost use Rattle.std.specs.Prelude.{◌≡◌, ℕ, ◌<◌, ◌+◌, ◌^◌, [], ◌∷◌, ◌++◌, false, OnOk, OnErr, IfOk, SomeIff, slice_get};
+ghost use Rattle.std.specs.Map.{values_of};
+ghost use Rattle.std.specs.Ordering.{nat_cmp};
+ghost use Rattle.std.specs.BTreeMap.{IsOrdered, get};
 ghost use Rattle.bb_links.specs.Pairs.{has_pair, without_pair};
 ghost use Rattle.bb_links.specs.Links.{partners};
-ghost use Rattle.bb_links.specs.proving.Stamps.{without_at};
+ghost use Rattle.bb_links.specs.proving.Stamps.{pair_under, ArePaired, without_at};
 
 use crate::maps::{put, take};
 use crate::partners::Partners;
@@ -43,6 +46,36 @@ fn next_stamp(stamp: u64) -> Option<u64>
     stamp.checked_add(1)
 }
 
+// The pairs under their stamps.
+fn by_stamp(
+    alloc: Global,
+    stamps: &BTreeMap<(UnitId, UnitId), u64>,
+) -> Result<BTreeMap<u64, (UnitId, UnitId)>, AllocError>
+    requires { ArePaired stamps.now }
+    ensures { IfOk result (λ pairs. (s : ℕ) → get nat_cmp pairs s ≡ pair_under stamps.now s) }
+{
+    let mut pairs = BTreeMap::new(alloc);
+    for (pair, stamp) in stamps.iter() {
+        pairs.insert(*stamp, *pair)?;
+    }
+    Ok(pairs)
+}
+
+// The pairs of a map, in the order of their stamps.
+fn listed(
+    alloc: Global,
+    pairs: &BTreeMap<u64, (UnitId, UnitId)>,
+) -> Result<Vec<(UnitId, UnitId)>, AllocError>
+    ensures list { IfOk result (λ list. list.items ≡ values_of pairs.now.entries) }
+    ensures ordered { IsOrdered nat_cmp pairs.now }
+{
+    let mut list = Vec::new(alloc);
+    for (_, pair) in pairs.iter() {
+        list.push(*pair)?;
+    }
+    Ok(list)
+}
+
 impl Pairs {
     /// No pairs. It allocates nothing.
     pub(crate) fn new(alloc: Global) -> Pairs
@@ -79,6 +112,13 @@ impl Pairs {
         ensures { IfOk result (λ list. list.items ≡ partners side unit self.now) }
     {
         self.partners.list(alloc, side, unit, self.next)
+    }
+
+    /// All pairs, in order of addition.
+    pub(crate) fn list(&self, alloc: Global) -> Result<Vec<(UnitId, UnitId)>, Memory>
+        ensures { IfOk result (λ list. list.items ≡ self.now) }
+    {
+        listed(alloc, &by_stamp(alloc, &self.stamps)?)
     }
 
     /// Appends a pair that is not there. An error changes nothing; it also comes once all stamps are used, as

@@ -3,17 +3,19 @@
 ghost use Rattle.std.specs.Prelude.{◌≡◌, ◌≤◌, ◌↔◌, Ok, Some, length, map, slice_get, IfOk, IsTrue, IsSome};
 ghost use Rattle.bb_pattern.specs.Fits.{query_fits};
 ghost use Rattle.bb_pattern.specs.Values.{kind_of_operand};
-ghost use Rattle.bb_units.specs.Units.{is_live, class_of, value_of, has_slot};
+ghost use Rattle.bb_units.specs.Units.{live_units, is_live, class_of, value_of, has_slot};
 ghost use Rattle.bb_units.specs.declared.units.TheConstants.{UNIT_LIMIT};
-ghost use Rattle.bb_links.specs.Links.{ends};
+ghost use Rattle.bb_links.specs.Links.{ends, pairs_by};
+ghost use Rattle.bb_board_state.specs.Members.{spaces_of};
 ghost use Rattle.bb_board_state.specs.Answer.{answer};
+ghost use Rattle.bb_board_state.specs.Fits.{Fits};
 ghost use Rattle.bb_board_state.specs.May.{was};
 ghost use Rattle.bb_native.specs.Sight.{sight_of};
 
 use bb_basis::Memory;
 use bb_board::Board;
 use bb_board_state::{DimValue, Query};
-use bb_schema::{ClassId, Schema, SlotId, UnitId, Value};
+use bb_schema::{ClassId, Schema, SlotId, SpaceId, UnitId, Value};
 use std::marker::Model;
 
 /// A blackboard that can be read and not changed. Its notes are not seen, so that what a native does can't depend on
@@ -54,6 +56,13 @@ impl<'a> View<'a> {
         ensures { result ≡ self.now.world.units.next }
     {
         self.board.next()
+    }
+
+    /// The numbers of the live units, rising. It fails only for want of memory.
+    pub fn units(&self) -> Result<Vec<UnitId>, Memory>
+        ensures { IfOk result (λ found. found.items ≡ live_units self.now.world.units) }
+    {
+        self.board.units()
     }
 
     /// Whether a number names a unit.
@@ -104,6 +113,21 @@ impl<'a> View<'a> {
         self.board.links(unit, slot)
     }
 
+    /// The pairs of the couple of a slot, in order of addition, each with the unit at side A first. A slot that is no
+    /// link slot has none. It fails only for want of memory.
+    pub fn pairs(&self, slot: SlotId) -> Result<Vec<(UnitId, UnitId)>, Memory>
+        ensures { IfOk result (λ found. found.items ≡ pairs_by self.now.world.links slot) }
+    {
+        self.board.pairs(slot)
+    }
+
+    /// The spaces that a unit is in, rising.
+    pub fn spaces_of(&self, unit: UnitId) -> &[SpaceId]
+        ensures { result.now ≡ spaces_of self.now.world.spaces unit }
+    {
+        self.board.spaces_of(unit)
+    }
+
     /// The first partner of a unit by a slot, which is the only one where the slot is singular.
     pub fn one(&self, unit: UnitId, slot: SlotId) -> Option<UnitId>
         ensures { result ≡ slice_get (ends self.now.world.links unit slot) 0 }
@@ -122,5 +146,13 @@ impl<'a> View<'a> {
         ensures few { IfOk result (λ found. length found.items ≤ UNIT_LIMIT) }
     {
         self.board.find(query, operands)
+    }
+
+    /// Does nothing, and says what holds of the blackboard at any time, as `Board::fits` does.
+    pub fn fits(&self)
+        ensures { Fits self.now.schema self.now.world }
+    {
+        // For the proof: what holds of the board.
+        self.board.fits();
     }
 }

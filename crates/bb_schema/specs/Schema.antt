@@ -52,6 +52,9 @@ name_of_slot s n = option_map (λ t. t.name) (slice_get s.slots n)
 abbrev pub name_of_space : Schema → ℕ → Option (List ℕ)
 name_of_space s w = option_map (λ p. p.name) (slice_get s.spaces w)
 
+abbrev pub name_of_label_set : Schema → ℕ → Option (List ℕ)
+name_of_label_set s n = option_map (λ l. l.name) (slice_get s.label_sets n)
+
 abbrev pub label_at : List LabelSet → ℕ → ℕ → Option (List ℕ)
 label_at sets set label = option_and_then (λ l. slice_get l.values label) (slice_get sets set)
 

@@ -2,7 +2,7 @@
 
 ghost use Rattle.std.specs.Prelude.{◌≡◌, ◌<◌, ◌≤◌, ◌↔◌, Some, IsSome, is_some, IsTrue, length, min, slice_get, option_map, ◌⊎◌};
 ghost use Rattle.std.specs.List.{list_any};
-ghost use Rattle.bb_schema.specs.Schema.{class_named, space_named, label_set_named, label_named, slot_named, name_of_class, name_of_slot, name_of_space, name_of_label, slots_of, owner_of, kind_of_slot, default_of, inverse_of, dims_of, descends};
+ghost use Rattle.bb_schema.specs.Schema.{class_named, space_named, label_set_named, label_named, slot_named, name_of_class, name_of_slot, name_of_space, name_of_label_set, name_of_label, slots_of, owner_of, kind_of_slot, default_of, inverse_of, dims_of, descends};
 ghost use Rattle.bb_schema_slots.specs.Slots.{link_of};
 ghost use Rattle.bb_schema_classes.specs.Inheritance.{parent_of, Descends};
 ghost use Rattle.bb_schema.specs.Couples.{couples, couple_of};
@@ -139,6 +139,13 @@ impl Schema {
         ensures { option_map (λ n. n.now) result ≡ name_of_space self.now space }
     {
         Some(self.spaces.get(space as usize)?.name.as_str())
+    }
+
+    /// The name of a label set, or `None` where no set has the number.
+    pub fn label_set_name(&self, set: LabelSetId) -> Option<&str>
+        ensures { option_map (λ n. n.now) result ≡ name_of_label_set self.now set }
+    {
+        Some(self.label_sets.get(set as usize)?.name.as_str())
     }
 
     /// The name of a label of a set, or `None` where there is none.

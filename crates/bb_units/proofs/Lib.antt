@@ -5,5 +5,6 @@ pub mod FitsLemmas
 pub mod EntryLemmas
 pub mod ChangeLemmas
 pub mod HasLemmas
+pub mod ListedLemmas
 pub mod Laws
 pub mod Limits

@@ -33,6 +33,10 @@ no_units l = record { next = 1; units = map.empty; layout = l }
 abbrev pub is_live : Units → ℕ → Bool
 is_live u n = map.contains_key u.units n
 
+-- the numbers of the live units, rising
+abbrev pub live_units : Units → List ℕ
+live_units u = map.keys u.units
+
 -- the class of a unit
 abbrev pub class_of : Units → ℕ → Option ℕ
 class_of u n = option_map (λ x. x.class) (map.get u.units n)

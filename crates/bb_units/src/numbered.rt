@@ -3,6 +3,8 @@
 
 ghost use Rattle.std.specs.Prelude.{◌≡◌, ◌<◌, ◌^◌, None, IfSome, IfOk, OnOk, OnErr, IsTrue, option_map};
 ghost use Rattle.std.specs.FinMap as map;
+ghost use Rattle.std.specs.List.{filter_map};
+ghost use Rattle.bb_units.specs.proving.Numbered.{number_if_used};
 ghost use Rattle.bb_units.specs.proving.Numbered.{none_given, one_given, one_gone, one_set};
 ghost use Rattle.bb_units.specs.proving.Numbered.{Rise, IsAt, place_in, key_in, with_entry, slab_set, HaveSame};
 
@@ -122,6 +124,19 @@ fn close_gaps(entries: &mut Vec<(UnitId, Option<usize>)>, live: usize)
     entries.retain(|entry| entry.1.is_some());
 }
 
+// The numbers that have a key, in the order of their entries.
+fn used_numbers(alloc: Global, entries: &[(UnitId, Option<usize>)]) -> Result<Vec<UnitId>, Memory>
+    ensures { IfOk result (λ list. list.items ≡ filter_map number_if_used entries.now) }
+{
+    let mut list = Vec::new(alloc);
+    for (unit, key) in entries {
+        if key.is_some() {
+            list.push(*unit)?;
+        }
+    }
+    Ok(list)
+}
+
 impl Numbered {
     /// No units. The first one gets the number 1.
     pub(crate) fn new(alloc: Global) -> Numbered
@@ -146,6 +161,13 @@ impl Numbered {
         ensures { result ≡ self.now.next }
     {
         self.next
+    }
+
+    /// The numbers of the live units, rising. There are at most twice as many entries as live units, or few.
+    pub(crate) fn list(&self, alloc: Global) -> Result<Vec<UnitId>, Memory>
+        ensures { IfOk result (λ list. list.items ≡ map.keys self.now.units) }
+    {
+        used_numbers(alloc, &self.entries)
     }
 
     /// The unit of a number, if it is live.

@@ -5,7 +5,7 @@ ghost use Rattle.std.specs.FinMap as map;
 ghost use Rattle.bb_basis.specs.Results.{Gives};
 ghost use Rattle.bb_units.specs.Fits.{Fits};
 ghost use Rattle.bb_units.specs.Layout.{layout_of, can_hold};
-ghost use Rattle.bb_units.specs.Units.{no_units, is_live, class_of, value_of, has_slot, takes, next_number};
+ghost use Rattle.bb_units.specs.Units.{no_units, live_units, is_live, class_of, value_of, has_slot, takes, next_number};
 ghost use Rattle.bb_units.specs.Units.{after_create, after_delete, after_set, value_among};
 
 use crate::fault::CreateFault;
@@ -72,6 +72,13 @@ impl Units {
         ensures { result ≡ map.len self.now.units }
     {
         self.units.len()
+    }
+
+    /// The numbers of the live units, rising, in a list of their own.
+    pub fn list(&self, alloc: Global) -> Result<Vec<UnitId>, Memory>
+        ensures { IfOk result (λ list. list.items ≡ live_units self.now) }
+    {
+        self.units.list(alloc)
     }
 
     /// The number that the next unit gets, up to 2^63.

@@ -30,6 +30,11 @@ pub record AreKept (next : ℕ) (stamps : BTreeMap (ℕ × ℕ) ℕ) (partners :
   pub stamped : AreStamped next (value_at stamps) (pair_under stamps)
   pub follow : Follow (pair_under stamps) partners
 
+-- each pair that has a stamp is the one under it, and has it
+pub record ArePaired (stamps : BTreeMap (ℕ × ℕ) ℕ) : Type 0 where
+  pub there : (p : ℕ × ℕ) (s : ℕ) → value_at stamps p ≡ Some s → pair_under stamps s ≡ Some p
+  pub found : (p : ℕ × ℕ) (s : ℕ) → pair_under stamps s ≡ Some p → value_at stamps p ≡ Some s
+
 -- the pairs without those of a unit at a side
 unfoldable pub without_at : Side → ℕ → List (ℕ × ℕ) → List (ℕ × ℕ)
 without_at side n pairs = filter (λ p. not (near side p == n)) pairs

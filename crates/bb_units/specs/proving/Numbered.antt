@@ -50,6 +50,10 @@ stored s entries = list_map (λ e. (e.0, option_and_then (get s) e.1)) entries
 abbrev pub units_in : UnitSlab → List (ℕ × Option ℕ) → map.FinMap nat_cmp Unit
 units_in s entries = units_of (held (stored s entries))
 
+-- the number of an entry, if it has a key
+abbrev pub number_if_used : {X : Type 0} → ℕ × Option X → Option ℕ
+number_if_used e = option_map (λ _. e.0) e.1
+
 -- the slab with another value in a slot of the unit under a key
 abbrev pub slab_set : UnitSlab → ℕ → ℕ → Value → UnitSlab
 slab_set s key slot value = option_map_or (λ x. with_value s key (with_slot x slot value)) (get s key) s

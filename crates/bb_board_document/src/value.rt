@@ -1,0 +1,60 @@
+//! A value of a slot as JSON. `given.rt` writes those that a unit gives.
+
+ghost use Rattle.std.specs.Prelude.{◌≡◌, [], ◌∷◌, IfOk, option_map};
+ghost use Rattle.serde_json.specs.Data.{number};
+ghost use Rattle.serde_json.specs.Find.{of_integer};
+ghost use Rattle.serde_json.specs.View.{view};
+ghost use Rattle.bb_schema.specs.Schema.{name_of_label};
+ghost use Rattle.bb_board_document.specs.Values.{same_value, name_data, list_data, value_data};
+
+use bb_basis::Memory;
+use bb_schema::{LabelId, LabelSetId, Schema, Value};
+use serde_json::{Value as Json, json};
+use std::alloc::Global;
+
+/// A text in JSON, an empty one where there is none.
+pub(crate) fn text_json(alloc: Global, text: Option<&str>) -> Result<Json, Memory>
+    ensures { IfOk result (λ json. view json ≡ name_data (option_map (λ t. t.now) text.entry)) }
+{
+    Json::try_from_str(alloc, text.unwrap_or(""))
+}
+
+// A label by its name.
+fn label_json(
+    alloc: Global,
+    schema: &Schema,
+    set: LabelSetId,
+    label: LabelId,
+) -> Result<Json, Memory>
+    ensures { IfOk result (λ json. view json ≡ name_data (name_of_label schema.now set label)) }
+{
+    text_json(alloc, schema.label_name(set, label))
+}
+
+// The two ends of an interval.
+fn interval_json(alloc: Global, low: i64, high: i64) -> Result<Json, Memory>
+    ensures { IfOk result (λ json. view json ≡
+        list_data (number (of_integer low) ∷ number (of_integer high) ∷ [])) }
+{
+    json!(in alloc; [low, high])
+}
+
+/// A value as JSON: a label by its name, an interval by its two ends.
+pub(crate) fn value_json(alloc: Global, schema: &Schema, value: &Value) -> Result<Json, Memory>
+    ensures { IfOk result (λ json. view json ≡ value_data schema.now value.now) }
+{
+    match value {
+        Value::Int(number) => Ok(Json::from(*number)),
+        Value::Text(text) => Json::try_from_str(alloc, text.as_str()),
+        Value::Bool(truth) => Ok(Json::Bool(*truth)),
+        Value::Label(set, label) => label_json(alloc, schema, *set, *label),
+        Value::Interval(low, high) => interval_json(alloc, *low, *high),
+    }
+}
+
+/// Whether two values are the same.
+pub(crate) fn same_value(value: &Value, other: &Value) -> bool
+    ensures { result ≡ same_value value.now other.now }
+{
+    value == other
+}
