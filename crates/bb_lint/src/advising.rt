@@ -14,7 +14,7 @@ use bb_board::Note;
 use bb_code::Schema;
 use bb_lint_costs::write_costs;
 use bb_lint_events::Possible;
-use bb_lint_parts::{SourceSites, Texts, codes_of};
+use bb_lint_parts::{SourceSites, Texts};
 use bb_refusal_excerpt::Section;
 use bb_rules::Source;
 use std::alloc::Global;
@@ -86,7 +86,7 @@ fn write_codes(
 ) -> Result<(), Memory>
     requires { AreAdmitted schema.now known.now.admitted.lists.items }
 {
-    for code in codes_of(source) {
+    for code in source.codes() {
         if let Some(checked) = code {
             let ops = sites.ops(alloc, checked)?;
             let part = Part {

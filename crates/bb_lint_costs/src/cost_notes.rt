@@ -4,7 +4,7 @@
 use crate::existence::asks_for_one;
 use bb_basis::Memory;
 use bb_code::{Code, Node, Op, Place, Query, Schema};
-use bb_lint_parts::{OpSites, Site, SourceSites, Texts, codes_of};
+use bb_lint_parts::{OpSites, Site, SourceSites, Texts};
 use bb_rules::{Reaction, Source};
 use bb_verify::Checked;
 use std::alloc::Global;
@@ -95,7 +95,7 @@ fn write_notes_on(
     if asks_about_all(&parts.retrigger) {
         write_reaction(text, name, "retrigger", sites)?;
     }
-    for code in codes_of(source) {
+    for code in source.codes() {
         if let Some(checked) = code {
             let ops = sites.ops(alloc, checked)?;
             let count = checked.code().ops().len() as Place;

@@ -4,7 +4,7 @@ use crate::cost_notes::write_cost_notes;
 use crate::widths::{NUMBERS, Widths, write_left, write_number, write_right};
 use bb_basis::Memory;
 use bb_code::Schema;
-use bb_lint_parts::{Texts, codes_of};
+use bb_lint_parts::Texts;
 use bb_rules::{Act, Source};
 use bb_verify::{Checked, FOUND_LIMIT};
 use std::alloc::Global;
@@ -30,7 +30,7 @@ fn costs_of(checked: &Checked) -> [u128; NUMBERS] {
 // Makes room for the lines of a source.
 fn fit(widths: &mut Widths, source: &Source) {
     widths.fit_source(source.parts().name.as_str());
-    for code in codes_of(source) {
+    for code in source.codes() {
         if let Some(checked) = code {
             widths.fit_numbers(&costs_of(checked));
         }
@@ -70,7 +70,7 @@ fn write_line(
 // Appends the lines of a source.
 fn write_lines(text: &mut String, widths: &Widths, source: &Source) -> Result<(), Memory> {
     let parts = source.parts();
-    for code in codes_of(source) {
+    for code in source.codes() {
         if let Some(checked) = code {
             write_line(text, widths, parts.name.as_str(), checked)?;
         }

@@ -14,5 +14,9 @@ pub mod Own
 pub mod Law
 -- numbers that are kept for each kind of change
 pub mod KindIndex
+-- the codes of a source, in the order of its parts
+pub mod Codes
+-- what a source may cost
+pub mod Cost
 -- for proofs alone
 pub mod proving

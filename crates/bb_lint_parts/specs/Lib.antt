@@ -1,2 +1,0 @@
--- the codes of a source, in order
-pub mod Codes
