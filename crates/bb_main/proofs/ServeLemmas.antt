@@ -73,6 +73,7 @@ run-not-refused None k is = let no : 0 ≡ 2 = is in omega (arith, no)
 run-not-refused (Some ends.Quiescence) k is = let no : 0 ≡ 2 = is in omega (arith, no)
 run-not-refused (Some ends.Limit) k is = let no : 3 ≡ 2 = is in omega (arith, no)
 run-not-refused (Some ends.Full) k is = let no : 4 ≡ 2 = is in omega (arith, no)
+run-not-refused (Some (ends.Due a)) k is = let no : 0 ≡ 2 = is in omega (arith, no)
 run-not-refused (Some (ends.Stuck reason)) k is = let no : 0 ≡ 2 = is in omega (arith, no)
 
 -- a run's answer, by how the run came out

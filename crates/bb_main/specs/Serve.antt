@@ -43,11 +43,12 @@ pub record Answer : Type 0 where
 abbrev pub text_of : List (List ℕ) → List ℕ
 text_of pieces = flat_map (λ piece. piece) pieces
 
--- the status of a run's end; no run of an input is stuck
+-- the status of a run's end; no run of an input is stuck, nor is a native due at its end
 abbrev pub end_status : End → ℕ
 end_status ends.Quiescence = 0
 end_status ends.Limit = 3
 end_status ends.Full = 4
+end_status (ends.Due a) = 0
 end_status (ends.Stuck reason) = 0
 
 -- the status of a finish: that of its end, or, if it has none, that of memory or of writing

@@ -58,22 +58,10 @@ module _ (old mid : List Note) (s t : State) (last : ℕ → Note) (asks : List 
 
 -- ---- a call
 
-module _ (old mid : List Note) (s t : State) (place : ℕ) (a : Activation) (asks : List Ask) (natives : List Native) (o : Option End)
-    (asked_is : asks ≡ asks_at s.natives place a.unit (sight_of s.board)) (left : natives ≡ after_act_at s.natives place a.unit (sight_of s.board))
-    (r : IsResponse (each_applied 1 asks (with_natives s natives)) old mid t o) where
-  abbrev asks' : List Ask
-  asks' = asks_at s.natives place a.unit (sight_of s.board)
-
-  abbrev called : State
-  called = with_natives s (after_act_at s.natives place a.unit (sight_of s.board))
-
-  made_so : IsResponse (each_applied 1 asks' called) old mid t o
-  made_so =
-      let by : List Ask → List Native → Response = λ xs ns. each_applied 1 xs (with_natives s ns) in
-      subst (λ q. IsResponse q old mid t o) (ap (λ xs. by xs natives) asked_is ∙ ap (by asks') left) r
-
-  pub call_over : (end : End) → o ≡ Some end → IsResponse (calling (Some place) a s) old mid t (Some end)
-  call_over end some = asked_over old mid called t NativeEnded asks' o made_so end some
-
-  pub call_made : (new : List Note) (count : ℕ) → o ≡ None → count ≡ length asks → new ≡ mid ++ NativeEnded count ∷ [] → IsResponse (calling (Some place) a s) old new t None
-  call_made new count none counted is = asked_made old mid called t NativeEnded asks' o made_so new count none (counted ∙ ap length asked_is) is
+-- what is emitted of a call is what is emitted of its asks, with the natives after it
+pub called_as : (old new : List Note) (s t : State) (place : ℕ) (a : Activation) (asks : List Ask) (natives : List Native) (o : Option End)
+    → asks ≡ asks_at s.natives place a.unit (sight_of s.board) → natives ≡ after_act_at s.natives place a.unit (sight_of s.board)
+    → IsResponse (asked (λ n. NativeEnded n) asks (with_natives s natives)) old new t o → IsResponse (calling (Some place) a s) old new t o
+called_as old new s t place a asks natives o asked_is left r =
+    let by : List Ask → List Native → Response = λ xs ns. asked (λ n. NativeEnded n) xs (with_natives s ns) in
+    subst (λ q. IsResponse q old new t o) (ap (λ xs. by xs natives) asked_is ∙ ap (by (asks_at s.natives place a.unit (sight_of s.board))) left) r

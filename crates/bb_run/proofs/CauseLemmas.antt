@@ -1,4 +1,4 @@
--- A run that ends full or stuck has a cause.
+-- A run that ends full or stuck, or with a native due, has a cause.
 use Rattle.std.proofs.Common.{◌≡◌, true, inl, inr, ℕ, zero, suc, ◌+◌, ℤ, List, [], ◌∷◌, length, slice_get, Option, Some, None, Result, Ok, Err, refl, sym, subst}
 use Rattle.std.specs.Prelude.{Contains, nat_le, option_and_then}
 use Rattle.std.proofs.lemmas.Bool.{leb-true, or_cases}
@@ -113,7 +113,10 @@ module _ (plan : Plan) where
 
   -- ---- a cycle
 
-  module _ (source : Source) (there : Contains plan.sources source) (a : Activation) (s : State) where
+  module _ (source : Source) (a : Activation) (s : State) (is_at : slice_get plan.sources a.source ≡ Some source) where
+    there : Contains plan.sources source
+    there = there_at plan.sources a.source source is_at
+
     executes : (code : Checked) (r : Result Outcome Stop) → source.act ≡ acts.Code code → let e = attempt code.code (entry_of a.unit None) s.board in e.0 ≡ r → IsCaused (answered code.code (with_board s e.1) r)
     executes code (Ok o) is came = tt
     executes code (Err stop) is came =
@@ -161,7 +164,7 @@ module _ (plan : Plan) where
       }
 
     calls : (place : Option ℕ) → source.act ≡ acts.Native → place_of s.natives source.name ≡ place → IsCaused (calling place a s)
-    calls None native is = of_native (source, there, native, is)
+    calls None native is = of_native a (source, is_at, native, is)
     calls (Some place) native is =
         let seen = sight_of s.board in
         let asks = asks_at s.natives place a.unit seen in
@@ -178,7 +181,7 @@ module _ (plan : Plan) where
 
   acts_at : (source : Option Source) (a : Activation) (s : State) → slice_get plan.sources a.source ≡ source → IsCaused (acting plan source a s)
   acts_at None a s is = tt
-  acts_at (Some source) a s is = acts_by source (there_at plan.sources a.source source is) a s source.act refl
+  acts_at (Some source) a s is = acts_by source a s is source.act refl
 
   -- a choice has a cause for its end, if its verdict has
   abbrev VerdictCaused : Verdict → Blackboard → Type 0

@@ -10,11 +10,11 @@ use Rattle.bb_run_plan.specs.Plan.{Plan}
 use Rattle.bb_run.specs.declared.cycles.Decision.{Decision}
 use Rattle.bb_run.specs.State.{State}
 use Rattle.bb_run.specs.Run.{choice, cycle, cycles, quiet, start}
-use Rattle.bb_run.specs.Turns.{posting, turn}
+use Rattle.bb_run.specs.Turns.{answering, posting, turn}
 use Rattle.bb_run.specs.Weighed.{KnowsFoci}
 use Rattle.bb_run.specs.Knowing.{Knows, MayKnow}
 use Rattle.bb_run.specs.Emitting.{Makes, Place, Waits}
-use Rattle.bb_run.proofs.WeighLemmas.{cycle_knows, cycles_know, post_knows, responds, start_knows, turn_knows, waits}
+use Rattle.bb_run.proofs.WeighLemmas.{answer_knows, cycle_knows, cycles_know, post_knows, responds, start_knows, turn_knows, waits}
 
 module _ (plan : Plan) (a b : Place) (s t : State) where
   as_is : (k : Knows plan s) (u : State) → t ≡ u → KnowsFoci plan u → Knows plan t
@@ -36,7 +36,7 @@ module _ (plan : Plan) (s t : State) (k : Knows plan s) where
   known_at : (u : State) → t ≡ u → KnowsFoci plan u → Knows plan t
   known_at u same known = record { reading = k.reading; foci = subst (KnowsFoci plan) (sym same) known }
 
-  -- after a turn, after cycles, and after asks from outside
+  -- after a turn, after cycles, and after asks from outside or of a native
   pub turn_known : (made : ℕ) → t ≡ (turn plan made s).state → Knows plan t
   turn_known made is = known_at (turn plan made s).state is (turn_knows plan k.reading made s k.foci)
 
@@ -45,6 +45,9 @@ module _ (plan : Plan) (s t : State) (k : Knows plan s) where
 
   pub post_known : (asks : List Ask) → t ≡ (posting plan asks s).state → Knows plan t
   post_known asks is = known_at (posting plan asks s).state is (post_knows plan k.reading asks s k.foci)
+
+  pub answer_known : (asks : List Ask) → t ≡ (answering plan asks s).state → Knows plan t
+  answer_known asks is = known_at (answering plan asks s).state is (answer_knows plan k.reading asks s k.foci)
 
 -- after the start
 pub start_known : (plan : Plan) (board : Blackboard) (natives : List Native) (t : State) → MayKnow plan board → t ≡ (start plan board natives).state → Knows plan t

@@ -42,8 +42,14 @@ pub mod AskRule
 pub mod StateRule
 -- what holds of every response
 pub mod ResponseRule
--- why a run ends full or stuck
+-- why a run ends full or stuck, or with a native due
 pub mod CauseLemmas
+-- when none is due
+pub mod DueLemmas
+-- what neither reads nor changes the natives
+pub mod NativesApart
+-- a native that is due, and the answer
+pub mod OutsideLemmas
 -- what leaves the blackboard as it was
 pub mod ReadLemmas
 -- how many cycles the parts of a run make

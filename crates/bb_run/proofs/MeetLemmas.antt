@@ -24,12 +24,14 @@ IsOver None = ⊥
 IsOver (Some finishes.Limit) = ⊥
 IsOver (Some finishes.Quiescence) = ⊤
 IsOver (Some finishes.Full) = ⊤
+IsOver (Some (finishes.Due a)) = ⊤
 IsOver (Some (finishes.Stuck reason)) = ⊤
 
 early_over : (end : End) → IsEarly (Some end) → IsOver (Some end)
 early_over finishes.Quiescence early = absurd early
 early_over finishes.Limit early = absurd early
 early_over finishes.Full early = tt
+early_over (finishes.Due a) early = tt
 early_over (finishes.Stuck reason) early = tt
 
 -- the choices of two stretches

@@ -55,6 +55,7 @@ IsEarly None = ⊤
 IsEarly (Some finishes.Quiescence) = ⊥
 IsEarly (Some finishes.Limit) = ⊥
 IsEarly (Some finishes.Full) = ⊤
+IsEarly (Some (finishes.Due a)) = ⊤
 IsEarly (Some (finishes.Stuck reason)) = ⊤
 
 pub early_end : (stop : Stop) → IsEarly (Some (end_by stop))

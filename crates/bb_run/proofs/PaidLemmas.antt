@@ -49,6 +49,7 @@ pub may_owe : (e : End) (owed : List (ℕ × ℕ)) → IsEarly (Some e) → MayO
 may_owe finishes.Quiescence owed early = absurd early
 may_owe finishes.Limit owed early = absurd early
 may_owe finishes.Full owed early = tt
+may_owe (finishes.Due a) owed early = tt
 may_owe (finishes.Stuck reason) owed early = tt
 
 -- ---- a response to an event

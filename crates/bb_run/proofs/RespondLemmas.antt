@@ -60,6 +60,7 @@ may_omit : (e : End) (left : List Note) → IsEarly (Some e) → MayOmit e left
 may_omit finishes.Quiescence left early = absurd early
 may_omit finishes.Limit left early = absurd early
 may_omit finishes.Full left early = tt
+may_omit (finishes.Due a) left early = tt
 may_omit (finishes.Stuck reason) left early = tt
 
 -- what is emitted, and then the finish if the run ends, and then the rest

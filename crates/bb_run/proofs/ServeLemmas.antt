@@ -46,10 +46,10 @@ module _ (P : Activation → Type 0) where
 module _ (plan : Plan) (event : Event) (s : State) (serves : ServesAt plan event s) where
   -- states of this blackboard in which what waits suits its sources
   abbrev pub Goes : State → Type 0
-  Goes = Waits plan serves.sound (Unit {0}) s.board serves.ready.0.board s.natives
+  Goes = Waits plan serves.sound s.board serves.ready.0.board
 
   pub goes_first : Goes s
-  goes_first = record { board = refl; natives_are = refl; waiting = serves.ready.0.waiting }
+  goes_first = record { board = refl; waiting = serves.ready.0.waiting }
 
   pub serves_still : (t : State) → Goes t → ServesAt plan event t
   serves_still t w = record {
@@ -65,10 +65,10 @@ module _ (plan : Plan) (event : Event) (s : State) (serves : ServesAt plan event
 
   -- after all sources
   pub serves_after : ServesAt plan event (response plan event s).state
-  serves_after = serves_still (response plan event s).state (all_answer plan serves.sound (Unit {0}) s.board serves.ready.0.board s.natives event serves.ready.1 s goes_first).state
+  serves_after = serves_still (response plan event s).state (all_answer plan serves.sound s.board serves.ready.0.board event serves.ready.1 s goes_first).state
 
   pub same_after : (response plan event s).state.board ≡ s.board
-  same_after = (all_answer plan serves.sound (Unit {0}) s.board serves.ready.0.board s.natives event serves.ready.1 s goes_first).state.board
+  same_after = (all_answer plan serves.sound s.board serves.ready.0.board event serves.ready.1 s goes_first).state.board
 
   module _ (place : ℕ) (source : Source) (at : slice_get plan.sources place ≡ Some source) where
     there : Contains plan.sources source
@@ -76,37 +76,37 @@ module _ (plan : Plan) (event : Event) (s : State) (serves : ServesAt plan event
 
     -- what waits of the source was of its class
     suit : All (λ (a : Activation). WasOf plan.schema s.board.world source.class a.unit) (pending_for s.agenda place)
-    suit = suit_place plan serves.sound (Unit {0}) s.board serves.ready.0.board s.natives place source (pending_of s.agenda) at serves.ready.0.waiting
+    suit = suit_place plan serves.sound s.board serves.ready.0.board place source (pending_of s.agenda) at serves.ready.0.waiting
 
     pub obviates_all : (reaction : Reaction) → source.obviate ≡ Some reaction → any_match plan.schema reaction.clauses event ≡ true → ReactsToAll reaction event s.board (pending_for s.agenda place)
     obviates_all reaction is matched =
         All-weaker (λ (a : Activation). WasOf plan.schema s.board.world source.class a.unit) (ReactsTo reaction event s.board)
-        (λ a was. obviate_begins plan serves.sound (Unit {0}) s.board serves.ready.0.board s.natives event serves.ready.1 source there reaction is matched a was) (pending_for s.agenda place) suit
+        (λ a was. obviate_begins plan serves.sound s.board serves.ready.0.board event serves.ready.1 source there reaction is matched a was) (pending_for s.agenda place) suit
 
     pub retriggers_all : (reaction : Reaction) → source.retrigger ≡ Some reaction → any_match plan.schema reaction.clauses event ≡ true → ReactsToAll reaction event s.board (pending_for s.agenda place)
     retriggers_all reaction is matched =
         All-weaker (λ (a : Activation). WasOf plan.schema s.board.world source.class a.unit) (ReactsTo reaction event s.board)
-        (λ a was. retrigger_begins plan serves.sound (Unit {0}) s.board serves.ready.0.board s.natives event serves.ready.1 source there reaction is matched a was) (pending_for s.agenda place) suit
+        (λ a was. retrigger_begins plan serves.sound s.board serves.ready.0.board event serves.ready.1 source there reaction is matched a was) (pending_for s.agenda place) suit
 
     pub can_require : (code : Checked) → source.require ≡ Some code → any_match plan.schema source.triggers event ≡ true → CanExecute code (entry_of (unit_of event) None) s.board
-    can_require code is matched = require_begins plan serves.sound (Unit {0}) s.board serves.ready.0.board s.natives event serves.ready.1 source there code is matched
+    can_require code is matched = require_begins plan serves.sound s.board serves.ready.0.board event serves.ready.1 source there code is matched
 
     pub serves_obviated : ServesAt plan event (reacting plan.schema event place obviated_by source.obviate s).state
     serves_obviated =
         serves_still (reacting plan.schema event place obviated_by source.obviate s).state
-        (reacts_if plan serves.sound (Unit {0}) s.board serves.ready.0.board s.natives event serves.ready.1 obviated_by source there (obviates plan serves.sound (Unit {0}) s.board serves.ready.0.board s.natives) place source.obviate s at
-        (obviate_asked plan serves.sound (Unit {0}) s.board serves.ready.0.board s.natives event serves.ready.1 source there) (obviate_begins plan serves.sound (Unit {0}) s.board serves.ready.0.board s.natives event serves.ready.1 source there) goes_first).state
+        (reacts_if plan serves.sound s.board serves.ready.0.board event serves.ready.1 obviated_by source there (obviates plan serves.sound s.board serves.ready.0.board) place source.obviate s at
+        (obviate_asked plan serves.sound s.board serves.ready.0.board event serves.ready.1 source there) (obviate_begins plan serves.sound s.board serves.ready.0.board event serves.ready.1 source there) goes_first).state
 
     pub serves_retriggered : ServesAt plan event (reacting plan.schema event place rerated_by source.retrigger s).state
     serves_retriggered =
         serves_still (reacting plan.schema event place rerated_by source.retrigger s).state
-        (reacts_if plan serves.sound (Unit {0}) s.board serves.ready.0.board s.natives event serves.ready.1 rerated_by source there (rerates plan serves.sound (Unit {0}) s.board serves.ready.0.board s.natives) place source.retrigger s at
-        (retrigger_asked plan serves.sound (Unit {0}) s.board serves.ready.0.board s.natives event serves.ready.1 source there) (retrigger_begins plan serves.sound (Unit {0}) s.board serves.ready.0.board s.natives event serves.ready.1 source there) goes_first).state
+        (reacts_if plan serves.sound s.board serves.ready.0.board event serves.ready.1 rerated_by source there (rerates plan serves.sound s.board serves.ready.0.board) place source.retrigger s at
+        (retrigger_asked plan serves.sound s.board serves.ready.0.board event serves.ready.1 source there) (retrigger_begins plan serves.sound s.board serves.ready.0.board event serves.ready.1 source there) goes_first).state
 
     serves_responded : ServesAt plan event (source_response plan.schema event place source s).state
     serves_responded =
         serves_still (source_response plan.schema event place source s).state
-        (source_answers plan serves.sound (Unit {0}) s.board serves.ready.0.board s.natives event serves.ready.1 place source at there s goes_first).state
+        (source_answers plan serves.sound s.board serves.ready.0.board event serves.ready.1 place source at there s goes_first).state
 
   serves_by : (place : ℕ) (found : Option Source) → slice_get plan.sources place ≡ found → ServesAt plan event (response_at plan.schema event plan.sources place s).state
   serves_by place None at = subst (λ (o : Option Source). ServesAt plan event (option_map_or (λ source. source_response plan.schema event place source s) o (idle s)).state) (sym at) serves

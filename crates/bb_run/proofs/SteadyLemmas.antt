@@ -4,12 +4,11 @@ use Rattle.std.proofs.Common.{subst}
 use Rattle.bb_trace.specs.Ask.{Ask}
 use Rattle.bb_trace.specs.Board.{Board as Blackboard}
 use Rattle.bb_trace.specs.Native.{Native}
-use Rattle.bb_run.specs.Causes.{LacksNative}
 use Rattle.bb_run.specs.Knowing.{MayKnow}
 use Rattle.bb_run.specs.Run.{cycles, start}
-use Rattle.bb_run.specs.Turns.{posting, turn}
-use Rattle.bb_run.proofs.KnowLemmas.{cycles_known, post_known, start_known, turn_known}
-use Rattle.bb_run.proofs.ServeCycles.{cycles_serve, post_serves, start_serves, turn_serves}
+use Rattle.bb_run.specs.Turns.{answering, posting, turn}
+use Rattle.bb_run.proofs.KnowLemmas.{answer_known, cycles_known, post_known, start_known, turn_known}
+use Rattle.bb_run.proofs.ServeCycles.{answer_serves, cycles_serve, post_serves, start_serves, turn_serves}
 use Rattle.bb_schema.specs.Fits as schemas
 use Rattle.bb_schema.specs.Schema.{Schema}
 use Rattle.bb_machine.specs.Fits.{Fits}
@@ -30,7 +29,6 @@ steady_again plan s l is fits codes world = record {
   knows = record { reading = plan_reads plan codes; foci = l.foci };
   serves = record {
     sound = well_made plan is fits l.made codes;
-    natives = l.natives;
     ready = record {
       board = record { schema = l.schema; world = subst (λ (x : Schema). Fits x s.board.world) l.schema world };
       waiting = l.waiting;
@@ -41,18 +39,16 @@ steady_again plan s l is fits codes world = record {
 pub steady_lasts : (plan : Plan) (s : State) → IsSteady plan s → Lasts plan s
 steady_lasts plan s steady = record {
   made = ∣ steady.serves.sound.made ∣₁;
-  natives = steady.serves.natives;
   schema = steady.serves.ready.board.schema;
   waiting = steady.serves.ready.waiting;
   foci = steady.knows.foci;
 }
 
 -- what a run may begin with
-pub may_serve : (plan : Plan) (board : Blackboard) (natives : List Native) {schema : Schema} → schema ≡ plan.schema → schemas.Fits schema → ∥ All (IsMade plan.schema) plan.sources ∥₁ → All HasSoundCodes plan.sources
-    → ¬ LacksNative plan natives → board.schema ≡ plan.schema → Fits board.schema board.world → MayServe plan board natives
-may_serve plan board natives is fits made codes acts of_schema world = record {
+pub may_serve : (plan : Plan) (board : Blackboard) {schema : Schema} → schema ≡ plan.schema → schemas.Fits schema → ∥ All (IsMade plan.schema) plan.sources ∥₁ → All HasSoundCodes plan.sources
+    → board.schema ≡ plan.schema → Fits board.schema board.world → MayServe plan board
+may_serve plan board is fits made codes of_schema world = record {
   sound = well_made plan is fits made codes;
-  natives_are = acts;
   fits = record { schema = of_schema; world = subst (λ (x : Schema). Fits x board.world) of_schema world };
 }
 
@@ -68,6 +64,9 @@ module _ (plan : Plan) (s t : State) (steady : IsSteady plan s) where
   pub post_steady : (asks : List Ask) → t ≡ (posting plan asks s).state → IsSteady plan t
   post_steady asks is = record { knows = post_known plan s t steady.knows asks is; serves = post_serves plan s steady.serves t asks is }
 
+  pub answer_steady : (asks : List Ask) → t ≡ (answering plan asks s).state → IsSteady plan t
+  answer_steady asks is = record { knows = answer_known plan s t steady.knows asks is; serves = answer_serves plan s steady.serves t asks is }
+
 -- and after its start
-pub start_steady : (plan : Plan) (board : Blackboard) (natives : List Native) (t : State) → MayKnow plan board → MayServe plan board natives → t ≡ (start plan board natives).state → IsSteady plan t
+pub start_steady : (plan : Plan) (board : Blackboard) (natives : List Native) (t : State) → MayKnow plan board → MayServe plan board → t ≡ (start plan board natives).state → IsSteady plan t
 start_steady plan board natives t may serve is = record { knows = start_known plan board natives t may is; serves = start_serves plan board natives serve t is }

@@ -28,7 +28,6 @@ use Rattle.bb_trace.specs.Event.{Event}
 use Rattle.bb_trace.specs.Events.{unit_of}
 use Rattle.bb_trace.specs.Law.{HasSoundCodes, IsMade}
 use Rattle.bb_trace.specs.Match.{any_match}
-use Rattle.bb_trace.specs.Native.{Native}
 use Rattle.bb_trace.specs.Reaction.{Reaction}
 use Rattle.bb_trace.specs.Source.{Source}
 use Rattle.bb_trace.specs.End.{End}
@@ -47,50 +46,49 @@ use Rattle.bb_run.proofs.ReadLemmas.{plan_reads}
 
 -- ---- parts of a run, one after another
 
--- what is emitted keeps its budgets, the run is not stuck under this premise, and this holds of the state
-pub record GoesWell (Given : Type 0) {X : Type 0} (Fine : X → Type 0) (Holds : State → Type 0) (p : Emission X) : Type 0 where
+-- what is emitted keeps its budgets, the run is not stuck, and this holds of the state
+pub record GoesWell {X : Type 0} (Fine : X → Type 0) (Holds : State → Type 0) (p : Emission X) : Type 0 where
   pub emitted : All Fine p.emitted
-  pub end : Given → NotStuck p.end
+  pub end : NotStuck p.end
   pub state : Holds p.state
 
-module _ (Given : Type 0) {X : Type 0} (Fine : X → Type 0) (Holds : State → Type 0) where
+module _ {X : Type 0} (Fine : X → Type 0) (Holds : State → Type 0) where
   -- nothing is emitted
-  pub well_idle : (s : State) → Holds s → GoesWell Given Fine Holds (idle {X = X} s)
-  well_idle s holds = record { emitted = All-nil Fine; end = λ given. tt; state = holds }
+  pub well_idle : (s : State) → Holds s → GoesWell Fine Holds (idle {X = X} s)
+  well_idle s holds = record { emitted = All-nil Fine; end = tt; state = holds }
 
-  pub well_over : (end : End) (s : State) → (Given → NotStuck (Some end)) → Holds s → GoesWell Given Fine Holds (over {X = X} end s)
+  pub well_over : (end : End) (s : State) → NotStuck (Some end) → Holds s → GoesWell Fine Holds (over {X = X} end s)
   well_over end s not holds = record { emitted = All-nil Fine; end = not; state = holds }
 
   -- one thing is emitted
-  pub well_one : (x : X) (s : State) → Fine x → Holds s → GoesWell Given Fine Holds (emitting (x ∷ []) s None)
-  well_one x s fine holds = record { emitted = All-cons Fine x [] fine (All-nil Fine); end = λ given. tt; state = holds }
+  pub well_one : (x : X) (s : State) → Fine x → Holds s → GoesWell Fine Holds (emitting (x ∷ []) s None)
+  well_one x s fine holds = record { emitted = All-cons Fine x [] fine (All-nil Fine); end = tt; state = holds }
 
   -- one part, and then the next
-  pub well_then : (p : Emission X) (next : State → Emission X) (end : Option End) → p.end ≡ end → GoesWell Given Fine Holds p → (Holds p.state → GoesWell Given Fine Holds (next p.state)) → GoesWell Given Fine Holds (and_then_unless end p next)
+  pub well_then : (p : Emission X) (next : State → Emission X) (end : Option End) → p.end ≡ end → GoesWell Fine Holds p → (Holds p.state → GoesWell Fine Holds (next p.state)) → GoesWell Fine Holds (and_then_unless end p next)
   well_then p next (Some e) is first rest = first
   well_then p next None is first rest =
       let q = rest first.state in
       record { emitted = All-append Fine p.emitted (next p.state).emitted first.emitted q.emitted; end = q.end; state = q.state }
 
 -- what holds of the state says something else of it too
-pub well_weaker : (Given : Type 0) {X : Type 0} (Fine : X → Type 0) (Holds Other : State → Type 0) (p : Emission X) → ((s : State) → Holds s → Other s) → GoesWell Given Fine Holds p → GoesWell Given Fine Other p
-well_weaker Given Fine Holds Other p from well = record { emitted = well.emitted; end = well.end; state = from p.state well.state }
+pub well_weaker : {X : Type 0} (Fine : X → Type 0) (Holds Other : State → Type 0) (p : Emission X) → ((s : State) → Holds s → Other s) → GoesWell Fine Holds p → GoesWell Fine Other p
+well_weaker Fine Holds Other p from well = record { emitted = well.emitted; end = well.end; state = from p.state well.state }
 
 -- a response is emitted as one segment
-pub well_segment : (Given : Type 0) (Holds : State → Type 0) (r : Response) → GoesWell Given KeepsBudget Holds r → GoesWell Given (All KeepsBudget) Holds (segment r)
-well_segment Given Holds r well = record { emitted = All-cons (All KeepsBudget) r.emitted [] well.emitted (All-nil (All KeepsBudget)); end = well.end; state = well.state }
+pub well_segment : (Holds : State → Type 0) (r : Response) → GoesWell KeepsBudget Holds r → GoesWell (All KeepsBudget) Holds (segment r)
+well_segment Holds r well = record { emitted = All-cons (All KeepsBudget) r.emitted [] well.emitted (All-nil (All KeepsBudget)); end = well.end; state = well.state }
 
 -- ---- while events are processed
 
-module _ (plan : Plan) (sound : IsWellMade plan) (Given : Type 0) (b : Blackboard) (fits : FitsPlan plan b) (natives : List Native) where
-  -- the blackboard stays this one, as the natives do, and each pending activation's unit suits its source
+module _ (plan : Plan) (sound : IsWellMade plan) (b : Blackboard) (fits : FitsPlan plan b) where
+  -- the blackboard stays this one, and each pending activation's unit suits its source
   pub record Waits (s : State) : Type 0 where
     pub board : s.board ≡ b
-    pub natives_are : s.natives ≡ natives
     pub waiting : All (SuitsSource plan b) (pending_of s.agenda)
 
   abbrev pub Answers : Response → Type 0
-  Answers = GoesWell Given KeepsBudget Waits
+  Answers = GoesWell KeepsBudget Waits
 
   -- the unit was of a class
   abbrev pub Was : (class unit : ℕ) → Type 0
@@ -111,13 +109,13 @@ module _ (plan : Plan) (sound : IsWellMade plan) (Given : Type 0) (b : Blackboar
 
   -- an agenda as it was, on a blackboard as it was
   still : (s : State) (board : Blackboard) → board ≡ b → Waits s → Waits (with_board s board)
-  still s board same w = record { board = same; natives_are = w.natives_are; waiting = w.waiting }
+  still s board same w = record { board = same; waiting = w.waiting }
 
   replied : (s : State) (board : Blackboard) (next : Answer → State → Response) (r : Result Outcome Stop) → board ≡ b → Waits s → NeverStuck r → ((answer : Answer) (t : State) → Waits t → Answers (next answer t)) → Answers (upon (reply_by r) next (with_board s board))
   replied s board next (Ok o) same w never' goes = goes o.answer (with_board s board) (still s board same w)
-  replied s board next (Err (stops.Full steps found)) same w never' goes = well_over Given KeepsBudget Waits finishes.Full (with_board s board) (λ given. tt) (still s board same w)
+  replied s board next (Err (stops.Full steps found)) same w never' goes = well_over KeepsBudget Waits finishes.Full (with_board s board) tt (still s board same w)
   replied s board next (Err (stops.Stuck reason steps found)) same w never' goes = absurd never'
-  replied s board next (Err stops.Memory) same w never' goes = well_over Given KeepsBudget Waits finishes.Full (with_board s board) (λ given. tt) (still s board same w)
+  replied s board next (Err stops.Memory) same w never' goes = well_over KeepsBudget Waits finishes.Full (with_board s board) tt (still s board same w)
 
   asks : (source : Source) (c : Checked) (entry : Entry) (next : Answer → State → Response) (s : State) → Contains plan.sources source → IsAsked source c → Begins c.part c.frames c.code entry b → Waits s
       → ((answer : Answer) (t : State) → Waits t → Answers (next answer t)) → Answers (asking c.code entry next s)
@@ -134,21 +132,21 @@ module _ (plan : Plan) (sound : IsWellMade plan) (Given : Type 0) (b : Blackboar
 
   pub obviates : (a : Activation) (answer : Answer) (s : State) → Waits s → Answers (obviated_by a answer s)
   obviates a answers.Yes s w =
-      well_one Given KeepsBudget Waits (Obviated a.number) (with_agenda s (with_obviated s.agenda a.number)) tt
-      (record { board = w.board; natives_are = w.natives_are; waiting = subst (All (SuitsSource plan b)) (sym (pending_obviated s.agenda a.number)) (All-filter (other_than a.number) (SuitsSource plan b) (pending_of s.agenda) w.waiting) })
-  obviates a answers.No s w = well_idle Given KeepsBudget Waits s w
-  obviates a answers.Done s w = well_idle Given KeepsBudget Waits s w
-  obviates a answers.Declined s w = well_idle Given KeepsBudget Waits s w
-  obviates a (answers.Rated base) s w = well_idle Given KeepsBudget Waits s w
+      well_one KeepsBudget Waits (Obviated a.number) (with_agenda s (with_obviated s.agenda a.number)) tt
+      (record { board = w.board; waiting = subst (All (SuitsSource plan b)) (sym (pending_obviated s.agenda a.number)) (All-filter (other_than a.number) (SuitsSource plan b) (pending_of s.agenda) w.waiting) })
+  obviates a answers.No s w = well_idle KeepsBudget Waits s w
+  obviates a answers.Done s w = well_idle KeepsBudget Waits s w
+  obviates a answers.Declined s w = well_idle KeepsBudget Waits s w
+  obviates a (answers.Rated base) s w = well_idle KeepsBudget Waits s w
 
   pub rerates : (a : Activation) (answer : Answer) (s : State) → Waits s → Answers (rerated_by a answer s)
   rerates a (answers.Rated base) s w =
-      well_one Given KeepsBudget Waits (Retriggered a.number base) (with_agenda s (with_base s.agenda a.number base)) tt
-      (record { board = w.board; natives_are = w.natives_are; waiting = subst (All (SuitsSource plan b)) (sym (pending_rebased s.agenda a.number base)) (all_rebased (SuitsSource plan b) (λ x base' suits. suits) a.number base (pending_of s.agenda) w.waiting) })
-  rerates a answers.Yes s w = well_idle Given KeepsBudget Waits s w
-  rerates a answers.No s w = well_idle Given KeepsBudget Waits s w
-  rerates a answers.Done s w = well_idle Given KeepsBudget Waits s w
-  rerates a answers.Declined s w = well_idle Given KeepsBudget Waits s w
+      well_one KeepsBudget Waits (Retriggered a.number base) (with_agenda s (with_base s.agenda a.number base)) tt
+      (record { board = w.board; waiting = subst (All (SuitsSource plan b)) (sym (pending_rebased s.agenda a.number base)) (all_rebased (SuitsSource plan b) (λ x base' suits. suits) a.number base (pending_of s.agenda) w.waiting) })
+  rerates a answers.Yes s w = well_idle KeepsBudget Waits s w
+  rerates a answers.No s w = well_idle KeepsBudget Waits s w
+  rerates a answers.Done s w = well_idle KeepsBudget Waits s w
+  rerates a answers.Declined s w = well_idle KeepsBudget Waits s w
 
   -- the unit of each pending activation of a source was of its class
   suits_if : (place class : ℕ) (a : Activation) (rest : List Activation) (t : Bool) → (a.source == place) ≡ t → ((a.source == place) ≡ true → Was class a.unit) → All (λ (x : Activation). Was class x.unit) rest
@@ -169,21 +167,21 @@ module _ (plan : Plan) (sound : IsWellMade plan) (Given : Type 0) (b : Blackboar
           → ((a : Activation) → Was source.class a.unit → Begins reaction.code.part reaction.code.frames reaction.code.code (entry_of a.unit (Some (unit_of event))) b)
           → All (λ (x : Activation). Was source.class x.unit) items → Waits s → Answers (reacting_to_each event by reaction items s)
       unfolding reacting_to_each
-      reacts_each reaction [] s asked begins all w = well_idle Given KeepsBudget Waits s w
+      reacts_each reaction [] s asked begins all w = well_idle KeepsBudget Waits s w
       reacts_each reaction (a ∷ more) s asked begins all w =
           let r = reacting_to event by reaction a s in
-          well_then Given KeepsBudget Waits r (reacting_to_each event by reaction more) r.end refl
+          well_then KeepsBudget Waits r (reacting_to_each event by reaction more) r.end refl
           (asks source reaction.code (entry_of a.unit (Some (unit_of event))) (by a) s there asked (begins a (All-head (λ (x : Activation). Was source.class x.unit) a more all)) w (reacts a))
           (reacts_each reaction more r.state asked begins (All-tail (λ (x : Activation). Was source.class x.unit) a more all))
 
       pub reacts_if : (place : ℕ) (reaction : Option Reaction) (s : State) → slice_get plan.sources place ≡ Some source → ((x : Reaction) → reaction ≡ Some x → IsAsked source x.code)
           → ((x : Reaction) → reaction ≡ Some x → any_match plan.schema x.clauses event ≡ true → (a : Activation) → Was source.class a.unit → Begins x.code.part x.code.frames x.code.code (entry_of a.unit (Some (unit_of event))) b)
           → Waits s → Answers (reacting plan.schema event place by reaction s)
-      reacts_if place None s is asked begins w = well_idle Given KeepsBudget Waits s w
+      reacts_if place None s is asked begins w = well_idle KeepsBudget Waits s w
       reacts_if place (Some reaction) s is asked begins w =
           by_test (any_match plan.schema reaction.clauses event) (reacting_to_each event by reaction (pending_for s.agenda place) s) (idle s)
           (λ matched. reacts_each reaction (pending_for s.agenda place) s (asked reaction refl) (begins reaction refl matched) (suit_place place source (pending_of s.agenda) is w.waiting) w)
-          (well_idle Given KeepsBudget Waits s w)
+          (well_idle KeepsBudget Waits s w)
 
     -- ---- what a source asks
 
@@ -233,20 +231,19 @@ module _ (plan : Plan) (sound : IsWellMade plan) (Given : Type 0) (b : Blackboar
       activates base s was w =
           let a = new_activation s.agenda place (unit_of event) base in
           by_test (is_full s.agenda) (over finishes.Full s) (emitting (Triggered a ∷ []) (with_agenda s (with_activation s.agenda place (unit_of event) base)) None)
-          (λ full. well_over Given KeepsBudget Waits finishes.Full s (λ given. tt) w)
-          (well_one Given KeepsBudget Waits (Triggered a) (with_agenda s (with_activation s.agenda place (unit_of event) base)) tt
+          (λ full. well_over KeepsBudget Waits finishes.Full s tt w)
+          (well_one KeepsBudget Waits (Triggered a) (with_agenda s (with_activation s.agenda place (unit_of event) base)) tt
           (record {
             board = w.board;
-            natives_are = w.natives_are;
             waiting = subst (All (SuitsSource plan b)) (sym (pending_added s.agenda place (unit_of event) base)) (All-last (SuitsSource plan b) (pending_of s.agenda) a w.waiting (new_suits was s.agenda base));
           }))
 
       requires_by : (answer : Answer) (s : State) → Was source.class (unit_of event) → Waits s → Answers (required_by event place answer s)
       requires_by (answers.Rated base) s was w = activates base s was w
-      requires_by answers.Declined s was w = well_one Given KeepsBudget Waits (Declined place (unit_of event)) s tt w
-      requires_by answers.Yes s was w = well_one Given KeepsBudget Waits (Declined place (unit_of event)) s tt w
-      requires_by answers.No s was w = well_one Given KeepsBudget Waits (Declined place (unit_of event)) s tt w
-      requires_by answers.Done s was w = well_one Given KeepsBudget Waits (Declined place (unit_of event)) s tt w
+      requires_by answers.Declined s was w = well_one KeepsBudget Waits (Declined place (unit_of event)) s tt w
+      requires_by answers.Yes s was w = well_one KeepsBudget Waits (Declined place (unit_of event)) s tt w
+      requires_by answers.No s was w = well_one KeepsBudget Waits (Declined place (unit_of event)) s tt w
+      requires_by answers.Done s was w = well_one KeepsBudget Waits (Declined place (unit_of event)) s tt w
 
       triggers : (code : Option Checked) (s : State) → source.require ≡ code → any_match plan.schema source.triggers event ≡ true → Waits s → Answers (triggering event place source.rate code s)
       triggers None s same matched w = activates source.rate s (triggering_was matched) w
@@ -258,27 +255,27 @@ module _ (plan : Plan) (sound : IsWellMade plan) (Given : Type 0) (b : Blackboar
       triggers_if s w =
           by_test (any_match plan.schema source.triggers event) (triggering event place source.rate source.require s) (idle s)
           (λ matched. triggers source.require s refl matched w)
-          (well_idle Given KeepsBudget Waits s w)
+          (well_idle KeepsBudget Waits s w)
 
       pub source_answers : (s : State) → Waits s → Answers (source_response plan.schema event place source s)
       source_answers s w =
           let first = reacting plan.schema event place obviated_by source.obviate s in
-          well_then Given KeepsBudget Waits first (λ t. and_then (reacting plan.schema event place rerated_by source.retrigger t) (if_triggered plan.schema event place source)) first.end refl
+          well_then KeepsBudget Waits first (λ t. and_then (reacting plan.schema event place rerated_by source.retrigger t) (if_triggered plan.schema event place source)) first.end refl
           (reacts_if obviated_by source there obviates place source.obviate s is (obviate_asked source there) (obviate_begins source there) w)
           (λ waits. let second = reacting plan.schema event place rerated_by source.retrigger first.state in
-          well_then Given KeepsBudget Waits second (if_triggered plan.schema event place source) second.end refl
+          well_then KeepsBudget Waits second (if_triggered plan.schema event place source) second.end refl
           (reacts_if rerated_by source there rerates place source.retrigger first.state is (retrigger_asked source there) (retrigger_begins source there) waits) (triggers_if second.state))
 
     -- ---- sources in order
 
     answers_by : (place : ℕ) (sources : List Source) (s : State) → ((i : ℕ) → slice_get plan.sources (place + i) ≡ slice_get sources i) → All (Contains plan.sources) sources → Waits s → Answers (response_by plan.schema event place sources s)
     unfolding response_by
-    answers_by place [] s at all w = well_idle Given KeepsBudget Waits s w
+    answers_by place [] s at all w = well_idle KeepsBudget Waits s w
     answers_by place (source ∷ more) s at all w =
         let r = source_response plan.schema event place source s in
         let none : place ≡ place + zero = omega arith in
         let is : slice_get plan.sources place ≡ Some source = ap (slice_get plan.sources) none ∙ at zero in
-        well_then Given KeepsBudget Waits r (response_by plan.schema event (place + 1) more) r.end refl
+        well_then KeepsBudget Waits r (response_by plan.schema event (place + 1) more) r.end refl
         (source_answers place source is (All-head (Contains plan.sources) source more all) s w)
         (answers_by (place + 1) more r.state
         (λ i. let one : place + 1 + i ≡ place + suc i = omega arith in ap (slice_get plan.sources) one ∙ at (suc i))
@@ -289,11 +286,11 @@ module _ (plan : Plan) (sound : IsWellMade plan) (Given : Type 0) (b : Blackboar
         answers_by 0 plan.sources s (λ i. let none : 0 + i ≡ i = omega arith in ap (slice_get plan.sources) none) (All-contains_itself plan.sources) w
 
   -- events in order, a segment each
-  pub processes_all : (events : List Event) (s : State) → All (IsEventOf plan.schema b) events → Waits s → GoesWell Given (All KeepsBudget) Waits (processing_all plan events s)
+  pub processes_all : (events : List Event) (s : State) → All (IsEventOf plan.schema b) events → Waits s → GoesWell (All KeepsBudget) Waits (processing_all plan events s)
   unfolding processing_all
-  processes_all [] s here w = well_idle Given (All KeepsBudget) Waits s w
+  processes_all [] s here w = well_idle (All KeepsBudget) Waits s w
   processes_all (event ∷ events) s here w =
       let p = processing plan event s in
-      well_then Given (All KeepsBudget) Waits p (processing_all plan events) p.end refl
-      (well_segment Given Waits (response plan event s) (all_answer event (All-head (IsEventOf plan.schema b) event events here) s w))
+      well_then (All KeepsBudget) Waits p (processing_all plan events) p.end refl
+      (well_segment Waits (response plan event s) (all_answer event (All-head (IsEventOf plan.schema b) event events here) s w))
       (processes_all events p.state (All-tail (IsEventOf plan.schema b) event events here))

@@ -1,5 +1,5 @@
 -- No run is stuck, and each execution keeps its budget.
-use Rattle.std.proofs.Common.{◌≡◌, ◌≤◌, inl, inr, ℕ, zero, suc, ◌+◌, ◌-◌, ℤ, List, [], ◌∷◌, ◌++◌, length, Option, Some, None, Result, Ok, Err, refl, sym, subst, ◌∙◌, arith}
+use Rattle.std.proofs.Common.{◌≡◌, ◌≤◌, inl, inr, ℕ, zero, suc, ◌+◌, ◌-◌, ℤ, List, [], ◌∷◌, ◌++◌, Option, Some, None, Result, Ok, Err, refl, sym, subst, ◌∙◌, arith}
 use Rattle.std.specs.Prelude.{All, Contains, map, option_and_then, slice_get}
 use Rattle.std.proofs.lemmas.List.Elements.{All-append, All-cons, All-contains, All-filter, All-head, All-nil, All-tail, All-weaker}
 use Rattle.bb_schema.specs.Schema.{Schema}
@@ -32,12 +32,11 @@ use Rattle.bb_trace.specs.Closing.{Closing}
 use Rattle.bb_trace.specs.Native.{Native}
 use Rattle.bb_trace.specs.Roster.{after_act_at, asks_at, closings_of, place_of}
 use Rattle.bb_trace.specs.Sight.{sight_of}
-use Rattle.bb_trace.proofs.Laws.{acted_place}
 use Rattle.bb_trace.specs.Source.{Source}
 use Rattle.bb_trace.specs.End.{End}
 use Rattle.bb_trace.specs.End as finishes
 use Rattle.bb_trace.specs.declared.note.Note.{Note}
-use Rattle.bb_trace.specs.declared.note.Note.TheVariants.{Board, Chosen, Invalid, Ended, Posted, PostEnded, Finished, Closed}
+use Rattle.bb_trace.specs.declared.note.Note.TheVariants.{Board, Chosen, Invalid, Ended, NativeEnded, Posted, PostEnded, Finished, Closed}
 use Rattle.bb_run_plan.specs.Plan.{Plan}
 use Rattle.bb_run.specs.declared.execution.Verdict.{Verdict}
 use Rattle.bb_run.specs.declared.execution.Verdict.TheVariants as verdicts
@@ -46,17 +45,16 @@ use Rattle.bb_run.specs.Emission.{Response, Stretch, idle, over, after_emitted, 
 use Rattle.bb_run.specs.Asking.{attempt, entry_of, reply_by}
 use Rattle.bb_run.specs.Processing.{response}
 use Rattle.bb_run.specs.Order.{At, all_of, notes_of}
-use Rattle.bb_run.specs.Causes.{IsPart, LacksNative}
-use Rattle.bb_run.specs.Turns.{posting, turn, turn_by}
-use Rattle.bb_run.specs.Run.{rating, choice, quiet, wait, wait_for, noted, answered, asked, calling, each_applied, executing, execution, acting, verdict_by, verdict_of, validity, chosen_with, if_valid, cycle, if_chosen, cycles, first_state, start, finish, finish_segments, unfinished, run}
+use Rattle.bb_run.specs.Causes.{IsPart}
+use Rattle.bb_run.specs.Turns.{answering, posting, turn, turn_by}
+use Rattle.bb_run.specs.Run.{rating, choice, quiet, wait, wait_for, noted, answered, asked, calling, executing, execution, acting, verdict_by, verdict_of, validity, chosen_with, if_valid, cycle, if_chosen, cycles, first_state, start, finish, finish_segments, unfinished, run}
 use Rattle.bb_run.specs.Unstuck.{AsksFor, BeginsFor, FitsPlan, IsEventOf, IsReady, IsWellMade, KeepsBudget, NotStuck, SuitsSource}
 use Rattle.bb_run.proofs.EntryLemmas.{begins_with, code_within, fits_do, fits_revalidate}
-use Rattle.bb_run.proofs.AskRule.{asks_hold}
 use Rattle.bb_run.proofs.OrderlyRuns.{run_chooses}
 use Rattle.bb_run.proofs.ReadLemmas.{plan_reads, run_reads}
 use Rattle.bb_run.proofs.UnstuckParts.{GoesWell, well_idle, well_one, well_over, well_segment, well_then}
 use Rattle.bb_run.proofs.UnstuckStates as states
-use Rattle.bb_run.proofs.UnstuckStates.{AskGoes, answer_to, ask_parts, event_asks, is_ready, native_ends, posts_well, reports, there_at, well_noted}
+use Rattle.bb_run.proofs.UnstuckStates.{answer_to, answers_well, event_asks, posts_well, reports, there_at, well_noted}
 
 -- all notes of segments
 all_told : (P : Note → Type 0) (segments : List (List Note)) → All (All P) segments → All P (all_of segments)
@@ -72,18 +70,15 @@ no_end answers.Done end is = absurd cc
 no_end answers.Declined end is = absurd cc
 no_end (answers.Rated base) end is = absurd cc
 
-module _ (plan : Plan) (sound : IsWellMade plan) (natives : List Native) where
+module _ (plan : Plan) (sound : IsWellMade plan) where
   abbrev pub Ready : State → Type 0
-  Ready = states.Ready plan sound natives
-
-  abbrev Given : Type 0
-  Given = ¬ LacksNative plan natives
+  Ready = IsReady plan
 
   abbrev pub GoesOn : Stretch → Type 0
-  GoesOn = GoesWell Given (All KeepsBudget) Ready
+  GoesOn = GoesWell (All KeepsBudget) Ready
 
   abbrev pub IsWell : Response → Type 0
-  IsWell = states.IsWell plan sound natives
+  IsWell = states.IsWell plan sound
 
   -- ---- an execution for an activation
 
@@ -137,16 +132,15 @@ module _ (plan : Plan) (sound : IsWellMade plan) (natives : List Native) where
             };
             waiting = All-weaker (SuitsSource plan s.board) (SuitsSource plan after)
                 (λ x own other there'. was_outlives plan.schema s.board.world after.world other.class x.unit (activation_lasts n c.code entry s.board) (own other there')) (pending_of s.agenda) ready.waiting;
-            places = ready.places;
           }
 
       told_by : (r : Result Outcome Stop) → NeverStuck r → KeepsOwnBudget c.code r → IsWell (answered c.code (with_board s (attempt c.code (entry_of a.unit None) s.board).1) r)
       told_by (Ok o) not kept =
-          well_noted plan sound natives (with_board s (attempt c.code (entry_of a.unit None) s.board).1) (Ended o.steps o.found (budget c.code o.found) ∷ []) None left_ready
-          (All-cons KeepsBudget (Ended o.steps o.found (budget c.code o.found)) [] kept (All-nil KeepsBudget)) refl (λ given. tt)
-      told_by (Err (stops.Full steps found)) not kept = well_noted plan sound natives (with_board s (attempt c.code (entry_of a.unit None) s.board).1) [] (Some finishes.Full) left_ready (All-nil KeepsBudget) refl (λ given. tt)
+          well_noted plan sound (with_board s (attempt c.code (entry_of a.unit None) s.board).1) (Ended o.steps o.found (budget c.code o.found) ∷ []) None left_ready
+          (All-cons KeepsBudget (Ended o.steps o.found (budget c.code o.found)) [] kept (All-nil KeepsBudget)) refl tt
+      told_by (Err (stops.Full steps found)) not kept = well_noted plan sound (with_board s (attempt c.code (entry_of a.unit None) s.board).1) [] (Some finishes.Full) left_ready (All-nil KeepsBudget) refl tt
       told_by (Err (stops.Stuck reason steps found)) not kept = absurd not
-      told_by (Err stops.Memory) not kept = well_noted plan sound natives (with_board s (attempt c.code (entry_of a.unit None) s.board).1) [] (Some finishes.Full) left_ready (All-nil KeepsBudget) refl (λ given. tt)
+      told_by (Err stops.Memory) not kept = well_noted plan sound (with_board s (attempt c.code (entry_of a.unit None) s.board).1) [] (Some finishes.Full) left_ready (All-nil KeepsBudget) refl tt
 
       executes : IsWell (executing c.code a s)
       executes = told_by (attempt c.code (entry_of a.unit None) s.board).0 never within
@@ -164,7 +158,7 @@ module _ (plan : Plan) (sound : IsWellMade plan) (natives : List Native) where
     calls None native none = record {
       well = record {
         emitted = All-nil KeepsBudget;
-        end = λ given. absurd (given (source, there, native, sym (ready.places source.name) ∙ none));
+        end = tt;
         state = ready;
       };
       events = All-nil (IsEventOf plan.schema s.board);
@@ -172,10 +166,7 @@ module _ (plan : Plan) (sound : IsWellMade plan) (natives : List Native) where
     calls (Some place) native at' =
         let seen = sight_of s.board in
         let asks = asks_at s.natives place a.unit seen in
-        let t = with_natives s (after_act_at s.natives place a.unit seen) in
-        let called : Ready t = record { board = ready.board; waiting = ready.waiting; places = λ name. acted_place s.natives place a.unit seen name ∙ ready.places name } in
-        let r = each_applied 1 asks t in
-        native_ends plan sound natives (length asks) r r.end refl (asks_hold asks (AskGoes plan sound natives) (ask_parts plan sound natives asks) t called).is
+        answers_well plan sound asks (with_natives s (after_act_at s.natives place a.unit seen)) (record { board = ready.board; waiting = ready.waiting })
 
     pub acts_by : (act : Act) → source.act ≡ act → IsWell (execution source.name act a s)
     acts_by (acts.Code c) is = executes c (codes c (inl is)) (act_begins c is)
@@ -199,43 +190,40 @@ module _ (plan : Plan) (sound : IsWellMade plan) (natives : List Native) where
   same_board (Some source) a b is = (run_reads plan (plan_reads plan sound.codes)).choices source a b (there_at plan.sources a.source source is)
 
   pub acts_at : (source : Option Source) (a : Activation) (s : State) → slice_get plan.sources a.source ≡ source → Ready s → SuitsSource plan s.board a → GoesOn (acting plan source a s)
-  acts_at None a s at ready suits = well_idle Given (All KeepsBudget) Ready s ready
-  acts_at (Some source) a s at ready suits = reports plan sound natives (execution source.name source.act a s) (acts_by source a s at ready suits source.act refl)
+  acts_at None a s at ready suits = well_idle (All KeepsBudget) Ready s ready
+  acts_at (Some source) a s at ready suits = reports plan sound (execution source.name source.act a s) (acts_by source a s at ready suits source.act refl)
 
-  pub chooses : (number : ℕ) (a : Activation) (r : ℤ) (v : Verdict) (t : State) → Ready t → ((end : End) → v ≡ verdicts.Over end → NotStuck (Some end)) → GoesWell Given KeepsBudget Ready (chosen_with number a r v t)
+  pub chooses : (number : ℕ) (a : Activation) (r : ℤ) (v : Verdict) (t : State) → Ready t → ((end : End) → v ≡ verdicts.Over end → NotStuck (Some end)) → GoesWell KeepsBudget Ready (chosen_with number a r v t)
   chooses number a r verdicts.Valid t ready fine =
-      well_one Given KeepsBudget Ready (Chosen number a r) (chosen_with number a r verdicts.Valid t).state tt (record {
+      well_one KeepsBudget Ready (Chosen number a r) (chosen_with number a r verdicts.Valid t).state tt (record {
         board = ready.board;
         waiting = subst (All (SuitsSource plan t.board)) (sym (pending_executed t.agenda a.number)) (All-filter (other_than a.number) (SuitsSource plan t.board) (pending_of t.agenda) ready.waiting);
-        places = ready.places;
       })
   chooses number a r verdicts.Invalid t ready fine = record {
     emitted = All-cons KeepsBudget (Chosen number a r) (Invalid a.number ∷ []) tt (All-cons KeepsBudget (Invalid a.number) [] tt (All-nil KeepsBudget));
-    end = λ given. tt;
+    end = tt;
     state = record {
       board = ready.board;
       waiting = subst (All (SuitsSource plan t.board)) (sym (pending_obviated t.agenda a.number)) (All-filter (other_than a.number) (SuitsSource plan t.board) (pending_of t.agenda) ready.waiting);
-      places = ready.places;
     };
   }
   chooses number a r (verdicts.Over end) t ready fine = record {
     emitted = All-cons KeepsBudget (Chosen number a r) [] tt (All-nil KeepsBudget);
-    end = λ given. fine end refl;
+    end = fine end refl;
     state = ready;
   }
 
   goes_if_valid : (number : ℕ) (a : Activation) (r : ℤ) (v : Verdict) (t : State) (source : Option Source) → slice_get plan.sources a.source ≡ source → SuitsSource plan t.board a → Ready (chosen_with number a r v t).state
       → GoesOn (acting plan (if_valid v source) a (chosen_with number a r v t).state)
   goes_if_valid number a r verdicts.Valid t source at suits ready = acts_at source a (chosen_with number a r verdicts.Valid t).state at ready suits
-  goes_if_valid number a r verdicts.Invalid t source at suits ready = well_idle Given (All KeepsBudget) Ready (chosen_with number a r verdicts.Invalid t).state ready
-  goes_if_valid number a r (verdicts.Over end) t source at suits ready = well_idle Given (All KeepsBudget) Ready (chosen_with number a r (verdicts.Over end) t).state ready
+  goes_if_valid number a r verdicts.Invalid t source at suits ready = well_idle (All KeepsBudget) Ready (chosen_with number a r verdicts.Invalid t).state ready
+  goes_if_valid number a r (verdicts.Over end) t source at suits ready = well_idle (All KeepsBudget) Ready (chosen_with number a r (verdicts.Over end) t).state ready
 
   -- a state that is ready stays so on an equal blackboard
   pub ready_on : (s : State) (b : Blackboard) → b ≡ s.board → Ready s → Ready (with_board s b)
   ready_on s b same ready = record {
     board = subst (FitsPlan plan) (sym same) ready.board;
     waiting = subst (λ (x : Blackboard). All (SuitsSource plan x) (pending_of s.agenda)) (sym same) ready.waiting;
-    places = ready.places;
   }
 
   pub cycle_goes : (number : ℕ) (a : Activation) (s : State) → Ready s → SuitsSource plan s.board a → GoesOn (cycle plan number a s)
@@ -245,76 +233,79 @@ module _ (plan : Plan) (sound : IsWellMade plan) (natives : List Native) where
       let t = with_board s v.1 in
       let same : v.1 ≡ s.board = same_board source a s.board refl in
       let r = chosen_with number a (rating plan s a) v.0 t in
-      well_then Given (All KeepsBudget) Ready (segment r) (acting plan (if_valid v.0 source) a) r.end refl
-      (well_segment Given Ready r (chooses number a (rating plan s a) v.0 t (ready_on s v.1 same ready) (verdict_is_fine source a s refl ready suits)))
+      well_then (All KeepsBudget) Ready (segment r) (acting plan (if_valid v.0 source) a) r.end refl
+      (well_segment Ready r (chooses number a (rating plan s a) v.0 t (ready_on s v.1 same ready) (verdict_is_fine source a s refl ready suits)))
       (goes_if_valid number a (rating plan s a) v.0 t source refl (subst (λ (x : Blackboard). SuitsSource plan x a) (sym same) suits))
 
   -- ---- the whole run
 
   pub waits_for : (s : State) (c : Option Activation) → Ready s → GoesOn (wait_for plan s c)
   waits_for s None ready =
-      let q = answer_to plan sound natives quiescence s ready refl in
+      let q = answer_to plan sound quiescence s ready refl in
       let note : List Note = Board (happened quiescence) ∷ [] in
-      well_segment Given Ready (after_emitted note (response plan quiescence s)) (record {
+      well_segment Ready (after_emitted note (response plan quiescence s)) (record {
         emitted = All-cons KeepsBudget (Board (happened quiescence)) (response plan quiescence s).emitted tt q.emitted;
         end = q.end;
         state = q.state;
       })
-  waits_for s (Some a) ready = well_idle Given (All KeepsBudget) Ready s ready
+  waits_for s (Some a) ready = well_idle (All KeepsBudget) Ready s ready
 
   last : (t : State) (c : Option Activation) → Ready t → GoesOn (if_chosen t c (λ a. over finishes.Limit t))
-  last t None ready = well_over Given (All KeepsBudget) Ready finishes.Quiescence t (λ given. tt) ready
-  last t (Some a) ready = well_over Given (All KeepsBudget) Ready finishes.Limit t (λ given. tt) ready
+  last t None ready = well_over (All KeepsBudget) Ready finishes.Quiescence t tt ready
+  last t (Some a) ready = well_over (All KeepsBudget) Ready finishes.Limit t tt ready
 
   pub suits_chosen : (t : State) (a : Activation) → choice plan t ≡ Some a → Ready t → SuitsSource plan t.board a
   suits_chosen t a is ready = All-contains (SuitsSource plan t.board) (pending_of t.agenda) a ready.waiting (chosen_some (rating plan t) plan.floor (pending_of t.agenda) a is).waits
 
   next_cycle : (made left : ℕ) (t : State) (c : Option Activation) → choice plan t ≡ c → ((s : State) → Ready s → GoesOn (cycles plan (made + 1) left s)) → Ready t
       → GoesOn (if_chosen t c (λ a. and_then (cycle plan (made + 1) a t) (cycles plan (made + 1) left)))
-  next_cycle made left t None is rest ready = well_over Given (All KeepsBudget) Ready finishes.Quiescence t (λ given. tt) ready
+  next_cycle made left t None is rest ready = well_over (All KeepsBudget) Ready finishes.Quiescence t tt ready
   next_cycle made left t (Some a) is rest ready =
       let p = cycle plan (made + 1) a t in
-      well_then Given (All KeepsBudget) Ready p (cycles plan (made + 1) left) p.end refl (cycle_goes (made + 1) a t ready (suits_chosen t a is ready)) (rest p.state)
+      well_then (All KeepsBudget) Ready p (cycles plan (made + 1) left) p.end refl (cycle_goes (made + 1) a t ready (suits_chosen t a is ready)) (rest p.state)
 
   pub cycles_go : (made left : ℕ) (s : State) → Ready s → GoesOn (cycles plan made left s)
   unfolding cycles
   cycles_go made zero s ready =
       let p = wait plan s in
-      well_then Given (All KeepsBudget) Ready p (λ t. if_chosen t (choice plan t) (λ a. over finishes.Limit t)) p.end refl (waits_for s (choice plan s) ready) (last p.state (choice plan p.state))
+      well_then (All KeepsBudget) Ready p (λ t. if_chosen t (choice plan t) (λ a. over finishes.Limit t)) p.end refl (waits_for s (choice plan s) ready) (last p.state (choice plan p.state))
   cycles_go made (suc left) s ready =
       let p = wait plan s in
-      well_then Given (All KeepsBudget) Ready p (λ t. if_chosen t (choice plan t) (λ a. and_then (cycle plan (made + 1) a t) (cycles plan (made + 1) left))) p.end refl (waits_for s (choice plan s) ready)
+      well_then (All KeepsBudget) Ready p (λ t. if_chosen t (choice plan t) (λ a. and_then (cycle plan (made + 1) a t) (cycles plan (made + 1) left))) p.end refl (waits_for s (choice plan s) ready)
       (next_cycle made left p.state (choice plan p.state) refl (λ t. cycles_go (made + 1) left t))
 
   -- ---- what else a host has a run do
 
   rests : (t : State) (c : Option Activation) → Ready t → GoesOn (if_chosen t c (λ a. idle t))
-  rests t None ready = well_over Given (All KeepsBudget) Ready finishes.Quiescence t (λ given. tt) ready
-  rests t (Some a) ready = well_idle Given (All KeepsBudget) Ready t ready
+  rests t None ready = well_over (All KeepsBudget) Ready finishes.Quiescence t tt ready
+  rests t (Some a) ready = well_idle (All KeepsBudget) Ready t ready
 
   turns : (made : ℕ) (s : State) (c : Option Activation) → choice plan s ≡ c → Ready s → GoesOn (turn_by plan made s c)
   turns made s (Some a) is ready = cycle_goes (made + 1) a s ready (suits_chosen s a is ready)
   turns made s None is ready =
       let p = quiet plan s in
-      well_then Given (All KeepsBudget) Ready p (λ t. if_chosen t (choice plan t) (λ a. idle t)) p.end refl (waits_for s None ready) (rests p.state (choice plan p.state))
+      well_then (All KeepsBudget) Ready p (λ t. if_chosen t (choice plan t) (λ a. idle t)) p.end refl (waits_for s None ready) (rests p.state (choice plan p.state))
 
   pub turn_goes : (made : ℕ) (s : State) → Ready s → GoesOn (turn plan made s)
   turn_goes made s ready = turns made s (choice plan s) refl ready
 
   pub post_goes : (asks : List Ask) (s : State) → Ready s → GoesOn (posting plan asks s)
-  post_goes asks s ready = reports plan sound natives (after_emitted (Posted ∷ []) (asked (λ n. PostEnded n) asks s)) (posts_well plan sound natives asks s ready)
+  post_goes asks s ready = reports plan sound (after_emitted (Posted ∷ []) (asked (λ n. PostEnded n) asks s)) (posts_well plan sound asks s ready)
 
-  module _ (board : Blackboard) (limit : ℕ) (fits : FitsPlan plan board) where
-    pub first_ready : Ready (first_state plan board natives)
-    first_ready = record { board = fits; waiting = All-nil (SuitsSource plan board); places = λ name. refl }
+  pub answer_goes : (asks : List Ask) (s : State) → Ready s → GoesOn (answering plan asks s)
+  answer_goes asks s ready = reports plan sound (asked (λ n. NativeEnded n) asks s) (answers_well plan sound asks s ready)
+
+  module _ (natives : List Native) (board : Blackboard) (limit : ℕ) (fits : FitsPlan plan board) where
+    first_ready : Ready (first_state plan board natives)
+    first_ready = record { board = fits; waiting = All-nil (SuitsSource plan board) }
 
     pub first_well : IsWell (noted (first_state plan board natives) [] None)
-    first_well = well_noted plan sound natives (first_state plan board natives) [] None first_ready (All-nil KeepsBudget) refl (λ given. tt)
+    first_well = well_noted plan sound (first_state plan board natives) [] None first_ready (All-nil KeepsBudget) refl tt
 
     goes : GoesOn (unfinished plan board natives limit)
     goes =
         let p = start plan board natives in
-        well_then Given (All KeepsBudget) Ready p (cycles plan 0 limit) p.end refl (reports plan sound natives (noted (first_state plan board natives) [] None) first_well) (cycles_go 0 limit p.state)
+        well_then (All KeepsBudget) Ready p (cycles plan 0 limit) p.end refl (reports plan sound (noted (first_state plan board natives) [] None) first_well) (cycles_go 0 limit p.state)
 
     closings_keep : (closings : List Closing) → All KeepsBudget (map Closed closings)
     closings_keep [] = All-nil KeepsBudget
@@ -324,8 +315,8 @@ module _ (plan : Plan) (sound : IsWellMade plan) (natives : List Native) where
     finish_keeps None ns = All-nil (All KeepsBudget)
     finish_keeps (Some end) ns = All-cons (All KeepsBudget) (finish end ns) [] (All-cons KeepsBudget (Finished end) (map Closed (closings_of ns)) tt (closings_keep (closings_of ns))) (All-nil (All KeepsBudget))
 
-    pub run_not_stuck : ¬ LacksNative plan natives → NotStuck (run plan board natives limit).end
-    run_not_stuck given = goes.end given
+    pub run_not_stuck : NotStuck (run plan board natives limit).end
+    run_not_stuck = goes.end
 
     pub run_keeps_budgets : All KeepsBudget (notes_of (run plan board natives limit))
     run_keeps_budgets =
@@ -334,13 +325,13 @@ module _ (plan : Plan) (sound : IsWellMade plan) (natives : List Native) where
         all_told KeepsBudget (p.emitted ++ last) (All-append (All KeepsBudget) p.emitted last goes.emitted (finish_keeps p.end p.state.natives))
 
     pub run_ready : IsReady plan (run plan board natives limit).state
-    run_ready = is_ready plan sound natives (run plan board natives limit).state goes.state
+    run_ready = goes.state
 
-  pub run_begins : (board : Blackboard) (limit : ℕ) (before : List Note) (number : ℕ) (a : Activation) (r : ℤ) → FitsPlan plan board → At (notes_of (run plan board natives limit)) before (Chosen number a r)
+  pub run_begins : (natives : List Native) (board : Blackboard) (limit : ℕ) (before : List Note) (number : ℕ) (a : Activation) (r : ℤ) → FitsPlan plan board → At (notes_of (run plan board natives limit)) before (Chosen number a r)
       → BeginsFor plan (run plan board natives (number - 1)).state a
-  run_begins board limit before number a r fits at =
+  run_begins natives board limit before number a r fits at =
       let s = (run plan board natives (number - 1)).state in
-      let ready = (goes board (number - 1) fits).state in
+      let ready = (goes natives board (number - 1) fits).state in
       let chosen' = run_chooses plan board natives limit before number a r at in
       begins_for s a ready (All-contains (SuitsSource plan s.board) (pending_of s.agenda) a ready.waiting chosen'.best.waits)
     where
@@ -350,4 +341,4 @@ module _ (plan : Plan) (sound : IsWellMade plan) (natives : List Native) where
 
 -- what sources ask about an event in a state that is ready
 pub state_asks : (plan : Plan) (s : State) (event : Event) → IsWellMade plan → IsReady plan s → IsEventOf plan.schema s.board event → AsksFor plan s event
-state_asks plan s event made ready here = event_asks plan made s.natives s event (record { board = ready.board; waiting = ready.waiting; places = λ name. refl }) here
+state_asks plan s event made ready here = event_asks plan made s event ready here

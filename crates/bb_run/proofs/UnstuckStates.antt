@@ -21,8 +21,6 @@ use Rattle.bb_trace.specs.Match.{any_match}
 use Rattle.bb_trace.specs.Reaction.{Reaction}
 use Rattle.bb_trace.specs.Applied.{applied}
 use Rattle.bb_trace.specs.Ask.{Ask}
-use Rattle.bb_trace.specs.Native.{Native}
-use Rattle.bb_trace.specs.Roster.{place_of}
 use Rattle.bb_trace.proofs.Laws.{applied_fits, applied_leads}
 use Rattle.bb_trace.specs.Source.{Source}
 use Rattle.bb_trace.specs.World.{after_take}
@@ -35,7 +33,6 @@ use Rattle.bb_run.specs.State.{State, with_board}
 use Rattle.bb_run.specs.Emission.{Response, Stretch, emitting, idle, over, after_emitted, and_then_unless, segment}
 use Rattle.bb_run.specs.Asking.{entry_of}
 use Rattle.bb_run.specs.Processing.{event_in, events_in, processing_all, reported, response}
-use Rattle.bb_run.specs.Causes.{LacksNative}
 use Rattle.bb_run.specs.Run.{asked, each_applied, with_notes_taken, noted}
 use Rattle.bb_run.specs.Unstuck.{AsksFor, FitsPlan, IsEventOf, IsReady, IsWellMade, KeepsBudget, NotStuck, SuitsSource}
 use Rattle.bb_run.proofs.EntryLemmas.{event_lasts, noted_events}
@@ -51,43 +48,33 @@ board_notes (note ∷ notes) more all = All-cons KeepsBudget (Board note) (map B
 pub there_at : {X : Type 0} (xs : List X) (i : ℕ) (x : X) → slice_get xs i ≡ Some x → Contains xs x
 there_at xs i x is = (i, slice_get_within xs i x is, get_or_from_slice_get xs i x x is)
 
-module _ (plan : Plan) (sound : IsWellMade plan) (natives : List Native) where
-  -- a state is ready, and has the natives that were handed in
-  pub record Ready (s : State) : Type 0 where
-    pub board : FitsPlan plan s.board
-    pub waiting : All (SuitsSource plan s.board) (pending_of s.agenda)
-    pub places : (name : List ℕ) → place_of s.natives name ≡ place_of natives name
-
-  pub is_ready : (s : State) → Ready s → IsReady plan s
-  is_ready s ready = record { board = ready.board; waiting = ready.waiting }
-
-  abbrev pub Given : Type 0
-  Given = ¬ LacksNative plan natives
+module _ (plan : Plan) (sound : IsWellMade plan) where
+  abbrev pub Ready : State → Type 0
+  Ready = IsReady plan
 
   abbrev pub GoesOn : Stretch → Type 0
-  GoesOn = GoesWell Given (All KeepsBudget) Ready
+  GoesOn = GoesWell (All KeepsBudget) Ready
 
   -- ---- events are processed
 
-  waits_in : (s : State) (ready : Ready s) → Waits plan sound Given s.board ready.board s.natives s
-  waits_in s ready = record { board = refl; natives_are = refl; waiting = ready.waiting }
+  waits_in : (s : State) (ready : Ready s) → Waits plan sound s.board ready.board s
+  waits_in s ready = record { board = refl; waiting = ready.waiting }
 
-  ready_of : (b : Blackboard) (fits : FitsPlan plan b) (ns : List Native) → ((name : List ℕ) → place_of ns name ≡ place_of natives name) → (s : State) → Waits plan sound Given b fits ns s → Ready s
-  ready_of b fits ns places s w = record {
+  ready_of : (b : Blackboard) (fits : FitsPlan plan b) (s : State) → Waits plan sound b fits s → Ready s
+  ready_of b fits s w = record {
     board = subst (FitsPlan plan) (sym w.board) fits;
     waiting = subst (λ (x : Blackboard). All (SuitsSource plan x) (pending_of s.agenda)) (sym w.board) w.waiting;
-    places = λ name. ap (λ ms. place_of ms name) w.natives_are ∙ places name;
   }
 
-  pub answer_to : (event : Event) (s : State) → Ready s → IsEventOf plan.schema s.board event → GoesWell Given KeepsBudget Ready (response plan event s)
+  pub answer_to : (event : Event) (s : State) → Ready s → IsEventOf plan.schema s.board event → GoesWell KeepsBudget Ready (response plan event s)
   answer_to event s ready here =
-      well_weaker Given KeepsBudget (Waits plan sound Given s.board ready.board s.natives) Ready (response plan event s) (ready_of s.board ready.board s.natives ready.places)
-      (all_answer plan sound Given s.board ready.board s.natives event here s (waits_in s ready))
+      well_weaker KeepsBudget (Waits plan sound s.board ready.board) Ready (response plan event s) (ready_of s.board ready.board)
+      (all_answer plan sound s.board ready.board event here s (waits_in s ready))
 
   pub processes : (list : List Event) (s : State) → All (IsEventOf plan.schema s.board) list → Ready s → GoesOn (processing_all plan list s)
   processes list s here ready =
-      well_weaker Given (All KeepsBudget) (Waits plan sound Given s.board ready.board s.natives) Ready (processing_all plan list s) (ready_of s.board ready.board s.natives ready.places)
-      (processes_all plan sound Given s.board ready.board s.natives list s here (waits_in s ready))
+      well_weaker (All KeepsBudget) (Waits plan sound s.board ready.board) Ready (processing_all plan list s) (ready_of s.board ready.board)
+      (processes_all plan sound s.board ready.board list s here (waits_in s ready))
 
   -- what sources ask about an event
   module _ (s : State) (event : Event) (ready : Ready s) (here : IsEventOf plan.schema s.board event) where
@@ -96,16 +83,16 @@ module _ (plan : Plan) (sound : IsWellMade plan) (natives : List Native) where
         → Begins reaction.code.part reaction.code.frames reaction.code.code (entry_of a.unit (Some (unit_of event))) s.board
     reacts source reaction a waits at (inl is) matched =
         let suits = All-contains (SuitsSource plan s.board) (pending_of s.agenda) a ready.waiting waits in
-        obviate_begins plan sound Given s.board ready.board s.natives event here source (there_at plan.sources a.source source at) reaction is matched a (suits source at)
+        obviate_begins plan sound s.board ready.board event here source (there_at plan.sources a.source source at) reaction is matched a (suits source at)
     reacts source reaction a waits at (inr is) matched =
         let suits = All-contains (SuitsSource plan s.board) (pending_of s.agenda) a ready.waiting waits in
-        retrigger_begins plan sound Given s.board ready.board s.natives event here source (there_at plan.sources a.source source at) reaction is matched a (suits source at)
+        retrigger_begins plan sound s.board ready.board event here source (there_at plan.sources a.source source at) reaction is matched a (suits source at)
 
     pub event_asks : AsksFor plan s event
     event_asks = record {
-      require = λ source code there' is matched. require_begins plan sound Given s.board ready.board s.natives event here source there' code is matched;
+      require = λ source code there' is matched. require_begins plan sound s.board ready.board event here source there' code is matched;
       react = reacts;
-      leaves = is_ready (response plan event s).state (answer_to event s ready here).state;
+      leaves = (answer_to event s ready here).state;
     }
 
   -- ---- what was noted is emitted, and its events are processed
@@ -126,17 +113,17 @@ module _ (plan : Plan) (sound : IsWellMade plan) (natives : List Native) where
   }
 
   taken_ready : (s : State) → Ready s → Ready (with_notes_taken s)
-  taken_ready s ready = record { board = taken_fits s.board ready.board; waiting = ready.waiting; places = ready.places }
+  taken_ready s ready = record { board = taken_fits s.board ready.board; waiting = ready.waiting }
 
   -- a response goes well, and its events are of the blackboard that it leaves
   pub record IsWell (r : Response) : Type 0 where
-    pub well : GoesWell Given KeepsBudget Ready r
+    pub well : GoesWell KeepsBudget Ready r
     pub events : All (IsEventOf plan.schema r.state.board) (events_in r.emitted)
 
   pub reports : (r : Response) → IsWell r → GoesOn (reported plan r)
-  reports r is = well_then Given (All KeepsBudget) Ready (segment r) (processing_all plan (events_in r.emitted)) r.end refl (well_segment Given Ready r is.well) (processes (events_in r.emitted) r.state is.events)
+  reports r is = well_then (All KeepsBudget) Ready (segment r) (processing_all plan (events_in r.emitted)) r.end refl (well_segment Ready r is.well) (processes (events_in r.emitted) r.state is.events)
 
-  pub well_noted : (s : State) (more : List Note) (end : Option End) → Ready s → All KeepsBudget more → events_in more ≡ [] → (Given → NotStuck end) → IsWell (noted s more end)
+  pub well_noted : (s : State) (more : List Note) (end : Option End) → Ready s → All KeepsBudget more → events_in more ≡ [] → NotStuck end → IsWell (noted s more end)
   well_noted s more end ready fine none not = record {
     well = record { emitted = board_notes s.board.world.notes more fine; end = not; state = taken_ready s ready };
     events = noted_events plan.schema sound.schema s.board s.board.world.notes more ready.board.world.notes none;
@@ -175,10 +162,9 @@ module _ (plan : Plan) (sound : IsWellMade plan) (natives : List Native) where
         board = record { schema = same; world = subst (λ (x : Schema). Fits x b.world) same fits };
         waiting = All-weaker (SuitsSource plan s.board) (SuitsSource plan b)
             (λ x own other there'. was_outlives plan.schema s.board.world b.world other.class x.unit leads.outlives (own other there')) (pending_of s.agenda) ready.waiting;
-        places = ready.places;
       }
 
-  nothing_asked : (s : State) (r : Response) → r.emitted ≡ [] → r.state ≡ s → (Given → NotStuck r.end) → AskGoes s r
+  nothing_asked : (s : State) (r : Response) → r.emitted ≡ [] → r.state ≡ s → NotStuck r.end → AskGoes s r
   nothing_asked s r none same not ready = record {
     is = record {
       well = record { emitted = subst (All KeepsBudget) (sym none) (All-nil KeepsBudget); end = not; state = subst Ready (sym same) ready };
@@ -204,17 +190,17 @@ module _ (plan : Plan) (sound : IsWellMade plan) (natives : List Native) where
 
   pub ask_parts : (asks : List Ask) → HoldsOfAsks asks AskGoes
   ask_parts asks = record {
-    nothing = λ s. nothing_asked s (idle s) refl refl (λ given. tt);
+    nothing = λ s. nothing_asked s (idle s) refl refl tt;
     changed = λ s ask b is ready. record {
-      is = well_noted (with_board s b) [] None (changed_ready s ask b is ready) (All-nil KeepsBudget) refl (λ given. tt);
+      is = well_noted (with_board s b) [] None (changed_ready s ask b is ready) (All-nil KeepsBudget) refl tt;
       outlives = (applied_leads ask s.board b is).outlives;
     };
     refused = λ s number refusal ready. record {
-      is = record { well = well_one Given KeepsBudget Ready (Refused number refusal) s tt ready; events = All-nil (IsEventOf plan.schema s.board) };
+      is = record { well = well_one KeepsBudget Ready (Refused number refusal) s tt ready; events = All-nil (IsEventOf plan.schema s.board) };
       outlives = same_units s.board.world.units;
     };
-    full = λ s ask there came. nothing_asked s (over finishes.Full s) refl refl (λ given. tt);
-    no_memory = λ s ask came. nothing_asked s (over finishes.Full s) refl refl (λ given. tt);
+    full = λ s ask there came. nothing_asked s (over finishes.Full s) refl refl tt;
+    no_memory = λ s ask came. nothing_asked s (over finishes.Full s) refl refl tt;
     further = λ s r next first rest. asks_then s r next r.end refl first rest;
   }
 
@@ -224,12 +210,18 @@ module _ (plan : Plan) (sound : IsWellMade plan) (natives : List Native) where
   asks_end note fine none r None is it =
       let no_events : events_in (note ∷ []) ≡ [] = ap (λ (es : List Event). es ++ []) none in
       record {
-        well = record { emitted = All-append KeepsBudget r.emitted (note ∷ []) it.well.emitted (All-cons KeepsBudget note [] fine (All-nil KeepsBudget)); end = λ given. tt; state = it.well.state };
+        well = record { emitted = All-append KeepsBudget r.emitted (note ∷ []) it.well.emitted (All-cons KeepsBudget note [] fine (All-nil KeepsBudget)); end = tt; state = it.well.state };
         events = subst (All (IsEventOf plan.schema r.state.board)) (sym (events_two r.emitted (note ∷ []) ∙ (ap (λ (es : List Event). events_in r.emitted ++ es) no_events ∙ append-nil (events_in r.emitted)))) it.events;
       }
 
   pub native_ends : (asks : ℕ) (r : Response) (end : Option End) → r.end ≡ end → IsWell r → IsWell (and_then_unless end r (λ u. emitting (NativeEnded asks ∷ []) u None))
   native_ends asks r end is well = asks_end (NativeEnded asks) tt refl r end is well
+
+  -- what a native that is due asks
+  pub answers_well : (asks : List Ask) (s : State) → Ready s → IsWell (asked (λ n. NativeEnded n) asks s)
+  answers_well asks s ready =
+      let r = each_applied 1 asks s in
+      native_ends (length asks) r r.end refl (asks_hold asks AskGoes (ask_parts asks) s ready).is
 
   -- asks from outside
   pub posts_well : (asks : List Ask) (s : State) → Ready s → IsWell (after_emitted (Posted ∷ []) (asked (λ n. PostEnded n) asks s))

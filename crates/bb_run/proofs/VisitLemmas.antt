@@ -42,12 +42,14 @@ leaves_none None = refl
 leaves_none (Some finishes.Quiescence) = refl
 leaves_none (Some finishes.Limit) = refl
 leaves_none (Some finishes.Full) = tt
+leaves_none (Some (finishes.Due a)) = tt
 leaves_none (Some (finishes.Stuck reason)) = tt
 
 leaves_early : (end : End) (left : List Event) → IsEarly (Some end) → MayLeave (Some end) left
 leaves_early finishes.Quiescence left early = absurd early
 leaves_early finishes.Limit left early = absurd early
 leaves_early finishes.Full left early = tt
+leaves_early (finishes.Due a) left early = tt
 leaves_early (finishes.Stuck reason) left early = tt
 
 module _ (plan : Plan) where

@@ -57,7 +57,7 @@ use Rattle.bb_run.proofs.FociLemmas.{fold_range}
 use Rattle.bb_run.proofs.ReadLemmas.{run_reads}
 use Rattle.bb_run.proofs.AskRule.{HoldsOfAsks, asks_hold}
 use Rattle.bb_run.proofs.ResponseRule.{HoldsOfParts, holds}
-use Rattle.bb_run.specs.Turns.{posting, turn, turn_by}
+use Rattle.bb_run.specs.Turns.{answering, posting, turn, turn_by}
 use Rattle.bb_run.proofs.StateRule.{IsKept, cycle_keeps, cycles_keep, goes_if, kept_then, reports, run_keeps, start_keeps, wait_keeps}
 
 -- ---- what the agenda is told of one unit
@@ -350,6 +350,12 @@ module _ (plan : Plan) (reading : AsksByReading plan) where
       let r = each_applied 1 asks s in
       reports plan Knows kept (after_emitted (Posted ∷ []) (asked (λ n. PostEnded n) asks s))
       (kept_then plan Knows r (λ u. emitting (PostEnded (length asks) ∷ []) u None) r.end (asks_hold asks KnowsStill (ask_parts asks) s k) (λ u known. known))
+
+  pub answer_knows : (asks : List Ask) (s : State) → Knows s → Knows (answering plan asks s).state
+  answer_knows asks s k =
+      let r = each_applied 1 asks s in
+      reports plan Knows kept (asked (λ n. NativeEnded n) asks s)
+      (kept_then plan Knows r (λ u. emitting (NativeEnded (length asks) ∷ []) u None) r.end (asks_hold asks KnowsStill (ask_parts asks) s k) (λ u known. known))
 
   -- ---- the whole run
 

@@ -50,6 +50,7 @@ pub record IsAnswered (plan : Plan) (notes : List Note) : Type 0 where
   -- at a choice all that the events before it ask for is answered
   pub choices : (before : List Note) (cycle : ℕ) (a : Activation) (r : ℤ) → At notes before (Chosen cycle a r)
       → answered_in before ≡ asked_for plan (events_in before)
-  -- at a finish all that the events before it ask for is answered, or, where the run is full or stuck, the first of it
+  -- at a finish all that the events before it ask for is answered, or, where the run is full or stuck or a native is
+  -- due, the first of it
   pub finish : (before : List Note) (end : End) → At notes before (Finished end)
       → (owed : List (ℕ × ℕ)) × (answered_in before ++ owed ≡ asked_for plan (events_in before)) × MayOwe end owed

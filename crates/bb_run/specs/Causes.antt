@@ -1,12 +1,13 @@
--- Why a run ends full or stuck.
+-- Why a run ends full or stuck, or with a native due.
 use Rattle.std.specs.Prelude.{◌≡◌, ◌⊎◌, ◌≤◌, ◌-◌, ◌^◌, ℕ, ⊤, true, Contains, List, length, Option, Some, None, Err, option_map}
+use Rattle.std.specs.Prelude.{slice_get}
+use Rattle.bb_agenda.specs.Activation.{Activation}
 use Rattle.bb_agenda.specs.Agenda.{Agenda, pending_of}
 use Rattle.bb_verify.specs.Accepted.{Checked}
 use Rattle.bb_machine.specs.Entry.{Entry}
 use Rattle.bb_machine.specs.Stop.{Stop}
 use Rattle.bb_machine.specs.Stop.TheVariants as stops
 use Rattle.bb_machine.specs.Stuck.{Stuck}
-use Rattle.bb_machine.specs.Stuck.TheVariants.{Missing}
 use Rattle.bb_machine.specs.Units.{is_full as no_unit_left}
 use Rattle.bb_trace.specs.Act.TheVariants as acts
 use Rattle.bb_trace.specs.Applied.{applied}
@@ -74,6 +75,12 @@ LacksNative plan natives =
     (source : Source) × Contains plan.sources source × (source.act ≡ acts.Native)
     × (place_of natives source.name ≡ None)
 
+-- the source of an activation has a native for its act, and there is none of its name
+abbrev pub LacksNativeFor : Plan → List Native → Activation → Type 0
+LacksNativeFor plan natives a =
+    (source : Source) × (slice_get plan.sources a.source ≡ Some source) × (source.act ≡ acts.Native)
+    × (place_of natives source.name ≡ None)
+
 -- as many activations are pending as may be, or the last number was given
 abbrev pub IsFull : Agenda → Type 0
 IsFull agenda = (65536 ≤ length (pending_of agenda)) ⊎ (2 ^ 63 - 1 ≤ length agenda.given)
@@ -94,11 +101,12 @@ pub data Cause (plan : Plan) (s : State) : End → Type 0 where
   -- the run is stuck: its last execution was
   of_execution : (reason : Stuck) (steps found : ℕ) → WasStopped plan s.board (stops.Stuck reason steps found)
       → Cause plan s (ends.Stuck reason)
-  -- the run is stuck: there is no native to call
-  of_native : LacksNative plan s.natives → Cause plan s (ends.Stuck Missing)
+  -- a native is due: there is none to call
+  of_native : (a : Activation) → LacksNativeFor plan s.natives a → Cause plan s (ends.Due a)
 
--- a run that ends full or stuck has a cause for it
+-- a run that ends full or stuck, or with a native due, has a cause for it
 abbrev pub HasCause : Plan → State → Option End → Type 0
 HasCause plan s (Some ends.Full) = Cause plan s ends.Full
+HasCause plan s (Some (ends.Due a)) = Cause plan s (ends.Due a)
 HasCause plan s (Some (ends.Stuck reason)) = Cause plan s (ends.Stuck reason)
 HasCause plan s _ = ⊤

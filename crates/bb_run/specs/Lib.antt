@@ -20,11 +20,11 @@ pub mod Asked
 pub mod Phases
 -- what comes after a choice
 pub mod Executed
--- why a run ends full or stuck
+-- why a run ends full or stuck, or with a native due
 pub mod Causes
 -- the events that a run processes, and the states in which it does
 pub mod Processed
--- why no run is stuck
+-- why no run is stuck, and none ends with a native due
 pub mod Unstuck
 -- what leaves the blackboard as it was
 pub mod Reads

@@ -78,13 +78,14 @@ processed_in plan board natives limit =
 
 -- ---- none is left out
 
--- a run with this end may leave these events unprocessed: none, unless it is full or stuck
+-- a run with this end may leave these events unprocessed: none, unless it is full or stuck, or a native is due
 abbrev pub MayLeave : Option End → List Event → Type 0
 MayLeave (Some ends.Full) left = Unit {0}
+MayLeave (Some (ends.Due a)) left = Unit {0}
 MayLeave (Some (ends.Stuck reason)) left = Unit {0}
 MayLeave _ left = left ≡ []
 
--- a run processes the events that it emits, in order; where it is full or stuck, the first of them
+-- a run processes the events that it emits, in order; where it is full or stuck or a native is due, the first of them
 pub record ProcessesEmitted (visits : Visits) (run : Stretch) : Type 0 where
   pub left : List Event
   pub all : map (λ (v : Event × State). v.0) visits ++ left ≡ events_in (notes_of run)

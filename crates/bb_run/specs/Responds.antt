@@ -29,7 +29,7 @@ noted_on board = map Board board.world.notes
 abbrev pub taken : Blackboard → Blackboard
 taken board = with_world board (after_take board.world)
 
--- a run with this end may leave out these responses: none, unless it is full or stuck
+-- a run with this end may leave out these responses: none, unless it is full or stuck, or a native is due
 abbrev pub MayOmit : End → List Note → Type 0
 MayOmit ends.Quiescence left = left ≡ []
 MayOmit ends.Limit left = left ≡ []

@@ -17,7 +17,6 @@ use Rattle.bb_machine.specs.Answer.{Answer}
 use Rattle.bb_machine.specs.Answer.TheVariants.{No}
 use Rattle.bb_machine.specs.Outcome.{Outcome}
 use Rattle.bb_machine.specs.Stop.{Stop}
-use Rattle.bb_machine.specs.Stuck.TheVariants.{Missing}
 use Rattle.bb_trace.specs.Act.{Act}
 use Rattle.bb_trace.specs.Act.TheVariants as acts
 use Rattle.bb_trace.specs.Source.{Source}
@@ -99,9 +98,9 @@ each_applied number (ask ∷ more) s =
 abbrev pub asked : (last : ℕ → Note) → List Ask → State → Response
 asked last asks s = and_then (each_applied 1 asks s) (λ t. emitting (last (length asks) ∷ []) t None)
 
--- the native at a place is called, and its asks are applied; without a native the run is stuck
+-- the native at a place is called, and its asks are applied; without a native it is due
 abbrev pub calling : Option ℕ → Activation → State → Response
-calling None a s = over (finishes.Stuck Missing) s
+calling None a s = over (finishes.Due a) s
 calling (Some place) a s =
     let seen = sight_of s.board in
     asked NativeEnded (asks_at s.natives place a.unit seen) (with_natives s (after_act_at s.natives place a.unit seen))

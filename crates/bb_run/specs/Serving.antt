@@ -1,5 +1,5 @@
 -- What the code of a run needs so that each code is executed for units that fit its part.
-use Rattle.std.specs.Prelude.{◌≡◌, ℕ, All, List, Some, None}
+use Rattle.std.specs.Prelude.{◌≡◌, All, List, Some}
 use Rattle.bb_verify.specs.Accepted.{Checked}
 use Rattle.bb_machine.specs.Entry.{Entry}
 use Rattle.bb_machine.specs.NeverWrong.{Begins}
@@ -9,12 +9,9 @@ use Rattle.bb_trace.specs.Board.{Board as Blackboard}
 use Rattle.bb_trace.specs.Event.{Event}
 use Rattle.bb_trace.specs.Events.{unit_of}
 use Rattle.bb_trace.specs.Law.{IsMade}
-use Rattle.bb_trace.specs.Native.{Native}
-use Rattle.bb_trace.specs.Roster.{place_of}
 use Rattle.bb_trace.specs.Reaction.{Reaction}
 use Rattle.bb_run_plan.specs.Plan.{Plan}
 use Rattle.bb_run.specs.Asking.{entry_of}
-use Rattle.bb_run.specs.Causes.{LacksNative}
 use Rattle.bb_run.specs.Knowing.{Knows}
 use Rattle.bb_run.specs.State.{State}
 use Rattle.bb_run.specs.Unstuck.{FitsPlan, IsReady, IsReadyFor, IsWellMade, SuitsSource}
@@ -32,15 +29,9 @@ ReactsTo reaction event board a = CanExecute reaction.code (entry_of a.unit (Som
 abbrev pub ReactsToAll : Reaction → Event → Blackboard → List Activation → Type 0
 ReactsToAll reaction event board items = All (ReactsTo reaction event board) items
 
--- a native of the name was handed in
-abbrev pub HasNative : List Native → (name : List ℕ) → Type 0
-HasNative natives name = ¬ (place_of natives name ≡ None)
-
--- sources that were made under the plan's schema, each with a native where it has no code for its act, and a state that
--- is ready
+-- sources that were made under the plan's schema, and a state that is ready
 pub record Serves (plan : Plan) (s : State) : Type 0 where
   pub sound : IsWellMade plan
-  pub natives : ¬ LacksNative plan s.natives
   pub ready : IsReady plan s
 
 -- and an event of its blackboard
@@ -48,10 +39,9 @@ pub record ServesAt (plan : Plan) (event : Event) (s : State) : Type 0 where
   pub sound : IsWellMade plan
   pub ready : IsReadyFor plan (event, s)
 
--- such sources, and a blackboard and natives that a run may begin with
-pub record MayServe (plan : Plan) (board : Blackboard) (natives : List Native) : Type 0 where
+-- such sources, and a blackboard that a run may begin with
+pub record MayServe (plan : Plan) (board : Blackboard) : Type 0 where
   pub sound : IsWellMade plan
-  pub natives_are : ¬ LacksNative plan natives
   pub fits : FitsPlan plan board
 
 -- what holds of a run between two of its parts: the agenda knows the foci, and each code has units that fit its part
@@ -62,7 +52,6 @@ pub record IsSteady (plan : Plan) (s : State) : Type 0 where
 -- the part of it that no schema, plan or blackboard says of itself
 pub record Lasts (plan : Plan) (s : State) : Type 0 where
   pub made : ∥ All (IsMade plan.schema) plan.sources ∥₁
-  pub natives : ¬ LacksNative plan s.natives
   pub schema : s.board.schema ≡ plan.schema
   pub waiting : All (SuitsSource plan s.board) (pending_of s.agenda)
   pub foci : KnowsFoci plan s

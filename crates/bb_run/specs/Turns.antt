@@ -3,7 +3,7 @@ use Rattle.std.specs.Prelude.{ℕ, ◌+◌, List, [], ◌∷◌, length, Option,
 use Rattle.bb_agenda.specs.Activation.{Activation}
 use Rattle.bb_trace.specs.Ask.{Ask}
 use Rattle.bb_trace.specs.End.{End}
-use Rattle.bb_trace.specs.declared.note.Note.TheVariants.{Posted, PostEnded}
+use Rattle.bb_trace.specs.declared.note.Note.TheVariants.{NativeEnded, Posted, PostEnded}
 use Rattle.bb_run_plan.specs.Plan.{Plan}
 use Rattle.bb_run.specs.State.{State}
 use Rattle.bb_run.specs.Emission.{Stretch, after_emitted, and_then, idle, over}
@@ -30,6 +30,10 @@ turn plan made s = turn_by plan made s (choice plan s)
 -- asks from outside are emitted as such and applied, and then their events are processed
 abbrev pub posting : Plan → List Ask → State → Stretch
 posting plan asks s = reported plan (after_emitted (Posted ∷ []) (asked PostEnded asks s))
+
+-- what a native that is due asks is applied, and then the events are processed
+abbrev pub answering : Plan → List Ask → State → Stretch
+answering plan asks s = reported plan (asked NativeEnded asks s)
 
 -- a run that its host ends after `made` cycles: where it came to no end it first comes to rest, or to its limit
 abbrev pub settled : Plan → (made : ℕ) → Option End → State → Stretch

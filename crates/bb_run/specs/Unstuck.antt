@@ -88,6 +88,11 @@ abbrev pub NotStuck : Option End → Type 0
 NotStuck (Some (ends.Stuck reason)) = ⊥
 NotStuck _ = ⊤
 
+-- a run does not end with a native due
+abbrev pub NotDue : Option End → Type 0
+NotDue (Some (ends.Due a)) = ⊥
+NotDue _ = ⊤
+
 -- an execution made no more steps than the budget on its line
 abbrev pub KeepsBudget : Note → Type 0
 KeepsBudget (Ended steps found budget) = steps ≤ budget

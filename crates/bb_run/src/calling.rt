@@ -1,9 +1,9 @@
 //! Asks are applied to the blackboard one by one: those of a native, which a cycle calls where its source has one for
-//! its act (execution.rt), and those from outside (moves.rt).
+//! its act (execution.rt) or its host answers for, and those from outside (cycles.rt).
 
 ghost use Rattle.std.specs.Prelude.{◌≡◌, ◌<◌, IfOk, Some, length, map};
 ghost use Rattle.bb_trace.specs.Applied.{applied};
-ghost use Rattle.bb_trace.specs.declared.note.Note.TheVariants.{PostEnded};
+ghost use Rattle.bb_trace.specs.declared.note.Note.TheVariants.{NativeEnded, PostEnded};
 ghost use Rattle.bb_run.specs.Run.{asked, calling, each_applied, upon_ask};
 ghost use Rattle.bb_run.specs.Seen.{seen};
 ghost use Rattle.bb_run.specs.Emitting.{IsResponse};
@@ -75,6 +75,18 @@ pub(crate) fn call<N: NativeSource>(
     let alloc = *notes.allocator();
     let view = View::new(&state.board);
     let asks = state.roster.act(alloc, place, activation.unit, &view)?;
+    apply_answer(asks, state, notes)
+}
+
+/// Applies what a native asks, and appends the notes of that. Returns the end of the run if it ends there.
+pub(crate) fn apply_answer<N: NativeSource>(
+    asks: Vec<Ask>,
+    state: &mut State<N>,
+    notes: &mut Vec<Note>,
+) -> Result<Option<End>, AllocError>
+    ensures { IfOk result (IsResponse (asked NativeEnded asks.items (seen N.meaning state.old))
+        notes.old.items notes.new.items (seen N.meaning state.new)) }
+{
     let count = asks.len() as u64;
     if let Some(end) = apply_each(asks, state, notes)? {
         return Ok(Some(end));

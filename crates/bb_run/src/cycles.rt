@@ -4,14 +4,14 @@
 ghost use Rattle.std.specs.Prelude.{◌≡◌, ◌+◌, ◌-◌, Some, OnOk, false, option_and_then, option_map, slice_get};
 ghost use Rattle.bb_trace.specs.Page.{stopped_by_write};
 ghost use Rattle.bb_run.specs.Run.{acting, choice, cycle, cycles, if_valid};
-ghost use Rattle.bb_run.specs.Turns.{choices_of, posting, rested};
+ghost use Rattle.bb_run.specs.Turns.{answering, choices_of, posting, rested};
 ghost use Rattle.bb_run.specs.Unstuck.{SuitsSource};
 ghost use Rattle.bb_run.specs.Knowing.{Knows};
 ghost use Rattle.bb_run.specs.Seen.{seen};
 ghost use Rattle.bb_run.specs.Serving.{Serves};
 ghost use Rattle.bb_run.specs.Emitting.{Finishes, Makes, Same, Waits, at};
 
-use crate::calling::apply_posted;
+use crate::calling::{apply_answer, apply_posted};
 use crate::execution::{Verdict, execute, take_choice, validate};
 use crate::processing::source_at;
 use crate::runner::Runner;
@@ -218,6 +218,26 @@ impl<O: Out> Runner<'_, O> {
         let mut notes = Vec::new(self.alloc());
         notes.push(Note::Posted)?;
         let end = apply_posted(asks, state, &mut notes)?;
+        self.report(plan, &notes, end, state)
+    }
+
+    /// Applies what a native that is due asks, and processes the events of that. Returns the end of the run if it ends
+    /// there.
+    pub fn answer<N: NativeSource>(
+        &mut self,
+        plan: &Plan,
+        asks: Vec<Ask>,
+        state: &mut State<N>,
+    ) -> Result<Option<End>, Halt>
+        requires open { O.has_failed self.old.out.now ≡ false }
+        requires serves { Serves plan.now (seen N.meaning state.old) }
+        ensures same { Same self.old self.new }
+        ensures made { Makes plan.now (at O.taken self.old) (at O.taken self.new)
+            (answering plan.now asks.items (seen N.meaning state.old)) (seen N.meaning state.new) result }
+        ensures failed { O.has_failed self.new.out.now ≡ stopped_by_write result }
+    {
+        let mut notes = Vec::new(self.alloc());
+        let end = apply_answer(asks, state, &mut notes)?;
         self.report(plan, &notes, end, state)
     }
 }

@@ -1,14 +1,14 @@
 //! What a cycle does with its activation: it asks whether it is still of use, and executes its source's act. The cycle
 //! (cycles.rt) has the notes emitted.
 
-ghost use Rattle.std.specs.Prelude.{◌≡◌, IfOk, None, Some, map, option_map};
+ghost use Rattle.std.specs.Prelude.{◌≡◌, IfOk, None, Some, option_map};
 ghost use Rattle.bb_agenda.specs.Rating.{rating_in};
 ghost use Rattle.bb_trace.specs.Act.TheVariants.{Code as DoesCode, Native};
 ghost use Rattle.bb_verify.specs.Accepted.{Checked};
 ghost use Rattle.bb_run.specs.Asking.{entry_of};
 ghost use Rattle.bb_run.specs.Run.{chosen_with, executing, execution, validity, verdict_by};
 ghost use Rattle.bb_run.specs.Seen.{seen};
-ghost use Rattle.bb_run.specs.Serving.{CanExecute, HasNative};
+ghost use Rattle.bb_run.specs.Serving.{CanExecute};
 ghost use Rattle.bb_run.specs.Emitting.{IsResponse, Validates};
 
 use crate::asking::{Reply, ask, attempt, entry_of};
@@ -99,7 +99,7 @@ pub(crate) fn take_choice<N: NativeSource>(
 }
 
 /// Executes the act of a source for an activation, and appends the notes of it. Returns the end of the run if the
-/// execution came to no answer.
+/// execution came to no answer, or if the act is a native that was not handed in.
 pub(crate) fn execute<N: NativeSource>(
     source: &Source,
     activation: Activation,
@@ -108,8 +108,6 @@ pub(crate) fn execute<N: NativeSource>(
 ) -> Result<Option<End>, AllocError>
     requires begins { (code : Checked) → source.now.act ≡ DoesCode code
         → CanExecute code (entry_of activation.unit None) state.old.board }
-    requires native { source.now.act ≡ Native
-        → HasNative (map N.meaning state.old.roster.natives.items) source.now.name }
     ensures { IfOk result (IsResponse
         (execution source.now.name source.now.act activation (seen N.meaning state.old))
         notes.old.items notes.new.items (seen N.meaning state.new)) }
@@ -121,20 +119,19 @@ pub(crate) fn execute<N: NativeSource>(
     }
 }
 
-// Calls the native of a name, which was handed in.
+// Calls the native of a name. Where none of it was handed in it is due, and nothing happens.
 fn execute_native<N: NativeSource>(
     name: &str,
     activation: Activation,
     state: &mut State<N>,
     notes: &mut Vec<Note>,
 ) -> Result<Option<End>, AllocError>
-    requires there { HasNative (map N.meaning state.old.roster.natives.items) name.now }
     ensures { IfOk result (IsResponse (execution name.now Native activation (seen N.meaning state.old))
         notes.old.items notes.new.items (seen N.meaning state.new)) }
 {
     match state.roster.place(name) {
         Some(place) => call(place, activation, state, notes),
-        None => unreachable!(),
+        None => Ok(Some(End::due(activation))),
     }
 }
 

@@ -1,5 +1,9 @@
 //! How a run ends, also where it is cut short. `run` returns it.
 
+ghost use Rattle.std.specs.Prelude.{◌≡◌, Some};
+ghost use Rattle.bb_run.specs.Finish.{end_of};
+ghost use Rattle.bb_run.specs.Unstuck.{NotDue};
+
 use bb_trace::{End, EndKind};
 
 /// How a run ends.
@@ -17,17 +21,17 @@ pub enum Finish {
     Write,
 }
 
-impl From<End> for Finish {
-    ghost use Rattle.std.specs.Prelude.{◌≡◌, Some};
-    ghost use Rattle.bb_run.specs.Finish.{end_of};
-
-    ghost from_gives = { λ end finish. end_of finish ≡ Some end };
-
-    fn from(end: End) -> Finish {
+impl Finish {
+    /// The finish of a run that came to this end. A run that has a native due is not finished.
+    pub fn of(end: End) -> Finish
+        requires not_due { NotDue (Some end) }
+        ensures { end_of result ≡ Some end }
+    {
         match end.kind {
             EndKind::Quiescence => Finish::Quiescence,
             EndKind::Limit => Finish::Limit,
             EndKind::Full => Finish::Full,
+            EndKind::Due(_) => unreachable!(),
         }
     }
 }

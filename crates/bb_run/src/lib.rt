@@ -23,7 +23,7 @@ mod state;
 mod triggering;
 mod whole;
 
-pub use bb_agenda::Activation;
+pub use bb_agenda::{Activation, Agenda};
 pub use bb_run_plan::{Plan, SOURCE_LIMIT};
 pub use bb_trace::{
     Act, Ask, Board, ClassPlace, Classes, ClauseList, ClausePlace, Closed, Closing, Denial,

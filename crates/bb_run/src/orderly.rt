@@ -27,7 +27,7 @@ ghost use Rattle.bb_run.specs.Reads.{AsksByReading, LeavesBoard};
 ghost use Rattle.bb_run.specs.Weighed.{KnowsFoci, NumbersGiven};
 ghost use Rattle.bb_run.specs.Processed.{processed_in, ProcessesEmitted};
 ghost use Rattle.bb_run.specs.Unstuck.{AsksFor, BeginsFor, FitsPlan, IsEventOf, IsReady, IsReadyFor, IsWellMade};
-ghost use Rattle.bb_run.specs.Unstuck.{KeepsBudget, NotStuck};
+ghost use Rattle.bb_run.specs.Unstuck.{KeepsBudget, NotDue, NotStuck};
 
 /// What every run is like, whatever the plan, the first state of the blackboard, the natives and the limit.
 ///
@@ -45,16 +45,17 @@ ghost use Rattle.bb_run.specs.Unstuck.{KeepsBudget, NotStuck};
 ///   holds.
 /// - `causes`: a run is full only where 65,536 activations are pending in its last state, or the last number was given,
 ///   or where no unit can be created there and its last execution was stopped for that, or its last native asked for
-///   one; it is stuck only where its last execution was, or where a source has a native for its act and there is none
-///   of its name.
+///   one; it is stuck only where its last execution was; a native is due only where the source of the activation that
+///   was chosen has one for its act, and there is none of its name.
+/// - `due`: no run ends with a native due, where each source without a code has a native of its name.
 /// - `few`: no more than 65,536 activations are pending in the last state of a run, and so at each choice.
 /// - `limit`: a run makes no more cycles than its limit. Where it ends by that it made as many, and something can
 ///   still be chosen; where it ends in quiescence nothing can be chosen.
 /// - `answered`: sources are triggered as the events ask for it. At each choice, and at a finish by quiescence or by
 ///   the limit, all that the events before it ask for is answered, in their order, source by source; at another finish
 ///   the first of it.
-/// - `emitted`: a run processes the events that it emits, each once and in order; where it is full or stuck, the first of
-///   them.
+/// - `emitted`: a run processes the events that it emits, each once and in order; where it is full or stuck, or a
+///   native is due, the first of them.
 /// - `reads`: what answers to an event changes the agenda alone, and what is asked about a choice changes nothing,
 ///   where no code that a source asks writes. No native answers to an event.
 /// - `asked`: no such code writes where the codes of the sources are sound, as those of every plan are.
@@ -72,7 +73,7 @@ ghost use Rattle.bb_run.specs.Unstuck.{KeepsBudget, NotStuck};
 ///   if the code of `obviate` says yes about it; then each that still waits gets the base that the code of `retrigger`
 ///   rates; then, if the event triggers the source, it gets an activation, with the base that its requirement rates, or
 ///   its rate if it requires nothing, or declines. After the responses comes quiescence, a choice or the finish. Where
-///   the run is full or stuck, the first of the responses come, and the finish.
+///   the run is full or stuck, or a native is due, the first of the responses come, and the finish.
 /// - `continues`: the blackboard and the natives of a choice are those that the execution before it left, and of the
 ///   first choice those that were handed in. This and `responds` are of plans whose codes write nothing where a source
 ///   asks them: of all plans, by `asked`.
@@ -86,7 +87,7 @@ ghost use Rattle.bb_run.specs.Unstuck.{KeepsBudget, NotStuck};
 /// Of a plan that is well made, and a blackboard that fits it, more holds: the sources were made under the schema, of
 /// codes that the verifier accepted under it.
 ///
-/// - `unstuck`: no run is stuck, whatever the reason, where each source without a code has a native of its name.
+/// - `unstuck`: no run is stuck, whatever the reason.
 /// - `budgets`: no execution makes more steps than the budget on its line.
 /// - `ready`: in the last state of a run, and so at each choice, the blackboard still fits, and the unit of each
 ///   pending activation was created as one of its source's class, or it is that of quiescence.
@@ -111,6 +112,8 @@ pub fn runs_are_orderly()
         ClosesEach natives (run plan board natives limit) }
     ensures causes { (plan : Plan) (board : Board) (natives : List Native) (limit : ℕ) →
         HasCause plan (run plan board natives limit).state (run plan board natives limit).end }
+    ensures due { (plan : Plan) (board : Board) (natives : List Native) (limit : ℕ) →
+        ¬ LacksNative plan natives → NotDue (run plan board natives limit).end }
     ensures few { (plan : Plan) (board : Board) (natives : List Native) (limit : ℕ) →
         HasFew (run plan board natives limit).state.agenda }
     ensures limit { (plan : Plan) (board : Board) (natives : List Native) (limit : ℕ) →
@@ -144,7 +147,7 @@ pub fn runs_are_orderly()
         KnowsFoci plan (run plan board natives limit).state }
     ensures unstuck { (plan : Plan) (board : Board) (natives : List Native) (limit : ℕ) →
         IsWellMade plan → FitsPlan plan board →
-        ¬ LacksNative plan natives → NotStuck (run plan board natives limit).end }
+        NotStuck (run plan board natives limit).end }
     ensures budgets { (plan : Plan) (board : Board) (natives : List Native) (limit : ℕ) →
         IsWellMade plan → FitsPlan plan board →
         All KeepsBudget (notes_of (run plan board natives limit)) }

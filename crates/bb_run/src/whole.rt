@@ -34,8 +34,7 @@ impl<O: Out> Runner<'_, O> {
     ) -> Result<Option<End>, Halt>
         requires open { O.has_failed self.old.out.now ≡ false }
         requires new { state.old.agenda ≡ first_agenda plan.now state.old.board }
-        requires serves { MayServe plan.now state.old.board
-            (map N.meaning state.old.roster.natives.items) }
+        requires serves { MayServe plan.now state.old.board }
         ensures same { Same self.old self.new }
         ensures made { Makes plan.now (at O.taken self.old) (at O.taken self.new)
             (start plan.now state.old.board (map N.meaning state.old.roster.natives.items))
@@ -57,8 +56,7 @@ impl<O: Out> Runner<'_, O> {
         requires open { O.has_failed self.old.out.now ≡ false }
         requires new { state.old.agenda ≡ first_agenda plan.now state.old.board }
         requires may { MayKnow plan.now state.old.board }
-        requires serves { MayServe plan.now state.old.board
-            (map N.meaning state.old.roster.natives.items) }
+        requires serves { MayServe plan.now state.old.board }
         ensures same { Same self.old self.new }
         ensures made { Finishes plan.now (at O.taken self.old) (at O.taken self.new)
             (unfinished plan.now state.old.board (map N.meaning state.old.roster.natives.items) limit)
@@ -82,7 +80,7 @@ impl<O: Out> Runner<'_, O> {
         requires open { O.has_failed self.old.out.now ≡ false }
         requires new { state.agenda ≡ first_agenda plan.now state.board }
         requires may { MayKnow plan.now state.board }
-        requires serves { MayServe plan.now state.board (map N.meaning state.roster.natives.items) }
+        requires serves { MayServe plan.now state.board }
         requires empty { self.old.page.now ≡ [] }
         ensures same { Same self.old self.new }
         ensures end { IfOk result (λ end.
@@ -197,7 +195,7 @@ fn write_run<N: NativeSource, O: Out>(
     out: &mut O,
 ) -> Result<End, Halt>
     requires open { O.has_failed out.old ≡ false }
-    requires serves { MayServe plan.now start.board (map N.meaning start.roster.natives.items) }
+    requires serves { MayServe plan.now start.board }
     ensures end { IfOk result (λ end.
         (run plan.now start.board (map N.meaning start.roster.natives.items) limit).end ≡ Some end) }
     ensures written { Writes plan.now (O.taken out.old) (O.taken out.new)
@@ -217,7 +215,7 @@ fn write_run<N: NativeSource, O: Out>(
 /// trace. At its end each native is closed once, in order, also if the run was cut short. `Memory`: memory ran out.
 /// `Write`: the output failed. The blackboard is one of the plan's schema, and the sources were made under it, of codes
 /// that the verifier accepted under it; each has a code for its act, or there is a native of its name. So no execution
-/// can get stuck.
+/// can get stuck, and no native is due at the end.
 pub fn run<N: NativeSource, O: Out>(
     alloc: Global,
     plan: &Plan,
@@ -243,7 +241,7 @@ pub fn run<N: NativeSource, O: Out>(
     // For the proof: what holds of the blackboard.
     start.board.fits();
     match write_run(alloc, plan, start, u64::from(limit), out) {
-        Ok(end) => Finish::from(end),
+        Ok(end) => Finish::of(end),
         Err(halt) => match halt {
             Halt::Memory => Finish::Memory,
             Halt::Write => Finish::Write,

@@ -14,7 +14,7 @@ use Rattle.bb_run.specs.Turns.{choices_of}
 use Rattle.bb_run.proofs.Laws.{IsEarly, IsOver, Meets, choices_after, cycles_again, cycles_meet, start_early}
 use Rattle.bb_run_held.specs.Moves.{Moved, Standing, advance, advanced, after, alone, finished, moved, pause_by, played}
 use Rattle.bb_run_held.specs.declared.pause.Pause.{Pause}
-use Rattle.bb_run_held.specs.declared.pause.Pause.TheVariants.{Going, Resting, Over}
+use Rattle.bb_run_held.specs.declared.pause.Pause.TheVariants.{Going, Resting, Due, Over}
 
 -- one after the other
 abbrev both : Moved → (Standing → Moved) → Moved
@@ -31,6 +31,9 @@ module _ (plan : Plan) where
   nothing_more made n p (Some ends.Full) is over =
       subst (λ e. both (after made (record p { end = e })) (moved plan (advance n)) ≡ after made (record p { end = e })) (sym is)
       (ap (λ l. record { emitted = l; standing = record { state = p.state; made = made; pause = Over ends.Full } }) (append-nil p.emitted))
+  nothing_more made n p (Some (ends.Due a)) is over =
+      subst (λ e. both (after made (record p { end = e })) (moved plan (advance n)) ≡ after made (record p { end = e })) (sym is)
+      (ap (λ l. record { emitted = l; standing = record { state = p.state; made = made; pause = Due a } }) (append-nil p.emitted))
   nothing_more made n p (Some (ends.Stuck reason)) is over =
       subst (λ e. both (after made (record p { end = e })) (moved plan (advance n)) ≡ after made (record p { end = e })) (sym is)
       (ap (λ l. record { emitted = l; standing = record { state = p.state; made = made; pause = Over (ends.Stuck reason) } }) (append-nil p.emitted))
@@ -66,6 +69,8 @@ module _ (plan : Plan) where
       subst (λ x. both (moved plan (advance m) (record t { pause = x })) (moved plan (advance n)) ≡ moved plan (advance (m + n)) (record t { pause = x })) (sym is) (two_going t m n)
   two_moves t m n Resting is =
       subst (λ x. both (moved plan (advance m) (record t { pause = x })) (moved plan (advance n)) ≡ moved plan (advance (m + n)) (record t { pause = x })) (sym is) refl
+  two_moves t m n (Due a) is =
+      subst (λ x. both (moved plan (advance m) (record t { pause = x })) (moved plan (advance n)) ≡ moved plan (advance (m + n)) (record t { pause = x })) (sym is) refl
   two_moves t m n (Over end) is =
       subst (λ x. both (moved plan (advance m) (record t { pause = x })) (moved plan (advance n)) ≡ moved plan (advance (m + n)) (record t { pause = x })) (sym is) refl
 
@@ -86,6 +91,8 @@ module _ (plan : Plan) where
   ends_by made p (Some ends.Quiescence) is how =
       subst (λ e. after_emitted p.emitted (finished plan (after made (record p { end = e })).standing) ≡ with_finish (record p { end = e })) (sym is) refl
   ends_by made p (Some ends.Full) is how =
+      subst (λ e. after_emitted p.emitted (finished plan (after made (record p { end = e })).standing) ≡ with_finish (record p { end = e })) (sym is) refl
+  ends_by made p (Some (ends.Due a)) is how =
       subst (λ e. after_emitted p.emitted (finished plan (after made (record p { end = e })).standing) ≡ with_finish (record p { end = e })) (sym is) refl
   ends_by made p (Some (ends.Stuck reason)) is how =
       subst (λ e. after_emitted p.emitted (finished plan (after made (record p { end = e })).standing) ≡ with_finish (record p { end = e })) (sym is) refl
@@ -116,6 +123,9 @@ module _ (plan : Plan) where
   alone_by p limit (Some ends.Quiescence) is early = absurd early
   alone_by p limit (Some ends.Limit) is early = absurd early
   alone_by p limit (Some ends.Full) is early =
+      subst (λ e. (let moves = moved plan (advance limit) (after 0 (record p { end = e })).standing in after_emitted p.emitted (after_emitted moves.emitted (finished plan moves.standing)))
+      ≡ with_finish (record p { end = e })) (sym is) refl
+  alone_by p limit (Some (ends.Due a)) is early =
       subst (λ e. (let moves = moved plan (advance limit) (after 0 (record p { end = e })).standing in after_emitted p.emitted (after_emitted moves.emitted (finished plan moves.standing)))
       ≡ with_finish (record p { end = e })) (sym is) refl
   alone_by p limit (Some (ends.Stuck reason)) is early =

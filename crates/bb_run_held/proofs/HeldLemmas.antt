@@ -1,5 +1,5 @@
 -- Where a move leaves a run, by what its code emitted and wrote.
-use Rattle.std.proofs.Common.{◌≡◌, ℕ, ◌+◌, ◌-◌, List, [], Option, Some, None, Result, Ok, Err, sym, ap, subst, ◌∙◌}
+use Rattle.std.proofs.Common.{◌≡◌, false, ℕ, ◌+◌, ◌-◌, List, [], Option, Some, None, Result, Ok, Err, sym, ap, subst, ◌∙◌}
 use Rattle.std.specs.Io.KnownBytes.{Appends}
 use Rattle.std.specs.Prelude.{OnOk}
 use Rattle.bb_run.specs.Activation.{Activation}
@@ -16,10 +16,12 @@ use Rattle.bb_run.specs.TraceText.{trace_text}
 use Rattle.bb_run.specs.Finish.{WritesFront}
 use Rattle.bb_run.specs.declared.finish.Finish.TheVariants as finishes
 use Rattle.bb_run.specs.Turns.{choices_of, turn, turn_by}
+use Rattle.bb_run.specs.Unstuck.{NotDue}
 use Rattle.bb_run.proofs.Laws.{wrote_first, wrote_front}
 use Rattle.bb_run_held.specs.Making.{Makes, stands}
-use Rattle.bb_run_held.specs.Moves.{advanced, after, pause_by}
+use Rattle.bb_run_held.specs.Moves.{advanced, after, ended, is_due, pause_by}
 use Rattle.bb_run_held.specs.declared.pause.Pause.{Pause}
+use Rattle.bb_run_held.specs.declared.pause.Pause.TheVariants.{Going, Resting, Due, Over}
 
 -- what a part emitted that began on an empty page is written
 pub wrote_by : {X : Type 0} (end_of : X → Option End) (plan : Plan) (place : Place) (start given : Option (List ℕ)) (page : List ℕ) (p : Stretch) (s : State) (emitted result : Result X Halt)
@@ -62,6 +64,17 @@ module _ (plan : Plan) (taken given : Option (List ℕ)) (p : Stretch) (s : Stat
   pub front_write : {X : Type 0} (r : Result X Halt) (halt : Halt) → r ≡ Err halt → halt ≡ halts.Write → Writes plan taken given p.emitted r → WritesFront plan p finishes.Write taken given
   front_write r halt is why wrote =
       wrote_front plan p taken given (subst (WroteUntil plan taken given p.emitted) why (subst (Writes plan taken given p.emitted) is wrote))
+
+-- a run that has no native due did not end with one
+pub ended_not_due : (pause : Pause) → is_due pause ≡ false → NotDue (ended pause)
+ended_not_due Going is = tt
+ended_not_due Resting is = tt
+ended_not_due (Due a) is = absurd cc
+ended_not_due (Over ends.Quiescence) is = tt
+ended_not_due (Over ends.Limit) is = tt
+ended_not_due (Over ends.Full) is = tt
+ended_not_due (Over (ends.Due a)) is = absurd cc
+ended_not_due (Over (ends.Stuck reason)) is = tt
 
 -- cycles that were written whole, by the number of the last
 pub advances_whole : (plan : Plan) (made last count now : ℕ) (s t : State) (taken given : Option (List ℕ)) (end : End) (pause : Pause) → last - made ≡ count → now ≡ made + choices_of (cycles plan made (last - made) s)

@@ -4,3 +4,5 @@ pub mod ApartLemmas
 pub mod HeldLemmas
 -- one move of many cycles, and turns
 pub mod TurnLemmas
+-- a native that is due, and the answer for it
+pub mod OutsideLemmas

@@ -12,12 +12,11 @@ use Rattle.bb_run.specs.Note.{Note}
 use Rattle.bb_run.specs.Note.TheVariants.{Posted, PostEnded}
 use Rattle.bb_run.specs.Processing.{events_in, processing_all}
 use Rattle.bb_run.specs.Emission.{Response, Stretch, after_emitted, and_then, and_then_unless, idle, over, segment}
-use Rattle.bb_run.specs.Order.{chosen_in, notes_of}
-use Rattle.bb_run.specs.Turns.{choices_of, rested, turn, turn_by}
+use Rattle.bb_run.specs.Turns.{choices_of, turn_by}
 use Rattle.bb_run.proofs.Laws.{IsEarly, choices_after, cycle_chooses, cycle_early, cycles_again, wait_early, wait_silent}
-use Rattle.bb_run_held.specs.Moves.{Move, Moved, Standing, advance, advanced, after, made_by, moved, one_turn, played, post, post_segment, takes_posts, unmoved}
+use Rattle.bb_run_held.specs.Moves.{Moved, Standing, advance, advanced, after, made_by, moved, one_turn, played, post, post_segment, takes_posts, unmoved}
 use Rattle.bb_run_held.specs.declared.pause.Pause.{Pause}
-use Rattle.bb_run_held.specs.declared.pause.Pause.TheVariants.{Going, Resting, Over}
+use Rattle.bb_run_held.specs.declared.pause.Pause.TheVariants.{Going, Resting, Due, Over}
 
 -- a run that goes on
 abbrev going : (made : ℕ) → State → Standing
@@ -65,6 +64,8 @@ module _ (plan : Plan) where
   cycle_turned n made c t (Some ends.Quiescence) is early counted first rest = absurd early
   cycle_turned n made c t (Some ends.Limit) is early counted first rest = absurd early
   cycle_turned n made c t (Some ends.Full) is early counted first rest =
+      renumbered t c (made + 1) (made + choices_of c) (ap (λ k. made + k) (sym counted)) (one t (after (made + 1) c) first)
+  cycle_turned n made c t (Some (ends.Due a)) is early counted first rest =
       renumbered t c (made + 1) (made + choices_of c) (ap (λ k. made + k) (sym counted)) (one t (after (made + 1) c) first)
   cycle_turned n made c t (Some (ends.Stuck reason)) is early counted first rest =
       renumbered t c (made + 1) (made + choices_of c) (ap (λ k. made + k) (sym counted)) (one t (after (made + 1) c) first)
@@ -131,6 +132,9 @@ module _ (plan : Plan) where
   quiet_by n made w t next (Some ends.Full) is early silent first goes rest =
       let number : made ≡ made + choices_of w = omega (arith, silent) in
       renumbered t w made (made + choices_of w) number (one t (after made w) first)
+  quiet_by n made w t next (Some (ends.Due a)) is early silent first goes rest =
+      let number : made ≡ made + choices_of w = omega (arith, silent) in
+      renumbered t w made (made + choices_of w) number (one t (after made w) first)
   quiet_by n made w t next (Some (ends.Stuck reason)) is early silent first goes rest =
       let number : made ≡ made + choices_of w = omega (arith, silent) in
       renumbered t w made (made + choices_of w) number (one t (after made w) first)
@@ -171,6 +175,7 @@ module _ (plan : Plan) where
   turns_by : (t : Standing) (n : ℕ) (pause : Pause) → t.pause ≡ pause → IsTurns t (moved plan (advance n) t)
   turns_by t n Going is = subst (λ x. IsTurns (record t { pause = x }) (moved plan (advance n) (record t { pause = x }))) (sym is) (turned n t.made t.state)
   turns_by t n Resting is = subst (λ x. IsTurns (record t { pause = x }) (moved plan (advance n) (record t { pause = x }))) (sym is) (no_turn (record t { pause = Resting }))
+  turns_by t n (Due a) is = subst (λ x. IsTurns (record t { pause = x }) (moved plan (advance n) (record t { pause = x }))) (sym is) (no_turn (record t { pause = Due a }))
   turns_by t n (Over end) is = subst (λ x. IsTurns (record t { pause = x }) (moved plan (advance n) (record t { pause = x }))) (sym is) (no_turn (record t { pause = Over end }))
 
   pub moves_turn : (t : Standing) (n : ℕ) → (k : ℕ) × (played plan (replicate k one_turn) t ≡ moved plan (advance n) t)
@@ -189,6 +194,7 @@ module _ (plan : Plan) where
   post_by t asks Resting is takes =
       let r = after_emitted (Posted ∷ []) (asked PostEnded asks t.state) in
       subst (λ x. (later : List (List Note)) × ((moved plan (post asks) (record t { pause = x })).emitted ≡ post_segment asks t.state ∷ later)) (sym is) (reported_first r r.end)
+  post_by t asks (Due a) is takes = absurd cc
   post_by t asks (Over end) is takes = absurd cc
 
   pub post_first : (t : Standing) (asks : List Ask) → takes_posts t.pause ≡ true → (later : List (List Note)) × ((moved plan (post asks) t).emitted ≡ post_segment asks t.state ∷ later)

@@ -1,5 +1,7 @@
 -- what each move of a held run emits, and where the run stands after it
 pub mod Moves
+-- what it comes to that a native is outside
+pub mod Outside
 -- what the code of a move did, against the definitions
 pub mod Making
 -- for models only

@@ -12,9 +12,9 @@ use Rattle.bb_run.specs.Plan.{Plan}
 use Rattle.bb_run.specs.Run.{asked, choice, cycles, start, with_finish}
 use Rattle.bb_run.specs.State.{State}
 use Rattle.bb_run.specs.Emission.{Stretch, after_emitted}
-use Rattle.bb_run.specs.Turns.{choices_of, posting, settled, turn}
+use Rattle.bb_run.specs.Turns.{answering, choices_of, posting, settled, turn}
 use Rattle.bb_run_held.specs.declared.pause.Pause.{Pause}
-use Rattle.bb_run_held.specs.declared.pause.Pause.TheVariants.{Going, Resting, Over}
+use Rattle.bb_run_held.specs.declared.pause.Pause.TheVariants.{Going, Resting, Due, Over}
 
 -- what a host has a run do
 pub data Move : Type 0 where
@@ -24,6 +24,8 @@ pub data Move : Type 0 where
   advance : (cycles : ℕ) → Move
   -- what happened in the world outside
   post : List Ask → Move
+  -- what the native asks that is due
+  answer : List Ask → Move
 
 -- where a run stands between two moves
 pub record Standing : Type 0 where
@@ -42,6 +44,7 @@ abbrev pub pause_by : Option End → Pause
 pause_by None = Going
 pause_by (Some ends.Limit) = Going
 pause_by (Some ends.Quiescence) = Resting
+pause_by (Some (ends.Due a)) = Due a
 pause_by (Some end) = Over end
 
 -- after a stretch, with so many cycles made
@@ -53,10 +56,17 @@ abbrev pub made_by : (made : ℕ) → Option Activation → ℕ
 made_by made None = made
 made_by made (Some a) = made + 1
 
--- asks may be posted: the run is not over
+-- asks may be posted: the run is not over, and no native is due
 abbrev pub takes_posts : Pause → Bool
+takes_posts (Due a) = false
 takes_posts (Over end) = false
 takes_posts _ = true
+
+-- a native is due; no run is over in that way
+abbrev pub is_due : Pause → Bool
+is_due (Due a) = true
+is_due (Over (ends.Due a)) = true
+is_due _ = false
 
 -- the first segment that a post emits: that something was posted, what the asks bring about in order, and their number,
 -- unless the blackboard became full
@@ -77,6 +87,7 @@ moved_in plan Going one_turn t = after (made_by t.made (choice plan t.state)) (t
 moved_in plan Going (advance n) t = advanced plan t.made n t.state
 moved_in plan Going (post asks) t = after t.made (posting plan asks t.state)
 moved_in plan Resting (post asks) t = after t.made (posting plan asks t.state)
+moved_in plan (Due a) (answer asks) t = after t.made (answering plan asks t.state)
 moved_in plan _ _ t = unmoved t
 
 abbrev pub moved : Plan → Move → Standing → Moved
@@ -94,10 +105,11 @@ played plan (m ∷ ms) t =
 abbrev pub started : Plan → Blackboard → List Native → Moved
 started plan board natives = after 0 (start plan board natives)
 
--- the end that a run came to, if it came to one
+-- the end that a run came to, if it came to one; the definitions end one with a native due there
 abbrev pub ended : Pause → Option End
 ended Going = None
 ended Resting = Some ends.Quiescence
+ended (Due a) = Some (ends.Due a)
 ended (Over end) = Some end
 
 -- a run that its host ends, its finish last

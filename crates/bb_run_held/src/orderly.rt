@@ -1,14 +1,17 @@
 //! What the moves of a held run are like. No code calls it.
 
-ghost use Rattle.std.specs.Prelude.{◌≡◌, ◌+◌, ◌∷◌, [], ℕ, List, replicate, true};
+ghost use Rattle.std.specs.Prelude.{◌≡◌, ◌+◌, ◌∷◌, [], ℕ, List, Some, replicate, true};
+ghost use Rattle.bb_run.specs.Activation.{Activation};
 ghost use Rattle.bb_run.specs.Ask.{Ask};
 ghost use Rattle.bb_run.specs.Board.{Board};
 ghost use Rattle.bb_run.specs.Native.{Native};
 ghost use Rattle.bb_run.specs.Note.{Note};
 ghost use Rattle.bb_run.specs.Plan.{Plan};
-ghost use Rattle.bb_run.specs.Run.{run};
-ghost use Rattle.bb_run_held.specs.Moves.{Standing, advance, alone, moved, one_turn, played};
+ghost use Rattle.bb_run.specs.Run.{choice, run};
+ghost use Rattle.bb_run_held.specs.Moves.{Standing, advance, alone, answer, moved, one_turn, played};
 ghost use Rattle.bb_run_held.specs.Moves.{post, post_segment, takes_posts};
+ghost use Rattle.bb_run_held.specs.Outside.{AsksInside, ComesToSame, with_inside};
+ghost use Rattle.bb_run_held.specs.declared.pause.Pause.TheVariants.{Due, Going};
 
 /// What the moves of any held run are like, whatever the plan, the blackboard and the natives.
 ///
@@ -18,6 +21,8 @@ ghost use Rattle.bb_run_held.specs.Moves.{post, post_segment, takes_posts};
 /// - `alone`: a run is a start, one move of as many cycles as its limit, and a finish.
 /// - `posts`: what is posted stands in one segment, the first of its move: each ask, in order, and what it brings about
 ///   on the blackboard that the move found.
+/// - `outside`: a turn after which a native is due, and then the answer for it, emit the notes of the turn in which a
+///   native inside asks the same, and leave the run as that turn does, but for its natives.
 pub fn moves_are_orderly()
     ensures apart { (plan : Plan) (t : Standing) (m n : ℕ) →
         played plan (advance m ∷ advance n ∷ []) t ≡ moved plan (advance (m + n)) t }
@@ -27,4 +32,8 @@ pub fn moves_are_orderly()
         alone plan board natives limit ≡ run plan board natives limit }
     ensures posts { (plan : Plan) (t : Standing) (asks : List Ask) → takes_posts t.pause ≡ true →
         (later : List (List Note)) × ((moved plan (post asks) t).emitted ≡ post_segment asks t.state ∷ later) }
+    ensures outside { (plan : Plan) (t : Standing) (a : Activation) (natives : List Native) (asks : List Ask) →
+        t.pause ≡ Going → choice plan t.state ≡ Some a → (moved plan one_turn t).standing.pause ≡ Due a →
+        AsksInside plan natives asks a (moved plan one_turn t).standing.state →
+        ComesToSame (played plan (one_turn ∷ answer asks ∷ []) t) (moved plan one_turn (with_inside natives t)) }
 {}

@@ -1,9 +1,9 @@
 //! How a run stands between two moves of its host.
 
 ghost use Rattle.std.specs.Prelude.{◌≡◌};
-ghost use Rattle.bb_run_held.specs.Moves.{ended, pause_by};
+ghost use Rattle.bb_run_held.specs.Moves.{ended, is_due, pause_by};
 
-use bb_run::{End, EndKind};
+use bb_run::{Activation, End, EndKind};
 
 /// How a run stands between two moves of its host.
 #[derive(Clone, Copy, Debug)]
@@ -12,8 +12,23 @@ pub enum Pause {
     Going,
     /// Quiescence was emitted, and it changed nothing: only asks from outside can have the run go on.
     Resting,
+    /// A native is due: the source of this activation acts by one that was not handed in. The host answers for it.
+    Due(Activation),
     /// The run is over: its blackboard or its agenda is full.
     Over(End),
+}
+
+impl Pause {
+    /// Whether a native is due, so that the run can't be finished.
+    pub fn is_due(&self) -> bool
+        ensures { result ≡ is_due self.now }
+    {
+        match self {
+            Pause::Due(_) => true,
+            Pause::Over(end) => matches!(end.kind, EndKind::Due(_)),
+            Pause::Going | Pause::Resting => false,
+        }
+    }
 }
 
 /// How a run stands after a part of it that ended in this way, if it ended.
@@ -27,6 +42,7 @@ pub(crate) fn pause_by(end: Option<End>) -> Pause
         EndKind::Quiescence => Pause::Resting,
         EndKind::Limit => Pause::Going,
         EndKind::Full => Pause::Over(end),
+        EndKind::Due(activation) => Pause::Due(activation),
     }
 }
 
@@ -37,6 +53,7 @@ pub(crate) fn ended(pause: &Pause) -> Option<End>
     match pause {
         Pause::Going => None,
         Pause::Resting => Some(End::QUIESCENCE),
+        Pause::Due(activation) => Some(End::due(*activation)),
         Pause::Over(end) => Some(*end),
     }
 }

@@ -2,7 +2,6 @@
 
 ghost use Rattle.std.specs.Prelude.{◌≡◌, ◌+◌, All, IfOk, IfSome, None, Some, false, is_some, map};
 ghost use Rattle.std.specs.Io.KnownBytes.{Appends};
-ghost use Rattle.bb_run.specs.Causes.{LacksNative};
 ghost use Rattle.bb_run.specs.Emitting.{Makes as MakesStretch, Same, at};
 ghost use Rattle.bb_run.specs.Finish.{WritesFront, end_of, is_write};
 ghost use Rattle.bb_run.specs.Knowing.{Knows};
@@ -15,12 +14,15 @@ ghost use Rattle.bb_run.specs.Serving.{Lasts, Serves};
 ghost use Rattle.bb_run.specs.TraceText.{trace_text};
 ghost use Rattle.bb_run_held.specs.Making.{Begins, Makes, halt_of, stands};
 ghost use Rattle.bb_run.specs.Sight.{sight_of};
-ghost use Rattle.bb_run.specs.Turns.{posting, turn};
-ghost use Rattle.bb_run_held.specs.Moves.{advance, advanced, after, finished, made_by, moved, one_turn, post, started};
+ghost use Rattle.bb_run.specs.Turns.{turn};
+ghost use Rattle.bb_run_held.specs.Moves.{advance, advanced, after, finished, is_due, made_by, moved, one_turn};
+ghost use Rattle.bb_run_held.specs.Moves.{started};
+
+mod asks;
 
 use crate::pause::{Pause, ended, pause_by};
 use bb_run::{
-    Activation, Ask, Board, Closed, End, Finish, Halt, NativeSource, Out, Page, Plan, Runner,
+    Activation, Agenda, Board, Closed, End, Finish, Halt, NativeSource, Out, Page, Plan, Runner,
     Start, State, View, choose, first_state,
 };
 use std::alloc::Global;
@@ -69,7 +71,8 @@ impl<N: NativeSource> Running<N> {
     /// Begins a run from a blackboard's first state with the natives that were handed in: emits what the creation of the
     /// first units noted, and processes its events. At an error each native is closed, and the blackboard is dropped.
     /// The blackboard is one of the plan's schema, and the sources were made under it, of codes that the verifier
-    /// accepted under it; each has a code for its act, or there is a native of its name.
+    /// accepted under it. Of a source with neither a code for its act nor a native of its name the native is due when
+    /// it is to act, and the host answers for it.
     pub fn start<O: Out>(
         alloc: Global,
         plan: Plan,
@@ -77,7 +80,6 @@ impl<N: NativeSource> Running<N> {
         out: &mut O,
     ) -> Result<Running<N>, Halt>
         requires made { ∥ All (IsMade plan.schema) plan.sources ∥₁ }
-        requires acts { ¬ LacksNative plan (map N.meaning start.roster.natives.items) }
         requires of_schema { start.board.schema ≡ plan.schema }
         requires open { O.has_failed out.old ≡ false }
         ensures begun { Begins plan (started plan start.board (map N.meaning start.roster.natives.items))
@@ -129,6 +131,7 @@ impl<N: NativeSource> Running<N> {
         match &self.pause {
             Pause::Going => self.turn_on(out),
             Pause::Resting => Ok(Pause::Resting),
+            Pause::Due(activation) => Ok(Pause::Due(*activation)),
             Pause::Over(end) => Ok(Pause::Over(*end)),
         }
     }
@@ -193,6 +196,7 @@ impl<N: NativeSource> Running<N> {
         match &self.pause {
             Pause::Going => self.advance_on(cycles, out),
             Pause::Resting => Ok(Pause::Resting),
+            Pause::Due(activation) => Ok(Pause::Due(*activation)),
             Pause::Over(end) => Ok(Pause::Over(*end)),
         }
     }
@@ -235,63 +239,13 @@ impl<N: NativeSource> Running<N> {
         }
     }
 
-    /// Tells the run what happened in the world outside: applies asks as those of a native are, in order, and processes
-    /// their events. Where the run is over, nothing happens. `Memory`, `Write`: the run is cut short in it.
-    pub fn post<O: Out>(&mut self, asks: Vec<Ask>, out: &mut O) -> Result<Pause, Halt>
-        requires open { O.has_failed out.old ≡ false }
-        requires whole { self.old.cut ≡ None }
-        ensures made { Makes self.old.plan
-            (moved self.old.plan (post asks.items) (stands (seen N.meaning self.old.state) self.old.made self.old.pause))
-            (stands (seen N.meaning self.new.state) self.new.made self.new.pause)
-            (O.taken out.old) (O.taken out.new) result }
-        ensures kept { (self.new.plan ≡ self.old.plan) × (self.new.cut ≡ halt_of result) }
-        ensures failed { O.has_failed out.new ≡ stopped_by_write result }
-    {
-        match &self.pause {
-            Pause::Going => self.post_on(asks, out),
-            Pause::Resting => self.post_on(asks, out),
-            Pause::Over(end) => Ok(Pause::Over(*end)),
-        }
-    }
-
-    // Applies asks from outside, where the run is not over.
-    fn post_on<O: Out>(&mut self, asks: Vec<Ask>, out: &mut O) -> Result<Pause, Halt>
-        requires open { O.has_failed out.old ≡ false }
-        requires whole { self.old.cut ≡ None }
-        ensures made { Makes self.old.plan
-            (after self.old.made (posting self.old.plan asks.items (seen N.meaning self.old.state)))
-            (stands (seen N.meaning self.new.state) self.new.made self.new.pause)
-            (O.taken out.old) (O.taken out.new) result }
-        ensures kept { (self.new.plan ≡ self.old.plan) × (self.new.cut ≡ halt_of result) }
-        ensures failed { O.has_failed out.new ≡ stopped_by_write result }
-    {
-        // For the proof: what holds of every schema, plan and blackboard.
-        self.plan.schema().fits();
-        let _ = self.plan.sources();
-        self.state.board.fits();
-        let mut page = Page::new(self.alloc);
-        let mut runner = Runner {
-            page: &mut page,
-            out,
-        };
-        let emitted = runner.post(&self.plan, asks, &mut self.state);
-        match runner.written(emitted) {
-            Ok(end) => {
-                self.pause = pause_by(end);
-                Ok(self.pause)
-            }
-            Err(halt) => {
-                self.cut = Some(halt);
-                Err(halt)
-            }
-        }
-    }
-
     /// Ends the run: where it still goes on it first comes to rest, or to its limit. Emits its end, and what each native
-    /// says at its close, and gives the blackboard. A run that was cut short can't be finished, only closed.
+    /// says at its close, and gives the blackboard. A run that was cut short can't be finished, only closed; nor can
+    /// one with a native due, which can be answered first, or closed.
     pub fn finish<O: Out>(self, out: &mut O) -> (Finish, Board)
         requires open { O.has_failed out.old ≡ false }
         requires whole { self.cut ≡ None }
+        requires rests { is_due self.pause ≡ false }
         ensures finish { IfSome (end_of result.0) (λ end.
             (finished self.plan (stands (seen N.meaning self.state) self.made self.pause)).end ≡ Some end) }
         ensures text { IfSome (end_of result.0) (λ _. Appends (O.taken out.old) (O.taken out.new)
@@ -322,7 +276,7 @@ impl<N: NativeSource> Running<N> {
         };
         let (ended, board) = runner.finish(&plan, made, ended(&pause), state);
         match ended {
-            Ok(end) => (Finish::from(end), board),
+            Ok(end) => (Finish::of(end), board),
             Err(Halt::Memory) => (Finish::Memory, board),
             Err(Halt::Write) => (Finish::Write, board),
         }
@@ -351,6 +305,20 @@ impl<N: NativeSource> Running<N> {
         ensures { result ≡ sight_of self.now.state.board }
     {
         View::new(&self.state.board)
+    }
+
+    /// The sources and the schema, and the floor.
+    pub fn plan(&self) -> &Plan
+        ensures { result.now ≡ self.now.plan }
+    {
+        &self.plan
+    }
+
+    /// The activations that wait, and what became of those before.
+    pub fn agenda(&self) -> &Agenda
+        ensures { result.now ≡ self.now.state.agenda }
+    {
+        &self.state.agenda
     }
 
     /// Whether the run was cut short, so that no other move can be made.

@@ -2,7 +2,8 @@
 //!
 //! - In: the texts of a schema, of first units and of sources or a bundle; natives, a limit, a floor, and an output.
 //! - Out: `run_texts` runs them, `check_texts` reports what their sources cost, `compile_texts` is the bundle of their
-//!   texts; a `Shell` holds a blackboard and sources for hosts that run more than once.
+//!   texts; a `Shell` holds a blackboard and sources for hosts that run more than once, and a `HostedShell` for hosts
+//!   that answer for natives.
 //! - Callers rely on: the first fault in the order of the texts refuses the input, and then nothing is written.
 //! - Hosts: docs/hosts/EMBEDDING.md, and bb_shell_host, which is one.
 //! - Cases: `refusals`, `check`, `examples_in_text`, `language`, `model-texts`, `model-checks`; tests in
@@ -16,6 +17,7 @@ mod compile;
 mod compiled;
 mod fitting;
 mod given;
+mod hosted;
 mod shell;
 mod sources;
 mod texts;
@@ -27,15 +29,16 @@ pub use bb_compile_scope::{CompileFault, TextFlaw};
 pub use bb_lang::{LangFault, Place};
 pub use bb_refusal::InputFault;
 pub use bb_run_held::{
-    Ask, Board, ClassPlace, ClauseList, ClausePlace, Closed, Closing, DimValue, DocumentPlace, End,
-    Finish, Halt, ListItem, ListKey, NativeSource, Node, OperandKind, Out, Pattern, Pause, Pipe,
-    Query, Relation, Roster, RuleFault, Running, Source, UnitsFault, UnitsFlaw, View, close_each,
-    put_all, runs_are_orderly,
+    Activation, Agenda, Ask, Board, ClassPlace, ClauseList, ClausePlace, Closed, Closing, DimValue,
+    DocumentPlace, End, Finish, Halt, ListItem, ListKey, NativeSource, Node, OperandKind, Out,
+    Pattern, Pause, Pipe, Plan, Query, Relation, Roster, RuleFault, Running, Source, UnitsFault,
+    UnitsFlaw, View, close_each, put_all, runs_are_orderly,
 };
 pub use bb_schema::{SchemaFault, SchemaFlaw, UnitId, Value};
 pub use bb_verify::{Flaw, Part, VerifyFault};
 pub use check::{Check, check_sources, check_texts};
 pub use compile::compile_texts;
+pub use hosted::HostedShell;
 pub use shell::Shell;
 pub use texts::{Texts, run_texts};
 pub use written::Done;

@@ -117,6 +117,13 @@ impl<N: NativeSource> Shell<N> {
         run(alloc, &plan, Start { board, roster }, limit, out)
     }
 
+    /// The sources and the schema, and the floor.
+    pub fn plan(&self) -> &Plan
+        ensures { result.now ≡ self.now.plan }
+    {
+        &self.plan
+    }
+
     /// Begins a run that the host holds: tells what the creation of the first units noted, processes its events, and
     /// writes that. `Memory`: memory ran out. `Write`: the output failed. Then each native is closed, in order, and the
     /// blackboard is dropped.

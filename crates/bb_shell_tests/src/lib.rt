@@ -11,6 +11,8 @@ mod looking;
 #[cfg(test)]
 mod natives;
 #[cfg(test)]
+mod outside;
+#[cfg(test)]
 mod refusals;
 #[cfg(test)]
 mod refused;

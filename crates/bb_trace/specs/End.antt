@@ -1,4 +1,6 @@
--- How a run of the definitions ends. The code's runs end in the first three ways alone (`End` of src/).
+-- How a run of the definitions ends, or where it comes back to its host. The code's runs end in all of these ways but
+-- the last (`End` of src/).
+use Rattle.bb_agenda.specs.Activation.{Activation}
 use Rattle.bb_machine_state.specs.declared.outcome.Stuck.{Stuck as Reason}
 
 pub data End : Type 0 where
@@ -8,5 +10,7 @@ pub data End : Type 0 where
   Limit : End
   -- the blackboard or the agenda is full
   Full : End
+  -- this activation was chosen, and its source acts by a native that was not handed in
+  Due : Activation → End
   -- an activation could not go on
   Stuck : Reason → End

@@ -126,11 +126,12 @@ post_ended_text asks = codes "end post " ++ decimal asks
 abbrev pub closed_text : Closing → List ℕ
 closed_text c = codes "closed " ++ c.name ++ codes " " ++ signed_decimal c.number
 
--- the end of the run
+-- the end of the run; no trace has the last two, since no run is stuck, and one with a native due is not ended
 abbrev pub end_text : End → List ℕ
 end_text ends.Quiescence = codes "finish quiescence"
 end_text ends.Limit = codes "finish limit"
 end_text ends.Full = codes "finish full"
+end_text (ends.Due a) = codes "finish due " ++ decimal a.number
 end_text (ends.Stuck reason) = codes "finish stuck " ++ decimal (reason_number reason)
 
 -- what a note says

@@ -1,5 +1,7 @@
-//! How a run ends that is not cut short. The run notes it last, and line.rt makes a line of it.
+//! How a run ends that is not cut short, or where it comes back to its host. The run notes its end last, and line.rt
+//! makes a line of it.
 
+use bb_agenda::Activation;
 use std::marker::Model;
 
 /// How a run ends that is not cut short.
@@ -11,6 +13,9 @@ pub enum EndKind {
     Limit,
     /// The blackboard or the agenda is full.
     Full,
+    /// This activation was chosen, and its source acts by a native that was not handed in: it is due, and the host that
+    /// holds the run can answer for it. No whole run ends so.
+    Due(Activation),
 }
 
 /// The end of a run that is not cut short. Contracts see it among the ends that the definitions know: they have one
@@ -38,6 +43,9 @@ impl Model for End {
 }
 
 impl End {
+    ghost use Rattle.std.specs.Prelude.{◌≡◌};
+    ghost use Rattle.bb_trace.specs.End.{Due};
+
     /// Nothing can be chosen.
     pub const QUIESCENCE: End = End {
         kind: EndKind::Quiescence,
@@ -52,4 +60,13 @@ impl End {
     pub const FULL: End = End {
         kind: EndKind::Full,
     };
+
+    /// The native of an activation is due.
+    pub fn due(activation: Activation) -> End
+        ensures { result ≡ Due activation }
+    {
+        End {
+            kind: EndKind::Due(activation),
+        }
+    }
 }

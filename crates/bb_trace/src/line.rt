@@ -3,6 +3,7 @@
 ghost use Rattle.std.specs.Prelude.{◌≡◌, ◌++◌, ◌∷◌, [], OnOk, string_bytes};
 ghost use Rattle.bb_board.specs.Note.TheVariants.{Said as says};
 ghost use Rattle.bb_native.specs.Refusals.{refusal_number};
+ghost use Rattle.bb_trace.specs.End.{Due};
 ghost use Rattle.bb_trace.specs.TraceText.{board_note_text, change_text, choice_text, closed_text, decline_text, end_text, ended_text};
 ghost use Rattle.bb_trace.specs.TraceText.{event_text, line, numbered_text, refused_text, said_text, slot_name, source_name, trigger_text};
 ghost use Rattle.bb_trace.specs.TraceText.{value_text};
@@ -265,7 +266,17 @@ fn add_finish(text: &mut String, end: End) -> Result<(), AllocError>
         EndKind::Quiescence => writeln!(text, "finish quiescence"),
         EndKind::Limit => writeln!(text, "finish limit"),
         EndKind::Full => writeln!(text, "finish full"),
+        EndKind::Due(activation) => add_due(text, activation),
     }
+}
+
+// No trace has this line: a run is not ended while a native is due.
+fn add_due(text: &mut String, activation: Activation) -> Result<(), AllocError>
+    ensures { OnOk result (string_bytes text.new
+        ≡ string_bytes text.old ++ (end_text (Due activation) ++ 10 ∷ [])) }
+{
+    let number = activation.number;
+    writeln!(text, "finish due {number}")
 }
 
 fn add_refused(text: &mut String, ask: u64, refusal: Refusal) -> Result<(), AllocError>

@@ -4,6 +4,7 @@ use Rattle.bb_run.proofs.ExecutedLemmas.{run_is_followed}
 use Rattle.bb_run.proofs.PhasedRuns.{run_goes_by_phases}
 use Rattle.bb_run.proofs.ClosedLemmas.{run_closes_each}
 use Rattle.bb_run.proofs.CauseLemmas.{run_has_cause}
+use Rattle.bb_run.proofs.DueLemmas.{run_not_due}
 use Rattle.bb_run.proofs.ReadLemmas.{plan_reads, run_reads}
 use Rattle.bb_run.proofs.UnstuckRuns.{run_begins, run_keeps_budgets, run_not_stuck, run_ready, state_asks}
 use Rattle.bb_run.proofs.ProcessedLemmas.{run_processes}
@@ -25,6 +26,7 @@ returns c = record {
   finish = run_finishes;
   closed = run_closes_each;
   causes = run_has_cause;
+  due = run_not_due;
   few = run_has_few;
   limit = run_keeps_limit;
   answered = run_is_answered;
@@ -46,7 +48,7 @@ returns c = record {
   executes = code_is_executed;
   calls = native_is_called;
   weighed = λ plan board natives limit reading given. run_knows_foci plan reading board natives limit given;
-  unstuck = λ plan board natives limit made fits given. run_not_stuck plan made natives board limit fits given;
+  unstuck = λ plan board natives limit made fits. run_not_stuck plan made natives board limit fits;
   budgets = λ plan board natives limit made fits. run_keeps_budgets plan made natives board limit fits;
   ready = λ plan board natives limit made fits. run_ready plan made natives board limit fits;
   processes = λ plan board natives limit made fits. run_processes plan made natives board limit fits;

@@ -4,7 +4,7 @@ use Rattle.bb_run.specs.Run.{acting, execution}
 use Rattle.bb_run.specs.Seen.{seen}
 use Rattle.bb_run.specs.Emitting.{at}
 use Rattle.bb_run.proofs.SegmentLemmas.{cut_by_memory}
-use Rattle.bb_run.proofs.ServeCycles.{can_act, executed_serves, has_native}
+use Rattle.bb_run.proofs.ServeCycles.{can_act, executed_serves}
 use Rattle.bb_run.proofs.EmitLemmas.{reported_as}
 use Rattle.bb_run.proofs.runner.Runner.act.Goals as goal
 
@@ -21,7 +21,6 @@ returns-clause-made g c =
 pub execute-requires : goal.execute-requires
 execute-requires g c = record {
   begins = λ code is. can_act c.args.plan.now (seen g.N.NativeSource.meaning c.args.state.now) c.requires.serves c.args.activation c.requires.suits c.args.source.now c.requires.there code is;
-  native = has_native c.args.plan.now (seen g.N.NativeSource.meaning c.args.state.now) c.requires.serves c.args.activation c.requires.suits c.args.source.now c.requires.there;
 }
 
 pub report-requires-clause-serves : goal.report-requires-clause-serves

@@ -20,10 +20,8 @@ returns-in_err-state-clause-begun g c =
 pub begin-emitted-requires-clause-serves : goal.begin-emitted-requires-clause-serves
 begin-emitted-requires-clause-serves g c =
     let plan = c.args.plan in
-    let natives = map g.N.NativeSource.meaning c.args.start.roster.natives.items in
-    subst (λ b. MayServe plan b (map g.N.NativeSource.meaning c.in_ok-state.state.roster.natives.items)) (sym c.in_ok-state.ensures.board)
-    (subst (λ ns. MayServe plan c.args.start.board ns) (sym c.in_ok-state.ensures.natives)
-    (may_serve plan c.args.start.board natives c.schema.ensures c.fits.ensures c.requires.made c.sources.ensures.sound c.requires.acts c.requires.of_schema c.fits-2.ensures))
+    subst (MayServe plan) (sym c.in_ok-state.ensures.board)
+    (may_serve plan c.args.start.board c.schema.ensures c.fits.ensures c.requires.made c.sources.ensures.sound c.requires.of_schema c.fits-2.ensures)
 
 pub invariant_of-result : goal.invariant_of-result
 invariant_of-result g c =
@@ -40,7 +38,7 @@ invariant_of-result g c =
     c.begin-emitted.result (Ok c.in-Ok.end) c.new-page.ensures c.begin-emitted.ensures.made c.in-Ok.ensures.writes in
     record {
       lasts = λ whole. steady_lasts plan t (start_steady plan board natives t c.in_ok-state.ensures.may
-          (may_serve plan board natives c.schema.ensures c.fits.ensures c.requires.made c.sources.ensures.sound c.requires.acts c.requires.of_schema c.fits-2.ensures)
+          (may_serve plan board c.schema.ensures c.fits.ensures c.requires.made c.sources.ensures.sound c.requires.of_schema c.fits-2.ensures)
           (wrote.1.state ∙ ap (λ q. q.state) same));
     }
 
