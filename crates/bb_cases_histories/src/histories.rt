@@ -6,8 +6,8 @@ ghost use Rattle.bb_moves.specs.Roster.{all_open};
 use bb_cases_format::Fault;
 use bb_main_input::Sections;
 use bb_moves::{
-    Finish, Halt, Move, MovesFault, NativeSource, Out, Pipe, Running, Schema, SchemaFault, Shell,
-    Texts, moves_of, replay,
+    Finish, HostedShell, Move, MovesFault, NativeSource, Out, Pipe, Running, Schema, SchemaFault,
+    Shell, Text, Texts, moves_of, replay, replay_hosted,
 };
 use std::alloc::Global;
 use std::fmt::Write;
@@ -53,11 +53,12 @@ impl<'a> History<'a> {
         }
     }
 
-    /// Begins the run with natives and a floor, makes the moves, and finishes it.
+    /// Begins the run with natives, names that the host answers for, and a floor, makes the moves, and finishes it.
     pub fn run<N: NativeSource>(
         self,
         alloc: Global,
         natives: Vec<N>,
+        outside: Vec<Text>,
         floor: i64,
     ) -> Result<Told, Fault>
         requires { all_open (map N.meaning natives.items) ≡ true }
@@ -69,26 +70,67 @@ impl<'a> History<'a> {
             sources: sections.sources,
             bundle: sections.bundle,
         };
-        let Ok(shell) = Shell::of_texts(alloc, &texts, natives, floor) else {
-            return Err(Fault::Input);
-        };
-        let mut out = Pipe::new(Vec::new(alloc));
-        match replay(alloc, shell, moves, &mut out) {
-            Ok(running) => Ok(Told {
-                status: finished(running, &mut out),
-                trace: out.into_inner(),
-            }),
-            Err(Halt::Memory) => Err(Fault::Memory),
-            Err(Halt::Write) => Err(Fault::Memory),
+        if outside.is_empty() {
+            let Ok(shell) = Shell::of_texts(alloc, &texts, natives, floor) else {
+                return Err(Fault::Input);
+            };
+            run_alone(alloc, shell, moves)
+        } else {
+            let Ok(shell) = HostedShell::of_texts(alloc, &texts, natives, outside, floor) else {
+                return Err(Fault::Input);
+            };
+            run_hosted(alloc, shell, moves)
         }
     }
 }
 
-// The status of a run that is finished.
+// What comes of moves of a run whose natives are all there.
+fn run_alone<N: NativeSource>(
+    alloc: Global,
+    shell: Shell<N>,
+    moves: Vec<Move>,
+) -> Result<Told, Fault> {
+    let mut out = Pipe::new(Vec::new(alloc));
+    match replay(alloc, shell, moves, &mut out) {
+        Ok(running) => Ok(told_by(running, out)),
+        Err(_) => Err(Fault::Memory),
+    }
+}
+
+// What comes of moves of a run whose host answers for natives.
+fn run_hosted<N: NativeSource>(
+    alloc: Global,
+    shell: HostedShell<N>,
+    moves: Vec<Move>,
+) -> Result<Told, Fault> {
+    let mut out = Pipe::new(Vec::new(alloc));
+    match replay_hosted(alloc, shell, moves, &mut out) {
+        Ok(running) => Ok(told_by(running, out)),
+        Err(_) => Err(Fault::Memory),
+    }
+}
+
+// Finishes a run, and brings its trace.
+fn told_by<N: NativeSource>(running: Running<N>, mut out: Pipe<Vec<u8>>) -> Told
+    requires whole { running.cut ≡ None }
+    requires open { ⟦<Pipe<Vec<u8>> as Out>⟧.has_failed out ≡ false }
+{
+    Told {
+        status: finished(running, &mut out),
+        trace: out.into_inner(),
+    }
+}
+
+// The status of a run that is finished, or 8 where a native is due, so that it can't be.
 fn finished<N: NativeSource>(running: Running<N>, out: &mut Pipe<Vec<u8>>) -> u8
     requires whole { running.cut ≡ None }
     requires open { ⟦<Pipe<Vec<u8>> as Out>⟧.has_failed out.old ≡ false }
 {
+    let pause = running.pause();
+    if pause.is_due() {
+        drop(running.close());
+        return 8;
+    }
     let (finish, board) = running.finish(out);
     drop(board);
     match finish {

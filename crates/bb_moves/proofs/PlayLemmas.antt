@@ -1,12 +1,12 @@
 -- Moves one after another: what was emitted so far, and then what the moves that are left emit.
-use Rattle.std.proofs.Common.{◌≡◌, ℕ, List, [], ◌∷◌, ◌++◌, Option, Some, None, Ok, Err, refl, sym, ap, subst, ◌∙◌, append_assoc}
+use Rattle.std.proofs.Common.{◌≡◌, ℕ, List, [], ◌∷◌, ◌++◌, Option, Some, None, Result, Ok, Err, refl, sym, ap, subst, ◌∙◌, append_assoc}
 use Rattle.std.specs.Io.KnownBytes.{Appends}
 use Rattle.std.proofs.lemmas.List.{append-nil}
 use Rattle.std.proofs.lemmas.List.Concat.{flat_map-append}
 use Rattle.bb_shell.specs.Emitting.{WroteUntil}
 use Rattle.bb_shell.specs.Halt.{Halt}
 use Rattle.bb_shell.specs.Halt.TheVariants as halts
-use Rattle.bb_shell.specs.Making.{Makes}
+use Rattle.bb_shell.specs.Making.{Begins, Makes}
 use Rattle.bb_shell.specs.Moves.{Move, Moved, Standing, moved, played}
 use Rattle.bb_shell.specs.Note.{Note}
 use Rattle.bb_shell.specs.Pause.{Pause}
@@ -116,18 +116,16 @@ pub start_cut : (plan : Plan) (start : Moved) (moves : List Move) (taken given :
 start_cut plan start moves taken given halt w =
     until_after plan taken taken given [] start.emitted (played plan moves start.standing).emitted halt (appends_none taken) w
 
-module _ (plan : Plan) (start : Moved) (moves : List Move) (t u : Standing) (taken mid given : Option (List ℕ)) (is : t ≡ start.standing) (began : Appends taken mid (trace_text plan start.emitted)) where
-  -- a start and then moves
-  pub all_replayed : (pause : Pause) → Makes plan (played plan moves t) u mid given (Ok pause) → (u ≡ (replayed plan start moves).standing) × Appends taken given (trace_text plan (replayed plan start moves).emitted)
-  all_replayed pause made =
-      let q = played plan moves t in
-      let same : q ≡ played plan moves start.standing = ap (played plan moves) is in
-      (made.0 ∙ ap (λ x. x.standing) same, subst (λ x. Appends taken given (trace_text plan (start.emitted ++ x.emitted))) same (wrote_two plan taken mid given start.emitted q.emitted began made.2))
-
-  -- where a move is cut short, so is the whole
-  pub replay_cut : (halt : Halt) → Makes plan (played plan moves t) u mid given (Err halt) → WroteUntil plan taken given (replayed plan start moves).emitted halt
-  replay_cut halt made =
-      let q = played plan moves t in
-      let same : q ≡ played plan moves start.standing = ap (played plan moves) is in
-      let ended : start.emitted ++ (q.emitted ++ []) ≡ start.emitted ++ (played plan moves start.standing).emitted = ap (λ l. start.emitted ++ l) (append-nil q.emitted ∙ ap (λ x. x.emitted) same) in
-      subst (λ l. WroteUntil plan taken given l halt) ended (until_after plan taken mid given start.emitted q.emitted [] halt began made)
+-- a start and then moves, where the moves were made or one was cut short
+pub then_begun : {X : Type 0} (plan : Plan) (start : Moved) (moves : List Move) (t : Standing) (taken mid given : Option (List ℕ)) (standing : X → Standing) (result : Result X Halt)
+    → t ≡ start.standing → Appends taken mid (trace_text plan start.emitted) → Begins plan (played plan moves t) standing mid given result
+    → Begins plan (replayed plan start moves) standing taken given result
+then_begun plan start moves t taken mid given standing (Ok r) is began made =
+    let q = played plan moves t in
+    let same : q ≡ played plan moves start.standing = ap (played plan moves) is in
+    (made.0 ∙ ap (λ x. x.standing) same, subst (λ x. Appends taken given (trace_text plan (start.emitted ++ x.emitted))) same (wrote_two plan taken mid given start.emitted q.emitted began made.1))
+then_begun plan start moves t taken mid given standing (Err halt) is began made =
+    let q = played plan moves t in
+    let same : q ≡ played plan moves start.standing = ap (played plan moves) is in
+    let ended : start.emitted ++ (q.emitted ++ []) ≡ start.emitted ++ (played plan moves start.standing).emitted = ap (λ l. start.emitted ++ l) (append-nil q.emitted ∙ ap (λ x. x.emitted) same) in
+    subst (λ l. WroteUntil plan taken given l halt) ended (until_after plan taken mid given start.emitted q.emitted [] halt began made)

@@ -1,4 +1,4 @@
--- The asks of a post, each from what comes behind its first word.
+-- The asks of a post or an answer, each from what comes behind its first word.
 use Rattle.std.specs.Prelude.{ℕ, List, Result, Ok}
 use Rattle.bb_basis.specs.Results.{◌>>=◌}
 use Rattle.bb_schema.specs.Schema.{Schema}

@@ -2,7 +2,8 @@
 use Rattle.std.specs.Prelude.{ℕ, List, Option, Some, None, option_map, codes, if◌then◌else◌}
 use Rattle.std.specs.Str.{bytes_eq}
 use Rattle.bb_moves.specs.declared.keyword.Keyword.{Keyword}
-use Rattle.bb_moves.specs.declared.keyword.Keyword.TheVariants.{Turn, Advance, Post, End, Ask}
+use Rattle.bb_moves.specs.declared.keyword.Keyword.TheVariants.{Turn, Advance, Gather, End, Ask}
+use Rattle.bb_moves.specs.declared.keyword.Gathering.TheVariants.{Post, Answer}
 use Rattle.bb_moves.specs.declared.keyword.AskWord.{AskWord}
 use Rattle.bb_moves.specs.declared.keyword.AskWord.TheVariants.{New, Delete, Set, Link, Unlink, Enter, Leave, Say}
 
@@ -19,11 +20,12 @@ ask_word_of word =
     else if bytes_eq word (codes "say") then Some Say
     else None
 
--- a line of a move, the end of a post, or an ask
+-- a line of a move, the end of asks, or an ask
 unfoldable pub keyword_of : List ℕ → Option Keyword
 keyword_of word =
     if bytes_eq word (codes "turn") then Some Turn
     else if bytes_eq word (codes "advance") then Some Advance
-    else if bytes_eq word (codes "post") then Some Post
+    else if bytes_eq word (codes "post") then Some (Gather Post)
+    else if bytes_eq word (codes "answer") then Some (Gather Answer)
     else if bytes_eq word (codes "end") then Some End
     else option_map Ask (ask_word_of word)

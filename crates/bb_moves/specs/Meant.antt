@@ -2,16 +2,17 @@
 use Rattle.std.specs.Prelude.{Bool, true, false, List, ◌++◌, Result, Ok, Err}
 use Rattle.bb_shell.specs.Halt.{Halt}
 use Rattle.bb_shell.specs.Halt.TheVariants as halts
-use Rattle.bb_shell.specs.Moves.{Move, Moved, one_turn, advance, post, played}
+use Rattle.bb_shell.specs.Moves.{Move, Moved, one_turn, advance, post, answer, played}
 use Rattle.bb_shell.specs.Plan.{Plan}
 use Rattle.bb_moves.specs.declared.moves.Move.{Move as Kept}
-use Rattle.bb_moves.specs.declared.moves.Move.TheVariants.{Turn, Advance, Post}
+use Rattle.bb_moves.specs.declared.moves.Move.TheVariants.{Turn, Advance, Post, Answer}
 
 -- the move of the machine that a host kept
 abbrev pub meant : Kept → Move
 meant Turn = one_turn
 meant (Advance cycles) = advance cycles
 meant (Post asks) = post asks.items
+meant (Answer asks) = answer asks.items
 
 -- what the start of a run emits, and then moves one after another, and where the run stands after them
 abbrev pub replayed : Plan → (start : Moved) → List Move → Moved

@@ -1,5 +1,5 @@
 -- The moves that a text spells, or its first fault: one line after another, from the top. A move is a line, but for a
--- post, which is a line for each of its asks, between `post` and `end`.
+-- post and an answer: these have a line for each of their asks, between `post` or `answer` and `end`.
 use Rattle.std.specs.Prelude.{ℕ, Bool, true, ◌+◌, ◌==◌, List, [], ◌∷◌, ◌++◌, length, Option, Some, None, Result}
 use Rattle.std.specs.Prelude.{Ok, Err, if◌then◌else◌}
 use Rattle.std.specs.Str.{trim}
@@ -7,7 +7,7 @@ use Rattle.std.specs.Str.Lines.{lines}
 use Rattle.bb_basis.specs.Results.{◌>>=◌, ok_or, try_fold_at}
 use Rattle.bb_schema.specs.Schema.{Schema}
 use Rattle.bb_shell.specs.Ask.{Ask}
-use Rattle.bb_shell.specs.Moves.{Move, one_turn, advance, post}
+use Rattle.bb_shell.specs.Moves.{Move, one_turn, advance, post, answer}
 use Rattle.bb_moves.specs.Asks.{ask_of}
 use Rattle.bb_moves.specs.Faults.{fault_at}
 use Rattle.bb_moves.specs.Keywords.{keyword_of}
@@ -17,33 +17,52 @@ use Rattle.bb_moves.specs.declared.fault.MovesFault.TheVariants.{At}
 use Rattle.bb_moves.specs.declared.fault.MovesFlaw.TheVariants.{Word, Place, End as Open}
 use Rattle.bb_moves.specs.declared.fault.Slip.{Slip}
 use Rattle.bb_moves.specs.declared.fault.Slip.TheVariants.{Flaw}
+use Rattle.bb_moves.specs.declared.keyword.Gathering.{Gathering}
+use Rattle.bb_moves.specs.declared.keyword.Gathering.TheVariants as gatherings
 use Rattle.bb_moves.specs.declared.keyword.Keyword.{Keyword}
 use Rattle.bb_moves.specs.declared.keyword.Keyword.TheVariants as keywords
+
+-- asks that are gathered, and what for
+pub record Asks : Type 0 where
+  pub gathering : Gathering
+  pub asks : List Ask
+
+-- the move that they make
+abbrev pub move_by : Gathering → List Ask → Move
+move_by gatherings.Post asks = post asks
+move_by gatherings.Answer asks = answer asks
+
+abbrev pub move_of : Asks → Move
+move_of g = move_by g.gathering g.asks
+
+-- an ask more
+abbrev pub one_more : Asks → Ask → Asks
+one_more g ask = record { gathering = g.gathering; asks = g.asks ++ ask ∷ [] }
 
 -- what was read so far
 pub record Progress : Type 0 where
   pub moves : List Move
-  -- the asks of the post whose `end` is still to come
-  pub asks : Option (List Ask)
+  -- the asks whose `end` is still to come
+  pub gathered : Option Asks
 
 -- nothing was read
 abbrev pub nothing_read : Progress
-nothing_read = record { moves = []; asks = None }
+nothing_read = record { moves = []; gathered = None }
 
 -- a move more
 abbrev pub with_move : Progress → Move → Progress
-with_move p m = record { moves = p.moves ++ m ∷ []; asks = p.asks }
+with_move p m = record { moves = p.moves ++ m ∷ []; gathered = p.gathered }
 
--- a post is open, with these asks
-abbrev pub with_asks : Progress → List Ask → Progress
-with_asks p asks = record { moves = p.moves; asks = Some asks }
+-- these asks are gathered
+abbrev pub with_asks : Progress → Asks → Progress
+with_asks p g = record { moves = p.moves; gathered = Some g }
 
 -- a line says nothing that is empty, or begins with `#`
 abbrev pub says_nothing : List ℕ → Bool
 says_nothing [] = true
 says_nothing (b ∷ bs) = b == 35
 
--- after `turn`, `advance N` or `post`
+-- after `turn`, `advance N`, `post` or `answer`
 unfoldable pub after_move : Progress → Keyword → List ℕ → Result Progress Slip
 after_move p keywords.Turn text = do
   nothing ← nothing_in text
@@ -51,54 +70,54 @@ after_move p keywords.Turn text = do
 after_move p keywords.Advance text = do
   cycles ← count_of text
   Ok (with_move p (advance cycles))
-after_move p keywords.Post text = do
+after_move p (keywords.Gather gathering) text = do
   nothing ← nothing_in text
-  Ok (with_asks p [])
+  Ok (with_asks p (record { gathering = gathering; asks = [] }))
 after_move p keywords.End text = Err (Flaw Place)
 after_move p (keywords.Ask word) text = Err (Flaw Place)
 
--- after a line outside a post
-unfoldable pub outside_post : Progress → List ℕ → Result Progress Slip
-outside_post p line = do
+-- after a line where no asks are gathered
+unfoldable pub outside : Progress → List ℕ → Result Progress Slip
+outside p line = do
   keyword ← ok_or (keyword_of (first line)) (Flaw Word)
   after_move p keyword (behind line)
 
--- after an ask, or `end`, in a post that has these asks so far
-abbrev pub after_ask : Schema → Progress → List Ask → Keyword → List ℕ → Result Progress Slip
-after_ask schema p asks (keywords.Ask word) text = do
+-- after an ask, or `end`, where these asks are gathered
+abbrev pub after_ask : Schema → Progress → Asks → Keyword → List ℕ → Result Progress Slip
+after_ask schema p g (keywords.Ask word) text = do
   ask ← ask_of schema word text
-  Ok (with_asks p (asks ++ ask ∷ []))
-after_ask schema p asks keywords.End text = do
+  Ok (with_asks p (one_more g ask))
+after_ask schema p g keywords.End text = do
   nothing ← nothing_in text
-  Ok (with_move p (post asks))
-after_ask schema p asks keywords.Turn text = Err (Flaw Place)
-after_ask schema p asks keywords.Advance text = Err (Flaw Place)
-after_ask schema p asks keywords.Post text = Err (Flaw Place)
+  Ok (with_move p (move_of g))
+after_ask schema p g keywords.Turn text = Err (Flaw Place)
+after_ask schema p g keywords.Advance text = Err (Flaw Place)
+after_ask schema p g (keywords.Gather gathering) text = Err (Flaw Place)
 
--- after a line inside a post
-unfoldable pub inside_post : Schema → Progress → List Ask → List ℕ → Result Progress Slip
-inside_post schema p asks line = do
+-- after a line where these asks are gathered
+unfoldable pub inside : Schema → Progress → Asks → List ℕ → Result Progress Slip
+inside schema p g line = do
   keyword ← ok_or (keyword_of (first line)) (Flaw Word)
-  after_ask schema p asks keyword (behind line)
+  after_ask schema p g keyword (behind line)
 
--- after a line that says something, where the asks of the post that is open are apart
-abbrev pub after_words : Schema → Progress → Option (List Ask) → List ℕ → Result Progress Slip
-after_words schema p None line = outside_post p line
-after_words schema p (Some asks) line = inside_post schema p asks line
+-- after a line that says something, where the asks that are gathered are apart
+abbrev pub after_words : Schema → Progress → Option Asks → List ℕ → Result Progress Slip
+after_words schema p None line = outside p line
+after_words schema p (Some g) line = inside schema p g line
 
 -- after a line; white space at its ends says nothing
 unfoldable pub after_line : Schema → Progress → List ℕ → Result Progress Slip
 after_line schema p line =
     if says_nothing (trim line) then Ok p
-    else after_words schema (record { moves = p.moves; asks = None }) p.asks (trim line)
+    else after_words schema (record { moves = p.moves; gathered = None }) p.gathered (trim line)
 
--- the moves, where no post is open; the line of a fault is the one after the last
-abbrev pub all_ended : (lines : ℕ) → List Move → Option (List Ask) → Result (List Move) MovesFault
+-- the moves, where no asks are gathered; the line of a fault is the one after the last
+abbrev pub all_ended : (lines : ℕ) → List Move → Option Asks → Result (List Move) MovesFault
 all_ended lines moves None = Ok moves
-all_ended lines moves (Some asks) = Err (At (lines + 1) Open)
+all_ended lines moves (Some g) = Err (At (lines + 1) Open)
 
 abbrev pub at_end : (lines : ℕ) → Progress → Result (List Move) MovesFault
-at_end lines p = all_ended lines p.moves p.asks
+at_end lines p = all_ended lines p.moves p.gathered
 
 unfoldable pub moves_of : Schema → List ℕ → Result (List Move) MovesFault
 moves_of schema text = do

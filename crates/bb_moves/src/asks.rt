@@ -1,4 +1,5 @@
-//! The asks of a post, each from the words behind its first one. Lines inside a post (reading.rt) are read by it.
+//! The asks of a post or an answer, each from the words behind its first one. Lines inside one (reading.rt) are read by
+//! it.
 
 ghost use Rattle.std.specs.Prelude.{◌≡◌};
 ghost use Rattle.bb_basis.specs.Results.{Gives};

@@ -11,12 +11,12 @@ use thiserror::Error;
 /// What is wrong with a line of a history.
 #[derive(Clone, Copy, Debug, PartialEq, Eq, Error)]
 pub enum MovesFlaw {
-    /// The first word of the line is none of a move or an ask, or a word follows that `turn`, `post` and `end` don't
-    /// have.
+    /// The first word of the line is none of a move or an ask, or a word follows that `turn`, `post`, `answer` and
+    /// `end` don't have.
     #[error("the line is neither a move nor an ask")]
     Word,
-    /// The line is a move inside a post, or an ask or `end` outside one.
-    #[error("a move stands inside a post, or an ask or `end` outside one")]
+    /// The line is a move inside a post or an answer, or an ask or `end` outside one.
+    #[error("a move stands inside a post or an answer, or an ask or `end` outside one")]
     Place,
     /// A name is due: of a class, a slot or a space.
     #[error("a name is due: a letter from a to z, then letters, digits and `_`, at most 31 in all")]
@@ -30,8 +30,8 @@ pub enum MovesFlaw {
     /// The schema has no such label set, or the set no such label.
     #[error("the schema has no such label")]
     Label,
-    /// The text ends inside a post. The line is the one after the last.
-    #[error("the text ends inside a post")]
+    /// The text ends inside a post or an answer. The line is the one after the last.
+    #[error("the text ends inside a post or an answer")]
     End,
 }
 

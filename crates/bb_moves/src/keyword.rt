@@ -10,12 +10,21 @@ pub(crate) enum Keyword {
     Turn,
     /// `advance N`
     Advance,
-    /// `post`
-    Post,
+    /// `post` or `answer`
+    Gather(Gathering),
     /// `end`
     End,
     /// An ask.
     Ask(AskWord),
+}
+
+/// What asks are gathered for, up to their `end`.
+#[derive(Clone, Copy, PartialEq)]
+pub(crate) enum Gathering {
+    /// `post`
+    Post,
+    /// `answer`
+    Answer,
 }
 
 /// Which ask a line is.
@@ -82,7 +91,10 @@ pub(crate) fn keyword_of(word: &str) -> Option<Keyword>
         return Some(Keyword::Advance);
     }
     if word == "post" {
-        return Some(Keyword::Post);
+        return Some(Keyword::Gather(Gathering::Post));
+    }
+    if word == "answer" {
+        return Some(Keyword::Gather(Gathering::Answer));
     }
     if word == "end" {
         return Some(Keyword::End);

@@ -1,8 +1,8 @@
 //! Histories of held runs: the moves of a host as values and as text, and the run that they make.
 //!
 //! - In: a shell, moves or their text, and an output.
-//! - Out: `replay`, the run that stands after moves, with its trace written; `play`, which makes moves of a run that is
-//!   held already; `moves_of`, the moves that a text spells, or its first `MovesFault`.
+//! - Out: `replay` and, where the host answers for natives, `replay_hosted`: the run that stands after moves, with its
+//!   trace written; `play`, which makes moves of a run that is held already; `moves_of`, the moves that a text spells, or its first `MovesFault`.
 //! - Callers rely on: trace and run are those of the abstract blackboard machine for the same history. So a host that
 //!   keeps its moves has its run again, with its agenda and all numbers.
 //! - Cases: `moves`, `moves_full`, `moves_refused`.
@@ -19,10 +19,10 @@ mod words;
 
 pub use bb_schema::{Schema, SchemaFault};
 pub use bb_shell::{
-    Ask, Board, Closed, Finish, Halt, InputFault, NativeSource, Out, Pause, Pipe, Running, Shell,
-    Text, Texts, UnitId, Value, View,
+    Ask, Board, Closed, Finish, Halt, HostedShell, InputFault, NativeSource, Out, Pause, Pipe,
+    Running, Shell, Text, Texts, UnitId, Value, View,
 };
 pub use fault::{MovesFault, MovesFlaw};
 pub use moves::Move;
 pub use reading::moves_of;
-pub use replaying::{play, replay};
+pub use replaying::{play, replay, replay_hosted};

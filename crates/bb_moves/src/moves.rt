@@ -11,4 +11,6 @@ pub enum Move {
     Advance(u32),
     /// What happened in the world outside.
     Post(Vec<Ask>),
+    /// What the native asks that is due.
+    Answer(Vec<Ask>),
 }

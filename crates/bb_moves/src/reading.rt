@@ -3,26 +3,56 @@
 ghost use Rattle.std.specs.Prelude.{◌≡◌, ◌+◌, ◌++◌, ◌∷◌, [], ◌<◌, ◌^◌, Ok, map};
 ghost use Rattle.bb_basis.specs.Results.{Gives};
 ghost use Rattle.bb_moves.specs.Meant.{meant};
-ghost use Rattle.bb_moves.specs.MovesText.{after_line, after_move, at_end, inside_post, moves_of, nothing_read};
-ghost use Rattle.bb_moves.specs.MovesText.{outside_post, says_nothing, with_asks, with_move};
-ghost use Rattle.bb_moves.specs.proving.Reading.{so_far};
+ghost use Rattle.bb_moves.specs.MovesText.{after_line, after_move, at_end, inside, move_of, moves_of};
+ghost use Rattle.bb_moves.specs.MovesText.{nothing_read, outside, says_nothing, with_asks, with_move};
+ghost use Rattle.bb_moves.specs.MovesText.{one_more};
+ghost use Rattle.bb_moves.specs.proving.Reading.{asks_so_far, so_far};
 ghost use Rattle.bb_moves.specs.declared.fault.Slip.TheVariants.{Memory as OutOfMemory};
 ghost use Rattle.bb_moves.specs.declared.fault.MovesFault.TheVariants.{Memory as NoMemory};
 
 use crate::asks::read_ask;
 use crate::fault::{MovesFault, MovesFlaw, Slip, placed};
-use crate::keyword::{Keyword, keyword_of};
+use crate::keyword::{Gathering, Keyword, keyword_of};
 use crate::moves::Move;
 use crate::words::{first_word, read_count, read_nothing};
 use bb_schema::Schema;
 use bb_shell::Ask;
 use std::alloc::Global;
 
-// What was read so far: the moves, and the asks of the post whose `end` is still to come.
+// Asks whose `end` is still to come, and what they are gathered for.
+#[derive(Drop)]
+struct Gathered {
+    gathering: Gathering,
+    asks: Vec<Ask>,
+}
+
+impl Gathered {
+    // None so far.
+    fn new(alloc: Global, gathering: Gathering) -> Gathered
+        ensures { asks_so_far result ≡ record { gathering = gathering; asks = [] } }
+    {
+        Gathered {
+            gathering,
+            asks: Vec::new(alloc),
+        }
+    }
+
+    // The move, once all are there.
+    fn into_move(self) -> Move
+        ensures { meant result ≡ move_of (asks_so_far self) }
+    {
+        match self.gathering {
+            Gathering::Post => Move::Post(self.asks),
+            Gathering::Answer => Move::Answer(self.asks),
+        }
+    }
+}
+
+// What was read so far: the moves, and asks whose `end` is still to come.
 #[derive(Drop)]
 struct Reading {
     moves: Vec<Move>,
-    asks: Option<Vec<Ask>>,
+    gathered: Option<Gathered>,
 }
 
 // Whether a line says nothing: it is empty, or begins with `#`.
@@ -41,7 +71,7 @@ impl Reading {
     {
         Reading {
             moves: Vec::new(alloc),
-            asks: None,
+            gathered: None,
         }
     }
 
@@ -53,14 +83,14 @@ impl Reading {
         Ok(())
     }
 
-    // A post that is open, with its asks.
-    fn open(&mut self, asks: Vec<Ask>)
-        ensures { so_far self.new ≡ with_asks (so_far self.old) asks.items }
+    // Asks that are gathered.
+    fn gather(&mut self, gathered: Gathered)
+        ensures { so_far self.new ≡ with_asks (so_far self.old) (asks_so_far gathered) }
     {
-        self.asks = Some(asks);
+        self.gathered = Some(gathered);
     }
 
-    // `turn`, `advance N` or `post`
+    // `turn`, `advance N`, `post` or `answer`
     #[tactic(auto, unfolding(crate::specs::MovesText::after_move))]
     fn read_move(&mut self, alloc: Global, keyword: Keyword, text: &str) -> Result<(), Slip>
         ensures { Gives OutOfMemory (λ _. so_far self.new) result (after_move (so_far self.old) keyword text.now) }
@@ -74,58 +104,60 @@ impl Reading {
                 let cycles = read_count(alloc, text)?;
                 self.add(Move::Advance(cycles))
             }
-            Keyword::Post => {
+            Keyword::Gather(gathering) => {
                 read_nothing(text)?;
-                self.open(Vec::new(alloc));
+                self.gather(Gathered::new(alloc, gathering));
                 Ok(())
             }
             Keyword::End | Keyword::Ask(_) => Err(Slip::Flaw(MovesFlaw::Place)),
         }
     }
 
-    // A line outside a post.
-    #[tactic(auto, unfolding(crate::specs::MovesText::outside_post))]
+    // A line where no asks are gathered.
+    #[tactic(auto, unfolding(crate::specs::MovesText::outside))]
     fn read_outside(&mut self, alloc: Global, line: &str) -> Result<(), Slip>
-        ensures { Gives OutOfMemory (λ _. so_far self.new) result (outside_post (so_far self.old) line.now) }
+        ensures { Gives OutOfMemory (λ _. so_far self.new) result (outside (so_far self.old) line.now) }
     {
         let (word, text) = first_word(line);
         let keyword = keyword_of(word).ok_or(Slip::Flaw(MovesFlaw::Word))?;
         self.read_move(alloc, keyword, text)
     }
 
-    // An ask more of a post.
-    fn add_ask(&mut self, mut asks: Vec<Ask>, ask: Ask) -> Result<(), Slip>
+    // An ask more of those that are gathered.
+    fn add_ask(&mut self, mut gathered: Gathered, ask: Ask) -> Result<(), Slip>
         ensures { Gives OutOfMemory (λ _. so_far self.new) result
-            (Ok (with_asks (so_far self.old) (asks.items ++ ask ∷ []))) }
+            (Ok (with_asks (so_far self.old) (one_more (asks_so_far gathered) ask))) }
     {
-        asks.push(ask)?;
-        self.open(asks);
+        gathered.asks.push(ask)?;
+        self.gather(gathered);
         Ok(())
     }
 
-    // A line inside a post that has these asks so far: an ask more, or `end`.
-    #[tactic(auto, unfolding(crate::specs::MovesText::inside_post))]
+    // A line where these asks are gathered: an ask more, or `end`.
+    #[tactic(auto, unfolding(crate::specs::MovesText::inside))]
     fn read_inside(
         &mut self,
         alloc: Global,
         schema: &Schema,
-        asks: Vec<Ask>,
+        gathered: Gathered,
         line: &str,
     ) -> Result<(), Slip>
         ensures { Gives OutOfMemory (λ _. so_far self.new) result
-            (inside_post schema.now (so_far self.old) asks.items line.now) }
+            (inside schema.now (so_far self.old) (asks_so_far gathered) line.now) }
     {
         let (word, text) = first_word(line);
         match keyword_of(word).ok_or(Slip::Flaw(MovesFlaw::Word))? {
             Keyword::Ask(word) => {
                 let ask = read_ask(alloc, schema, word, text)?;
-                self.add_ask(asks, ask)
+                self.add_ask(gathered, ask)
             }
             Keyword::End => {
                 read_nothing(text)?;
-                self.add(Move::Post(asks))
+                self.add(gathered.into_move())
             }
-            Keyword::Turn | Keyword::Advance | Keyword::Post => Err(Slip::Flaw(MovesFlaw::Place)),
+            Keyword::Turn | Keyword::Advance | Keyword::Gather(_) => {
+                Err(Slip::Flaw(MovesFlaw::Place))
+            }
         }
     }
 
@@ -137,19 +169,19 @@ impl Reading {
         if says_nothing(line) {
             return Ok(());
         }
-        match self.asks.take() {
+        match self.gathered.take() {
             None => self.read_outside(alloc, line),
-            Some(asks) => self.read_inside(alloc, schema, asks, line),
+            Some(gathered) => self.read_inside(alloc, schema, gathered, line),
         }
     }
 
-    // The moves, where no post is open. The text has so many lines.
+    // The moves, where no asks are gathered. The text has so many lines.
     fn finish(self, lines: u64) -> Result<Vec<Move>, MovesFault>
         requires { lines + 1 < 2 ^ 64 }
         ensures { Gives NoMemory (λ v. map meant v.items) result (at_end lines (so_far self)) }
     {
-        let Reading { moves, asks } = self;
-        match asks {
+        let Reading { moves, gathered } = self;
+        match gathered {
             None => Ok(moves),
             Some(_) => Err(MovesFault::At {
                 line: lines + 1,

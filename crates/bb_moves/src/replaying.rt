@@ -1,4 +1,5 @@
-//! Moves are made one after another: of a run that is held, or of one from its start. Hosts call `play` and `replay`.
+//! Moves are made one after another: of a run that is held, or of one from its start. Hosts call `play`, `replay` and
+//! `replay_hosted`.
 
 ghost use Rattle.std.specs.Prelude.{◌≡◌, None, false, map, IfOk};
 ghost use Rattle.bb_shell.specs.Making.{Begins, Makes, halt_of, stands};
@@ -7,7 +8,7 @@ ghost use Rattle.bb_shell.specs.Seen.{seen};
 ghost use Rattle.bb_moves.specs.Meant.{meant, replayed, stopped_by_write};
 
 use crate::moves::Move;
-use bb_shell::{Halt, NativeSource, Out, Pause, Running, Shell};
+use bb_shell::{Halt, HostedShell, NativeSource, Out, Pause, Running, Shell};
 use std::alloc::Global;
 
 /// Makes moves of a run, one after another. One that can't be made where the run stands changes nothing. `Memory`,
@@ -51,6 +52,7 @@ fn make<N: NativeSource, O: Out>(
         Move::Turn => running.turn(out),
         Move::Advance(cycles) => running.advance(cycles, out),
         Move::Post(asks) => running.post(asks, out),
+        Move::Answer(asks) => running.answer(asks, out),
     }
 }
 
@@ -71,7 +73,44 @@ pub fn replay<N: NativeSource, O: Out>(
     ensures kept { IfOk result (λ r. (r.plan ≡ shell.plan) × (r.cut ≡ None)) }
     ensures failed { O.has_failed out.new ≡ stopped_by_write result }
 {
-    let mut running = shell.start(alloc, out)?;
+    let running = shell.start(alloc, out)?;
+    go_on(running, moves, out)
+}
+
+/// Begins the run of a shell whose host answers for natives and makes moves of it, as `replay` does: what the host
+/// answered is among them.
+pub fn replay_hosted<N: NativeSource, O: Out>(
+    alloc: Global,
+    shell: HostedShell<N>,
+    moves: Vec<Move>,
+    out: &mut O,
+) -> Result<Running<N>, Halt>
+    requires open { O.has_failed out.old ≡ false }
+    ensures begun { Begins shell.plan
+        (replayed shell.plan (started shell.plan shell.board (map N.meaning shell.roster.natives.items))
+        (map meant moves.items))
+        (λ r. stands (seen N.meaning r.state) r.made r.pause) (O.taken out.old) (O.taken out.new) result }
+    ensures kept { IfOk result (λ r. (r.plan ≡ shell.plan) × (r.cut ≡ None)) }
+    ensures failed { O.has_failed out.new ≡ stopped_by_write result }
+{
+    let running = shell.start(alloc, out)?;
+    go_on(running, moves, out)
+}
+
+// Makes moves of a run that was begun. Where one of them is cut short, the run is closed.
+fn go_on<N: NativeSource, O: Out>(
+    mut running: Running<N>,
+    moves: Vec<Move>,
+    out: &mut O,
+) -> Result<Running<N>, Halt>
+    requires open { O.has_failed out.old ≡ false }
+    requires whole { running.cut ≡ None }
+    ensures begun { Begins running.plan (played running.plan (map meant moves.items)
+        (stands (seen N.meaning running.state) running.made running.pause))
+        (λ r. stands (seen N.meaning r.state) r.made r.pause) (O.taken out.old) (O.taken out.new) result }
+    ensures kept { IfOk result (λ r. (r.plan ≡ running.plan) × (r.cut ≡ None)) }
+    ensures failed { O.has_failed out.new ≡ stopped_by_write result }
+{
     match play(&mut running, moves, out) {
         Ok(_) => Ok(running),
         Err(halt) => {
