@@ -45,7 +45,7 @@ static size_t read_all(bb_run *run)
 static size_t held(const uint8_t *input, size_t len, uint32_t size)
 {
     bb_run run = BB_RUN_NONE;
-    uint8_t stands = bb_open(&run, input, len, 0);
+    uint8_t stands = bb_open(&run, input, len, BB_S(""), 0);
     size_t told = 0;
     while (stands == BB_GOING) {
         for (uint32_t made = 0; made < 1000 && stands == BB_GOING; made += size == 0 ? 1 : size)

@@ -1,9 +1,10 @@
 /* A host in C that schedules. It holds a run of examples/press.bb, whose first units are two presses. Jobs come on its
    standard input, by rising time, a line each: TIME HOURS DUE NAME. It posts each as it comes, and that a press is free
-   when its job has ended, lets the sources decide, tells each decision, and at the end how many jobs are printed. Its
-   status is that in which the run ends, or 1 where the host itself failed.
+   when its job has ended, lets the sources decide, tells each decision, and at the end how many jobs are printed. Where
+   a second file is named the trace goes there, of which `tools/see` makes a page. Its status is that in which the run
+   ends, or 1 where the host itself failed.
 
-       press examples/press.bb < examples/c/press.jobs */
+       press examples/press.bb day.trace < examples/c/press.jobs */
 #include "bb.h"
 
 #include <inttypes.h>
@@ -20,9 +21,11 @@ struct job {
     int is_there;
 };
 
-/* A run, the time, when the job of each press ends (0: it has none), and the line of the trace that is being read. */
+/* A run, the file for its trace, if there is one, the time, when the job of each press ends (0: it has none), and the line
+   of the trace that is being read. */
 struct shop {
     bb_run run;
+    FILE *trace;
     int64_t now, ends[PRESSES];
     char line[LINE];
     size_t len;
@@ -74,7 +77,9 @@ static void read_trace(struct shop *shop)
 {
     uint8_t bytes[LINE];
     size_t len;
-    while (bb_read(&shop->run, bytes, sizeof bytes, &len) == BB_OK && len > 0)
+    while (bb_read(&shop->run, bytes, sizeof bytes, &len) == BB_OK && len > 0) {
+        if (shop->trace != NULL)
+            fwrite(bytes, 1, len, shop->trace);
         for (size_t i = 0; i < len; i++) {
             int is_end = bytes[i] == '\n';
             shop->line[shop->len] = is_end ? 0 : (char)bytes[i];
@@ -82,6 +87,7 @@ static void read_trace(struct shop *shop)
                 tell(shop);
             shop->len = is_end ? 0 : shop->len + (shop->len + 1 < LINE);
         }
+    }
 }
 
 /* Posts what was asked, unless a call failed, and makes turns until the run rests. Returns how it stands then. */
@@ -163,14 +169,16 @@ int main(int count, char **words)
 {
     if (bb_version() != BB_VERSION)
         return fail("the library is of another version than its header");
-    if (count != 2)
-        return fail("usage: press INPUT < JOBS");
+    if (count != 2 && count != 3)
+        return fail("usage: press INPUT [TRACE] < JOBS");
     size_t len;
     uint8_t *input = read_file(words[1], &len);
     if (input == NULL)
         return fail("the input can't be read");
-    struct shop shop = {BB_RUN_NONE, 0, {0}, "", 0};
-    uint8_t stands = bb_open(&shop.run, input, len, 0);
+    struct shop shop = {BB_RUN_NONE, NULL, 0, {0}, "", 0};
+    if (count == 3 && (shop.trace = fopen(words[2], "wb")) == NULL)
+        return fail("the trace can't be written");
+    uint8_t stands = bb_open(&shop.run, input, len, BB_S(""), 0);
     free(input);
     while (stands == BB_GOING)
         stands = bb_turn(&shop.run);
@@ -178,7 +186,10 @@ int main(int count, char **words)
     if (stands == BB_RESTING) {
         tell_printed(&shop);
         stands = bb_finish(&shop.run);
+        read_trace(&shop);
     }
     bb_close(&shop.run);
+    if (shop.trace != NULL && fclose(shop.trace) != 0)
+        return fail("the trace can't be written");
     return fflush(stdout) == 0 ? stands : fail("the decisions can't be written");
 }

@@ -122,16 +122,21 @@ def try_program(crates, room, rows):
         yield f"{row.name}: reads", try_reads(bb, row)
 
 
-def try_host(crates, room):
-    """Each request of the host in C that holds a run is refused, alone and with all behind it. It tells the decisions that
+# The hosts in C that hold a run, each with its input and what happens outside.
+HOSTS = {"press": ("press.bb", "c/press.jobs"), "scale": ("c/scale.bb", "c/scale.parcels")}
+
+
+def try_host(crates, room, name):
+    """Each request of a host in C that holds a run is refused, alone and with all behind it. It tells the decisions that
     the run came to, and ends for want of memory, or as it would have."""
     examples = crates.parent / "examples"
     include = f"-I{crates / 'bb_c/include'}"
-    host = Linked(examples / "c/press.c", room, include, crates / "bb_c/out/libbb_c.a")
-    words, given = [examples / "press.bb"], (examples / "c/press.jobs").read_bytes()
+    host = Linked(examples / f"c/{name}.c", room, include, crates / "bb_c/out/libbb_c.a")
+    example, news = HOSTS[name]
+    words, given = [examples / example], (examples / news).read_bytes()
     whole = host.run(words, given)
     if whole.returncode != 0 or not whole.stdout:
-        raise Wrong(f"press, nothing refused: status {whole.returncode}, {whole.stderr!r}")
+        raise Wrong(f"{name}, nothing refused: status {whole.returncode}, {whole.stderr!r}")
 
     def end_of(number, **how):
         ran = host.run(words, given, REFUSED=number, **how)
@@ -141,7 +146,7 @@ def try_host(crates, room):
             return "for want of memory"
         if ran.returncode == HOST_FAILED and not ran.stdout:
             return "before the run"
-        raise Wrong(f"press, request {number} for memory refused {how}: status {ran.returncode}, {ran.stdout[-80:]!r}")
+        raise Wrong(f"{name}, request {number} for memory refused {how}: status {ran.returncode}, {ran.stdout[-80:]!r}")
 
     def ends(number):
         end_of(number, LASTING=1)

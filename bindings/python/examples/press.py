@@ -1,11 +1,11 @@
 #!/usr/bin/env python3
 """A host in Python that schedules: what examples/c/press.c is in C.
 
-    press.py examples/press.bb < examples/c/press.jobs
+    press.py examples/press.bb day.trace < examples/c/press.jobs
 
 Jobs come on its standard input, by rising time, a line each: TIME HOURS DUE NAME. It posts each as it comes, and that a
 press is free when its job has ended, lets the sources decide, tells each decision, and at the end how many jobs are
-printed.
+printed. Where a second file is named the trace goes there, of which `tools/see` makes a page.
 """
 
 import re
@@ -22,13 +22,15 @@ class Shop:
     """A run, the time, and when the job of each press ends that has one."""
 
     def __init__(self, run):
-        self.run, self.now, self.ends = run, 0, {}
+        self.run, self.now, self.ends, self.trace = run, 0, {}, []
 
     def decide(self):
         """Lets the sources decide, and tells what they decided."""
         while self.run.turn():
             pass
-        for press, name, job, hours, due in DECISION.findall(self.run.read()):
+        told = self.run.read()
+        self.trace.append(told)
+        for press, name, job, hours, due in DECISION.findall(told):
             end = self.ends[int(press)] = self.now + int(hours)
             print(f"{self.now}: {name} begins {job}, until {end}{', late' if end > int(due) else ''}")
 
@@ -67,7 +69,9 @@ def main():
             shop.job_comes(int(time), int(hours), int(due), name)
         shop.free_until()
         print(sum(run.get(job, "state") == "printed" for job in run.units("job")), "jobs are printed")
-        run.finish()
+        shop.trace.append(run.finish())
+    if len(sys.argv) > 2:
+        Path(sys.argv[2]).write_text("".join(shop.trace))
 
 
 if __name__ == "__main__":

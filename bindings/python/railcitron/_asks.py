@@ -42,7 +42,7 @@ def _bytes(text):
 
 
 class Asks:
-    """The asks of one post, in their order. They are applied when it is posted; what is wrong with one, as a unit that is
+    """The asks of one post or answer, in their order. They are applied at its end; what is wrong with one, as a unit that is
     not live, is told in the trace then, as `refused ask I R`."""
 
     def __init__(self, run):
@@ -52,7 +52,7 @@ class Asks:
 
     def _ask(self, name, *passed):
         if not self._is_open:
-            raise Misuse("these asks were posted")
+            raise Misuse("these asks were posted, or answered by")
         status = self._run._call(name, *passed)
         if status == calls.REFUSED:
             raise Refused(f"{name} is refused {passed!r}")
@@ -62,7 +62,7 @@ class Asks:
             raise Misuse("there is no such run")
 
     def new(self, class_name):
-        """A new unit. Returns the number that it will have, unless one before it in this post is refused."""
+        """A new unit. Returns the number that it will have, unless one before it among these asks is refused."""
         self._ask("bb_ask_new", *_bytes(class_name))
         self._new += 1
         return self._run.next + self._new - 1

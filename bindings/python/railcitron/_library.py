@@ -6,13 +6,13 @@ import os
 from ctypes import POINTER, c_char_p, c_int64, c_size_t, c_uint8, c_uint32, c_uint64
 from pathlib import Path
 
-VERSION = 1
+VERSION = 2
 RUN = 0
 
 # Statuses.
 OK = RESTING = DONE = 0
 NONE = 1
-REFUSED, GOING, FULL, MEMORY, ROOM, MISUSE = 2, 3, 4, 5, 6, 9
+REFUSED, GOING, FULL, MEMORY, ROOM, DUE, MISUSE = 2, 3, 4, 5, 6, 8, 9
 LIMIT = GOING
 
 
@@ -26,15 +26,18 @@ _RUN = POINTER(Handle)
 _BYTES = [c_char_p, c_size_t]
 _SLOT = [_RUN, c_uint64, *_BYTES]
 _INT = POINTER(c_int64)
+_UNIT = POINTER(c_uint64)
 _TEXT = [*_BYTES, POINTER(c_size_t)]
+_UNITS = [_UNIT, c_size_t, POINTER(c_size_t)]
 
 # What each call returns, and what it takes. A pointer to Python's bytes is never null.
 CALLS = {
     "bb_version": (c_uint32, []),
     "bb_serve": (c_uint8, [*_BYTES, c_uint8, c_uint32, c_int64, *_BYTES, POINTER(c_size_t)]),
-    "bb_open": (c_uint8, [_RUN, *_BYTES, c_int64]),
+    "bb_open": (c_uint8, [_RUN, *_BYTES, *_BYTES, c_int64]),
     "bb_turn": (c_uint8, [_RUN]),
     "bb_advance": (c_uint8, [_RUN, c_uint32]),
+    "bb_made": (c_uint64, [_RUN]),
     "bb_ask_new": (c_uint8, [_RUN, *_BYTES]),
     "bb_ask_int": (c_uint8, [*_SLOT, c_int64]),
     "bb_ask_bool": (c_uint8, [*_SLOT, c_uint8]),
@@ -49,6 +52,8 @@ CALLS = {
     "bb_ask_say": (c_uint8, [_RUN, *_BYTES]),
     "bb_discard": (c_uint8, [_RUN]),
     "bb_post": (c_uint8, [_RUN]),
+    "bb_due": (c_uint8, [_RUN, _UNIT, *_TEXT]),
+    "bb_answer": (c_uint8, [_RUN]),
     "bb_next": (c_uint64, [_RUN]),
     "bb_class": (c_uint8, [_RUN, c_uint64, *_TEXT]),
     "bb_int": (c_uint8, [*_SLOT, _INT]),
@@ -56,7 +61,11 @@ CALLS = {
     "bb_interval": (c_uint8, [*_SLOT, _INT, _INT]),
     "bb_text": (c_uint8, [*_SLOT, *_TEXT]),
     "bb_label": (c_uint8, [*_SLOT, *_TEXT]),
-    "bb_links": (c_uint8, [*_SLOT, POINTER(c_uint64), c_size_t, POINTER(c_size_t)]),
+    "bb_links": (c_uint8, [*_SLOT, *_UNITS]),
+    "bb_units": (c_uint8, [_RUN, *_BYTES, *_UNITS]),
+    "bb_document": (c_uint8, [_RUN, *_TEXT]),
+    "bb_most_steps": (c_uint8, [_RUN, c_uint32, POINTER(c_uint64)]),
+    "bb_creates": (c_uint8, [_RUN, c_char_p]),
     "bb_read": (c_uint8, [_RUN, *_BYTES, POINTER(c_size_t)]),
     "bb_finish": (c_uint8, [_RUN]),
     "bb_close": (None, [_RUN]),

@@ -70,6 +70,7 @@ class Library(unittest.TestCase):
             self.assertEqual((run.links(one, "next"), run.links(2, "last"), run.links(one, "count")), (others[::-1], [one], []))
             self.assertEqual((run.class_of(one), run.class_of(22), run.class_of(0)), ("note", None, None))
             self.assertEqual((run.units("note"), run.units("focus")), ([one, *others], []))
+            self.assertRaises(KeyError, run.units, "job")
             for unit, slot in ((22, "count"), (one, "size"), (one, "next")):
                 self.assertRaises(KeyError, run.get, unit, slot)
             self.assertRaises(KeyError, run.links, one, "size")
@@ -90,6 +91,72 @@ class Library(unittest.TestCase):
                 return told + run.finish()
 
         self.assertEqual({trace(it) for it in (1, 3, 7, 1000)}, {trace(2)})
+
+    def test_natives(self):
+        sources = "%sources\nsource count on note { when create note; rate 50; native; }\nsource later on note { when create note; rate 9; native; }\n"
+        with self.assertRaises(railcitron.Refused):
+            railcitron.Run((SCHEMA + sources).encode(), natives=["count"])
+        with railcitron.Run((SCHEMA + sources).encode(), natives=["count", "later"]) as run:
+
+            @run.native("count")
+            def count(unit, asks):
+                asks.set(unit, "count", run.get(unit, "count") + 1)
+                if unit < 3:
+                    asks.new("note")
+
+            with run.post() as asks:
+                asks.new("note")
+            with self.assertRaises(railcitron.Due) as caught:
+                run.advance(100)
+            self.assertEqual((caught.exception.unit, caught.exception.name, run.made), (1, "later", 4))
+            self.assertEqual([run.get(it, "count") for it in run.units("note")], [1, 1, 1])
+            self.assertRaises(railcitron.Due, run.turn)
+            self.assertRaises(railcitron.Due, run.finish)
+            with self.assertRaises(ZeroDivisionError), run.answer() as asks:
+                asks.delete(1)
+                raise ZeroDivisionError
+            with run.answer() as asks:
+                asks.delete(1)
+            self.assertEqual((run.due, run.units("note")), (None, [2, 3]))
+            run.native("later")(lambda unit, asks: None)
+            self.assertFalse(run.advance(2))
+            self.assertEqual(run.made, 6)
+            told = run.read() + run.finish()
+            self.assertEqual((told.count("end native 0\n"), told.count("end native 1\n"), told.count("end native 2\n")), (2, 2, 2))
+
+    def test_costs(self):
+        sources = "%sources\nsource grow on note { when create note; rate 1; do { for other in find note in wall { say other; } } }\n"
+        with railcitron.Run((SCHEMA + sources).encode()) as run:
+            self.assertFalse(run.creates)
+            costs = [run.most_steps(it) for it in (0, 1, 2, 65536)]
+            self.assertEqual(costs[2] - costs[1], costs[1] - costs[0])
+            self.assertEqual(costs[3] - costs[0], 65536 * (costs[1] - costs[0]))
+            self.assertEqual(run.most_steps(), run.most_steps((1 << 32) - 1))
+            run.finish()
+            self.assertRaises(railcitron.Misuse, run.most_steps)
+        with railcitron.Run(f"{SCHEMA}%sources\nsource grow on note {{ when quiescence; rate 1; do {{ new made: note; }} }}\n".encode()) as run:
+            self.assertTrue(run.creates)
+
+    def test_a_document_is_loaded_again(self):
+        with railcitron.Run(DATA) as run:
+            with run.post() as asks:
+                one, two, three = (asks.new("note") for _ in range(3))
+                asks.set(one, "text", "ü")
+                asks.set(one, "hue", Label("hue", "blue"))
+                asks.set(three, "span", Interval(-1, 1))
+                asks.link(three, "next", one)
+                asks.enter(one, "wall")
+                asks.delete(two)
+            document = run.document()
+        self.assertEqual(
+            document,
+            '{"links":[["2","next","1"]],"spaces":[["1","wall"]],"units":['
+            '{"class":"note","name":"1","slots":{"hue":"blue","text":"ü"}},'
+            '{"class":"note","name":"2","slots":{"span":[-1,1]}}]}',
+        )
+        with railcitron.Run(f"{SCHEMA}%units\n{document}\n".encode()) as run:
+            self.assertEqual(run.document(), document)
+            self.assertEqual(run.links(1, "last"), [2])
 
     def test_refused(self):
         with self.assertRaises(railcitron.Refused) as caught:

@@ -18,8 +18,9 @@ from railcitron import Interval, Label, _library  # noqa: E402
 class Library:
     """It answers each call with the next status that it was given for it, or 0, and notes what was passed."""
 
-    def __init__(self, trace=(), **statuses):
+    def __init__(self, trace=(), due=(), **statuses):
         self.trace = list(trace)
+        self.due = list(due)
         self.statuses = {name: list(it) for name, it in statuses.items()}
         self.called = []
 
@@ -41,6 +42,18 @@ class Library:
         length._obj.value = len(piece)
         return 0
 
+    def bb_due(self, run, unit, name, size, length):
+        if not self.due:
+            return 1
+        unit._obj.value, text = self.due[0]
+        name[: len(text)] = text.encode()
+        length._obj.value = len(text)
+        return 0
+
+    def bb_answer(self, run):
+        self.due.pop(0)
+        return self.answer("bb_answer", run, ())
+
     def bb_serve(self, data, size, mode, limit, floor, room, length, written):
         line = b"refused schema 1\n"
         room[: len(line)] = line
@@ -60,7 +73,7 @@ class Runs(unittest.TestCase):
             self.assertTrue(run.advance(7))
             for fault in (railcitron.Full, railcitron.OutOfMemory, railcitron.Misuse):
                 self.assertRaises(fault, run.turn)
-        self.assertEqual(library.called[0], ("bb_open", b"input", 5, -1))
+        self.assertEqual(library.called[0], ("bb_open", b"input", 5, b"", 0, -1))
         self.assertIn(("bb_advance", 7), library.called)
         self.assertEqual(library.names()[-1], "bb_close")
 
@@ -153,6 +166,61 @@ class Posts(unittest.TestCase):
             self.assertRaises(OverflowError, asks.delete, -1)
             self.assertRaises(TypeError, asks.set, 1, "due", 1.5)
             self.assertRaises(OverflowError, run.advance, 1 << 32)
+
+
+class Natives(unittest.TestCase):
+    def run_of(self, **given):
+        self.library = Library(**given)
+        return railcitron.Run(b"", natives=["price", "weigh"], library=self.library)
+
+    def test_names(self):
+        with self.run_of() as run:
+            self.assertRaises(railcitron.Misuse, run.native, "prices")
+        self.assertEqual(self.library.called[0], ("bb_open", b"", 0, b"price\nweigh", 11, 0))
+
+    def test_a_function_answers(self):
+        with self.run_of(due=[(7, "weigh")], bb_turn=[8, 0], bb_answer=[3]) as run:
+
+            @run.native("weigh")
+            def weigh(unit, asks):
+                asks.set(unit, "grams", 12)
+
+            self.assertTrue(run.turn())
+            self.assertIsNone(run.due)
+            self.assertFalse(run.turn())
+        self.assertIn(("bb_ask_int", 7, b"grams", 5, 12), self.library.called)
+        self.assertEqual(self.library.names()[-4:], ["bb_ask_int", "bb_answer", "bb_turn", "bb_close"])
+
+    def test_the_cycles_that_are_left(self):
+        due = [(7, "weigh"), (8, "weigh")]
+        with self.run_of(due=due, bb_made=[2, 3, 5], bb_advance=[8, 8, 0], bb_answer=[3, 3]) as run:
+            run.native("weigh")(lambda unit, asks: None)
+            self.assertFalse(run.advance(4))
+        called = [it for it in self.library.called if it[0] == "bb_advance"]
+        self.assertEqual(called, [("bb_advance", 4), ("bb_advance", 3), ("bb_advance", 1)])
+
+    def test_none_is_given(self):
+        with self.run_of(due=[(7, "price")], bb_turn=[8], bb_finish=[8, 0], bb_answer=[3]) as run:
+            with self.assertRaises(railcitron.Due) as caught:
+                run.turn()
+            self.assertEqual((caught.exception.unit, caught.exception.name), (7, "price"))
+            self.assertRaises(railcitron.Due, run.finish)
+            with run.answer():
+                pass
+            self.assertRaises(railcitron.Misuse, run.answer)
+            self.assertEqual(run.finish(), "")
+
+    def test_a_function_that_raises(self):
+        with self.run_of(due=[(7, "price")], bb_turn=[8]) as run:
+
+            @run.native("price")
+            def price(unit, asks):
+                asks.delete(unit)
+                raise ZeroDivisionError
+
+            self.assertRaises(ZeroDivisionError, run.turn)
+            self.assertEqual(run.due, (7, "price"))
+        self.assertEqual(self.library.names()[-2:], ["bb_discard", "bb_close"])
 
 
 class Calls(unittest.TestCase):

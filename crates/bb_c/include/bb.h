@@ -11,7 +11,7 @@ extern "C" {
 #endif
 
 /* The version of the calls that are declared here. A host compares it with `bb_version()`, the library's own. */
-#define BB_VERSION 1
+#define BB_VERSION 2
 
 /* What is done with an input. */
 enum { BB_RUN = 0, BB_CHECK = 1, BB_COMPILE = 2 };
@@ -34,7 +34,7 @@ uint32_t bb_version(void);
 /* Serves an input of `input_len` bytes as the program `bb` does without its natives, with at most `limit` cycles and no
    activation rated below `floor`. What is written goes into `output`, with no byte behind it, and the number of its
    bytes into `written`. Answers how it ended. Any bytes may be an input: what is no UTF-8, or too long, is refused.
-   Natives are for hosts in Rattle, so a source with `native` is refused here.
+   A source with `native` is refused here: a run that the host holds has natives.
 
    No check sees what the caller keeps:
 
@@ -71,7 +71,7 @@ static inline uint8_t bb_serve_nullable(const uint8_t *input, size_t input_len, 
    back shows nowhere in the trace: 3 cycles and then 4 write what 7 write.
 
        bb_run run = BB_RUN_NONE;
-       uint8_t stands = bb_open(&run, input, input_len, 0);
+       uint8_t stands = bb_open(&run, input, input_len, BB_S(""), 0);
        while (stands == BB_GOING)
            stands = bb_turn(&run);
        bb_finish(&run);
@@ -99,9 +99,9 @@ typedef struct bb_run {
 /* A literal, as its bytes and their number. */
 #define BB_S(text) (const uint8_t *)(text), sizeof(text) - 1
 
-/* What a call on a run returns. A move (`bb_open`, `bb_turn`, `bb_advance`, `bb_post`) says how the run stands:
-   BB_RESTING, BB_GOING, or BB_FULL where it is over, for want of room for one more unit or activation. Each call may
-   return these:
+/* What a call on a run returns. A move (`bb_open`, `bb_turn`, `bb_advance`, `bb_post`, `bb_answer`) says how the run
+   stands: BB_RESTING, BB_GOING, BB_DUE, or BB_FULL where it is over, for want of room for one more unit or activation.
+   Each call may return these:
 
    - BB_REFUSED: the input, a name or a value is refused, and nothing was done.
    - BB_MEMORY: memory ran out. After a move, in it or before, the run can be read and closed, and nothing else. Any
@@ -112,20 +112,29 @@ enum {
     BB_NONE = 1,    /* what is looked up is not there */
     BB_RESTING = 0, /* quiescence was told, and it changed nothing: only a post can have the run go on */
     BB_GOING = 3,   /* something can be chosen, or a turn tells quiescence */
+    BB_DUE = 8,     /* a native is due: only `bb_answer` has the run go on */
     BB_MISUSE = 9
 };
 
-/* Begins the run of an input, with no natives and no activation rated below `floor`: tells the first units, and what
-   the sources do about them. Where it is refused, `bb_serve` with a limit of 0 says why. */
-uint8_t bb_open(bb_run *run, const uint8_t *input, size_t input_len, int64_t floor);
+/* Begins the run of an input, with no activation rated below `floor`: tells the first units, and what the sources do
+   about them. A source with `native` may have one of the names in `natives`, which stand one on each line: where it is to
+   act its native is due, and the host answers. Where the input is refused, `bb_serve` with a limit of 0 says why, but of
+   each source with `native` it says that there is none. */
+uint8_t bb_open(bb_run *run, const uint8_t *input, size_t input_len, const uint8_t *natives, size_t natives_len,
+                int64_t floor);
 
-/* Makes a cycle, or tells quiescence where nothing can be chosen. Where the run rests, or is over, nothing happens. */
+/* Makes a cycle, or tells quiescence where nothing can be chosen. Where the run rests, or is over, or a native is due,
+   nothing happens. */
 uint8_t bb_turn(bb_run *run);
 
-/* Makes at most so many cycles more, and tells quiescence after them where nothing can be chosen then. */
+/* Makes at most so many cycles more, and tells quiescence after them where nothing can be chosen then. A native that is
+   due ends it: `bb_made` tells how many cycles are left. */
 uint8_t bb_advance(bb_run *run, uint32_t cycles);
 
-/* Asks gather in a run until they are posted: that a unit be created, be given a value or a link, enter or leave a
+/* The number of cycles that were made. 0: none, or there is no run, or it was finished. */
+uint64_t bb_made(bb_run *run);
+
+/* Asks gather in a run until they are posted, or answer for a native: that a unit be created, be given a value or a link, enter or leave a
    space, be deleted, or that a text be said. Refused are bytes that are no UTF-8, an interval that ends before it begins,
    and a label, or a set of labels, that the schema does not have. Whatever else may be wrong with an ask is found when
    it is applied, and told in the trace as `refused ask I R`. */
@@ -144,12 +153,19 @@ uint8_t bb_ask_leave(bb_run *run, uint64_t unit, const uint8_t *space, size_t sp
 uint8_t bb_ask_delete(bb_run *run, uint64_t unit);
 uint8_t bb_ask_say(bb_run *run, const uint8_t *text, size_t text_len);
 
-/* Forgets the asks that were gathered since the last post. */
+/* Forgets the asks that were gathered since the last post or answer. */
 uint8_t bb_discard(bb_run *run);
 
 /* Posts the asks that were gathered: they are applied in order, and the sources answer to what they changed. Then none
-   are gathered. Where the run is over nothing is applied. */
+   are gathered. Where the run is over, or a native is due, nothing is applied. */
 uint8_t bb_post(bb_run *run);
+
+/* The unit on which a native is due, and the native's name. BB_NONE: none is due. */
+uint8_t bb_due(bb_run *run, uint64_t *unit, uint8_t *to, size_t to_len, size_t *len);
+
+/* Answers for the native that is due by the asks that were gathered, perhaps none: they are applied in order, as if it
+   had been called. Then none are gathered. Where no native is due nothing is applied. */
+uint8_t bb_answer(bb_run *run);
 
 /* The number that the next new unit gets, asks that wait left out. 0: there is no run, or it was finished. */
 uint64_t bb_next(bb_run *run);
@@ -169,12 +185,30 @@ uint8_t bb_label(bb_run *run, uint64_t unit, const uint8_t *slot, size_t slot_le
 uint8_t bb_links(bb_run *run, uint64_t unit, const uint8_t *slot, size_t slot_len, uint64_t *to, size_t to_len,
                  size_t *count);
 
+/* The units of a class, and of those below it, rising: as many as there is room for go into `to`, and how many there are
+   into `count`. BB_NONE: there is no such class. */
+uint8_t bb_units(bb_run *run, const uint8_t *class_name, size_t class_name_len, uint64_t *to, size_t to_len,
+                 size_t *count);
+
+/* The blackboard as a document of first units, which an input takes below its line `%units`: as much as there is room
+   for goes into `to`, and the length of all into `len`. Units have new numbers there, from 1 without gaps, for their
+   names. It has no agenda, and no numbers of activations or cycles: loading it begins a run, and does not go on with
+   this one. It is made anew at each call. */
+uint8_t bb_document(bb_run *run, uint8_t *to, size_t to_len, size_t *len);
+
+/* What the sources of the run may cost: the greatest number of steps that an execution of any of their codes can make,
+   where no sequence that it finds has more than `found` units, of which there are 65,536 at most. UINT64_MAX: so many or
+   more. `bb_creates` tells by 1 or 0 whether one of their codes has an op that makes a unit. */
+uint8_t bb_most_steps(bb_run *run, uint32_t found, uint64_t *steps);
+uint8_t bb_creates(bb_run *run, uint8_t *creates);
+
 /* Reads of the trace what was not read yet: as much as there is room for goes into `to`, and its length into `len`. The
    length is 0 once all was read. Each byte is read once; after each move all that it told can be. */
 uint8_t bb_read(bb_run *run, uint8_t *to, size_t to_len, size_t *len);
 
 /* Ends a run, and tells its end: where it still goes on it comes to rest first, or ends by its limit. Returns how it
-   ended: BB_DONE, BB_LIMIT, BB_FULL or BB_MEMORY. Then it can be read and closed, and nothing else. */
+   ended: BB_DONE, BB_LIMIT, BB_FULL or BB_MEMORY. Then it can be read and closed, and nothing else. BB_DUE: a native is
+   due, and the run goes on as it is. */
 uint8_t bb_finish(bb_run *run);
 
 /* Closes a run, finished or not, and gives all its memory back. Then the handle is none; one that is none may be closed

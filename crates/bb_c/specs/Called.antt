@@ -1,36 +1,40 @@
 -- What a call does to a run that is held.
+use Rattle.std.specs.Str.Lines.{lines}
 use Rattle.std.specs.Prelude.{◌≡◌, ◌⊎◌, ◌++◌, ◌∷◌, [], ◌≤◌, ℕ, ℤ, Bool, not, ◌==◌, IsSome, List, drop, length, min, take, Option, Some, None}
 use Rattle.bb_c_run.specs.Ask.{Ask}
 use Rattle.bb_c_run.specs.Ask.TheVariants.{Set}
-use Rattle.bb_c_run.specs.Moves.{Move, post}
+use Rattle.bb_c_run.specs.Moves.{Move}
 use Rattle.bb_c_run.specs.Moving.{Ends, Moves}
 use Rattle.bb_c_run.specs.Opening.{Begins, meaning_of}
-use Rattle.bb_c_run.specs.Sitting.{label_in, next_in, stands_now, unread}
+use Rattle.bb_c_run.specs.Sitting.{label_in, made_in, next_in, stands_now, unread}
 use Rattle.bb_c_run.specs.declared.held.Held.{Held}
 use Rattle.bb_c_run.specs.declared.stands.Stands.{Stands}
 use Rattle.bb_c_run.specs.declared.stands.Stands.TheVariants as stand
 use Rattle.bb_c_run.specs.Value.{Value}
 use Rattle.bb_c_run.specs.Meaning.{Meaning}
-use Rattle.bb_c.specs.declared.status.TheConstants.{OK, GOING, FULL, MEMORY, MISUSE, REFUSED}
+use Rattle.bb_c.specs.declared.status.TheConstants.{OK, DUE, GOING, FULL, MEMORY, MISUSE, REFUSED}
 
 -- the status that says how a run stands
 abbrev pub status_of : Stands → ℕ
 status_of stand.Resting = OK
 status_of stand.Going = GOING
+status_of stand.Due = DUE
 status_of stand.Full = FULL
 status_of stand.Memory = MEMORY
 status_of stand.Finished = MISUSE
 
 -- the run of an input was begun, and the status says how it stands; or the input is refused, or memory ran out
-abbrev pub Begun : (input : List ℕ) → (floor : ℤ) → Option Held → (status : ℕ) → Type 0
-Begun input floor None status = ((status ≡ REFUSED) × (meaning_of input floor ≡ None)) ⊎ (status ≡ MEMORY)
-Begun input floor (Some h) status =
-    (m : Meaning) × (meaning_of input floor ≡ Some m) × Begins m h × (status ≡ status_of (stands_now h.running))
+abbrev pub Begun : (input natives : List ℕ) → (floor : ℤ) → Option Held → (status : ℕ) → Type 0
+Begun input natives floor None status =
+    ((status ≡ REFUSED) × (meaning_of input (lines natives) floor ≡ None)) ⊎ (status ≡ MEMORY)
+Begun input natives floor (Some h) status =
+    (m : Meaning) × (meaning_of input (lines natives) floor ≡ Some m) × Begins m h
+    × (status ≡ status_of (stands_now h.running))
 
 -- a handle that has a run keeps it
-abbrev pub Opens : (old new : Option Held) → (input : List ℕ) → (floor : ℤ) → (status : ℕ) → Type 0
-Opens (Some h) new input floor status = (new ≡ Some h) × (status ≡ MISUSE)
-Opens None new input floor status = Begun input floor new status
+abbrev pub Opens : (old new : Option Held) → (input natives : List ℕ) → (floor : ℤ) → (status : ℕ) → Type 0
+Opens (Some h) new input natives floor status = (new ≡ Some h) × (status ≡ MISUSE)
+Opens None new input natives floor status = Begun input natives floor new status
 
 -- the move was made of what is held, the status says how the run stands, and as many asks are gathered as before
 abbrev pub Turns : Move → Held → Option Held → (status : ℕ) → Type 0
@@ -44,22 +48,23 @@ abbrev pub Calls : Move → (old new : Option Held) → (status : ℕ) → Type 
 Calls m None new status = (new ≡ None) × (status ≡ MISUSE)
 Calls m (Some h) new status = Turns m h new status
 
--- the asks that were gathered were posted, and none are gathered any more
-abbrev pub Tells : Held → Option Held → (status : ℕ) → Type 0
-Tells h None status = ⊥
-Tells h (Some k) status =
+-- the asks that were gathered went into a move, and none are gathered any more
+abbrev pub Tells : (List Ask → Move) → Held → Option Held → (status : ℕ) → Type 0
+Tells of h None status = ⊥
+Tells of h (Some k) status =
     ((s : Stands) × (status ≡ status_of s)
-    × Moves (post h.asks.items) h.running k.running (unread h.trace) (unread k.trace) s) × (k.asks.items ≡ [])
+    × Moves (of h.asks.items) h.running k.running (unread h.trace) (unread k.trace) s) × (k.asks.items ≡ [])
 
-abbrev pub Posts : (old new : Option Held) → (status : ℕ) → Type 0
-Posts None new status = (new ≡ None) × (status ≡ MISUSE)
-Posts (Some h) new status = Tells h new status
+abbrev pub Applies : (List Ask → Move) → (old new : Option Held) → (status : ℕ) → Type 0
+Applies of None new status = (new ≡ None) × (status ≡ MISUSE)
+Applies of (Some h) new status = Tells of h new status
 
--- the run was ended, and the status says how; what it told can be read
+-- the run was ended, and the status says how; what it told can be read. Or a native is due
 abbrev pub Ended : Held → Option Held → (status : ℕ) → Type 0
 Ended h None status = ⊥
 Ended h (Some k) status =
-    ((s : Stands) × (status ≡ status_of s) × Ends h.running (unread h.trace) (unread k.trace) s) × (k.running ≡ None)
+    ((s : Stands) × (status ≡ status_of s) × Ends h.running k.running (unread h.trace) (unread k.trace) s)
+    × (k.asks ≡ h.asks)
 
 abbrev pub Finishes : (old new : Option Held) → (status : ℕ) → Type 0
 Finishes None new status = (new ≡ None) × (status ≡ MISUSE)
@@ -129,3 +134,8 @@ Reads (Some h) new to given len status = Gives h new to given len × (status ≡
 abbrev pub next_of : Option Held → ℕ
 next_of None = 0
 next_of (Some h) = next_in h.running
+
+-- the number of cycles that were made, or 0
+abbrev pub made_of : Option Held → ℕ
+made_of None = 0
+made_of (Some h) = made_in h.running

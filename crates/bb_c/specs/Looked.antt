@@ -1,7 +1,8 @@
--- What a call that looks at the blackboard of a run returns.
-use Rattle.std.specs.Prelude.{◌≡◌, ◌⊎◌, ℕ, List, length, Option, Some, None, option_and_then}
+-- What a call that looks at a run returns.
+use Rattle.std.specs.Prelude.{◌≡◌, ◌⊎◌, ℕ, Bool, List, length, Option, Some, None, option_and_then}
 use Rattle.std.specs.Str.{IsUtf8}
-use Rattle.bb_c_run.specs.Looking.{class_at, filled, label_name_at, partners_at, value_at}
+use Rattle.bb_c_run.specs.Costs.{creates_in, most_steps_in}
+use Rattle.bb_c_run.specs.Looking.{class_at, document_at, due_in, filled, label_name_at, partners_at, units_at, value_at}
 use Rattle.bb_c_run.specs.Value.{Value}
 use Rattle.bb_c_run.specs.declared.held.Held.{Held}
 use Rattle.bb_c.specs.Called.{IsRefused}
@@ -33,6 +34,21 @@ label_name_of unit slot h = label_name_at h.running unit slot
 
 abbrev pub partners_of : (unit : ℕ) → (slot : List ℕ) → Held → Option (List ℕ)
 partners_of unit slot h = partners_at h.running unit slot
+
+abbrev pub units_of : (class : List ℕ) → Held → Option (List ℕ)
+units_of class h = units_at h.running class
+
+abbrev pub document_of : Held → Option (List ℕ)
+document_of h = document_at h.running
+
+abbrev pub due_of : Held → Option (ℕ × List ℕ)
+due_of h = due_in h.running
+
+abbrev pub most_steps_of : (found : ℕ) → Held → Option ℕ
+most_steps_of found h = most_steps_in h.running found
+
+abbrev pub creates_of : Held → Option Bool
+creates_of h = creates_in h.running
 
 -- as much of a list as there is room for, and its length
 abbrev pub Fills : (room filled' : List ℕ) → (len : ℕ) → List ℕ → Type 0

@@ -1,4 +1,4 @@
-//! The calls that gather asks, which `bb_post` posts.
+//! The calls that gather asks, which `bb_post` posts and `bb_answer` answers by.
 
 ghost use Rattle.std.specs.Prelude.{◌≡◌, ◌≤ℤ◌, ◌⊎◌, IfOk, IfErr, Some};
 ghost use Rattle.std.specs.Str.{IsUtf8};
@@ -230,7 +230,7 @@ pub extern "C" fn bb_ask_say(alloc: Global, run: &mut Run, text: &[u8]) -> u8
     }
 }
 
-/// Forgets the asks that were gathered since the last post. Returns 0, or 9 if there is no run.
+/// Forgets the asks that were gathered since the last post or answer. Returns 0, or 9 if there is no run.
 #[unsafe(no_mangle)]
 pub extern "C" fn bb_discard(alloc: Global, run: &mut Run) -> u8
     ensures { Discards run.old.sitting run.new.sitting result }

@@ -5,6 +5,7 @@ mod asks;
 mod input;
 mod looking;
 mod moves;
+mod overview;
 mod pointer;
 mod reading;
 mod room;
@@ -17,7 +18,8 @@ pub use asks::{
     bb_ask_leave, bb_ask_link, bb_ask_new, bb_ask_say, bb_ask_text, bb_ask_unlink, bb_discard,
 };
 pub use looking::{bb_bool, bb_class, bb_int, bb_interval, bb_label, bb_links, bb_text};
-pub use moves::{bb_advance, bb_close, bb_finish, bb_open, bb_post, bb_turn};
-pub use reading::{bb_next, bb_read};
+pub use moves::{bb_advance, bb_answer, bb_close, bb_finish, bb_open, bb_post, bb_turn};
+pub use overview::{bb_creates, bb_document, bb_due, bb_most_steps, bb_units};
+pub use reading::{bb_made, bb_next, bb_read};
 pub use run::Run;
 pub use serving::{bb_serve, bb_version};

@@ -1,7 +1,7 @@
 //! The calls that look at a run.
 
 ghost use Rattle.std.specs.Prelude.{◌≡◌};
-ghost use Rattle.bb_c.specs.Called.{Reads, next_of};
+ghost use Rattle.bb_c.specs.Called.{Reads, made_of, next_of};
 
 use crate::run::Run;
 use crate::status::{MISUSE, OK};
@@ -34,4 +34,18 @@ pub extern "C" fn bb_next(alloc: Global, run: &mut Run) -> u64
     let next = held.next_unit();
     run.put(held);
     next
+}
+
+/// The number of cycles that were made, or 0 if there is no run, or it was finished.
+#[unsafe(no_mangle)]
+pub extern "C" fn bb_made(alloc: Global, run: &mut Run) -> u64
+    ensures made { result ≡ made_of run.old.sitting }
+    ensures kept { run.new.sitting ≡ run.old.sitting }
+{
+    let Some(held) = run.take(alloc) else {
+        return 0;
+    };
+    let made = held.made();
+    run.put(held);
+    made
 }

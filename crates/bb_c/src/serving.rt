@@ -10,7 +10,7 @@ use bb_main::{Mode, NativeSource, ProgramNative, serve};
 use std::alloc::Global;
 
 // The version of these calls. It rises when one changes its meaning.
-const VERSION: u32 = 1;
+const VERSION: u32 = 2;
 
 // The status of a refused input, and of a number that is no mode.
 const REFUSED: u8 = 2;

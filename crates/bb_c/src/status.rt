@@ -23,6 +23,9 @@ pub(crate) const FULL: u8 = 4;
 /// Memory ran out.
 pub(crate) const MEMORY: u8 = 5;
 
+/// A native is due.
+pub(crate) const DUE: u8 = 8;
+
 /// There is no such run: none was begun, or it was finished.
 pub(crate) const MISUSE: u8 = 9;
 
@@ -33,6 +36,7 @@ pub(crate) fn status_of(stands: Stands) -> u8
     match stands {
         Stands::Resting => OK,
         Stands::Going => GOING,
+        Stands::Due => DUE,
         Stands::Full => FULL,
         Stands::Memory => MEMORY,
         Stands::Finished => MISUSE,

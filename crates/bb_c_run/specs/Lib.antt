@@ -4,8 +4,10 @@ pub mod Sitting
 pub mod Opening
 -- what moves do with a run that is held
 pub mod Moving
--- what a host sees of its blackboard
+-- what a host sees of it
 pub mod Looking
+-- what its sources may cost
+pub mod Costs
 -- of bb_shell: what an input means
 pub use Rattle.bb_shell.specs.Meaning
 -- of bb_run_held: what a host has a run do, and what that means

@@ -1,8 +1,14 @@
 -- What a host in another language sees of the blackboard of a run that is held.
-use Rattle.std.specs.Prelude.{◌++◌, ℕ, ℤ, Bool, List, drop, length, take, Option, Some, None, option_and_then, option_map}
-use Rattle.bb_schema.specs.Schema.{name_of_class, name_of_label, slot_named}
-use Rattle.bb_units.specs.Units.{class_of, value_of}
+use Rattle.std.specs.Prelude.{◌++◌, ℕ, ℤ, Bool, false, List, drop, filter, length, slice_get, take, Option, Some, None}
+use Rattle.std.specs.Option.{option_map_or}
+use Rattle.std.specs.Prelude.{option_and_then, option_map}
+use Rattle.bb_board_document.specs.Document.{units_text}
+use Rattle.bb_schema.specs.Schema.{class_named, descends, name_of_class, name_of_label, slot_named}
+use Rattle.bb_units.specs.Units.{class_of, live_units, value_of}
 use Rattle.bb_links.specs.Links.{ends}
+use Rattle.bb_shell.specs.Pause.{Pause}
+use Rattle.bb_shell.specs.Pause.TheVariants.{Due}
+use Rattle.bb_shell.specs.Plan.{Plan}
 use Rattle.bb_shell.specs.Running.{Running}
 use Rattle.bb_shell.specs.Sight.{Sight, sight_of}
 use Rattle.bb_shell.specs.Value.{Value}
@@ -47,6 +53,14 @@ abbrev pub label_name_of : Sight → Value → Option (List ℕ)
 label_name_of seen (values.Label set label) = name_of_label seen.schema set label
 label_name_of seen _ = None
 
+-- a unit is of this class, or of one below it
+abbrev pub is_of : Sight → (class unit : ℕ) → Bool
+is_of seen class n = option_map_or (λ c. descends seen.schema c class) (class_of seen.world.units n) false
+
+-- the units of a class and of those below it, rising, if there is such a class
+abbrev pub units_of : Sight → (name : List ℕ) → Option (List ℕ)
+units_of seen name = option_map (λ class. filter (is_of seen class) (live_units seen.world.units)) (class_named seen.schema name)
+
 -- room into which as much of a list went as it has places
 abbrev pub filled : {X : Type 0} → List X → (room : List X) → List X
 filled found room = take (length room) found ++ drop (length found) room
@@ -74,3 +88,20 @@ label_name_at r n slot = option_and_then (λ seen. option_and_then (label_name_o
 
 abbrev pub partners_at : {b : _} → Option (Running NoNative b) → (unit : ℕ) → (slot : List ℕ) → Option (List ℕ)
 partners_at r n slot = option_and_then (λ seen. partners_in seen n slot) (sight_in r)
+
+abbrev pub units_at : {b : _} → Option (Running NoNative b) → (class : List ℕ) → Option (List ℕ)
+units_at r class = option_and_then (λ seen. units_of seen class) (sight_in r)
+
+abbrev pub document_at : {b : _} → Option (Running NoNative b) → Option (List ℕ)
+document_at r = option_map units_text (sight_in r)
+
+-- ---- what is due
+
+-- the unit on which a native is due, and its name, which is that of its source
+abbrev pub due_by : Plan → Pause → Option (ℕ × List ℕ)
+due_by plan (Due a) = option_map (λ source. (a.unit, source.name)) (slice_get plan.sources a.source)
+due_by plan pause = None
+
+abbrev pub due_in : {b : _} → Option (Running NoNative b) → Option (ℕ × List ℕ)
+due_in None = None
+due_in (Some r) = due_by r.plan r.pause

@@ -1,10 +1,10 @@
 -- What moves do with a run that a host in another language holds.
-use Rattle.std.specs.Prelude.{◌≡◌, ◌++◌, ◌⊎◌, ℕ, List, take, Option, Some, None}
+use Rattle.std.specs.Prelude.{◌≡◌, ◌++◌, ◌⊎◌, ℕ, Bool, true, false, List, take, Option, Some, None}
 use Rattle.bb_shell.specs.Emitting.{WroteUntil}
 use Rattle.bb_shell.specs.Emission.{Stretch}
 use Rattle.bb_shell.specs.Plan.{Plan}
 use Rattle.bb_shell.specs.TraceText.{trace_text}
-use Rattle.bb_shell.specs.Moves.{Move, Standing, finished, moved, pause_by}
+use Rattle.bb_shell.specs.Moves.{Move, finished, is_due, moved, pause_by}
 use Rattle.bb_shell.specs.Running.{Running}
 use Rattle.bb_shell.specs.Note.{Note}
 use Rattle.bb_shell.specs.Halt.{Halt}
@@ -46,7 +46,13 @@ Concludes plan p was now s =
     ((now ≡ was ++ trace_text plan p.emitted) × (s ≡ stands_by (pause_by p.end)))
     ⊎ ((s ≡ stand.Memory) × EndsEarly plan p was now)
 
--- the end of what is held
-abbrev pub Ends : {b : _} → Option (Running NoNative b) → (was now : List ℕ) → Stands → Type 0
-Ends None was now s = (now ≡ was) × (s ≡ stand.Finished)
-Ends (Some r) was now s = Concludes r.plan (finished r.plan (standing r)) was now s
+-- a run was ended, and nothing is held any more; one whose native is due goes on as it is
+abbrev pub EndsUnless : {b : _} → (is_due : Bool) → (r : Running NoNative b) → (new : Option (Running NoNative b)) → (was now : List ℕ) → Stands → Type 0
+EndsUnless true r new was now s = (new ≡ Some r) × (now ≡ was) × (s ≡ stand.Due)
+EndsUnless false r new was now s = (new ≡ None) × Concludes r.plan (finished r.plan (standing r)) was now s
+
+-- the end of what is held, unless memory ran out before
+abbrev pub Ends : {b : _} → (old new : Option (Running NoNative b)) → (was now : List ℕ) → Stands → Type 0
+Ends None new was now s = (new ≡ None) × (now ≡ was) × (s ≡ stand.Finished)
+Ends (Some r) new was now s =
+    ((new ≡ None) × (now ≡ was) × (s ≡ stand.Memory)) ⊎ EndsUnless (is_due r.pause) r new was now s

@@ -1,4 +1,4 @@
--- The run that the bytes of an input begin, with no natives.
+-- The run that the bytes of an input begin, where the host answers for natives.
 use Rattle.std.specs.Prelude.{◌≡◌, ℕ, ℤ, List, [], Option, Some, None, IsSomeAnd, Result, Ok, Err}
 use Rattle.bb_main_input.specs.Input.{input_of}
 use Rattle.bb_main_input.specs.Sections.{Texts}
@@ -14,13 +14,13 @@ abbrev pub unless_refused : Result Meaning InputFault → Option Meaning
 unless_refused (Ok m) = Some m
 unless_refused (Err fault) = None
 
-abbrev pub in_sections : (floor : ℤ) → Result Texts SectionFault → Option Meaning
-in_sections floor (Ok t) = unless_refused (meaning [] t.schema t.units t.sources t.bundle floor)
-in_sections floor (Err fault) = None
+abbrev pub in_sections : (natives : List (List ℕ)) → (floor : ℤ) → Result Texts SectionFault → Option Meaning
+in_sections natives floor (Ok t) = unless_refused (meaning natives t.schema t.units t.sources t.bundle floor)
+in_sections natives floor (Err fault) = None
 
--- what the bytes of an input mean; nothing where it is refused
-abbrev pub meaning_of : (input : List ℕ) → (floor : ℤ) → Option Meaning
-meaning_of input floor = in_sections floor (input_of input)
+-- what the bytes of an input mean, where the host answers for natives of these names; nothing where it is refused
+abbrev pub meaning_of : (input : List ℕ) → (natives : List (List ℕ)) → (floor : ℤ) → Option Meaning
+meaning_of input natives floor = in_sections natives floor (input_of input)
 
 -- a run was begun with what an input means: its start can be read, and no ask is gathered
 abbrev pub Begins : Meaning → Held → Type 0

@@ -7,7 +7,7 @@ use Rattle.bb_shell.specs.Sight.{sight_of}
 use Rattle.bb_shell.specs.Making.{stands}
 use Rattle.bb_shell.specs.Moves.{Standing}
 use Rattle.bb_shell.specs.Pause.{Pause}
-use Rattle.bb_shell.specs.Pause.TheVariants.{Going, Resting, Over}
+use Rattle.bb_shell.specs.Pause.TheVariants.{Going, Resting, Due, Over}
 use Rattle.bb_shell.specs.Running.{Running}
 use Rattle.bb_shell.specs.Value.{Value}
 use Rattle.bb_shell.specs.Value.TheVariants as values
@@ -37,6 +37,7 @@ unread t = drop t.read t.bytes.items
 abbrev pub stands_by : Pause → Stands
 stands_by Going = stand.Going
 stands_by Resting = stand.Resting
+stands_by (Due a) = stand.Due
 stands_by (Over end) = stand.Full
 
 -- how a run stands: after a move that was cut short nothing but memory is told of it
@@ -52,6 +53,11 @@ standing r = stands (seen meant r.state) r.made r.pause
 abbrev pub next_in : {b : _} → Option (Running NoNative b) → ℕ
 next_in None = 0
 next_in (Some r) = (sight_of r.state.board).world.units.next
+
+-- the number of cycles that were made, or 0 once the run was finished
+abbrev pub made_in : {b : _} → Option (Running NoNative b) → ℕ
+made_in None = 0
+made_in (Some r) = r.made
 
 -- a label of a schema by the names of its set and of itself
 abbrev pub label_of : Schema → (set label : List ℕ) → Option Value

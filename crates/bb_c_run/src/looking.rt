@@ -1,11 +1,14 @@
 //! What a host sees of the blackboard of a run that is held. `Held` hands it on.
 
-ghost use Rattle.std.specs.Prelude.{◌≡◌, IfErr, IfOk, length, option_and_then, option_map};
-ghost use Rattle.bb_c_run.specs.Looking.{class_in, filled, filled_if, interval_of, label_name_of, number_of};
-ghost use Rattle.bb_c_run.specs.Looking.{partners_in, slot_in, text_of, truth_of, value_in};
+ghost use Rattle.std.specs.Prelude.{◌≡◌, IfErr, IfOk, filter, length, option_and_then, option_map};
+ghost use Rattle.bb_board_document.specs.Document.{units_text};
+ghost use Rattle.bb_c_run.specs.Looking.{class_in, due_by, filled, filled_if, interval_of, is_of, label_name_of};
+ghost use Rattle.bb_c_run.specs.Looking.{number_of, partners_in, slot_in, text_of, truth_of, units_of, value_in};
 
-use bb_schema::SlotId;
-use bb_shell::{Memory, UnitId, Value, View};
+use bb_board_document::units_document;
+use bb_schema::{ClassId, SlotId};
+use bb_shell::{Memory, Pause, Plan, UnitId, Value, View};
+use std::alloc::Global;
 
 /// Copies as much of some items as there is room for, and returns their number.
 pub(crate) fn fill<T: Copy>(found: &[T], room: &mut [T]) -> usize
@@ -116,4 +119,59 @@ pub(crate) fn partners(
     };
     let found = view.links(unit, slot)?;
     Ok(Some(fill(found.as_slice(), room)))
+}
+
+// Whether a unit is of a class, or of one below it.
+fn is_of(view: &View<'_>, class: ClassId, unit: UnitId) -> bool
+    ensures { result ≡ is_of view.now class unit }
+{
+    view.live(unit) && view.schema().descends(view.class_of(unit), class)
+}
+
+// Keeps of some units those of a class, and of those below it.
+fn keep_those_of(view: &View<'_>, class: ClassId, units: &mut Vec<UnitId>)
+    ensures { units.new.items ≡ filter (is_of view.now class) units.old.items }
+{
+    units.retain(|unit| is_of(view, class, *unit));
+}
+
+/// Copies as many of the units of a class, and of those below it, as there is room for, rising, and returns their number;
+/// none where there is no such class.
+pub(crate) fn units(
+    view: &View<'_>,
+    class: &str,
+    room: &mut [UnitId],
+) -> Result<Option<usize>, Memory>
+    ensures count { IfOk result (λ n. n ≡ option_map length (units_of view.now class.now)) }
+    ensures filled { IfOk result (λ _. room.new ≡ filled_if (units_of view.now class.now) room.old) }
+    ensures err { IfErr result (λ _. room.new ≡ room.old) }
+{
+    let Some(class) = view.schema().class(class) else {
+        return Ok(None);
+    };
+    let mut found = view.units()?;
+    keep_those_of(view, class, &mut found);
+    Ok(Some(fill(found.as_slice(), room)))
+}
+
+/// Copies as much of the document of first units of a blackboard as there is room for, and returns the number of its
+/// bytes.
+pub(crate) fn document(alloc: Global, view: &View<'_>, room: &mut [u8]) -> Result<usize, Memory>
+    ensures count { IfOk result (λ n. n ≡ length (units_text view.now)) }
+    ensures filled { IfOk result (λ _. room.new ≡ filled (units_text view.now) room.old) }
+    ensures err { IfErr result (λ _. room.new ≡ room.old) }
+{
+    let text = units_document(alloc, view)?;
+    Ok(fill(text.as_bytes(), room))
+}
+
+/// The unit on which a native is due, and its name, where one is.
+pub(crate) fn due(plan: &Plan, pause: Pause) -> Option<(UnitId, &str)>
+    ensures { option_map (λ d. (d.0, d.1.now)) result ≡ due_by plan.now pause }
+{
+    let Pause::Due(activation) = pause else {
+        return None;
+    };
+    let source = plan.sources().get(activation.source as usize)?;
+    Some((activation.unit, source.parts().name.as_str()))
 }

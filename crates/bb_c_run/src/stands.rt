@@ -12,6 +12,8 @@ pub enum Stands {
     Going,
     /// Quiescence was emitted, and it changed nothing: only a post can have the run go on.
     Resting,
+    /// A native is due: only an answer for it can have the run go on.
+    Due,
     /// The run is over: its blackboard or its agenda is full.
     Full,
     /// Memory ran out, now or before: the run can be read and closed, and nothing else.
@@ -27,6 +29,7 @@ pub(crate) fn stands_by(pause: Pause) -> Stands
     match pause {
         Pause::Going => Stands::Going,
         Pause::Resting => Stands::Resting,
+        Pause::Due(_) => Stands::Due,
         Pause::Over(_) => Stands::Full,
     }
 }

@@ -1,7 +1,7 @@
 //! What no case can say: moves of a run that is held, and reading its trace in pieces.
 
 use crate::{Held, OpenFault, Stands};
-use bb_shell::{Ask, Text};
+use bb_shell::{Ask, Text, Value};
 use std::test::Fail;
 
 const INPUT: &str = "%schema\n\
@@ -12,7 +12,7 @@ const INPUT: &str = "%schema\n\
 #[test]
 fn a_day(rt: HostRuntime) -> Result<(), Fail> {
     let alloc = rt.alloc();
-    let Ok(held) = Held::open(alloc, INPUT.as_bytes(), 0) else {
+    let Ok(held) = Held::open(alloc, INPUT.as_bytes(), "", 0) else {
         return Err(Fail::from("the run begins"));
     };
     let mut held = held;
@@ -54,7 +54,7 @@ const SHOP: &str = "%schema\n\
 #[test]
 fn labels_and_discarded_asks(rt: HostRuntime) -> Result<(), Fail> {
     let alloc = rt.alloc();
-    let Ok(held) = Held::open(alloc, SHOP.as_bytes(), 0) else {
+    let Ok(held) = Held::open(alloc, SHOP.as_bytes(), "", 0) else {
         return Err(Fail::from("the run begins"));
     };
     let mut held = held;
@@ -89,11 +89,110 @@ fn labels_and_discarded_asks(rt: HostRuntime) -> Result<(), Fail> {
 #[test]
 fn an_input_that_is_refused(rt: HostRuntime) -> Result<(), Fail> {
     let alloc = rt.alloc();
-    match Held::open(alloc, b"%schema\n{", 0) {
+    match Held::open(alloc, b"%schema\n{", "", 0) {
         Ok(_held) => Err(Fail::from("it is refused")),
         Err(fault) => {
             assert_eq!(rt; fault, OpenFault::Refused);
             Ok(())
         }
     }
+}
+
+const PRICED: &str = "%schema\n\
+    {\"classes\":[{\"name\":\"box\",\"slots\":[{\"name\":\"weight\",\"kind\":\"int\"}]},\
+    {\"name\":\"crate\",\"parent\":\"box\"}]}\n\
+    %sources\n\
+    source price on box { when create box; rate 10; native; }\n\
+    source glance on box { when update box.weight; rate 5; do { } }\n";
+
+#[test]
+fn a_native_that_is_not_named(rt: HostRuntime) -> Result<(), Fail> {
+    let alloc = rt.alloc();
+    match Held::open(alloc, PRICED.as_bytes(), "prices\nglance", 0) {
+        Ok(_held) => Err(Fail::from("it is refused")),
+        Err(fault) => {
+            assert_eq!(rt; fault, OpenFault::Refused);
+            Ok(())
+        }
+    }
+}
+
+#[test]
+fn a_native_that_is_answered(rt: HostRuntime) -> Result<(), Fail> {
+    let alloc = rt.alloc();
+    let Ok(held) = Held::open(alloc, PRICED.as_bytes(), "weigh\nprice", 0) else {
+        return Err(Fail::from("the run begins"));
+    };
+    let mut held = held;
+    let mut name = [0u8; 3];
+    assert_eq!(rt; held.due(&mut name), None);
+    held.ask(Ask::New {
+        class: Text::from_str(alloc, "crate")?,
+    })?;
+    assert_eq!(rt; held.post(), Stands::Going);
+    assert_eq!(rt; held.advance(3), Stands::Due);
+    assert_eq!(rt; held.due(&mut name), Some((1, 5)));
+    assert_eq!(rt; &name, b"pri");
+    assert_eq!(rt; held.turn(), Stands::Due);
+    assert_eq!(rt; held.finish(), Stands::Due);
+    held.ask(Ask::Set {
+        unit: 1,
+        slot: Text::from_str(alloc, "weight")?,
+        value: Value::Int(7),
+    })?;
+    assert_eq!(rt; held.answer(), Stands::Going);
+    assert_eq!(rt; held.due(&mut name), None);
+    assert_eq!(rt; held.finish(), Stands::Going);
+    let mut room = [0u8; 200];
+    let count = held.read(&mut room);
+    let expected = "post\n\
+        create 1 crate\n\
+        end post 1\n\
+        trigger 1 price unit 1 rating 10\n\
+        cycle 1 act 1 price unit 1 rating 10\n\
+        set 1.weight\n\
+        end native 1\n\
+        trigger 2 glance unit 1 rating 5\n\
+        finish limit\n";
+    assert_eq!(rt; &room[..count], expected.as_bytes());
+    Ok(())
+}
+
+#[test]
+fn the_whole_of_a_run(rt: HostRuntime) -> Result<(), Fail> {
+    let alloc = rt.alloc();
+    let Ok(held) = Held::open(alloc, PRICED.as_bytes(), "price", 0) else {
+        return Err(Fail::from("the run begins"));
+    };
+    let mut held = held;
+    for class in ["crate", "box", "crate"].iter() {
+        held.ask(Ask::New {
+            class: Text::from_str(alloc, *class)?,
+        })?;
+    }
+    held.ask(Ask::Delete { unit: 1 })?;
+    held.ask(Ask::Set {
+        unit: 3,
+        slot: Text::from_str(alloc, "weight")?,
+        value: Value::Int(7),
+    })?;
+    assert_eq!(rt; held.post(), Stands::Going);
+    let mut units = [0u64; 2];
+    assert_eq!(rt; held.units("box", &mut units)?, Some(2));
+    assert_eq!(rt; units, [2, 3]);
+    assert_eq!(rt; held.units("crate", &mut units)?, Some(1));
+    assert_eq!(rt; units, [3, 3]);
+    assert_eq!(rt; held.units("lid", &mut units)?, None);
+    assert_eq!(rt; held.most_steps(65_536), Some(1));
+    assert_eq!(rt; held.creates(), Some(false));
+    let mut room = [0u8; 300];
+    let Some(count) = held.document(&mut room)? else {
+        return Err(Fail::from("there is a blackboard"));
+    };
+    let count = count.min(room.len());
+    let expected = "{\"links\":[],\"spaces\":[],\"units\":[\
+        {\"class\":\"box\",\"name\":\"1\",\"slots\":{}},\
+        {\"class\":\"crate\",\"name\":\"2\",\"slots\":{\"weight\":7}}]}";
+    assert_eq!(rt; &room[..count], expected.as_bytes());
+    Ok(())
 }

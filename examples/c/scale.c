@@ -1,0 +1,117 @@
+/* A host in C whose sources act by a native of the host. It holds a run of examples/c/scale.bb. Parcels come on its
+   standard input, a line each: NAME GRAMS. It posts each as it comes; where the native `weigh` is due it answers with
+   the weight; and it tells on which belt each goes. At the end it writes the blackboard, as a document of first units.
+   Its status is that in which the run ends, or 1 where the host itself failed.
+
+       scale examples/c/scale.bb < examples/c/scale.parcels */
+#include "bb.h"
+
+#include <inttypes.h>
+#include <stdio.h>
+#include <stdlib.h>
+#include <string.h>
+
+enum { NAME = 32, LINE = 256 };
+
+static int fail(const char *why)
+{
+    fprintf(stderr, "scale: %s\n", why);
+    return EXIT_FAILURE;
+}
+
+/* All bytes of a file, or NULL. */
+static uint8_t *read_file(const char *path, size_t *len)
+{
+    FILE *file = fopen(path, "rb");
+    long size = file != NULL && fseek(file, 0, SEEK_END) == 0 ? ftell(file) : -1;
+    uint8_t *bytes = size < 0 ? NULL : malloc((size_t)size + 1);
+    if (bytes != NULL) {
+        rewind(file);
+        *len = fread(bytes, 1, (size_t)size, file);
+    }
+    if (file != NULL)
+        fclose(file);
+    return bytes;
+}
+
+/* Tells what the run said: lines `say "PARCEL" BELT GRAMS`. None is longer than LINE. */
+static void tell(bb_run *run)
+{
+    char line[LINE] = "", name[NAME], belt[NAME];
+    size_t len = 0, read;
+    int64_t grams;
+    for (uint8_t byte; bb_read(run, &byte, 1, &read) == BB_OK && read == 1;) {
+        line[len] = byte == '\n' ? 0 : (char)byte;
+        len = byte == '\n' ? 0 : len + (len + 2 < LINE);
+        if (len == 0 && sscanf(line, "say \"%31[^\"]\" %31s %" SCNd64, name, belt, &grams) == 3)
+            printf("%s: %s, %" PRId64 " g\n", name, belt, grams);
+    }
+}
+
+/* Answers for the native that is due: what lies on the scale has so many grams. Returns how the run stands then. */
+static uint8_t weigh(bb_run *run, int64_t grams)
+{
+    uint64_t unit;
+    uint8_t name[NAME];
+    size_t len;
+    if (bb_due(run, &unit, name, sizeof name, &len) != BB_OK || len != 5 || memcmp(name, "weigh", len) != 0)
+        return BB_MISUSE;
+    uint8_t asked = bb_ask_int(run, unit, BB_S("grams"), grams);
+    return asked == BB_OK ? bb_answer(run) : asked;
+}
+
+/* A parcel comes. Returns how the run stands once it rests. */
+static uint8_t parcel_comes(bb_run *run, const char *name, int64_t grams)
+{
+    uint64_t unit = bb_next(run);
+    uint8_t asked = bb_ask_new(run, BB_S("parcel"));
+    if (asked == BB_OK)
+        asked = bb_ask_text(run, unit, BB_S("name"), (const uint8_t *)name, strlen(name));
+    uint8_t stands = asked == BB_OK ? bb_post(run) : asked;
+    while (stands == BB_GOING || stands == BB_DUE)
+        stands = stands == BB_DUE ? weigh(run, grams) : bb_turn(run);
+    tell(run);
+    return stands;
+}
+
+/* Writes the blackboard as a document of first units. Returns whether it could. */
+static int write_document(bb_run *run)
+{
+    uint8_t none;
+    size_t len;
+    if (bb_document(run, &none, 0, &len) != BB_OK)
+        return 0;
+    uint8_t *text = malloc(len + 1);
+    int is_there = text != NULL && bb_document(run, text, len, &len) == BB_OK;
+    if (is_there) {
+        text[len] = 0;
+        puts((const char *)text);
+    }
+    free(text);
+    return is_there;
+}
+
+int main(int count, char **words)
+{
+    if (bb_version() != BB_VERSION)
+        return fail("the library is of another version than its header");
+    if (count != 2)
+        return fail("usage: scale INPUT < PARCELS");
+    size_t len;
+    uint8_t *input = read_file(words[1], &len);
+    if (input == NULL)
+        return fail("the input can't be read");
+    bb_run run = BB_RUN_NONE;
+    uint8_t stands = bb_open(&run, input, len, BB_S("weigh"), 0);
+    free(input);
+    while (stands == BB_GOING)
+        stands = bb_turn(&run);
+    char name[NAME];
+    int64_t grams;
+    while (stands == BB_RESTING && scanf("%31s %" SCNd64, name, &grams) == 2)
+        stands = parcel_comes(&run, name, grams);
+    if (stands == BB_RESTING)
+        stands = write_document(&run) ? bb_finish(&run) : BB_MEMORY;
+    bb_close(&run);
+    return fflush(stdout) == 0 ? stands : fail("the parcels can't be told");
+}
