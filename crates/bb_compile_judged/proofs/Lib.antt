@@ -1,0 +1,54 @@
+-- worked texts
+mod Rows
+-- what a step leaves of a buffer
+pub mod HoldLemmas
+-- the names of a scope
+pub mod NameLemmas
+-- expressions without parts, and operations
+pub mod AtomLemmas
+-- sequences, and what is counted of a query
+pub mod QueryLemmas
+-- expressions, sequences and patterns
+pub mod ExprLemmas
+-- locals that are set, and how many are free
+pub mod LocalLemmas
+-- scopes in which each name has a local of its own
+pub mod ScopeLemmas
+-- what expressions are of
+pub mod KindLemmas
+-- what a step makes of a scope
+pub mod MoveLemmas
+-- statements without blocks
+pub mod ActionLemmas
+-- what the body of a loop leaves of the names that are live
+pub mod KilledLemmas
+-- answers against faults
+pub mod AgreeLemmas
+-- what a `with` tests and declares
+pub mod BindLemmas
+-- behind blocks and branches
+pub mod BranchLemmas
+-- the head and the end of a loop
+pub mod LoopLemmas
+-- statements and blocks
+pub mod BlockLemmas
+-- parts
+pub mod PartLemmas
+-- sources
+pub mod SourceLemmas
+-- what a step lays out at most
+pub mod LayLemmas
+-- what expressions lay out at most
+pub mod LayExprs
+-- what statements without blocks lay out at most
+pub mod LayActions
+-- what the heads of statements with blocks lay out at most
+pub mod LayHeads
+-- what loops and branches lay out at most beside their blocks
+pub mod LayLoops
+-- what statements and blocks lay out at most
+pub mod LayBlocks
+-- parts without a fault are laid out
+pub mod LayParts
+-- one step after another, where some are refused
+pub mod GiveLemmas

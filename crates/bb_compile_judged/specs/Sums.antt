@@ -1,0 +1,179 @@
+-- How much a text lays out at most: ops, texts, queries and loops, as sums over its tree. And whether there is room for
+-- each name that it declares.
+use Rattle.std.specs.Prelude.{◌≡◌, ◌≤◌, ℕ, ◌+◌, nat_le, Bool, true, ◌&&◌, List, [], ◌∷◌}
+use Rattle.bb_code.specs.Limits.{OP_LIMIT, TEXT_COUNT_LIMIT, QUERY_LIMIT, LOOP_LIMIT}
+use Rattle.bb_verify_frame.specs.Schema.{Schema}
+use Rattle.bb_verify_frame.specs.declared.part.Part.{Part}
+use Rattle.bb_lang.specs.Action.{Action}
+use Rattle.bb_lang.specs.Action.TheVariants as actions
+use Rattle.bb_lang.specs.Atom.{Atom}
+use Rattle.bb_lang.specs.Atom.TheVariants as atoms
+use Rattle.bb_lang.specs.Binding.{Binding}
+use Rattle.bb_lang.specs.Binding.TheVariants as bindings
+use Rattle.bb_lang.specs.Blocks.{BlockTree, StatementTree, OtherwiseTree, no_statement, before_others, action, if_of, with_of, for_of, absent, otherwise}
+use Rattle.bb_lang.specs.Trees.{ExprTree, Steps, SequenceTree, PatternTree, Patterns, atom, unary, binary, chain, size_of, no_step, apply, divide, found, linked, all, and_of, or_of, not_of, test, no_pattern, more}
+use Rattle.bb_lang.specs.View.{sequence_of}
+use Rattle.bb_compile_judged.specs.Names.{Names, begin_with}
+use Rattle.bb_compile_judged.specs.Statements.{bound, looped, in_loop, after_statement}
+
+pub record Sums : Type 0 where
+  pub ops : ℕ
+  pub texts : ℕ
+  pub queries : ℕ
+  pub loops : ℕ
+
+abbrev pub plus : Sums → Sums → Sums
+plus a b = record {
+  ops = a.ops + b.ops;
+  texts = a.texts + b.texts;
+  queries = a.queries + b.queries;
+  loops = a.loops + b.loops;
+}
+
+abbrev pub nothing : Sums
+nothing = record { ops = 0; texts = 0; queries = 0; loops = 0 }
+
+-- so many ops, and nothing else
+abbrev pub ops : ℕ → Sums
+ops n = record { ops = n; texts = 0; queries = 0; loops = 0 }
+
+abbrev pub one_text : Sums
+one_text = record { ops = 0; texts = 1; queries = 0; loops = 0 }
+
+abbrev pub one_query : Sums
+one_query = record { ops = 0; texts = 0; queries = 1; loops = 0 }
+
+abbrev pub one_loop : Sums
+one_loop = record { ops = 0; texts = 0; queries = 0; loops = 1 }
+
+-- ---- expressions, sequences and patterns
+
+abbrev pub atom_sums : Atom → Sums
+atom_sums (atoms.Text text) = plus one_text (ops 1)
+atom_sums (atoms.Slot unit slot) = plus (ops 1) (ops 1)
+atom_sums _ = ops 1
+
+unfoldable mutual
+  pub expr_sums : ExprTree → Sums
+  expr_sums (atom a) = atom_sums a
+  expr_sums (unary operation e) = plus (expr_sums e) (ops 1)
+  expr_sums (binary operation l r) = plus (expr_sums l) (plus (expr_sums r) (ops 1))
+  expr_sums (chain first steps) = plus (expr_sums first) (steps_sums steps)
+  expr_sums (size_of sequence) = plus (sequence_sums sequence) (ops 1)
+
+  pub steps_sums : Steps → Sums
+  steps_sums no_step = nothing
+  steps_sums (apply operator e steps) = plus (expr_sums e) (plus (ops 1) (steps_sums steps))
+  steps_sums (divide division divisor steps) = plus (ops 1) (steps_sums steps)
+
+  pub sequence_sums : SequenceTree → Sums
+  sequence_sums (linked unit slot) = plus (ops 1) (ops 1)
+  sequence_sums (found class space p) = plus (pattern_sums p) (plus one_query (ops 1))
+
+  pub pattern_sums : PatternTree → Sums
+  pattern_sums all = nothing
+  pattern_sums (and_of ps) = patterns_sums ps
+  pattern_sums (or_of ps) = patterns_sums ps
+  pattern_sums (not_of p) = pattern_sums p
+  pattern_sums (test dim relation e) = expr_sums e
+
+  pub patterns_sums : Patterns → Sums
+  patterns_sums no_pattern = nothing
+  patterns_sums (more p ps) = plus (pattern_sums p) (patterns_sums ps)
+
+-- ---- statements
+
+abbrev pub values_sums : List ExprTree → Sums
+values_sums [] = nothing
+values_sums (e ∷ es) = plus (expr_sums e) (values_sums es)
+
+unfoldable pub action_sums : Action → Sums
+action_sums (actions.Let name value) = plus (expr_sums value) (ops 1)
+action_sums (actions.Assign name value) = plus (expr_sums value) (ops 1)
+action_sums (actions.New name class) = plus (ops 1) (ops 1)
+action_sums (actions.Set unit slot value) = plus (ops 1) (plus (expr_sums value) (ops 1))
+action_sums (actions.Link unit slot other) = plus (ops 1) (plus (ops 1) (ops 1))
+action_sums (actions.Unlink unit slot other) = plus (ops 1) (plus (ops 1) (ops 1))
+action_sums (actions.Enter unit space) = plus (ops 1) (ops 1)
+action_sums (actions.Leave unit space) = plus (ops 1) (ops 1)
+action_sums (actions.Delete unit) = plus (ops 1) (ops 1)
+action_sums (actions.Say values) = plus (values_sums values) (ops 1)
+action_sums (actions.Rate value) = plus (expr_sums value) (ops 1)
+action_sums actions.Decline = ops 1
+action_sums (actions.Answer value) = plus (expr_sums value) (ops 1)
+
+-- a unit, the tests of it, and the name
+abbrev pub binding_sums : Binding → Sums
+binding_sums (bindings.As name unit class) = plus (ops 1) (plus (ops 2) (ops 1))
+binding_sums (bindings.Linked name unit slot) = plus (ops 1) (plus (ops 1) (ops 1))
+
+-- a loop takes its sequence, and has a head with the name, its body and the way back
+unfoldable mutual
+  pub statement_sums : StatementTree → Sums
+  statement_sums (action a) = action_sums a
+  statement_sums (if_of condition first other) =
+      plus (plus (expr_sums condition) (ops 1)) (plus (statements_sums first) (otherwise_sums other))
+  statement_sums (with_of binding first other) =
+      plus (binding_sums binding) (plus (statements_sums first) (otherwise_sums other))
+  statement_sums (for_of name sequence body) =
+      plus (plus (sequence_sums (sequence_of sequence)) (ops 1))
+      (plus (plus one_loop (plus (ops 1) (ops 1))) (plus (statements_sums body) (ops 1)))
+
+  -- a jump over the block
+  pub otherwise_sums : OtherwiseTree → Sums
+  otherwise_sums absent = nothing
+  otherwise_sums (otherwise b) = plus (ops 1) (statements_sums b)
+
+  pub statements_sums : BlockTree → Sums
+  statements_sums no_statement = nothing
+  statements_sums (before_others place statement others) = plus (statement_sums statement) (statements_sums others)
+
+-- ---- there is room for each name
+
+abbrev pub has_room : Names → Bool
+has_room names = nat_le 1 names.room
+
+abbrev pub action_has_room : Names → Action → Bool
+action_has_room names (actions.Let name value) = has_room names
+action_has_room names (actions.New name class) = has_room names
+action_has_room names _ = true
+
+-- a loop needs room for its sequence too
+unfoldable mutual
+  pub statement_has_room : Schema → Names → StatementTree → Bool
+  statement_has_room schema names (action a) = action_has_room names a
+  statement_has_room schema names (if_of condition first other) =
+      statements_have_room schema names first && otherwise_has_room schema names other
+  statement_has_room schema names (with_of binding first other) =
+      has_room names && (statements_have_room schema (bound schema names binding) first
+      && otherwise_has_room schema names other)
+  statement_has_room schema names (for_of name sequence body) =
+      has_room names && (has_room (looped schema names name sequence body)
+      && statements_have_room schema (in_loop schema names name sequence body) body)
+
+  pub otherwise_has_room : Schema → Names → OtherwiseTree → Bool
+  otherwise_has_room schema names absent = true
+  otherwise_has_room schema names (otherwise b) = statements_have_room schema names b
+
+  pub statements_have_room : Schema → Names → BlockTree → Bool
+  statements_have_room schema names no_statement = true
+  statements_have_room schema names (before_others place statement others) =
+      statement_has_room schema names statement
+      && statements_have_room schema (after_statement schema names statement) others
+
+-- ---- a part
+
+-- a `do` ends by one op more
+abbrev pub part_sums : BlockTree → Sums
+part_sums b = plus (statements_sums b) (ops 1)
+
+-- so much a code may have
+pub record AreFew (a : Sums) : Type 0 where
+  pub few_ops : a.ops ≤ OP_LIMIT
+  pub few_texts : a.texts ≤ TEXT_COUNT_LIMIT
+  pub few_queries : a.queries ≤ QUERY_LIMIT
+  pub few_loops : a.loops ≤ LOOP_LIMIT
+
+-- its sums are those of a code, and there is room for its names
+abbrev pub FitsSums : Schema → Part → BlockTree → Type 0
+FitsSums schema part b = AreFew (part_sums b) × (statements_have_room schema (begin_with part) b ≡ true)
