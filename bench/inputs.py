@@ -279,6 +279,22 @@ def clauses(name, count):
     yield "do %s\n" % NOTHING
 
 
+LISTED = 250
+
+
+def listed(name, count):
+    """Units of a class that none of 256 sources names, each of which names 250 others."""
+    yield '%schema\n{"classes":[{"name":"a"},{"name":"b","parent":"a"}'
+    yield "".join(',{"name":"d%d","parent":"a"}' % it for it in range(LISTED))
+    yield ']}\n%units\n{"units":['
+    yield from separated('{"name":"%s","class":"b"}' % name(it) for it in range(count))
+    yield "]}\n%bundle\n"
+    for number in range(256):
+        yield "source s%d a 1\n" % number
+        yield "".join("when create d%d\n" % it for it in range(LISTED))
+        yield "do %s\n" % NOTHING
+
+
 DEEPEST = 252
 
 
