@@ -69,12 +69,12 @@ lays_knowing place P one two a b s (Ok x) f known h next room =
 -- ---- slots, links and spaces
 
 set_by_lays : (r : Result (ℕ × Kind) TextFlaw) (made : Option Kind) (s : Buffer) → Lays itself (ops 1) s (set_by r made s)
-set_by_lays (Err flaw) made s room = adds_noted (ops 1) s (noted flaw s) (noted_counts flaw s)
+set_by_lays (Err flaw) made s room = adds_noted (ops 1) refl s (noted flaw s) (noted_counts flaw s)
 set_by_lays (Ok slot) made s room =
     lays_from itself (ops 1) s (due made slot.1 s) (put (put_ops.Set slot.0) (due made slot.1 s)) (due_counts made slot.1 s) (put_lays (put_ops.Set slot.0) (due made slot.1 s)) room
 
 set_in_lays : (schema : Schema) (class : Option ℕ) (slot : List ℕ) (made : Option Kind) (s : Buffer) → Lays itself (ops 1) s (set_in schema class slot made s)
-set_in_lays schema None slot made s room = adds_none (ops 1) s
+set_in_lays schema None slot made s room = adds_none (ops 1) refl s
 set_in_lays schema (Some class) slot made s room = set_by_lays (value_slot schema class slot) made s room
 
 set_lays : (schema : Schema) (unit : Variable) (slot : List ℕ) (value : ExprTree) (s : Buffer) → Lays itself (plus (ops 1) (plus (expr_sums value) (ops 1))) s (set_code schema unit slot value s)
@@ -88,12 +88,12 @@ link_counts schema to None s = counts_same s
 link_counts schema to (Some class) s = unless_counts (descends schema class to) LinkClass s
 
 relinked_lays : (schema : Schema) (change : LinkChange) (r : Result (ℕ × Link) TextFlaw) (other : Option ℕ) (s : Buffer) → Lays itself (ops 1) s (relinked_by schema change r other s)
-relinked_lays schema change (Err flaw) other s room = adds_noted (ops 1) s (noted flaw s) (noted_counts flaw s)
+relinked_lays schema change (Err flaw) other s room = adds_noted (ops 1) refl s (noted flaw s) (noted_counts flaw s)
 relinked_lays schema change (Ok slot) other s room =
     lays_from itself (ops 1) s (link_noted schema slot.1.to other s) (put (put_ops.Relink change slot.0) (link_noted schema slot.1.to other s)) (link_counts schema slot.1.to other s) (put_lays (put_ops.Relink change slot.0) (link_noted schema slot.1.to other s)) room
 
 relinked_in_lays : (schema : Schema) (change : LinkChange) (class : Option ℕ) (slot : List ℕ) (other : Option ℕ) (s : Buffer) → Lays itself (ops 1) s (relinked_in schema change class slot other s)
-relinked_in_lays schema change None slot other s room = adds_none (ops 1) s
+relinked_in_lays schema change None slot other s room = adds_none (ops 1) refl s
 relinked_in_lays schema change (Some class) slot other s room = relinked_lays schema change (link_slot schema class slot) other s room
 
 relink_lays : (schema : Schema) (change : LinkChange) (unit : Variable) (slot : List ℕ) (other : Variable) (s : Buffer) → Lays itself (plus (ops 1) (plus (ops 1) (ops 1))) s (relink_code schema change unit slot other s)
@@ -103,9 +103,9 @@ relink_lays schema change unit slot other s =
     (λ p. lays_then second itself (ops 1) (ops 1) p.1 (unit_code other (STACK_LIMIT - 1) p.1) _ (unit_lays other (STACK_LIMIT - 1) p.1) (λ q. relinked_in_lays schema change p.0 slot q.0 q.1))
 
 entered_lays : (schema : Schema) (class space : Option ℕ) (s : Buffer) → Lays itself (ops 1) s (entered schema class space s)
-entered_lays schema None None s room = adds_none (ops 1) s
-entered_lays schema None (Some space) s room = adds_none (ops 1) s
-entered_lays schema (Some class) None s room = adds_none (ops 1) s
+entered_lays schema None None s room = adds_none (ops 1) refl s
+entered_lays schema None (Some space) s room = adds_none (ops 1) refl s
+entered_lays schema (Some class) None s room = adds_none (ops 1) refl s
 entered_lays schema (Some class) (Some space) s room =
     lays_from itself (ops 1) s (space_noted schema space class s) (put (put_ops.Enter space) (space_noted schema space class s)) (unless_counts (allowed schema space class) Space s) (put_lays (put_ops.Enter space) (space_noted schema space class s)) room
 
@@ -117,7 +117,7 @@ enter_lays schema unit space s =
     (entered_lays schema p.0 (space_named schema space) (known (space_named schema space) p.1)))
 
 left_lays : (space : Option ℕ) (s : Buffer) → Lays itself (ops 1) s (left_space space s)
-left_lays None s room = adds_noted (ops 1) s (noted Unknown s) (noted_counts Unknown s)
+left_lays None s room = adds_noted (ops 1) refl s (noted Unknown s) (noted_counts Unknown s)
 left_lays (Some space) s room = put_lays (put_ops.Leave space) s room
 
 leave_lays : (schema : Schema) (unit : Variable) (space : List ℕ) (s : Buffer) → Lays itself (plus (ops 1) (ops 1)) s (leave_code schema unit space s)
@@ -125,7 +125,7 @@ unfolding leave_code
 leave_lays schema unit space s = lays_then second itself (ops 1) (ops 1) s (unit_code unit STACK_LIMIT s) _ (unit_lays unit STACK_LIMIT s) (λ p. left_lays (space_named schema space) p.1)
 
 deleted_lays : (schema : Schema) (class : Option ℕ) (s : Buffer) → Lays itself (ops 1) s (deleted schema class s)
-deleted_lays schema None s room = adds_none (ops 1) s
+deleted_lays schema None s room = adds_none (ops 1) refl s
 deleted_lays schema (Some class) s room =
     lays_last itself itself (ops 1) s (put put_ops.Delete s) (λ t. Ok (with_kinds (map (struck schema class) t.scope.kinds) t)) (put_lays put_ops.Delete s)
     (λ t m. adds_to (ops 1) s t (with_kinds (map (struck schema class) t.scope.kinds) t) (record { ops_are = refl; texts_are = refl; queries_are = refl; loops_are = refl }) m) room
@@ -138,7 +138,7 @@ delete_lays schema unit s = lays_then second itself (ops 1) (ops 1) s (unit_code
 
 values_lay : (schema : Schema) (values : List ExprTree) (room : ℕ) (s : Buffer) → Lays itself (values_sums values) s (values_code schema room values s)
 unfolding values_code
-values_lay schema [] room s = λ free. adds_none nothing s
+values_lay schema [] room s = λ free. adds_none nothing refl s
 values_lay schema (e ∷ es) room s = lays_then second itself (expr_sums e) (values_sums es) s (expr_code schema room e s) _ (expr_lays schema e room s) (λ p. values_lay schema es (room - 1) p.1)
 
 say_lays : (schema : Schema) (values : List ExprTree) (s : Buffer) → Lays itself (plus (values_sums values) (ops 1)) s (say_code schema values s)
@@ -147,7 +147,7 @@ say_lays schema values s =
     lays_then itself itself (values_sums values) (ops 1) s (values_code schema STACK_LIMIT values s) _ (values_lay schema values STACK_LIMIT s) (λ t. by_count (nat_lt SAID_LIMIT (length values)) t)
   where
     by_count : (b : Bool) (t : Buffer) → Lays itself (ops 1) t (cond b (Ok (noted Limit t)) (put (put_ops.Say (length values)) t))
-    by_count true t = λ room. adds_noted (ops 1) t (noted Limit t) (noted_counts Limit t)
+    by_count true t = λ room. adds_noted (ops 1) refl t (noted Limit t) (noted_counts Limit t)
     by_count false t = put_lays (put_ops.Say (length values)) t
 
 end_lays : (schema : Schema) (right : Bool) (value : ExprTree) (wanted : Kind) (op : Op) (s : Buffer) → Lays itself (plus (expr_sums value) (ops 1)) s (end_code schema value wanted op (end_noted right s))
@@ -160,14 +160,14 @@ end_lays schema right value wanted op s =
 -- ---- names
 
 assign_as_lays : (local : ℕ) (now : Option Kind) (s : Buffer) → Lays itself (ops 1) s (assign_as local now s)
-assign_as_lays local None s room = adds_noted (ops 1) s (noted WrongKind s) (noted_counts WrongKind s)
+assign_as_lays local None s room = adds_noted (ops 1) refl s (noted WrongKind s) (noted_counts WrongKind s)
 assign_as_lays local (Some now) s room =
     let t = with_kinds (set s.scope.kinds local now) s in
     lays_from itself (ops 1) s t (put (put_ops.Store local) t) (record { ops_are = refl; texts_are = refl; queries_are = refl; loops_are = refl }) (put_lays (put_ops.Store local) t) room
 
 assign_to_lays : (schema : Schema) (local : Option ℕ) (made : Option Kind) (s : Buffer) → Lays itself (ops 1) s (assign_to schema local made s)
-assign_to_lays schema None made s room = adds_noted (ops 1) s (noted Unknown s) (noted_counts Unknown s)
-assign_to_lays schema (Some local) None s room = adds_none (ops 1) s
+assign_to_lays schema None made s room = adds_noted (ops 1) refl s (noted Unknown s) (noted_counts Unknown s)
+assign_to_lays schema (Some local) None s room = adds_none (ops 1) refl s
 assign_to_lays schema (Some local) (Some kind) s room = assign_as_lays local (assigned schema (kind_at s.scope.kinds local) kind) s room
 
 assign_lays : (schema : Schema) (name : List ℕ) (value : ExprTree) (s : Buffer) → Lays itself (plus (expr_sums value) (ops 1)) s (assign_code schema name value s)
@@ -176,11 +176,11 @@ assign_lays schema name value s =
     lays_then second itself (expr_sums value) (ops 1) s (expr_code schema STACK_LIMIT value s) _ (expr_lays schema value STACK_LIMIT s) (λ p. assign_to_lays schema (local_of p.1.scope name) p.0 p.1)
 
 let_as_lays : (name : List ℕ) (made : Option Kind) (s : Buffer) → 1 ≤ frees s.scope.kinds → Lays itself (ops 1) s (let_as name made s)
-let_as_lays name None s some room = adds_none (ops 1) s
+let_as_lays name None s some room = adds_none (ops 1) refl s
 let_as_lays name (Some kind) s some room = declare_lays name kind s some room
 
 new_of_lays : (name : List ℕ) (class : Option ℕ) (s : Buffer) → 1 ≤ frees s.scope.kinds → Lays itself (plus (ops 1) (ops 1)) s (new_of name class s)
-new_of_lays name None s some room = adds_noted (plus (ops 1) (ops 1)) s (noted Unknown s) (noted_counts Unknown s)
+new_of_lays name None s some room = adds_noted (plus (ops 1) (ops 1)) refl s (noted Unknown s) (noted_counts Unknown s)
 new_of_lays name (Some class) s some room =
     lays_knowing s.start (Keeps s.scope s.start s.flaw) itself itself (ops 1) (ops 1) s (put (put_ops.New class) s) (λ t. declare name (kinds.Ref class) t)
     (put_keeps s.scope s.start (put_ops.New class) s s.flaw (record { same = refl; begun = refl; flawed = refl })) (put_lays (put_ops.New class) s)

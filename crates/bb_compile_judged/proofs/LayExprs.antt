@@ -1,5 +1,5 @@
 -- What expressions, sequences and patterns lay out at most.
-use Rattle.std.proofs.Common.{ℕ, ◌-◌, Bool, cond, List, length, Option, Some, None, Result, Ok, Err}
+use Rattle.std.proofs.Common.{ℕ, ◌-◌, Bool, cond, List, length, Option, Some, None, Result, Ok, Err, refl}
 use Rattle.std.specs.Prelude.{nat_le, ◌==◌, int_lt, pos, ℤ}
 use Rattle.bb_basis.specs.Results.{◌>>=◌}
 use Rattle.bb_code.specs.Bound.TheVariants as bounds
@@ -51,7 +51,7 @@ unfolding pushed
 pushed_lays op gives room s = lays_last itself second (ops 1) s (put_value op room s) _ (put_value_lays op room s) (λ t m. m)
 
 loaded_lays : (o : Option ℕ) (room : ℕ) (s : Buffer) → Lays second (ops 1) s (loaded o room s)
-loaded_lays None room s free = adds_noted (ops 1) s (noted Unknown s) (noted_counts Unknown s)
+loaded_lays None room s free = adds_noted (ops 1) refl s (noted Unknown s) (noted_counts Unknown s)
 loaded_lays (Some local) room s free = lays_last itself second (ops 1) s (put_value (put_ops.Load local) room s) (λ t. Ok (Some (kind_at t.scope.kinds local), t)) (put_value_lays (put_ops.Load local) room s) (λ t m. m) free
 
 pub variable_lays : (v : Variable) (room : ℕ) (s : Buffer) → Lays second (ops 1) s (variable_code v room s)
@@ -71,30 +71,30 @@ unfolding unit_code
 unit_lays v room s = lays_last second second (ops 1) s (variable_code v room s) _ (variable_lays v room s) (λ p m. of_laid (ops 1) s p.0 p.1 m)
 
 gotten_lays : (r : Result (ℕ × Kind) TextFlaw) (s : Buffer) → Lays second (ops 1) s (gotten r s)
-gotten_lays (Err flaw) s free = adds_noted (ops 1) s (noted flaw s) (noted_counts flaw s)
+gotten_lays (Err flaw) s free = adds_noted (ops 1) refl s (noted flaw s) (noted_counts flaw s)
 gotten_lays (Ok slot) s free = lays_last itself second (ops 1) s (put (put_ops.Get slot.0) s) (λ t. Ok (Some slot.1, t)) (put_lays (put_ops.Get slot.0) s) (λ t m. m) free
 
 got_lays : (schema : Schema) (slot : List ℕ) (class : Option ℕ) (s : Buffer) → Lays second (ops 1) s (got_from schema slot class s)
-got_lays schema slot None s free = adds_none (ops 1) s
+got_lays schema slot None s free = adds_none (ops 1) refl s
 got_lays schema slot (Some class) s free = gotten_lays (value_slot schema class slot) s free
 
 slot_lays : (schema : Schema) (unit : Variable) (slot : List ℕ) (room : ℕ) (s : Buffer) → Lays second (plus (ops 1) (ops 1)) s (slot_code schema unit slot room s)
 unfolding slot_code
 slot_lays schema unit slot room s = lays_then second second (ops 1) (ops 1) s (unit_code unit room s) _ (unit_lays unit room s) (λ p. got_lays schema slot p.0 p.1)
 
-text_lays : (text : List ℕ) (room : ℕ) (s : Buffer) → Lays second (plus one_text (ops 1)) s (text_code text room s)
+text_lays : (text : List ℕ) (room : ℕ) (s : Buffer) → Lays second (plus (one_text text) (ops 1)) s (text_code text room s)
 unfolding text_code
 text_lays text room s =
-    lays_then second second one_text (ops 1) s (text_index text (text_noted text s)) _
-    (lays_from second one_text s (text_noted text s) (text_index text (text_noted text s)) (unless_counts (nat_le (length text) TEXT_BYTES_LIMIT) Limit s) (index_lays text (text_noted text s)))
+    lays_then second second (one_text text) (ops 1) s (text_index text (text_noted text s)) _
+    (lays_from second (one_text text) s (text_noted text s) (text_index text (text_noted text s)) (unless_counts (nat_le (length text) TEXT_BYTES_LIMIT) Limit s) (index_lays text (text_noted text s)))
     (λ p. pushed_lays (put_ops.PushText p.0) kinds.Text room p.1)
 
 label_lays : (set : ℕ) (o : Option ℕ) (room : ℕ) (s : Buffer) → Lays second (ops 1) s (label_of set o room s)
-label_lays set None room s free = adds_noted (ops 1) s (noted Unknown s) (noted_counts Unknown s)
+label_lays set None room s free = adds_noted (ops 1) refl s (noted Unknown s) (noted_counts Unknown s)
 label_lays set (Some label) room s free = pushed_lays (put_ops.PushLabel set label) (kinds.Label set) room s free
 
 label_in_lays : (schema : Schema) (label : List ℕ) (set : Option ℕ) (room : ℕ) (s : Buffer) → Lays second (ops 1) s (label_in schema label set room s)
-label_in_lays schema label None room s free = adds_noted (ops 1) s (noted Unknown s) (noted_counts Unknown s)
+label_in_lays schema label None room s free = adds_noted (ops 1) refl s (noted Unknown s) (noted_counts Unknown s)
 label_in_lays schema label (Some set) room s free = label_lays set (label_named schema set label) room s free
 
 atom_lays : (schema : Schema) (a : Atom) (room : ℕ) (s : Buffer) → Lays second (atom_sums a) s (atom_code schema room a s)
@@ -127,12 +127,12 @@ unary_lays unaries.Low made s = one_lays made kinds.Interval (put_ops.BoundOf bo
 unary_lays unaries.High made s = one_lays made kinds.Interval (put_ops.BoundOf bounds.High) kinds.Int s
 
 by_lays : (o : Option Op) (s : Buffer) → Lays itself (ops 1) s (equality_by o s)
-by_lays None s free = adds_noted (ops 1) s (noted WrongKind s) (noted_counts WrongKind s)
+by_lays None s free = adds_noted (ops 1) refl s (noted WrongKind s) (noted_counts WrongKind s)
 by_lays (Some op) s free = put_lays op s free
 
 equality_lays : (left right : Option Kind) (s : Buffer) → Lays itself (ops 1) s (equality_code left right s)
-equality_lays None right s free = adds_none (ops 1) s
-equality_lays (Some l) None s free = adds_none (ops 1) s
+equality_lays None right s free = adds_none (ops 1) refl s
+equality_lays (Some l) None s free = adds_none (ops 1) refl s
 equality_lays (Some l) (Some r) s free = by_lays (equality l r) s free
 
 binary_lays : (operation : Binary) (left right : Option Kind) (s : Buffer) → Lays second (ops 1) s (binary_code operation left right s)
@@ -174,20 +174,20 @@ test_counts schema (Some space) dim relation operand asked s = at_counts relatio
 
 query_lays : (class space : Option ℕ) (asked : Asked) (pattern : Tree) (room : ℕ) (s : Buffer) → Lays second (plus one_query (ops 1)) s (query_code class space asked pattern room s)
 unfolding query_code
-query_lays None None asked pattern room s free = adds_none (plus one_query (ops 1)) s
-query_lays None (Some space) asked pattern room s free = adds_none (plus one_query (ops 1)) s
-query_lays (Some class) None asked pattern room s free = adds_none (plus one_query (ops 1)) s
+query_lays None None asked pattern room s free = adds_none (plus one_query (ops 1)) refl s
+query_lays None (Some space) asked pattern room s free = adds_none (plus one_query (ops 1)) refl s
+query_lays (Some class) None asked pattern room s free = adds_none (plus one_query (ops 1)) refl s
 query_lays (Some class) (Some space) asked pattern room s free =
     let query : Query = record { class = class; space = space; kinds = asked.kinds; pattern = pattern } in
     lays_then second second one_query (ops 1) s (asked_query query s) (λ p. put_value (put_ops.Find p.0) room p.1 >>= λ u. Ok (Some class, u)) (asked_lays query s)
     (λ p. lays_last itself second (ops 1) p.1 (put_value (put_ops.Find p.0) room p.1) _ (put_value_lays (put_ops.Find p.0) room p.1) (λ t m. m)) free
 
 linked_by_lays : (r : Result (ℕ × Link) TextFlaw) (s : Buffer) → Lays second (ops 1) s (linked_by r s)
-linked_by_lays (Err flaw) s free = adds_noted (ops 1) s (noted flaw s) (noted_counts flaw s)
+linked_by_lays (Err flaw) s free = adds_noted (ops 1) refl s (noted flaw s) (noted_counts flaw s)
 linked_by_lays (Ok slot) s free = lays_last itself second (ops 1) s (put (put_ops.Links slot.0) s) (λ t. Ok (Some slot.1.to, t)) (put_lays (put_ops.Links slot.0) s) (λ t m. m) free
 
 linked_lays : (schema : Schema) (slot : List ℕ) (class : Option ℕ) (s : Buffer) → Lays second (ops 1) s (linked_from schema slot class s)
-linked_lays schema slot None s free = adds_none (ops 1) s
+linked_lays schema slot None s free = adds_none (ops 1) refl s
 linked_lays schema slot (Some class) s free = linked_by_lays (link_slot schema class slot) s free
 
 links_lays : (schema : Schema) (unit : Variable) (slot : List ℕ) (room : ℕ) (s : Buffer) → Lays second (plus (ops 1) (ops 1)) s (links_code schema unit slot room s)
@@ -212,7 +212,7 @@ module _ (schema : Schema) where
         (λ p. lays_last itself second (ops 1) p.1 (put put_ops.Size p.1) _ (put_lays put_ops.Size p.1) (λ u m. m))
 
     steps_lay : (steps : Steps) (room : ℕ) (left : Option Kind) (s : Buffer) → Lays second (steps_sums steps) s (steps_code schema room left steps s)
-    steps_lay no_step room left s = λ free. adds_none nothing s
+    steps_lay no_step room left s = λ free. adds_none nothing refl s
     steps_lay (apply operator e steps) room left s =
         lays_then second second (expr_sums e) (plus (ops 1) (steps_sums steps)) s (expr_code schema (room - 1) e s) _ (expr_lays e (room - 1) s)
         (λ p. lays_then second second (ops 1) (steps_sums steps) p.1 (operator_code operator left p.0 p.1) _ (operator_lays operator left p.0 p.1) (λ q. steps_lay steps room q.0 q.1))
@@ -230,7 +230,7 @@ module _ (schema : Schema) where
         (λ q. query_lays class space q.1 q.0 room q.2)
 
     pattern_lays : (p : PatternTree) (room : ℕ) (space : Option ℕ) (asked : Asked) (s : Buffer) → Lays third (pattern_sums p) s (pattern_code schema room space p asked s)
-    pattern_lays all room space asked s = λ free. adds_noted nothing s (node_noted asked s) (if_counts (asked.nodes == 0) Limit s)
+    pattern_lays all room space asked s = λ free. adds_noted nothing refl s (node_noted asked s) (if_counts (asked.nodes == 0) Limit s)
     pattern_lays (and_of ps) room space asked s =
         lays_last third third (patterns_sums ps) s (patterns_code schema room space ps (node_counted asked) (node_noted asked s)) _
         (lays_from third (patterns_sums ps) s (node_noted asked s) (patterns_code schema room space ps (node_counted asked) (node_noted asked s)) (if_counts (asked.nodes == 0) Limit s) (patterns_lay ps room space (node_counted asked) (node_noted asked s))) (λ q m. m)
@@ -246,7 +246,7 @@ module _ (schema : Schema) where
         (λ q m. adds_to (expr_sums e) s q.1 (test_code schema space dim relation q.0 (node_counted asked) q.1).2 (test_counts schema space dim relation q.0 (node_counted asked) q.1) m)
 
     patterns_lay : (ps : Patterns) (room : ℕ) (space : Option ℕ) (asked : Asked) (s : Buffer) → Lays third (patterns_sums ps) s (patterns_code schema room space ps asked s)
-    patterns_lay no_pattern room space asked s = λ free. adds_none nothing s
+    patterns_lay no_pattern room space asked s = λ free. adds_none nothing refl s
     patterns_lay (more p ps) room space asked s =
         lays_then third third (pattern_sums p) (patterns_sums ps) s (pattern_code schema room space p asked s) _ (pattern_lays p room space asked s)
         (λ q. lays_last third third (patterns_sums ps) q.2 (patterns_code schema room space ps q.1 q.2) _ (patterns_lay ps room space q.1 q.2) (λ r m. m))

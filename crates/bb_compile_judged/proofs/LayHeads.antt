@@ -19,7 +19,6 @@ use Rattle.bb_compile_scope.specs.Kinds.{class_of, is_live}
 use Rattle.bb_compile_scope.specs.LocalKinds.{is_free}
 use Rattle.bb_compile_scope.specs.Place.{Place}
 use Rattle.bb_compile_scope.specs.Slots.{partner_slot}
-use Rattle.bb_compile_scope.specs.declared.fault.CompileFault.{CompileFault}
 use Rattle.bb_compile_scope.specs.declared.fault.CompileFault.TheVariants.{At}
 use Rattle.bb_compile_scope.specs.declared.fault.TextFlaw.{TextFlaw}
 use Rattle.bb_compile_scope.specs.declared.fault.TextFlaw.TheVariants.{Unknown, Kind as WrongKind, Limit}
@@ -37,7 +36,7 @@ use Rattle.bb_compile_judged.specs.Expressions.{expr_kind, expr_flaws, sequence_
 use Rattle.bb_compile_judged.specs.Flaws.{least, if_so, if_other, fault_if}
 use Rattle.bb_compile_judged.specs.Names.{kind_of, unit_class}
 use Rattle.bb_compile_judged.specs.Statements.{binding_flaws, bound}
-use Rattle.bb_compile_judged.specs.Sums.{Sums, plus, ops, expr_sums, sequence_sums, binding_sums}
+use Rattle.bb_compile_judged.specs.Sums.{plus, ops, expr_sums, sequence_sums, test_count, binding_sums}
 use Rattle.bb_compile_judged.proofs.AgreeLemmas.{least_was}
 use Rattle.bb_compile_judged.proofs.AtomLemmas.{variable_judged, unit_judged}
 use Rattle.bb_compile_judged.proofs.BindLemmas.{There, sequence_there, Binds, binding_binds, tested}
@@ -46,20 +45,10 @@ use Rattle.bb_compile_judged.proofs.GiveLemmas.{Gives, gives_knowing, gives_know
 use Rattle.bb_compile_judged.proofs.HoldLemmas.{least_on, Keeps, noted_if, Made, put_keeps, due_keeps, known_keeps}
 use Rattle.bb_compile_judged.proofs.LayActions.{declare_lays, lays_knowing}
 use Rattle.bb_compile_judged.proofs.LayExprs.{variable_lays, unit_lays, expr_lays, sequence_lays}
-use Rattle.bb_compile_judged.proofs.LayLemmas.{Laid, Lays, room_first, lays_then, lays_last, adds_none, Counts, lays_from, adds_noted, noted_counts, if_counts, due_counts, known_counts, itself, second, put_lays}
+use Rattle.bb_compile_judged.proofs.LayLemmas.{Laid, Lays, lays_then, lays_last, adds_none, Counts, lays_from, adds_noted, noted_counts, if_counts, due_counts, known_counts, itself, second, put_lays}
 use Rattle.bb_compile_judged.proofs.LocalLemmas.{none_free}
 use Rattle.bb_compile_judged.proofs.NameLemmas.{frees, names_of}
 use Rattle.bb_compile_judged.proofs.ScopeLemmas.{Tidy}
-
--- more than is laid out
-pub laid_less : {X : Type 0} (out : X → Buffer) (a b : Sums) (s : Buffer) (r : Result X CompileFault) → Laid out a s r → Laid out (plus b a) s r
-laid_less out a b s (Err fault) h = h
-laid_less out a b s (Ok x) h =
-    let o = h.more_ops in
-    let t = h.more_texts in
-    let q = h.more_queries in
-    let l = h.more_loops in
-    record { more_ops = omega (arith, o); more_texts = omega (arith, t); more_queries = omega (arith, q); more_loops = omega (arith, l) }
 
 -- ---- `if`
 
@@ -84,20 +73,22 @@ module _ (schema : Schema) (place : Place) (scope : Scope) where
 
   -- ---- `with`
 
-  as_lays : (held : Kind) (class : ℕ) (s : Buffer) → Lays second (ops 2) s (test_code held class s)
+  as_lays : (held : Kind) (class : ℕ) (s : Buffer) → Lays second (ops (test_count (Some held) (Some class))) s (test_code held class s)
   unfolding as_code alive_code
   as_lays held class s = by_live (is_live held)
     where
       one_more : (op : Op) (t : Buffer) (exits : Exits) → Lays second (ops 1) t (put op t >>= λ u. Ok (exits, u))
       one_more op t exits = lays_last itself second (ops 1) t (put op t) _ (put_lays op t) (λ u m. m)
 
-      by_same : (b : Bool) (t : Buffer) → Lays second (ops 1) t (cond b (Ok (one_exit (length s.ops), t)) (alive_and_as (length s.ops) class t))
-      by_same true t = λ room. adds_none (ops 1) t
-      by_same false t = lays_last itself second (ops 1) t (put (put_ops.As class 0) t) _ (put_lays (put_ops.As class 0) t) (λ u m. m)
+      by_same : (b : Bool) → Lays second (ops (cond b 1 2)) s (put (put_ops.Alive 0) s >>= λ t. cond b (Ok (one_exit (length s.ops), t)) (alive_and_as (length s.ops) class t))
+      by_same true = one_more (put_ops.Alive 0) s (one_exit (length s.ops))
+      by_same false =
+          lays_then itself second (ops 1) (ops 1) s (put (put_ops.Alive 0) s) _ (put_lays (put_ops.Alive 0) s)
+          (λ t. lays_last itself second (ops 1) t (put (put_ops.As class 0) t) _ (put_lays (put_ops.As class 0) t) (λ u m. m))
 
-      by_live : (b : Bool) → Lays second (ops 2) s (cond b (as_code class s) (alive_code (is_class (class_of held) class) class s))
-      by_live true = λ room. laid_less second (ops 1) (ops 1) s (put (put_ops.As class 0) s >>= λ t. Ok (one_exit (length s.ops), t)) (one_more (put_ops.As class 0) s (one_exit (length s.ops)) (room_first (ops 1) (ops 1) s room))
-      by_live false = lays_then itself second (ops 1) (ops 1) s (put (put_ops.Alive 0) s) _ (put_lays (put_ops.Alive 0) s) (λ t. by_same (is_class (class_of held) class) t)
+      by_live : (b : Bool) → Lays second (ops (cond b 1 (cond (is_class (class_of held) class) 1 2))) s (cond b (as_code class s) (alive_code (is_class (class_of held) class) class s))
+      by_live true = one_more (put_ops.As class 0) s (one_exit (length s.ops))
+      by_live false = by_same (is_class (class_of held) class)
 
   -- a test, and then a name
   named_lays : (name : List ℕ) (class : ℕ) (exits : Exits) (t : Buffer) → 1 ≤ frees t.scope.kinds → Lays second (ops 1) t (declare name (kinds.Ref class) t >>= λ u. Ok (Some exits, u))
@@ -107,54 +98,55 @@ module _ (schema : Schema) (place : Place) (scope : Scope) where
     free_in : (t : Buffer) (flaw : Option TextFlaw) → Keeps scope place flaw t → 1 ≤ frees t.scope.kinds
     free_in t flaw k = subst (λ (sc : Scope). 1 ≤ frees sc.kinds) (sym k.same) some
 
-    bound_lays : (name : List ℕ) (held : Kind) (class : ℕ) (s : Buffer) (flaw : Option TextFlaw) → Keeps scope place flaw s → Lays second (plus (ops 2) (ops 1)) s (bound_as schema name held class s)
+    bound_lays : (name : List ℕ) (held : Kind) (class : ℕ) (s : Buffer) (flaw : Option TextFlaw) → Keeps scope place flaw s → Lays second (plus (ops (test_count (Some held) (Some class))) (ops 1)) s (bound_as schema name held class s)
     bound_lays name held class s flaw k = by_test (is_test schema held class)
       where
-        by_test : (b : Bool) → Lays second (plus (ops 2) (ops 1)) s (cond b (test_code held class s >>= λ p. declare name (kinds.Ref class) p.1 >>= λ u. Ok (Some p.0, u)) (Ok (None, noted WrongKind s)))
+        by_test : (b : Bool) → Lays second (plus (ops (test_count (Some held) (Some class))) (ops 1)) s (cond b (test_code held class s >>= λ p. declare name (kinds.Ref class) p.1 >>= λ u. Ok (Some p.0, u)) (Ok (None, noted WrongKind s)))
         by_test true =
-            lays_knowing place (λ (p : Exits × Buffer). Keeps scope place flaw p.1) second second (ops 2) (ops 1) s (test_code held class s) _ (tested place scope tidy held class s flaw k) (as_lays held class s)
+            lays_knowing place (λ (p : Exits × Buffer). Keeps scope place flaw p.1) second second (ops (test_count (Some held) (Some class))) (ops 1) s (test_code held class s) _ (tested place scope tidy held class s flaw k) (as_lays held class s)
             (λ p kept. named_lays name class p.0 p.1 (free_in p.1 flaw kept))
-        by_test false = λ room. adds_noted (plus (ops 2) (ops 1)) s (noted WrongKind s) (noted_counts WrongKind s)
+        by_test false = λ room. adds_noted (plus (ops (test_count (Some held) (Some class))) (ops 1)) refl s (noted WrongKind s) (noted_counts WrongKind s)
 
-    as_named_lays : (name : List ℕ) (held : Option Kind) (class : Option ℕ) (s : Buffer) (flaw : Option TextFlaw) → Keeps scope place flaw s → Lays second (plus (ops 2) (ops 1)) s (as_named schema name held class s)
-    as_named_lays name None None s flaw k = λ room. adds_none (plus (ops 2) (ops 1)) s
-    as_named_lays name None (Some class) s flaw k = λ room. adds_none (plus (ops 2) (ops 1)) s
-    as_named_lays name (Some held) None s flaw k = λ room. adds_none (plus (ops 2) (ops 1)) s
+    as_named_lays : (name : List ℕ) (held : Option Kind) (class : Option ℕ) (s : Buffer) (flaw : Option TextFlaw) → Keeps scope place flaw s → Lays second (plus (ops (test_count held class)) (ops 1)) s (as_named schema name held class s)
+    as_named_lays name None None s flaw k = λ room. adds_none (plus (ops 0) (ops 1)) refl s
+    as_named_lays name None (Some class) s flaw k = λ room. adds_none (plus (ops 0) (ops 1)) refl s
+    as_named_lays name (Some held) None s flaw k = λ room. adds_none (plus (ops 0) (ops 1)) refl s
     as_named_lays name (Some held) (Some class) s flaw k = bound_lays name held class s flaw k
 
     partner_by_lays : (name : List ℕ) (r : Result (ℕ × ℕ) TextFlaw) (s : Buffer) (flaw : Option TextFlaw) → Keeps scope place flaw s → Lays second (plus (ops 1) (ops 1)) s (partner_by name r s)
-    partner_by_lays name (Err wrong) s flaw k = λ room. adds_noted (plus (ops 1) (ops 1)) s (noted wrong s) (noted_counts wrong s)
+    partner_by_lays name (Err wrong) s flaw k = λ room. adds_noted (plus (ops 1) (ops 1)) refl s (noted wrong s) (noted_counts wrong s)
     partner_by_lays name (Ok slot) s flaw k =
         lays_knowing place (Keeps scope place flaw) itself second (ops 1) (ops 1) s (put (put_ops.One slot.0 0) s) _ (put_keeps scope place (put_ops.One slot.0 0) s flaw k) (put_lays (put_ops.One slot.0 0) s)
         (λ t kept. named_lays name slot.1 (one_exit (length s.ops)) t (free_in t flaw kept))
 
     partner_in_lays : (name slot : List ℕ) (class : Option ℕ) (s : Buffer) (flaw : Option TextFlaw) → Keeps scope place flaw s → Lays second (plus (ops 1) (ops 1)) s (partner_in schema name slot class s)
-    partner_in_lays name slot None s flaw k = λ room. adds_none (plus (ops 1) (ops 1)) s
+    partner_in_lays name slot None s flaw k = λ room. adds_none (plus (ops 1) (ops 1)) refl s
     partner_in_lays name slot (Some class) s flaw k = partner_by_lays name (partner_slot schema class slot) s flaw k
 
-    binding_lays : (binding : Binding) (s : Buffer) (seen : Option TextFlaw) → Keeps scope place seen s → Lays second (binding_sums binding) s (binding_code schema binding s)
+    binding_lays : (binding : Binding) (s : Buffer) (seen : Option TextFlaw) → Keeps scope place seen s → Lays second (binding_sums schema (names_of scope) binding) s (binding_code schema binding s)
     unfolding with_as with_partner
     binding_lays (bindings.As name unit class_name) s seen k =
         let class = class_named schema class_name in
         let one = least seen (variable_flaws (names_of scope) STACK_LIMIT unit) in
-        lays_knowing place (Made scope place (kind_of (names_of scope) unit) one) second second (ops 1) (plus (ops 2) (ops 1)) s (variable_code unit STACK_LIMIT s) _
+        lays_knowing place (Made scope place (kind_of (names_of scope) unit) one) second second (ops 1) (plus (ops (test_count (kind_of (names_of scope) unit) class)) (ops 1)) s (variable_code unit STACK_LIMIT s) _
         (variable_judged scope place unit STACK_LIMIT s seen k) (variable_lays unit STACK_LIMIT s)
-        (λ p made. lays_from second (plus (ops 2) (ops 1)) p.1 (known class p.1) (as_named schema name p.0 class (known class p.1)) (known_counts class p.1)
-        (as_named_lays name p.0 class (known class p.1) _ (known_keeps scope place class p.1 one made.1)))
+        (λ p made. lays_from second (plus (ops (test_count (kind_of (names_of scope) unit) class)) (ops 1)) p.1 (known class p.1) (as_named schema name p.0 class (known class p.1)) (known_counts class p.1)
+        (subst (λ o. Lays second (plus (ops (test_count o class)) (ops 1)) (known class p.1) (as_named schema name p.0 class (known class p.1))) made.0
+        (as_named_lays name p.0 class (known class p.1) _ (known_keeps scope place class p.1 one made.1))))
     binding_lays (bindings.Linked name unit slot) s seen k =
         let one = least seen (unit_flaws (names_of scope) STACK_LIMIT unit) in
         lays_knowing place (Made scope place (unit_class (names_of scope) unit) one) second second (ops 1) (plus (ops 1) (ops 1)) s (unit_code unit STACK_LIMIT s) _
         (unit_judged scope place unit STACK_LIMIT s seen k) (unit_lays unit STACK_LIMIT s) (λ p made. partner_in_lays name slot p.0 p.1 one made.1)
 
     pub with_gives : (binding : Binding) (at : Place) (s : Buffer) (seen : Option TextFlaw) → Keeps scope place seen s
-        → Gives second (binding_sums binding) s (fault_if at (least seen (binding_flaws schema (names_of scope) binding))) (with_code schema binding at s)
+        → Gives second (binding_sums schema (names_of scope) binding) s (fault_if at (least seen (binding_flaws schema (names_of scope) binding))) (with_code schema binding at s)
     unfolding with_code
     with_gives binding at s seen k =
         let flaw = least seen (binding_flaws schema (names_of scope) binding) in
-        gives_known place (Binds place scope (bound schema (names_of scope) binding) flaw) second second (binding_sums binding) s (fault_if at flaw) (binding_code schema binding s) _
+        gives_known place (Binds place scope (bound schema (names_of scope) binding) flaw) second second (binding_sums schema (names_of scope) binding) s (fault_if at flaw) (binding_code schema binding s) _
         (binding_binds place scope tidy schema binding s seen k) (binding_lays binding s seen k)
-        (λ p b m. settled_given second (binding_sums binding) s at flaw p.1 (ok_or p.0 (At Unknown at) >>= λ exits. Ok (exits, p.1)) b.flawed
-        (λ none. subst (λ o. Laid second (binding_sums binding) s (ok_or o (At Unknown at) >>= λ exits. Ok (exits, p.1))) (sym (b.named none).1) m))
+        (λ p b m. settled_given second (binding_sums schema (names_of scope) binding) s at flaw p.1 (ok_or p.0 (At Unknown at) >>= λ exits. Ok (exits, p.1)) b.flawed
+        (λ none. subst (λ o. Laid second (binding_sums schema (names_of scope) binding) s (ok_or o (At Unknown at) >>= λ exits. Ok (exits, p.1))) (sym (b.named none).1) m))
 
     -- ---- `for`
 

@@ -35,7 +35,7 @@ use Rattle.bb_compile_judged.proofs.NameLemmas.{frees}
 
 -- ---- what changes no count
 
-aimed_count : (at : ℕ) (l : List Op) → length (aimed_at at l) ≡ length l
+pub aimed_count : (at : ℕ) (l : List Op) → length (aimed_at at l) ≡ length l
 aimed_count at l = by_op (slice_get l at)
   where
     by_op : (o : Option Op) → length (with_aimed l at o) ≡ length l
@@ -45,7 +45,7 @@ aimed_count at l = by_op (slice_get l at)
 pub aim_counts : (at : ℕ) (s : Buffer) → Counts s (aim at s)
 aim_counts at s = record { ops_are = aimed_count at s.ops; texts_are = refl; queries_are = refl; loops_are = refl }
 
-exits_counts : (exits : Exits) (s : Buffer) → Counts s (exits_aimed exits s)
+pub exits_counts : (exits : Exits) (s : Buffer) → Counts s (exits_aimed exits s)
 exits_counts exits s = by_second exits.second
   where
     by_second : (o : Option ℕ) → Counts s (second_aimed o (aim exits.first s))
@@ -59,7 +59,7 @@ label_counts s = record { ops_are = refl; texts_are = refl; queries_are = refl; 
 pub leave_counts : (mark : Mark) (s : Buffer) → Counts s (leave mark s)
 leave_counts mark s = record { ops_are = refl; texts_are = refl; queries_are = refl; loops_are = refl }
 
-kinds_counts : (ks : List Kind) (s : Buffer) → Counts s (with_kinds ks s)
+pub kinds_counts : (ks : List Kind) (s : Buffer) → Counts s (with_kinds ks s)
 kinds_counts ks s = record { ops_are = refl; texts_are = refl; queries_are = refl; loops_are = refl }
 
 met_counts : (ended : Bool) (ks : List Kind) (other_ended : Bool) (s : Buffer) → Counts s (met ended ks other_ended s)
@@ -87,17 +87,17 @@ else_counts branch jump ks ended s = by_end branch.ended
         let a = met ended ks branch.ended s in
         counts_on s (aim jump a) (labelled (aim jump a)) (counts_on s a (aim jump a) (met_counts ended ks branch.ended s) (aim_counts jump a)) (label_counts (aim jump a))
 
-pub else_lays : (branch : Branch) (s : Buffer) → Lays second (ops 1) s (else_begun branch s)
+pub else_lays : (branch : Branch) (s : Buffer) → Lays second (ops (cond branch.ended 0 1)) s (else_begun branch s)
 unfolding else_begun
 else_lays branch s =
-    lays_last itself second (ops 1) s (jumped branch s) _ (by_end branch.ended)
+    lays_last itself second (ops (cond branch.ended 0 1)) s (jumped branch s) _ (by_end branch.ended)
     (λ t m.
     let a = exits_aimed branch.exits t in
     let b = with_kinds branch.before.kinds a in
-    adds_to (ops 1) s t (labelled b) (counts_on t b (labelled b) (counts_on t a b (exits_counts branch.exits t) (kinds_counts branch.before.kinds a)) (label_counts b)) m)
+    adds_to (ops (cond branch.ended 0 1)) s t (labelled b) (counts_on t b (labelled b) (counts_on t a b (exits_counts branch.exits t) (kinds_counts branch.before.kinds a)) (label_counts b)) m)
   where
-    by_end : (b : Bool) → Lays itself (ops 1) s (cond b (Ok s) (put (put_ops.Jump 0) s))
-    by_end true = λ room. adds_none (ops 1) s
+    by_end : (b : Bool) → Lays itself (ops (cond b 0 1)) s (cond b (Ok s) (put (put_ops.Jump 0) s))
+    by_end true = λ room. adds_none (ops 0) refl s
     by_end false = put_lays (put_ops.Jump 0) s
 
 -- ---- loops
@@ -123,14 +123,14 @@ begun_lays schema place name class local body s begun clean some =
     by_room true = ap (At Limit) begun
     by_room false = record { same = refl; begun = begun; flawed = clean }
 
-ended_count : (index end : ℕ) (l : List Loop) → length (ended_at index end l) ≡ length l
+pub ended_count : (index end : ℕ) (l : List Loop) → length (ended_at index end l) ≡ length l
 ended_count index end l = by_loop (slice_get l index)
   where
     by_loop : (o : Option Loop) → length (with_end l index end o) ≡ length l
     by_loop None = refl
     by_loop (Some x) = length-set l index (record { head = x.head; end = end })
 
-closed_counts : (begun : Begun) (s : Buffer) → Counts s (loop_closed begun s)
+pub closed_counts : (begun : Begun) (s : Buffer) → Counts s (loop_closed begun s)
 closed_counts begun s = record {
   ops_are = aimed_count begun.head s.ops;
   texts_are = refl;

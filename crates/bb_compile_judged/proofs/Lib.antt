@@ -52,3 +52,45 @@ pub mod LayBlocks
 pub mod LayParts
 -- one step after another, where some are refused
 pub mod GiveLemmas
+-- lists whose items pass a test, and the limits of numbers
+pub mod WithinLists
+-- the numbers by which a schema names its parts
+pub mod WithinSchema
+-- scopes within the limits of codes
+pub mod FineScopes
+-- buffers within the limits of codes, and steps that keep them so
+pub mod FineLemmas
+-- their scopes and names
+pub mod FineNames
+-- expressions without parts, and operations, within the limits
+pub mod FineExprs
+-- sequences, patterns and whole expressions
+pub mod FineQueries
+-- statements without blocks
+pub mod FineActions
+-- the heads of statements with blocks
+pub mod FineHeads
+-- jumps, labels, branches and loops
+pub mod FineLoops
+-- statements and blocks
+pub mod FineBlocks
+-- parts that fit have a code within the limits
+pub mod FineParts
+-- how much a step lays out where nothing is noted
+pub mod ExactLemmas
+-- expressions without parts, and operations
+pub mod ExactExprs
+-- sequences, patterns and whole expressions
+pub mod ExactQueries
+-- statements without blocks
+pub mod ExactActions
+-- the heads of statements with blocks
+pub mod ExactHeads
+-- loops and branches beside their blocks
+pub mod ExactLoops
+-- statements and blocks
+pub mod ExactBlocks
+-- a part that has a code fits
+pub mod ExactParts
+-- and so do the parts of a source that compiles
+pub mod ExactSources

@@ -1,5 +1,5 @@
 -- A part is refused for the first fault of the judgement.
-use Rattle.std.proofs.Common.{◌≡◌, inl, inr, Bool, true, false, cond, List, [], ◌∷◌, Result, Ok, Err, refl, subst, ap, arith}
+use Rattle.std.proofs.Common.{◌≡◌, inl, inr, Bool, true, false, cond, [], ◌∷◌, None, Result, Ok, Err, refl, subst, ap, arith}
 use Rattle.std.specs.Prelude.{is_ok}
 use Rattle.bb_basis.specs.Results.{◌>>=◌}
 use Rattle.bb_code_ops.specs.Code.{Code}
@@ -23,7 +23,7 @@ use Rattle.bb_compile_buffer.specs.Within.{is_within}
 use Rattle.bb_compile_emit.specs.declared.part.TheConstants.{LOOP_NESTING}
 use Rattle.bb_compile_emit.specs.Parts.{has_no_end, done, version_for, part_code}
 use Rattle.bb_compile_emit.specs.Statements.{left, statements_code, block_code}
-use Rattle.bb_compile_judged.specs.Judgement.{part_faults, IsJudged}
+use Rattle.bb_compile_judged.specs.Judgement.{part_faults}
 use Rattle.bb_compile_judged.specs.Names.{begin_with}
 use Rattle.bb_compile_judged.specs.Statements.{after_statements, statements_faults}
 use Rattle.bb_compile_judged.proofs.AgreeLemmas.{Agrees, agrees_last, holds_agrees}
@@ -52,23 +52,30 @@ begin_same (Do class) = refl
 
 -- ---- the whole
 
-agrees_judged : {X : Type 0} (place : Place) (faults : List CompileFault) (P : X → Type 0) (r : Result X CompileFault) → Agrees place faults P r → IsJudged place faults r
-agrees_judged place faults P (Ok x) h = h.0
-agrees_judged place faults P (Err fault) h = h
-
 -- nothing is asked of a code
 abbrev IsCode : Code → Type 0
 IsCode code = Unit {0}
 
+-- where it began, and no flaw
+pub record IsDone (place : Place) (u : Buffer) : Type 0 where
+  pub begun : u.start ≡ place
+  pub clean : u.flaw ≡ None
+
 -- a part that does not end by a statement ends by an op of its own
-pub done_begun : (part : Part) (place : Place) (t : Buffer) → t.start ≡ place → Holds (λ (u : Buffer). u.start ≡ place) place (done part t)
-done_begun part place t start = by_part (is_ok (ends_done part))
+pub done_begun : (part : Part) (place : Place) (t : Buffer) → t.start ≡ place → t.flaw ≡ None → Holds (IsDone place) place (done part t)
+done_begun part place t start clean = by_part (is_ok (ends_done part))
   where
-    by_part : (b : Bool) → Holds (λ (u : Buffer). u.start ≡ place) place (cond b (put Done t) (Ok t))
+    by_part : (b : Bool) → Holds (IsDone place) place (cond b (put Done t) (Ok t))
     by_part true =
-        holds_map place (Keeps t.scope place t.flaw) (λ (u : Buffer). u.start ≡ place) (put Done t) (λ u kept. kept.begun)
-        (put_keeps t.scope place Done t t.flaw (record { same = refl; begun = start; flawed = refl }))
-    by_part false = start
+        holds_map place (Keeps t.scope place None) (IsDone place) (put Done t) (λ u kept. record { begun = kept.begun; clean = kept.flawed })
+        (put_keeps t.scope place Done t None (record { same = refl; begun = start; flawed = clean }))
+    by_part false = record { begun = start; clean = clean }
+
+-- behind a block: where it began, no flaw, and whether it has ended
+pub record IsBlock (place : Place) (b : BlockTree) (r : Bool × Buffer) : Type 0 where
+  pub begun : r.1.start ≡ place
+  pub clean : r.1.flaw ≡ None
+  pub ended : r.0 ≡ block_ends b
 
 finished : (place start : Place) (code : Code) → start ≡ place → Agrees place [] IsCode (if_within start code)
 unfolding if_within
@@ -79,32 +86,30 @@ finished place start code begun = by_limits (is_within code)
     by_limits false = inr (ap (At Limit) begun)
 
 module _ (schema : Schema) (part : Part) (place : Place) (b : BlockTree) where
-  pub block_judged : Agrees place (statements_faults schema part LOOP_NESTING false (begin_with part) b) (λ (r : Bool × Buffer). r.1.start ≡ place) (block_code schema part LOOP_NESTING b (empty_buffer part place))
+  pub block_judged : Agrees place (statements_faults schema part LOOP_NESTING false (begin_with part) b) (IsBlock place b) (block_code schema part LOOP_NESTING b (empty_buffer part place))
   block_judged =
       let scope = scopes.begin_with part in
       let s = empty_buffer part place in
-      subst (λ names. Agrees place (statements_faults schema part LOOP_NESTING false names b) (λ (r : Bool × Buffer). r.1.start ≡ place) (block_code schema part LOOP_NESTING b s)) (begin_same part)
-      (agrees_last place (statements_faults schema part LOOP_NESTING false (names_of scope) b) (Leaves place scope (after_statements schema (names_of scope) b) (block_ends b)) (λ (r : Bool × Buffer). r.1.start ≡ place)
+      subst (λ names. Agrees place (statements_faults schema part LOOP_NESTING false names b) (IsBlock place b) (block_code schema part LOOP_NESTING b s)) (begin_same part)
+      (agrees_last place (statements_faults schema part LOOP_NESTING false (names_of scope) b) (Leaves place scope (after_statements schema (names_of scope) b) (block_ends b)) (IsBlock place b)
       (statements_code schema part LOOP_NESTING false b s) (left (mark_of s.scope))
       (block_agrees schema part place b LOOP_NESTING false scope (begin_tidy part) s (record { same = refl; begun = refl; flawed = refl }))
-      (λ r leaves. (refl, leaves.1.begun)))
+      (λ r leaves. (refl, record { begun = leaves.1.begun; clean = leaves.1.flawed; ended = leaves.0 })))
 
   laid : Result Code CompileFault
   laid = block_code schema part LOOP_NESTING b (empty_buffer part place) >>= λ r. done part r.1 >>= λ u. if_within u.start (code_of (version_for schema) u)
 
-  laid_judged : IsJudged place (statements_faults schema part LOOP_NESTING false (begin_with part) b) laid
+  laid_agrees : Agrees place (statements_faults schema part LOOP_NESTING false (begin_with part) b) IsCode laid
   unfolding laid
-  laid_judged =
-      let faults = statements_faults schema part LOOP_NESTING false (begin_with part) b in
-      agrees_judged place faults IsCode laid
-      (agrees_last place faults (λ (r : Bool × Buffer). r.1.start ≡ place) IsCode (block_code schema part LOOP_NESTING b (empty_buffer part place)) _ block_judged
-      (λ r start. holds_agrees place [] (λ (u : Buffer). u.start ≡ place) IsCode (done part r.1) _ (done_begun part place r.1 start)
-      (λ u begun. finished place u.start (code_of (version_for schema) u) begun)))
+  laid_agrees =
+      agrees_last place (statements_faults schema part LOOP_NESTING false (begin_with part) b) (IsBlock place b) IsCode (block_code schema part LOOP_NESTING b (empty_buffer part place)) _ block_judged
+      (λ r block. holds_agrees place [] (IsDone place) IsCode (done part r.1) _ (done_begun part place r.1 block.begun block.clean)
+      (λ u is. finished place u.start (code_of (version_for schema) u) is.begun))
 
-  pub part_judged : IsJudged place (part_faults schema part place b) (part_code schema part place b)
+  pub part_agrees : Agrees place (part_faults schema part place b) IsCode (part_code schema part place b)
   unfolding part_code part_faults laid
-  part_judged = by_end (has_no_end part b)
+  part_agrees = by_end (has_no_end part b)
     where
-      by_end : (c : Bool) → IsJudged place (cond c (At NoEnd place ∷ []) (statements_faults schema part LOOP_NESTING false (begin_with part) b)) (cond c (Err (At NoEnd place)) laid)
+      by_end : (c : Bool) → Agrees place (cond c (At NoEnd place ∷ []) (statements_faults schema part LOOP_NESTING false (begin_with part) b)) IsCode (cond c (Err (At NoEnd place)) laid)
       by_end true = inl refl
-      by_end false = laid_judged
+      by_end false = laid_agrees

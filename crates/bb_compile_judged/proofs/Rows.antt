@@ -1,5 +1,5 @@
 -- Worked texts: which faults the judgement finds in them, and how much they lay out, computed on the definitions.
-use Rattle.std.proofs.Common.{◌≡◌, ℕ, true, false, [], ◌∷◌, None, refl, codes}
+use Rattle.std.proofs.Common.{◌≡◌, ℕ, ◌^◌, true, false, [], ◌∷◌, None, refl, codes}
 use Rattle.std.specs.Prelude.{pos}
 use Rattle.bb_basis.specs.Closure.{closure}
 use Rattle.bb_schema.specs.Schema.{Schema}
@@ -27,10 +27,12 @@ use Rattle.bb_compile_scope.specs.declared.fault.CompileFault.TheVariants.{At}
 use Rattle.bb_compile_scope.specs.declared.fault.TextFlaw.TheVariants.{Unknown, Kind, DeadName, NoEnd}
 use Rattle.bb_compile_judged.specs.Actions.{action_flaws, after_action}
 use Rattle.bb_compile_judged.specs.Expressions.{expr_flaws}
+use Rattle.bb_compile_judged.specs.Fitting.{fits}
 use Rattle.bb_compile_judged.specs.Flaws.{least}
+use Rattle.bb_compile_judged.specs.Held.{expr_held, sequence_held, pattern_held, action_held, statement_held, otherwise_held, statements_held}
 use Rattle.bb_compile_judged.specs.Judgement.{part_faults}
 use Rattle.bb_compile_judged.specs.Killed.{killed_statement}
-use Rattle.bb_compile_judged.specs.Sums.{action_sums, expr_sums, sequence_sums, statements_sums, statements_have_room, part_sums}
+use Rattle.bb_compile_judged.specs.Sums.{action_sums, expr_sums, sequence_sums, pattern_sums, statement_sums, otherwise_sums, statements_sums, statement_has_room, otherwise_has_room, statements_have_room, part_sums, different}
 use Rattle.bb_compile_judged.specs.Statements.{after_statement, statement_faults, statements_faults}
 
 -- class 1 is `thing`, with a number `score`; its units may enter the space `board`
@@ -101,11 +103,28 @@ no_end = refl
 
 -- ---- how much it is
 
--- the loop above: `with` takes 4 ops at most, the sequence 2, the head 2, `set` 3, `delete` 2, the way back and the end
--- one each
-much : part_sums (alone 2 (with_it (alone 3 (find_things (before_others (at 4) (action set_score) (alone 5 (action (actions.Delete (Named (codes "w")))))))))) ≡ record { ops = 15; texts = 0; queries = 1; loops = 1 }
-unfolding statements_sums action_sums expr_sums sequence_sums
+abbrev deleting : BlockTree
+deleting = alone 2 (with_it (alone 3 (find_things (before_others (at 4) (action set_score) (alone 5 (action (actions.Delete (Named (codes "w")))))))))
+
+-- the loop above: `with` takes 3 ops, as the unit is of the class and only may be deleted, the sequence 2, the head 2,
+-- `set` 3, `delete` 2, the way back and the end one each
+much : part_sums small (Do 1) deleting ≡ record { ops = 14; texts = []; queries = 1; loops = 1 }
+unfolding statements_sums statement_sums otherwise_sums action_sums expr_sums sequence_sums pattern_sums block_ends always_ends climbs after_statement after_action killed_statement struck strikes_in heirs_in closure is_among
 much = refl
+
+-- a text that stands twice is one text
+twice : different (action_sums (actions.Say (atom (atoms.Text (codes "a")) ∷ atom (atoms.Text (codes "b")) ∷ atom (atoms.Text (codes "a")) ∷ []))).texts ≡ 2
+unfolding action_sums expr_sums
+twice = refl
+
+-- it is small enough for a code, and with a number of more than 64 bits it is not
+small_enough : fits small (Do 1) deleting ≡ true
+unfolding fits statements_sums statement_sums otherwise_sums action_sums expr_sums sequence_sums pattern_sums statements_have_room statement_has_room otherwise_has_room statements_held statement_held otherwise_held action_held expr_held sequence_held pattern_held block_ends always_ends climbs after_statement after_action killed_statement struck strikes_in heirs_in closure is_among
+small_enough = refl
+
+too_long : fits small (Do 1) (alone 2 (action (actions.Let (codes "n") (atom (atoms.Int (pos (2 ^ 63))))))) ≡ false
+unfolding fits statements_sums statement_sums action_sums expr_sums statements_have_room statement_has_room statements_held statement_held action_held expr_held after_statement after_action
+too_long = refl
 
 -- a name, where there is no room for one more
 no_room : statements_have_room small (record { held = []; room = 0 }) (alone 2 (action (actions.Let (codes "n") (atom (atoms.Int (pos 1)))))) ≡ false

@@ -34,7 +34,8 @@ IsFirst fault [] = ⊥
 IsFirst fault (first ∷ others) = fault ≡ first
 
 -- what has a code has no fault; what is refused is refused for its first fault, or where it begins, as its code is too
--- large
-abbrev pub IsJudged : {X : Type 0} → (start : Place) → List CompileFault → Result X CompileFault → Type 0
-IsJudged start faults (Ok x) = faults ≡ []
-IsJudged start faults (Err fault) = IsFirst fault faults ⊎ (fault ≡ At Limit start)
+-- large: then it does not fit
+abbrev pub IsJudged : {X : Type 0} → (start : Place) → (fits : Bool) → List CompileFault → Result X CompileFault
+    → Type 0
+IsJudged start fits faults (Ok x) = faults ≡ []
+IsJudged start fits faults (Err fault) = IsFirst fault faults ⊎ ((fault ≡ At Limit start) × (fits ≡ false))

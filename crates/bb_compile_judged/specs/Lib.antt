@@ -22,5 +22,7 @@ pub mod Judgement
 pub mod Sources
 -- how much a text lays out at most
 pub mod Sums
--- what is laid out of a part
-pub mod Laid
+-- what a text can hold
+pub mod Held
+-- which parts are small enough for a code
+pub mod Fitting

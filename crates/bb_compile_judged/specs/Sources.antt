@@ -1,11 +1,13 @@
--- Which faults stand in the text of a source, in the order in which they are answered.
-use Rattle.std.specs.Prelude.{◌≡◌, ◌⊎◌, ℕ, Bool, true, ◌&&◌, List, [], ◌∷◌, ◌++◌, Option, Some, None, Result, Ok, Err, if◌then◌else◌}
+-- Which faults stand in the text of a source, in the order in which they are answered, and how large its parts are.
+use Rattle.std.specs.Prelude.{◌≡◌, ◌⊎◌, ℕ, Bool, true, false, ◌&&◌, List, [], ◌∷◌, ◌++◌, Option, Some, None, Result, Ok, Err, if◌then◌else◌}
+use Rattle.std.specs.List.{list_all}
 use Rattle.bb_basis.specs.Names.{is_name}
 use Rattle.bb_verify_frame.specs.Schema.{Schema, class_named}
 use Rattle.bb_verify_frame.specs.declared.part.Part.{Part}
 use Rattle.bb_verify_frame.specs.declared.part.Part.TheVariants.{Require, Obviate, Retrigger, Revalidate, Do}
 use Rattle.bb_lang.specs.ActText.{ActText}
 use Rattle.bb_lang.specs.ActText.TheVariants as acts
+use Rattle.bb_lang.specs.Blocks.{BlockTree}
 use Rattle.bb_lang.specs.PartText.{PartText}
 use Rattle.bb_lang.specs.ReactionText.{ReactionText}
 use Rattle.bb_lang.specs.SourceText.{SourceText}
@@ -15,6 +17,7 @@ use Rattle.bb_compile_scope.specs.Place.{Place}
 use Rattle.bb_compile_scope.specs.declared.fault.CompileFault.{CompileFault}
 use Rattle.bb_compile_scope.specs.declared.fault.CompileFault.TheVariants.{At}
 use Rattle.bb_compile_scope.specs.declared.fault.TextFlaw.TheVariants.{Unknown, NoEnd, Limit}
+use Rattle.bb_compile_judged.specs.Fitting.{fits}
 use Rattle.bb_compile_judged.specs.Judgement.{part_faults, IsFirst}
 
 -- ---- parts
@@ -68,32 +71,56 @@ faults_of_class schema text (Some class) =
 unfoldable pub source_faults : Schema → SourceText → List CompileFault
 source_faults schema text = faults_of_class schema text (class_named schema text.header.class)
 
+-- ---- how large it is
+
+-- where a part begins, and whether it fits
+pub record Extent : Type 0 where
+  pub start : Place
+  pub fits : Bool
+
+abbrev pub extent_of : Schema → Part → Place → BlockTree → List Extent
+extent_of schema part start b = record { start = start; fits = fits schema part b } ∷ []
+
+abbrev pub extent_if : Schema → Part → Option PartText → List Extent
+extent_if schema part None = []
+extent_if schema part (Some text) = extent_of schema part text.place text.block
+
+abbrev pub events_extent : Schema → ((of : ℕ) → Part) → ReactionText → (of : Option ℕ) → List Extent
+events_extent schema part text None = []
+events_extent schema part text (Some of) = extent_of schema (part of) text.place text.block
+
+abbrev pub reaction_extent : Schema → ((of : ℕ) → Part) → Option ReactionText → List Extent
+reaction_extent schema part None = []
+reaction_extent schema part (Some text) = events_extent schema part text (class_named schema text.class)
+
+abbrev pub act_extent : Schema → (class : ℕ) → ActText → List Extent
+act_extent schema class acts.Native = []
+act_extent schema class (acts.Do text) = extent_of schema (Do class) text.place text.block
+
+abbrev pub extents_of_class : Schema → SourceText → (class : Option ℕ) → List Extent
+extents_of_class schema text None = []
+extents_of_class schema text (Some class) =
+    extent_if schema (Require class) text.parts.require
+    ++ (reaction_extent schema (Obviate class) text.parts.obviate
+    ++ (reaction_extent schema (Retrigger class) text.parts.retrigger
+    ++ (extent_if schema (Revalidate class) text.parts.revalidate ++ act_extent schema class text.act)))
+
+-- the parts of a source
+abbrev pub extents : Schema → SourceText → List Extent
+extents schema text = extents_of_class schema text (class_named schema text.header.class)
+
+-- each part fits
+abbrev pub all_fit : Schema → SourceText → Bool
+all_fit schema text = list_all (λ (e : Extent). e.fits) (extents schema text)
+
 -- ---- answers
 
-abbrev pub start_if : Option PartText → List Place
-start_if None = []
-start_if (Some text) = text.place ∷ []
-
-abbrev pub reaction_start : Option ReactionText → List Place
-reaction_start None = []
-reaction_start (Some text) = text.place ∷ []
-
-abbrev pub act_start : ActText → List Place
-act_start acts.Native = []
-act_start (acts.Do text) = text.place ∷ []
-
--- where the parts of a source begin
-abbrev pub starts : SourceText → List Place
-starts text =
-    start_if text.parts.require ++ (reaction_start text.parts.obviate ++ (reaction_start text.parts.retrigger
-    ++ (start_if text.parts.revalidate ++ act_start text.act)))
-
--- the code of a part that begins at one of these places is too large
-abbrev pub IsTooLarge : CompileFault → List Place → Type 0
+-- the code of one of these parts is too large: it does not fit, and the fault is where it begins
+abbrev pub IsTooLarge : CompileFault → List Extent → Type 0
 IsTooLarge fault [] = ⊥
-IsTooLarge fault (start ∷ others) = (fault ≡ At Limit start) ⊎ IsTooLarge fault others
+IsTooLarge fault (e ∷ es) = ((fault ≡ At Limit e.start) × (e.fits ≡ false)) ⊎ IsTooLarge fault es
 
 -- what has its codes has no fault; what is refused is refused for its first fault, or as a part's code is too large
-abbrev pub AreJudged : {X : Type 0} → (starts : List Place) → List CompileFault → Result X CompileFault → Type 0
-AreJudged starts faults (Ok x) = faults ≡ []
-AreJudged starts faults (Err fault) = IsFirst fault faults ⊎ IsTooLarge fault starts
+abbrev pub AreJudged : {X : Type 0} → List Extent → List CompileFault → Result X CompileFault → Type 0
+AreJudged parts faults (Ok x) = faults ≡ []
+AreJudged parts faults (Err fault) = IsFirst fault faults ⊎ IsTooLarge fault parts

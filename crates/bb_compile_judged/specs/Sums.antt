@@ -1,8 +1,11 @@
--- How much a text lays out at most: ops, texts, queries and loops, as sums over its tree. And whether there is room for
--- each name that it declares.
-use Rattle.std.specs.Prelude.{◌≡◌, ◌≤◌, ℕ, ◌+◌, nat_le, Bool, true, ◌&&◌, List, [], ◌∷◌}
-use Rattle.bb_code.specs.Limits.{OP_LIMIT, TEXT_COUNT_LIMIT, QUERY_LIMIT, LOOP_LIMIT}
-use Rattle.bb_verify_frame.specs.Schema.{Schema}
+-- How much a text lays out: ops, texts, queries and loops, as sums over its tree. And whether there is room for each
+-- name that it declares.
+use Rattle.std.specs.Prelude.{ℕ, ◌+◌, nat_le, Bool, true, ◌&&◌, List, [], ◌∷◌, ◌++◌, length, Option, Some, is_ok, if◌then◌else◌}
+use Rattle.std.specs.List.{list_any}
+use Rattle.std.specs.Str.{bytes_eq}
+use Rattle.bb_verify_frame.specs.Kind.{Kind}
+use Rattle.bb_verify_frame.specs.Part.{ends_done}
+use Rattle.bb_verify_frame.specs.Schema.{Schema, class_named}
 use Rattle.bb_verify_frame.specs.declared.part.Part.{Part}
 use Rattle.bb_lang.specs.Action.{Action}
 use Rattle.bb_lang.specs.Action.TheVariants as actions
@@ -13,43 +16,47 @@ use Rattle.bb_lang.specs.Binding.TheVariants as bindings
 use Rattle.bb_lang.specs.Blocks.{BlockTree, StatementTree, OtherwiseTree, no_statement, before_others, action, if_of, with_of, for_of, absent, otherwise}
 use Rattle.bb_lang.specs.Trees.{ExprTree, Steps, SequenceTree, PatternTree, Patterns, atom, unary, binary, chain, size_of, no_step, apply, divide, found, linked, all, and_of, or_of, not_of, test, no_pattern, more}
 use Rattle.bb_lang.specs.View.{sequence_of}
-use Rattle.bb_compile_judged.specs.Names.{Names, begin_with}
+use Rattle.bb_compile_scope.specs.Ending.{block_ends}
+use Rattle.bb_compile_scope.specs.Kinds.{class_of, is_live}
+use Rattle.bb_compile_emit.specs.Bindings.{is_class}
+use Rattle.bb_compile_judged.specs.Names.{Names, kind_of, begin_with}
 use Rattle.bb_compile_judged.specs.Statements.{bound, looped, in_loop, after_statement}
 
+-- the texts are those of the tree, in its order
 pub record Sums : Type 0 where
   pub ops : ℕ
-  pub texts : ℕ
+  pub texts : List (List ℕ)
   pub queries : ℕ
   pub loops : ℕ
 
 abbrev pub plus : Sums → Sums → Sums
 plus a b = record {
   ops = a.ops + b.ops;
-  texts = a.texts + b.texts;
+  texts = a.texts ++ b.texts;
   queries = a.queries + b.queries;
   loops = a.loops + b.loops;
 }
 
 abbrev pub nothing : Sums
-nothing = record { ops = 0; texts = 0; queries = 0; loops = 0 }
+nothing = record { ops = 0; texts = []; queries = 0; loops = 0 }
 
 -- so many ops, and nothing else
 abbrev pub ops : ℕ → Sums
-ops n = record { ops = n; texts = 0; queries = 0; loops = 0 }
+ops n = record { ops = n; texts = []; queries = 0; loops = 0 }
 
-abbrev pub one_text : Sums
-one_text = record { ops = 0; texts = 1; queries = 0; loops = 0 }
+abbrev pub one_text : (text : List ℕ) → Sums
+one_text text = record { ops = 0; texts = text ∷ []; queries = 0; loops = 0 }
 
 abbrev pub one_query : Sums
-one_query = record { ops = 0; texts = 0; queries = 1; loops = 0 }
+one_query = record { ops = 0; texts = []; queries = 1; loops = 0 }
 
 abbrev pub one_loop : Sums
-one_loop = record { ops = 0; texts = 0; queries = 0; loops = 1 }
+one_loop = record { ops = 0; texts = []; queries = 0; loops = 1 }
 
 -- ---- expressions, sequences and patterns
 
 abbrev pub atom_sums : Atom → Sums
-atom_sums (atoms.Text text) = plus one_text (ops 1)
+atom_sums (atoms.Text text) = plus (one_text text) (ops 1)
 atom_sums (atoms.Slot unit slot) = plus (ops 1) (ops 1)
 atom_sums _ = ops 1
 
@@ -102,31 +109,44 @@ action_sums (actions.Rate value) = plus (expr_sums value) (ops 1)
 action_sums actions.Decline = ops 1
 action_sums (actions.Answer value) = plus (expr_sums value) (ops 1)
 
+-- the tests of a `with`: of a live unit its class; of one that may be deleted whether it is live, and its class, where
+-- that is not known
+abbrev pub test_count : (held : Option Kind) → (class : Option ℕ) → ℕ
+test_count (Some held) (Some class) = if is_live held then 1 else (if is_class (class_of held) class then 1 else 2)
+test_count _ _ = 0
+
 -- a unit, the tests of it, and the name
-abbrev pub binding_sums : Binding → Sums
-binding_sums (bindings.As name unit class) = plus (ops 1) (plus (ops 2) (ops 1))
-binding_sums (bindings.Linked name unit slot) = plus (ops 1) (plus (ops 1) (ops 1))
+abbrev pub binding_sums : Schema → Names → Binding → Sums
+binding_sums schema names (bindings.As name unit class) =
+    plus (ops 1) (plus (ops (test_count (kind_of names unit) (class_named schema class))) (ops 1))
+binding_sums schema names (bindings.Linked name unit slot) = plus (ops 1) (plus (ops 1) (ops 1))
 
 -- a loop takes its sequence, and has a head with the name, its body and the way back
 unfoldable mutual
-  pub statement_sums : StatementTree → Sums
-  statement_sums (action a) = action_sums a
-  statement_sums (if_of condition first other) =
-      plus (plus (expr_sums condition) (ops 1)) (plus (statements_sums first) (otherwise_sums other))
-  statement_sums (with_of binding first other) =
-      plus (binding_sums binding) (plus (statements_sums first) (otherwise_sums other))
-  statement_sums (for_of name sequence body) =
+  pub statement_sums : Schema → Names → StatementTree → Sums
+  statement_sums schema names (action a) = action_sums a
+  statement_sums schema names (if_of condition first other) =
+      plus (plus (expr_sums condition) (ops 1))
+      (plus (statements_sums schema names first) (otherwise_sums schema names (block_ends first) other))
+  statement_sums schema names (with_of binding first other) =
+      plus (binding_sums schema names binding)
+      (plus (statements_sums schema (bound schema names binding) first)
+      (otherwise_sums schema names (block_ends first) other))
+  statement_sums schema names (for_of name sequence body) =
       plus (plus (sequence_sums (sequence_of sequence)) (ops 1))
-      (plus (plus one_loop (plus (ops 1) (ops 1))) (plus (statements_sums body) (ops 1)))
+      (plus (plus one_loop (plus (ops 1) (ops 1)))
+      (plus (statements_sums schema (in_loop schema names name sequence body) body) (ops 1)))
 
-  -- a jump over the block
-  pub otherwise_sums : OtherwiseTree → Sums
-  otherwise_sums absent = nothing
-  otherwise_sums (otherwise b) = plus (ops 1) (statements_sums b)
+  -- a jump over the block, unless the first one has ended
+  pub otherwise_sums : Schema → Names → (ended : Bool) → OtherwiseTree → Sums
+  otherwise_sums schema names ended absent = nothing
+  otherwise_sums schema names ended (otherwise b) = plus (ops (if ended then 0 else 1)) (statements_sums schema names b)
 
-  pub statements_sums : BlockTree → Sums
-  statements_sums no_statement = nothing
-  statements_sums (before_others place statement others) = plus (statement_sums statement) (statements_sums others)
+  pub statements_sums : Schema → Names → BlockTree → Sums
+  statements_sums schema names no_statement = nothing
+  statements_sums schema names (before_others place statement others) =
+      plus (statement_sums schema names statement)
+      (statements_sums schema (after_statement schema names statement) others)
 
 -- ---- there is room for each name
 
@@ -164,16 +184,20 @@ unfoldable mutual
 -- ---- a part
 
 -- a `do` ends by one op more
-abbrev pub part_sums : BlockTree → Sums
-part_sums b = plus (statements_sums b) (ops 1)
+abbrev pub end_sums : Part → Sums
+end_sums part = ops (if is_ok (ends_done part) then 1 else 0)
 
--- so much a code may have
-pub record AreFew (a : Sums) : Type 0 where
-  pub few_ops : a.ops ≤ OP_LIMIT
-  pub few_texts : a.texts ≤ TEXT_COUNT_LIMIT
-  pub few_queries : a.queries ≤ QUERY_LIMIT
-  pub few_loops : a.loops ≤ LOOP_LIMIT
+abbrev pub part_sums : Schema → Part → BlockTree → Sums
+part_sums schema part b = plus (statements_sums schema (begin_with part) b) (end_sums part)
 
--- its sums are those of a code, and there is room for its names
-abbrev pub FitsSums : Schema → Part → BlockTree → Type 0
-FitsSums schema part b = AreFew (part_sums b) × (statements_have_room schema (begin_with part) b ≡ true)
+-- texts, each kept once however often it stands
+abbrev pub with_text : (kept : List (List ℕ)) → (text : List ℕ) → List (List ℕ)
+with_text kept text = if list_any (bytes_eq text) kept then kept else kept ++ text ∷ []
+
+abbrev pub kept_once : (kept texts : List (List ℕ)) → List (List ℕ)
+kept_once kept [] = kept
+kept_once kept (text ∷ texts) = kept_once (with_text kept text) texts
+
+-- how many different ones there are
+abbrev pub different : (texts : List (List ℕ)) → ℕ
+different texts = length (kept_once [] texts)
