@@ -36,4 +36,4 @@ pub use finish::Finish;
 pub use orderly::runs_are_orderly;
 pub use runner::Runner;
 pub use state::{Start, State};
-pub use whole::{first_state, run};
+pub use whole::{first_state, run, run_to_end};

@@ -1,6 +1,7 @@
-//! A whole run of the blackboard machine, from its start to its finish. `run_texts` calls `run`.
+//! A whole run of the blackboard machine, from its start to its finish. `run_texts` calls `run`, and who wants the
+//! blackboard that is left (bb_shell_units) `run_to_end`.
 
-ghost use Rattle.std.specs.Prelude.{◌≡◌, [], All, Some, IfOk, IfSome, false, map};
+ghost use Rattle.std.specs.Prelude.{◌≡◌, [], All, Some, IfOk, IfSome, IsSomeAnd, false, map};
 ghost use Rattle.std.specs.Io.KnownBytes.{Appends};
 ghost use Rattle.bb_run.specs.Foci.{first_agenda};
 ghost use Rattle.bb_trace.specs.Law.{IsMade};
@@ -70,30 +71,32 @@ impl<O: Out> Runner<'_, O> {
         self.make_cycles(plan, &mut made, limit, state)
     }
 
-    // Makes the whole run, and writes all of its text. Each native is closed, whatever comes of it.
+    // Makes the whole run, and writes all of its text. Each native is closed, whatever comes of it, and the blackboard is
+    // what is left.
     fn make_run<N: NativeSource>(
         &mut self,
         plan: &Plan,
         limit: u64,
         state: State<N>,
-    ) -> Result<End, Halt>
+    ) -> (Result<End, Halt>, Board)
         requires open { O.has_failed self.old.out.now ≡ false }
         requires new { state.agenda ≡ first_agenda plan.now state.board }
         requires may { MayKnow plan.now state.board }
         requires serves { MayServe plan.now state.board }
         requires empty { self.old.page.now ≡ [] }
         ensures same { Same self.old self.new }
-        ensures end { IfOk result (λ end.
+        ensures end { IfOk result.0 (λ end.
             (run plan.now state.board (map N.meaning state.roster.natives.items) limit).end ≡ Some end) }
+        ensures board { IfOk result.0 (λ _. result.1
+            ≡ (run plan.now state.board (map N.meaning state.roster.natives.items) limit).state.board) }
         ensures written { Writes plan.now (O.taken self.old.out.now) (O.taken self.new.out.now)
-            (run plan.now state.board (map N.meaning state.roster.natives.items) limit).emitted result }
-        ensures failed { O.has_failed self.new.out.now ≡ stopped_by_write result }
+            (run plan.now state.board (map N.meaning state.roster.natives.items) limit).emitted result.0 }
+        ensures failed { O.has_failed self.new.out.now ≡ stopped_by_write result.0 }
     {
         let mut state = state;
         let made = self.run_unfinished(plan, limit, &mut state);
         let (closed, board) = state.close();
-        drop(board);
-        self.end_by(plan, made, closed)
+        (self.end_by(plan, made, closed), board)
     }
 
     /// Ends a run after `made` cycles, which came to this end or to none yet: then it first comes to rest, or to its
@@ -186,18 +189,20 @@ pub fn first_state<N: NativeSource>(
     }
 }
 
-// Makes the whole run, and writes all of its text.
+// Makes the whole run, writes all of its text, and gives its end and the blackboard that it leaves.
 fn write_run<N: NativeSource, O: Out>(
     alloc: Global,
     plan: &Plan,
     start: Start<N>,
     limit: u64,
     out: &mut O,
-) -> Result<End, Halt>
+) -> Result<(End, Board), Halt>
     requires open { O.has_failed out.old ≡ false }
     requires serves { MayServe plan.now start.board }
-    ensures end { IfOk result (λ end.
-        (run plan.now start.board (map N.meaning start.roster.natives.items) limit).end ≡ Some end) }
+    ensures end { IfOk result (λ r.
+        (run plan.now start.board (map N.meaning start.roster.natives.items) limit).end ≡ Some r.0) }
+    ensures board { IfOk result (λ r.
+        r.1 ≡ (run plan.now start.board (map N.meaning start.roster.natives.items) limit).state.board) }
     ensures written { Writes plan.now (O.taken out.old) (O.taken out.new)
         (run plan.now start.board (map N.meaning start.roster.natives.items) limit).emitted result }
     ensures failed { O.has_failed out.new ≡ stopped_by_write result }
@@ -208,7 +213,43 @@ fn write_run<N: NativeSource, O: Out>(
         page: &mut page,
         out,
     };
-    runner.make_run(plan, limit, state)
+    let (ended, board) = runner.make_run(plan, limit, state);
+    match ended {
+        Ok(end) => Ok((end, board)),
+        Err(halt) => Err(halt),
+    }
+}
+
+/// Runs a blackboard from its first state as `run` does, and gives how the run ended and the blackboard that it leaves.
+/// `Memory`: memory ran out. `Write`: the output failed.
+pub fn run_to_end<N: NativeSource, O: Out>(
+    alloc: Global,
+    plan: &Plan,
+    start: Start<N>,
+    limit: u32,
+    out: &mut O,
+) -> Result<(Finish, Board), Halt>
+    requires made { ∥ All (IsMade plan.now.schema) plan.now.sources ∥₁ }
+    requires acts { ¬ LacksNative plan.now (map N.meaning start.roster.natives.items) }
+    requires of_schema { start.board.schema ≡ plan.now.schema }
+    requires open { O.has_failed out.old ≡ false }
+    ensures finish { IfOk result (λ r. IsSomeAnd (end_of r.0) (λ end.
+        (run plan.now start.board (map N.meaning start.roster.natives.items) limit).end ≡ Some end)) }
+    ensures board { IfOk result (λ r.
+        r.1 ≡ (run plan.now start.board (map N.meaning start.roster.natives.items) limit).state.board) }
+    ensures written { Writes plan.now (O.taken out.old) (O.taken out.new)
+        (run plan.now start.board (map N.meaning start.roster.natives.items) limit).emitted result }
+    ensures failed { O.has_failed out.new ≡ stopped_by_write result }
+{
+    // For the proof: what holds of every schema, plan and blackboard.
+    plan.schema().fits();
+    let _ = plan.sources();
+    // For the proof: what holds of the blackboard.
+    start.board.fits();
+    match write_run(alloc, plan, start, u64::from(limit), out) {
+        Ok((end, board)) => Ok((Finish::of(end), board)),
+        Err(halt) => Err(halt),
+    }
 }
 
 /// Runs a blackboard from its first state with the natives that were handed in, at most `limit` cycles, and writes the
@@ -235,13 +276,11 @@ pub fn run<N: NativeSource, O: Out>(
         result (O.taken out.old) (O.taken out.new) }
     ensures failed { O.has_failed out.new ≡ is_write result }
 {
-    // For the proof: what holds of every schema, plan and blackboard.
-    plan.schema().fits();
-    let _ = plan.sources();
-    // For the proof: what holds of the blackboard.
-    start.board.fits();
-    match write_run(alloc, plan, start, u64::from(limit), out) {
-        Ok(end) => Finish::of(end),
+    match run_to_end(alloc, plan, start, limit, out) {
+        Ok((finish, board)) => {
+            drop(board);
+            finish
+        }
         Err(halt) => match halt {
             Halt::Memory => Finish::Memory,
             Halt::Write => Finish::Write,

@@ -1,8 +1,9 @@
 //! A blackboard with the sources that run on it. Hosts make one and run it, and `run_texts` makes one of an input.
 
-ghost use Rattle.std.specs.Prelude.{◌≡◌, ◌≤◌, true, false, length, map, All, None, Some, IfOk, IfSome};
+ghost use Rattle.std.specs.Prelude.{◌≡◌, ◌≤◌, true, false, length, map, All, None, Some, IfOk, IfSome, IsSomeAnd};
 ghost use Rattle.std.specs.Io.KnownBytes.{Appends};
 ghost use Rattle.bb_basis.specs.Results.{Gives};
+ghost use Rattle.bb_run_held.specs.Emitting.{Writes};
 ghost use Rattle.bb_run_held.specs.Finish.{WritesFront, end_of, is_write};
 ghost use Rattle.bb_run_held.specs.Law.{IsMade};
 ghost use Rattle.bb_run_held.specs.Page.{stopped_by_write};
@@ -21,13 +22,13 @@ use crate::texts::{Texts, read_input};
 use bb_refusal::InputFault;
 use bb_run_held::{
     Board, Closing, Finish, Halt, NativeSource, Out, Plan, Roster, RuleFault, Running, Source,
-    Start, run,
+    Start, run, run_to_end,
 };
 use std::alloc::Global;
 
 /// A blackboard, the sources that run on it in their order, the natives that were handed in, and the least rating that
-/// can be chosen (GBBopen Reference Manual, Agenda Shell). It can't be dropped, as its natives have to be closed: `run`
-/// spends it.
+/// can be chosen (GBBopen Reference Manual, Agenda Shell). It can't be dropped, as its natives have to be closed: `run`,
+/// `run_to_end` and `start` spend it.
 pub struct Shell<N: NativeSource> {
     plan: Plan,
     board: Board,
@@ -115,6 +116,31 @@ impl<N: NativeSource> Shell<N> {
             roster,
         } = self;
         run(alloc, &plan, Start { board, roster }, limit, out)
+    }
+
+    /// Runs the shell as `run` does, and gives how the run ended and the blackboard that it leaves. `Memory`: memory ran
+    /// out. `Write`: the output failed.
+    pub fn run_to_end<O: Out>(
+        self,
+        alloc: Global,
+        limit: u32,
+        out: &mut O,
+    ) -> Result<(Finish, Board), Halt>
+        requires open { O.has_failed out.old ≡ false }
+        ensures finish { IfOk result (λ r. IsSomeAnd (end_of r.0) (λ end.
+            (run self.plan self.board (map N.meaning self.roster.natives.items) limit).end ≡ Some end)) }
+        ensures board { IfOk result (λ r.
+            r.1 ≡ (run self.plan self.board (map N.meaning self.roster.natives.items) limit).state.board) }
+        ensures written { Writes self.plan (O.taken out.old) (O.taken out.new)
+            (run self.plan self.board (map N.meaning self.roster.natives.items) limit).emitted result }
+        ensures failed { O.has_failed out.new ≡ stopped_by_write result }
+    {
+        let Shell {
+            plan,
+            board,
+            roster,
+        } = self;
+        run_to_end(alloc, &plan, Start { board, roster }, limit, out)
     }
 
     /// The sources and the schema, and the floor.
