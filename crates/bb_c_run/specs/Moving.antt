@@ -1,5 +1,5 @@
 -- What moves do with a run that a host in another language holds.
-use Rattle.std.specs.Prelude.{◌≡◌, ◌++◌, ◌⊎◌, ℕ, Bool, true, false, List, take, Option, Some, None}
+use Rattle.std.specs.Prelude.{◌≡◌, ◌++◌, ◌⊎◌, ◌&&◌, ℕ, Bool, true, false, not, List, take, is_some, Option, Some, None}
 use Rattle.bb_shell.specs.Emitting.{WroteUntil}
 use Rattle.bb_shell.specs.Emission.{Stretch}
 use Rattle.bb_shell.specs.Plan.{Plan}
@@ -46,13 +46,16 @@ Concludes plan p was now s =
     ((now ≡ was ++ trace_text plan p.emitted) × (s ≡ stands_by (pause_by p.end)))
     ⊎ ((s ≡ stand.Memory) × EndsEarly plan p was now)
 
--- a run was ended, and nothing is held any more; one whose native is due goes on as it is
-abbrev pub EndsUnless : {b : _} → (is_due : Bool) → (r : Running NoNative b) → (new : Option (Running NoNative b)) → (was now : List ℕ) → Stands → Type 0
+-- whether a run can't be ended: its native is due, and no move of it was cut short
+abbrev pub must_go_on : {b : _} → Running NoNative b → Bool
+must_go_on r = is_due r.pause && not (is_some r.cut)
+
+-- a run was ended, and nothing is held any more; one that waits for its native's answer goes on as it is
+abbrev pub EndsUnless : {b : _} → (waiting : Bool) → (r : Running NoNative b) → (new : Option (Running NoNative b)) → (was now : List ℕ) → Stands → Type 0
 EndsUnless true r new was now s = (new ≡ Some r) × (now ≡ was) × (s ≡ stand.Due)
 EndsUnless false r new was now s = (new ≡ None) × Concludes r.plan (finished r.plan (standing r)) was now s
 
--- the end of what is held, unless memory ran out before
+-- the end of what is held
 abbrev pub Ends : {b : _} → (old new : Option (Running NoNative b)) → (was now : List ℕ) → Stands → Type 0
 Ends None new was now s = (new ≡ None) × (now ≡ was) × (s ≡ stand.Finished)
-Ends (Some r) new was now s =
-    ((new ≡ None) × (now ≡ was) × (s ≡ stand.Memory)) ⊎ EndsUnless (is_due r.pause) r new was now s
+Ends (Some r) new was now s = EndsUnless (must_go_on r) r new was now s
