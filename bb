@@ -13,7 +13,7 @@ run_built "$@"
 
 # Words that choose nothing, as those that ask for help, are answered without the input, which may be a terminal.
 for word in "$@"; do
-    [[ $word =~ ^(run|check|compile|--|--(limit|floor)(=.*)?|[+-]?[0-9]+)$ ]] || exec </dev/null
+    [[ $word =~ ^(run|check|compile|units|--|--(limit|floor)(=.*)?|[+-]?[0-9]+)$ ]] || exec </dev/null
 done
 take_input
 interpret -- "$@"

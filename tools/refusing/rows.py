@@ -243,6 +243,15 @@ do {HAIL}
         ("compile",),
     ),
     Row(
+        "units",
+        STEERED,
+        0,
+        """
+{"links":[],"spaces":[],"units":[{"class":"note","name":"1","slots":{}},{"class":"focus","name":"2","slots":{"source":"echo","weight":30}}]}
+""",
+        ("units",),
+    ),
+    Row(
         "refused",
         input_of(NOTE, ONE_NOTE, "sources", "source hail on note {\n  when create note;\n  rate 1;\n  do { say hello; }\n}\n"),
         2,

@@ -13,8 +13,8 @@ extern "C" {
 /* The version of the calls that are declared here. A host compares it with `bb_version()`, the library's own. */
 #define BB_VERSION 2
 
-/* What is done with an input. */
-enum { BB_RUN = 0, BB_CHECK = 1, BB_COMPILE = 2 };
+/* What is done with an input: BB_UNITS runs it, and writes a document of the units that are left in place of the trace. */
+enum { BB_RUN = 0, BB_CHECK = 1, BB_COMPILE = 2, BB_UNITS = 3 };
 
 /* How it ended. */
 enum {

@@ -9,6 +9,7 @@ mode_of number =
     if number == 0 then Some modes.Run
     else if number == 1 then Some modes.Check
     else if number == 2 then Some modes.Compile
+    else if number == 3 then Some modes.Units
     else None
 
 -- the answer to some bytes is delivered, or cut short if memory ran out; for a number that is no mode it is status 2

@@ -99,6 +99,7 @@ fn mode_of(mode: u8) -> Option<Mode>
         0 => Some(Mode::Run),
         1 => Some(Mode::Check),
         2 => Some(Mode::Compile),
+        3 => Some(Mode::Units),
         _ => None,
     }
 }

@@ -182,6 +182,7 @@ fn mode_of(header: &Header<'_>) -> Result<Mode, Fault> {
         None | Some("run") => Ok(Mode::Run),
         Some("check") => Ok(Mode::Check),
         Some("compile") => Ok(Mode::Compile),
+        Some("units") => Ok(Mode::Units),
         Some(_) => Err(Fault::Options),
     }
 }

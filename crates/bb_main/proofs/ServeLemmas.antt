@@ -8,6 +8,7 @@ use Rattle.std.proofs.Math.Seq.{take-append-add, take-length}
 use Rattle.std.specs.Io.KnownBytes.{Appends, Consumes}
 use Rattle.std.proofs.KnownBytes.{Appends-nil, Appends-trans}
 use Rattle.std.specs.Option.{option_map_or}
+use Rattle.std.specs.Prelude.{◌==◌, false, IsOkAnd}
 use Rattle.bb_main_options.specs.declared.choice.Mode.{Mode}
 use Rattle.bb_shell.specs.Check.{WritesCheck}
 use Rattle.bb_shell.specs.CheckText.{check_text}
@@ -19,22 +20,25 @@ use Rattle.bb_shell.specs.End as ends
 use Rattle.bb_shell.specs.Finishes.{Finish}
 use Rattle.bb_shell.specs.Finishes.TheVariants as finishes
 use Rattle.bb_shell.specs.InputFault.{InputFault}
+use Rattle.bb_shell.specs.InputFault.TheVariants.{Memory as out_of_memory}
 use Rattle.bb_shell.specs.Finish.{WritesFront, end_of}
 use Rattle.bb_shell.specs.Native.{Native}
 use Rattle.bb_shell.specs.Meaning.{Meaning}
+use Rattle.bb_shell.specs.Refusals.{refusal_text}
 use Rattle.bb_shell.specs.Run.{run}
 use Rattle.bb_shell.specs.BundleText.{bundle_text}
 use Rattle.bb_shell.specs.Code.{Code}
 use Rattle.bb_shell.specs.Source.{Source}
 use Rattle.bb_shell.specs.SourceDraft.{SourceDraft}
 use Rattle.bb_shell.specs.TraceText.{segment_text, trace_text}
+use Rattle.bb_shell_units.specs.Left.{EndsBy, left_text}
 use Rattle.bb_main_input.specs.declared.read.TheConstants.{INPUT_LIMIT}
 use Rattle.bb_main.specs.declared.serving.TheConstants.{MEMORY, REFUSED, WRITE}
 use Rattle.bb_main_input.specs.declared.section_fault.SectionFault.{SectionFault}
 use Rattle.bb_main_input.specs.declared.section_fault.SectionFault.TheVariants.{Limit}
 use Rattle.bb_main_input.specs.Input.{input_of}
 use Rattle.bb_main_input.specs.Sections.{Texts}
-use Rattle.bb_main.specs.Serve.{Answer, CutShort, Delivers, Serves, answer, answer_to_check, answer_to_compile, answer_to_meaning, answer_to_run, answer_to_sections, done_status, end_status, limit_refusal, refusal, status_of, text_of}
+use Rattle.bb_main.specs.Serve.{Answer, CutShort, Delivers, Serves, answer, answer_to_check, answer_to_compile, answer_to_meaning, answer_to_run, answer_to_sections, answer_to_units, done_status, end_status, limit_refusal, line_of, refusal, status_of, text_of}
 use Rattle.bb_main_input.proofs.Laws.{is_long}
 
 pub answer-from : (natives : List Native) (bytes : List ℕ) (mode : Mode) (limit : ℕ) (floor : ℤ) (cut : Result Texts SectionFault) (P : Answer → Type 0) → cut ≡ input_of bytes → P (answer_to_sections natives mode limit floor cut) → P (answer natives bytes mode limit floor)
@@ -138,6 +142,41 @@ served_compile (Err fault) done status old new is wrote = absurd wrote
 served_compile (Ok compiled) Written status old new is wrote = rw is (inl (wrote_whole (bundle_text compiled) 0 old new wrote))
 served_compile (Ok compiled) Write status old new is wrote = rw is (inl (wrote_front (bundle_text compiled) 0 wrote.0 old new wrote.1))
 
+-- the status of a run that was not cut short is that of its end, and no failure of the output
+left_status : (natives : List Native) (limit : ℕ) (m : Meaning) (f : Finish) → EndsBy natives limit m f → status_of f ≡ option_map_or end_status (run m.plan m.board natives limit).end 0
+left_status natives limit m finishes.Quiescence ends = rw ends refl
+left_status natives limit m finishes.Limit ends = rw ends refl
+left_status natives limit m finishes.Full ends = rw ends refl
+left_status natives limit m finishes.Memory ends = absurd ends
+left_status natives limit m finishes.Write ends = absurd ends
+
+no_write : (natives : List Native) (limit : ℕ) (m : Meaning) (f : Finish) → EndsBy natives limit m f → (status_of f == WRITE) ≡ false
+no_write natives limit m finishes.Quiescence ends = refl
+no_write natives limit m finishes.Limit ends = refl
+no_write natives limit m finishes.Full ends = refl
+no_write natives limit m finishes.Memory ends = absurd ends
+no_write natives limit m finishes.Write ends = absurd ends
+
+pub left_no_write : (natives : List Native) (limit : ℕ) (given : Result Meaning InputFault) (f : Finish) → IsOkAnd given (λ m. EndsBy natives limit m f) → (status_of f == WRITE) ≡ false
+left_no_write natives limit (Err fault) f ends = absurd ends
+left_no_write natives limit (Ok m) f ends = no_write natives limit m f ends
+
+-- the answer to an input that is run for its units, by what of their document is known to have been written
+pub served_units : (natives : List Native) (limit : ℕ) (given : Result Meaning InputFault) (f : Finish) (document : List ℕ) (status : ℕ) (old new : Option (List ℕ))
+    → IsOkAnd given (λ m. EndsBy natives limit m f) → IsOkAnd given (λ m. document ≡ left_text natives limit m)
+    → Delivers (line_of document (status_of f)) old new status → Delivers (answer_to_units natives limit given) old new status ⊎ CutShort (answer_to_units natives limit given) old new status
+served_units natives limit (Err fault) f document status old new ends is wrote = absurd ends
+served_units natives limit (Ok m) f document status old new ends is wrote =
+    inl (subst (λ a. Delivers a old new status) (ap (λ t. line_of t (status_of f)) is ∙ ap (line_of (left_text natives limit m)) (left_status natives limit m f ends)) wrote)
+
+-- a refused input, by its fault, where memory did not run out
+pub served_refusal : (natives : List Native) (limit : ℕ) (given : Result Meaning InputFault) (fault : InputFault) (status : ℕ) (old new : Option (List ℕ))
+    → (fault ≡ out_of_memory → ⊥) → (fault ≡ out_of_memory) ⊎ (given ≡ Err fault) → Delivers (refusal (refusal_text fault)) old new status ⊎ CutShort (refusal (refusal_text fault)) old new status
+    → Delivers (answer_to_units natives limit given) old new status ⊎ CutShort (answer_to_units natives limit given) old new status
+served_refusal natives limit given fault status old new other (inl is) answers = absurd (other is)
+served_refusal natives limit given fault status old new other (inr is) answers =
+    subst (λ (r : Result Meaning InputFault). Delivers (answer_to_units natives limit r) old new status ⊎ CutShort (answer_to_units natives limit r) old new status) (sym is) answers
+
 pub front_within : (count : ℕ) (line more : List ℕ) → (n : ℕ) × (take count line ≡ take n (line ++ more))
 front_within count line more = by (cases_lt (length line) count)
   where
@@ -146,12 +185,12 @@ front_within count line more = by (cases_lt (length line) count)
     by (inl lt) = (length line, take_all count line (omega arith) ∙ sym (take-append-le (length line) line more (omega arith) ∙ take-length line))
 
 -- the output failed in the line
-pub failed_in_line : (line : List ℕ) (old new : Option (List ℕ)) (count : ℕ) → Appends old new (take count line) → (n : ℕ) × Appends old new (take n (text_of (refusal line).pieces))
+pub failed_in_line : (line : List ℕ) (old new : Option (List ℕ)) (count : ℕ) → Appends old new (take count line) → (n : ℕ) × Appends old new (take n (text_of ((line ++ 10 ∷ []) ∷ [])))
 failed_in_line line old new count a =
     let f = front_within count line (10 ∷ []) in
     (f.0, subst (Appends old new) (f.1 ∙ ap (take f.0) (sym (text_of-one (line ++ 10 ∷ [])))) a)
 
 -- the output failed at its end
-pub failed_at_end : (line : List ℕ) (old mid new : Option (List ℕ)) (count : ℕ) → Appends old mid line → Appends mid new (take count (10 ∷ [])) → (n : ℕ) × Appends old new (take n (text_of (refusal line).pieces))
+pub failed_at_end : (line : List ℕ) (old mid new : Option (List ℕ)) (count : ℕ) → Appends old mid line → Appends mid new (take count (10 ∷ [])) → (n : ℕ) × Appends old new (take n (text_of ((line ++ 10 ∷ []) ∷ [])))
 failed_at_end line old mid new count a b =
     (length line + count, subst (Appends old new) (sym (take-append-add line (10 ∷ []) count) ∙ ap (take (length line + count)) (sym (text_of-one (line ++ 10 ∷ [])))) (Appends-trans old mid new line (take count (10 ∷ [])) a b))

@@ -5,7 +5,7 @@ use Rattle.std.specs.List.{flat_map}
 use Rattle.std.specs.Option.{option_map_or}
 use Rattle.std.specs.Io.KnownBytes.{Appends}
 use Rattle.bb_main_options.specs.declared.choice.Mode.{Mode}
-use Rattle.bb_main_options.specs.declared.choice.Mode.TheVariants.{Run, Check, Compile}
+use Rattle.bb_main_options.specs.declared.choice.Mode.TheVariants.{Run, Check, Compile, Units}
 use Rattle.bb_main_options.specs.declared.fault.OptionsFault.{OptionsFault}
 use Rattle.bb_main_options.specs.declared.fault.OptionsFault.TheVariants.{Help, Words, Memory}
 use Rattle.bb_shell.specs.Check.{sources_in}
@@ -28,6 +28,7 @@ use Rattle.bb_shell.specs.Code.{Code}
 use Rattle.bb_shell.specs.Source.{Source}
 use Rattle.bb_shell.specs.SourceDraft.{SourceDraft}
 use Rattle.bb_shell.specs.TraceText.{segment_text}
+use Rattle.bb_shell_units.specs.Left.{left_text}
 use Rattle.bb_main_input.specs.declared.section_fault.SectionFault.{SectionFault}
 use Rattle.bb_main_input.specs.declared.section_fault.SectionFault.TheVariants as faults
 use Rattle.bb_main.specs.declared.serving.TheConstants.{MEMORY, REFUSED, WRITE}
@@ -72,14 +73,28 @@ answer_to_run natives limit m =
     let r = run m.plan m.board natives limit in
     record { pieces = map (segment_text m.plan) r.emitted; status = option_map_or end_status r.end 0 }
 
--- the answer to a refused input: its line, ended by a line feed
+-- a line, ended by a line feed
+abbrev pub line_of : List ℕ → (status : ℕ) → Answer
+line_of line status = record { pieces = (line ++ 10 ∷ []) ∷ []; status = status }
+
+-- the answer to a refused input: its line
 abbrev pub refusal : List ℕ → Answer
-refusal line = record { pieces = (line ++ 10 ∷ []) ∷ []; status = REFUSED }
+refusal line = line_of line REFUSED
 
 -- the answer to what the sections mean: its run, or a refusal
 abbrev pub answer_to_meaning : List Native → (limit : ℕ) → Result Meaning InputFault → Answer
 answer_to_meaning natives limit (Ok m) = answer_to_run natives limit m
 answer_to_meaning natives limit (Err fault) = refusal (refusal_text fault)
+
+-- the answer to a run for the units that it leaves: their document in a line, and the status of the run's end
+abbrev pub answer_to_left : List Native → (limit : ℕ) → Meaning → Answer
+answer_to_left natives limit m =
+    line_of (left_text natives limit m) (option_map_or end_status (run m.plan m.board natives limit).end 0)
+
+-- the answer to what the sections mean: the units that its run leaves, or a refusal
+abbrev pub answer_to_units : List Native → (limit : ℕ) → Result Meaning InputFault → Answer
+answer_to_units natives limit (Ok m) = answer_to_left natives limit m
+answer_to_units natives limit (Err fault) = refusal (refusal_text fault)
 
 -- the answer to a check: the lines on all sources, or a refusal
 abbrev pub answer_to_check : Result (List Source) InputFault → Answer
@@ -98,6 +113,8 @@ answer_in natives Run limit floor schema units sources bundle =
 answer_in natives Check limit floor schema units sources bundle =
     answer_to_check (sources_in (native_names natives) schema sources bundle)
 answer_in natives Compile limit floor schema units sources bundle = answer_to_compile (bundle_in schema sources)
+answer_in natives Units limit floor schema units sources bundle =
+    answer_to_units natives limit (meaning (native_names natives) schema units sources bundle floor)
 
 -- the answer to the sections, or the refusal of an input that has none
 abbrev pub answer_to_sections : List Native → Mode → (limit : ℕ) → (floor : ℤ) → Result Texts SectionFault → Answer

@@ -1,15 +1,17 @@
 //! The program of the shell, from the bytes of its input to the bytes of its answer.
 //!
 //! - In: options, a reader, a writer, and a writer for messages.
-//! - Out: `program` and `serve`, the exit status, after a trace, a check, a bundle or a refusal was written.
+//! - Out: `program` and `serve`, the exit status, after a trace, a check, a bundle, a document of units or a refusal was
+//!   written.
 //! - Callers rely on: the answer is that of bb_shell on the sections of the input; an input past `INPUT_LIMIT` is
 //!   refused; and whatever happens, each native is closed.
 //! - Family: bb_main_options has the command line, bb_main_input the reading and the cutting of an input; `bb` is the
 //!   program, bb_c the library for C.
-//! - Cases: `program`, `outputs`, `sentences`, `advice`, `limits`; tests here and in bb_shell_tests.
+//! - Cases: `program`, `units_left`, `outputs`, `sentences`, `advice`, `limits`; tests here and in bb_shell_tests.
 #![tactic(auto)]
 
 mod advising;
+mod leaving;
 #[cfg(test)]
 mod long_run;
 mod program_native;

@@ -4,7 +4,7 @@
 ghost use Rattle.std.specs.Prelude.{◌≡◌, ◌≢◌, ◌==◌, ◌⊎◌, true, false, map, IsNone};
 ghost use Rattle.bb_shell.specs.Roster.{all_open};
 ghost use Rattle.bb_shell.specs.Refusals.{refusal_text};
-ghost use Rattle.bb_main.specs.Serve.{CutShort, Delivers, refusal};
+ghost use Rattle.bb_main.specs.Serve.{CutShort, Delivers, line_of, refusal};
 ghost use Rattle.bb_main.specs.declared.serving.TheConstants.{REFUSED, WRITE};
 
 use crate::served::Served;
@@ -34,7 +34,7 @@ pub(crate) fn refuse<O: Out>(
     let Ok(line) = fault.line(alloc) else {
         return Served::quiet(MEMORY);
     };
-    match write_refusal(line.as_str(), writer) {
+    match write_line(line.as_str(), REFUSED, writer) {
         REFUSED => Served {
             status: REFUSED,
             report: reason(alloc, fault, sections),
@@ -97,7 +97,7 @@ fn answer<D: Display + Drop, O: Out>(alloc: Global, line: &str, reason: D, write
     ensures silent { result.status ≢ REFUSED → IsNone result.report }
     ensures unasked { IsNone result.advice }
 {
-    let status = write_refusal(line, writer);
+    let status = write_line(line, REFUSED, writer);
     if status != REFUSED {
         return Served::quiet(status);
     }
@@ -108,14 +108,15 @@ fn answer<D: Display + Drop, O: Out>(alloc: Global, line: &str, reason: D, write
     }
 }
 
-// Writes the line of a refusal, for which it needs no memory.
-fn write_refusal<O: Out>(line: &str, writer: &mut O) -> u8
-    requires { O.has_failed writer.old ≡ false }
-    ensures answer { Delivers (refusal line.now) (O.taken writer.old) (O.taken writer.new) result }
+/// Writes a line, for which it needs no memory, and returns this status unless the output fails.
+pub(crate) fn write_line<O: Out>(line: &str, status: u8, writer: &mut O) -> u8
+    requires open { O.has_failed writer.old ≡ false }
+    requires other { (status == WRITE) ≡ false }
+    ensures answer { Delivers (line_of line.now status) (O.taken writer.old) (O.taken writer.new) result }
     ensures failed { O.has_failed writer.new ≡ (result == WRITE) }
 {
     if put_all(writer, line.as_bytes()) && put_all(writer, b"\n") {
-        REFUSED
+        status
     } else {
         WRITE
     }

@@ -1,5 +1,6 @@
-//! The program: an input is read, cut into sections, and run, checked or compiled; its trace, the lines of its check,
-//! its bundle, or the line by which it is refused, is written, and its report or advice is written besides.
+//! The program: an input is read, cut into sections, and run, checked or compiled; its trace, the units that its run
+//! leaves (leaving.rt), the lines of its check, its bundle, or the line by which it is refused, is written, and its
+//! report or advice is written besides.
 
 ghost use Rattle.std.specs.Prelude.{◌≡◌, ◌≢◌, ◌==◌, ◌+◌, ◌⊎◌, true, false, map};
 ghost use Rattle.std.specs.Prelude.{IfErr, IsNone};
@@ -19,6 +20,7 @@ ghost use Rattle.bb_main.specs.Serve.{limit_refusal, read_refusal, refusal, stat
 ghost use Rattle.bb_main.specs.declared.serving.TheConstants.{REFUSED, WRITE};
 
 use crate::advising::advice_on;
+use crate::leaving::units_sections;
 use crate::program_native::program_natives;
 use crate::refusing::{refuse, refuse_input};
 use crate::served::Served;
@@ -99,9 +101,10 @@ fn say_advice<E: Write>(advice: Option<String>, errors: &mut E)
 
 /// Reads an input and does with it what the mode says: `Run` runs it, with at most `limit` cycles and no activation
 /// rated below `floor`, and writes its trace; `Check` verifies its sources and writes what their parts cost; `Compile`
-/// writes the bundle of its sources that are text. Or it writes the line by which the input is refused. Returns the
-/// status of the program: 0 quiescence, a check or a bundle written, 2 a refused input, 3 the limit, 4 full, 5 no
-/// memory, 6 the output failed. Each native is closed once, in order, whatever the status.
+/// writes the bundle of its sources that are text; `Units` runs it as `Run` does, and writes a document of the units
+/// that are left in place of the trace. Or it writes the line by which the input is refused. Returns the status of the
+/// program: 0 quiescence, a check or a bundle written, 2 a refused input, 3 the limit, 4 full, 5 no memory, 6 the output
+/// failed. Each native is closed once, in order, whatever the status.
 pub fn serve<N: NativeSource, R: In, O: Out>(
     alloc: Global,
     mode: Mode,
@@ -230,6 +233,7 @@ fn serve_sections<N: NativeSource, O: Out>(
         Mode::Run => run_sections(alloc, options, natives, sections, writer),
         Mode::Check => check_sections(alloc, options.floor, natives, sections, writer),
         Mode::Compile => compile_sections(alloc, natives, sections, writer),
+        Mode::Units => units_sections(alloc, options, natives, sections, writer),
     }
 }
 
@@ -352,8 +356,8 @@ fn done_status(done: Done) -> u8
     }
 }
 
-// The status of a finish.
-fn status(finish: Finish) -> u8
+/// The status of a finish.
+pub(crate) fn status(finish: Finish) -> u8
     ensures { result ≡ status_of finish }
 {
     match finish {

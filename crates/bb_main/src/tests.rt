@@ -193,6 +193,25 @@ fn program_check(rt: HostRuntime) {
 }
 
 #[test]
+fn program_units(rt: HostRuntime) {
+    let mut reader = Intake::new(FIRST_RUN.as_bytes());
+    let mut writer = Pipe::new(Vec::new(rt.alloc()));
+    let options = Options {
+        mode: Mode::Units,
+        limit: 100,
+        floor: 0,
+    };
+    let mut errors = Vec::new(rt.alloc());
+    let status = program(rt.alloc(), options, &mut reader, &mut writer, &mut errors);
+    assert_eq!(rt; status, 0);
+    assert_eq!(rt; errors.len(), 0);
+    let left = r#"{"links":[],"spaces":[],"units":[{"class":"note","name":"1","slots":{}}]}"#;
+    let mut expected = String::new(rt.alloc());
+    let told = writeln!(expected, "{left}").is_ok();
+    assert!(rt; told && writer.into_inner().as_slice() == expected.as_bytes());
+}
+
+#[test]
 fn failing_readers(rt: HostRuntime) {
     let input = FIRST_RUN.as_bytes();
     for length in [0, 1, 8, 60, input.len() - 1, input.len()] {

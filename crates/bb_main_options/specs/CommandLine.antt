@@ -10,7 +10,7 @@ use Rattle.clap.specs.declared.builder.possible_value.PossibleValue.{PossibleVal
 use Rattle.clap.specs.declared.builder.value_parser.ValueParser.{ValueParser}
 use Rattle.clap.specs.declared.builder.value_parser.ValueParser.TheVariants.{Signed}
 use Rattle.bb_main_options.specs.declared.choice.Mode.{Mode}
-use Rattle.bb_main_options.specs.declared.choice.Mode.TheVariants.{Run, Check, Compile}
+use Rattle.bb_main_options.specs.declared.choice.Mode.TheVariants.{Run, Check, Compile, Units}
 use Rattle.bb_main_options.specs.declared.choice.Options.{Options}
 use Rattle.bb_main_options.specs.declared.choice.TheConstants.{CYCLE_LIMIT, FLOOR}
 
@@ -46,7 +46,11 @@ command_with modes =
 
 -- the mode of a name; `run` if the words give none
 abbrev pub mode_of : Text → Mode
-mode_of name = if bytes_eq name (codes "check") then Check else if bytes_eq name (codes "compile") then Compile else Run
+mode_of name =
+    if bytes_eq name (codes "check") then Check
+    else if bytes_eq name (codes "compile") then Compile
+    else if bytes_eq name (codes "units") then Units
+    else Run
 
 abbrev pub mode_in : List Row → Mode
 mode_in rows = mode_of (unwrap_or (first_of (codes "mode") rows) (codes "run"))
@@ -74,4 +78,4 @@ abbrev pub names_in : List PossibleValue → List (Text × List Text)
 names_in values = map (λ v. (v.name.now, map (λ s. s.now) v.aliases.now)) values
 
 abbrev pub mode_names : List (Text × List Text)
-mode_names = (codes "run", []) ∷ (codes "check", []) ∷ (codes "compile", []) ∷ []
+mode_names = (codes "run", []) ∷ (codes "check", []) ∷ (codes "compile", []) ∷ (codes "units", []) ∷ []

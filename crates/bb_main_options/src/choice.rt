@@ -15,6 +15,8 @@ pub enum Mode {
     Check,
     /// The sources that are text are compiled, and their bundle is written.
     Compile,
+    /// The input is run, and the units that it leaves are written, as a document of first units.
+    Units,
 }
 
 /// What the words of a command line choose.

@@ -24,13 +24,14 @@ const STATUSES: &str = "Exit status:
   6  The output took no more";
 
 /// The modes, with what help says of each.
-pub(crate) fn mode_values() -> [PossibleValue<'static>; 3]
+pub(crate) fn mode_values() -> [PossibleValue<'static>; 4]
     ensures { names_in result ≡ mode_names }
 {
     [
         PossibleValue::new("run").help("Run the sources and write the trace"),
         PossibleValue::new("check").help("Verify all sources and write what their parts cost"),
         PossibleValue::new("compile").help("Write the bundle of the sources that are text"),
+        PossibleValue::new("units").help("Run the sources and write the units that are left"),
     ]
 }
 

@@ -15,7 +15,7 @@ use std::alloc::Global;
 use std::convert::AsStr;
 
 /// What the words after the program's name choose: `[MODE] [--limit N] [--floor N]`, in any order. A mode is `run`,
-/// which is the default, `check` or `compile`; a limit is a u32, by default 1000000; a floor is an i64, by default 0.
+/// which is the default, `check`, `compile` or `units`; a limit is a u32, by default 1000000; a floor is an i64, by default 0.
 /// `Help`: help or the version is asked for; `Words`: `clap` does not take the words.
 pub fn options<S: AsStr>(alloc: Global, words: &[S]) -> Result<Options, OptionsFault>
     ensures { Answers (map S.text words.now) result }
@@ -52,6 +52,8 @@ fn mode_of(name: &str) -> Mode
         Mode::Check
     } else if name == "compile" {
         Mode::Compile
+    } else if name == "units" {
+        Mode::Units
     } else {
         Mode::Run
     }

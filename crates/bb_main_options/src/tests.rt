@@ -10,6 +10,8 @@ check --limit=7 --floor=-5 = Check 7 -5
 --floor=-5 --limit=7 check = Check 7 -5
 run = Run 1000000 0
 compile = Compile 1000000 0
+units = Units 1000000 0
+units --limit=7 --floor=-5 = Units 7 -5
 --limit 3 = Run 3 0
 --limit=0 = Run 0 0
 --limit 4294967295 run = Run 4294967295 0
@@ -27,6 +29,7 @@ compile = Compile 1000000 0
 check run = 2
 verify = 2
 Check = 2
+Units = 2
 --fast = 2
 -- check = Check 1000000 0
 --help = 1

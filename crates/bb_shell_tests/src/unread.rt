@@ -52,7 +52,7 @@ fn unread_inputs_close_all(rt: HostRuntime) -> Result<(), Fail> {
     let alloc = rt.alloc();
     let damaged = b"%schema\n\xff".as_slice();
     let headless = b"{}".as_slice();
-    for mode in [Mode::Run, Mode::Check, Mode::Compile] {
+    for mode in [Mode::Run, Mode::Check, Mode::Compile, Mode::Units] {
         assert!(rt; closes_all(alloc, mode, Unreadable, "refused input read\n")?);
         assert!(rt; closes_all(alloc, mode, damaged, "refused input utf8\n")?);
         assert!(rt; closes_all(alloc, mode, headless, "refused input sections\n")?);

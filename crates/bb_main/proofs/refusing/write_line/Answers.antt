@@ -1,7 +1,7 @@
 use Rattle.std.proofs.Common.{inr, refl}
 use Rattle.bb_main.proofs.ServeLemmas.{failed_in_line, failed_at_end}
-use Rattle.bb_main.proofs.refusing.write_refusal.Goals as goal
-use Rattle.bb_main.proofs.refusing.write_refusal.Goals.{else-put_all-via-then-put_all+else-put_all-2, else-put_all-via-else-put_all}
+use Rattle.bb_main.proofs.refusing.write_line.Goals as goal
+use Rattle.bb_main.proofs.refusing.write_line.Goals.{else-put_all-via-then-put_all+else-put_all-2, else-put_all-via-else-put_all}
 
 pub returns-else-put_all-clause-answer : goal.returns-else-put_all-clause-answer
 returns-else-put_all-clause-answer g c =

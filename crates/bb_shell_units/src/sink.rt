@@ -1,0 +1,23 @@
+//! An output that keeps nothing. A run of which the blackboard alone is wanted writes to it.
+
+use bb_shell::Out;
+
+/// An output that takes whatever it is given, keeps none of it, and never fails.
+#[derive(Drop)]
+pub(crate) struct Sink;
+
+impl Out for Sink {
+    ghost use Rattle.std.specs.Prelude.{None, false};
+
+    ghost taken = { λ _. None };
+
+    ghost has_failed = { λ _. false };
+
+    fn put(&mut self, bytes: &[u8]) -> usize {
+        bytes.len()
+    }
+
+    fn failed(&self) -> bool {
+        false
+    }
+}

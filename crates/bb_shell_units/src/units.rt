@@ -1,0 +1,73 @@
+//! An input is run, and the blackboard that is left is written as a document of first units. Programs (bb_main) call
+//! `units_texts`.
+
+ghost use Rattle.std.specs.Prelude.{◌≡◌, ◌⊎◌, true, map, IfErr, IfOk, IsOkAnd, IsSomeAnd, Err, Some, string_bytes};
+ghost use Rattle.bb_shell.specs.Finish.{end_of};
+ghost use Rattle.bb_shell.specs.Roster.{all_open};
+ghost use Rattle.bb_shell.specs.Run.{run};
+ghost use Rattle.bb_shell_units.specs.Left.{EndsBy, LoadsAsLeft, left_text, meaning_of};
+
+use crate::sink::Sink;
+use bb_board_document::units_document;
+use bb_shell::{Board, Finish, InputFault, Memory, NativeSource, Shell, Texts, View};
+use std::alloc::{AllocError, Global};
+
+/// What a run leaves.
+#[derive(Drop)]
+pub struct Left {
+    /// How the run ended.
+    pub finish: Finish,
+    /// The units that are left, their links and the members of spaces, as a document of first units.
+    pub document: String,
+}
+
+/// Runs the texts of an input as `run_texts` does, but writes no trace: what stands on the blackboard in the end is made
+/// a document of first units (`units_document`). Each native is closed once, in order, at each answer. An input is
+/// refused where `run_texts` refuses it, by the same fault. `Memory`: memory ran out, before or after the run ended.
+pub fn units_texts<N: NativeSource>(
+    alloc: Global,
+    texts: &Texts<'_>,
+    natives: Vec<N>,
+    limit: u32,
+    floor: i64,
+) -> Result<Left, InputFault>
+    requires natives { all_open (map N.meaning natives.items) ≡ true }
+
+    // At `Ok` the input has a meaning, and the finish is that of its run, which was not cut short.
+    ensures finish { IfOk result (λ left. IsOkAnd (meaning_of (map N.meaning natives.items) texts.now floor)
+        (λ m. EndsBy (map N.meaning natives.items) limit m left.finish)) }
+
+    // The document is that of the blackboard that the run leaves, and loaded it gives what stands there.
+    ensures text { IfOk result (λ left. IsOkAnd (meaning_of (map N.meaning natives.items) texts.now floor)
+        (λ m. string_bytes left.document ≡ left_text (map N.meaning natives.items) limit m)) }
+    ensures loads { IfOk result (λ left. IsOkAnd (meaning_of (map N.meaning natives.items) texts.now floor)
+        (λ m. LoadsAsLeft (map N.meaning natives.items) limit m (string_bytes left.document))) }
+
+    // At `Err` the fault is the first refusal.
+    ensures refused { IfErr result (λ e. (e ≡ InputFault.Memory)
+        ⊎ (meaning_of (map N.meaning natives.items) texts.now floor ≡ Err e)) }
+{
+    let shell = Shell::of_texts(alloc, texts, natives, floor)?;
+    let (finish, board) = run_out(alloc, shell, limit)?;
+    let document = units_document(alloc, &View::new(&board))?;
+    Ok(Left { finish, document })
+}
+
+// Runs a shell, and gives how the run ended and the blackboard that it leaves. It fails only for want of memory, as the
+// output takes all.
+fn run_out<N: NativeSource>(
+    alloc: Global,
+    shell: Shell<N>,
+    limit: u32,
+) -> Result<(Finish, Board), Memory>
+    ensures finish { IfOk result (λ r. IsSomeAnd (end_of r.0) (λ end.
+        (run shell.plan shell.board (map N.meaning shell.roster.natives.items) limit).end ≡ Some end)) }
+    ensures board { IfOk result (λ r.
+        r.1 ≡ (run shell.plan shell.board (map N.meaning shell.roster.natives.items) limit).state.board) }
+{
+    let mut sink = Sink;
+    match shell.run_to_end(alloc, limit, &mut sink) {
+        Ok(left) => Ok(left),
+        Err(_) => Err(AllocError),
+    }
+}
