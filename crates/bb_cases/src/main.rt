@@ -3,19 +3,14 @@
 //!
 //! - In: the `.case` files of `data/`, as docs/contributors/CASES.md describes them.
 //! - Out: a line for each case that does not hold, and the numbers of those that hold and do not.
-//! - Family: bb_cases_format reads the files.
+//! - Family: bb_cases_format reads the files, bb_cases_parts has the cases of schemas and codes, bb_cases_histories those of
+//!   moves.
 #![tactic(auto)]
 
-mod bent;
-mod board;
-mod executions;
 mod histories;
 mod inputs;
-mod schema_calls;
-mod schemas;
 mod suite;
 mod tables;
-mod verified;
 
 use crate::suite::Suite;
 use bb_cases_format::named_files;

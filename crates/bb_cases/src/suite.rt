@@ -2,13 +2,12 @@
 
 use crate::histories::compare_history;
 use crate::inputs::compare_input;
-use crate::schemas::compare_schema;
 use crate::tables::Table;
-use crate::verified::compare_code;
 use bb_cases_format::{
     Difference, Entries, Entry, Fault, Meaning, Names, Report, Scene, Scope, Spot, expanded,
     expanded_text, is_shared, rows_of,
 };
+use bb_cases_parts::{compare_code, compare_schema};
 use std::alloc::{AllocError, Global};
 
 /// The names so far, and the report on the cases.

@@ -1,19 +1,16 @@
 //! Tables: cases of one kind, one a row. The suite compares row by row.
 
-use crate::board::schema_of;
-use crate::executions::{add_on_scene, entry_of};
 use crate::inputs::Serving;
-use crate::verified::{add_verdict, part_of};
 use bb_cases_format::{
-    AsmFault, Code, CodeFault, Difference, Entry, Fault, Names, Row, Scene, Scope, assemble,
-    bytes_of, code_of, expanded, expanded_text, number, respelled,
+    Code, Difference, Entry, Fault, Names, Row, Scene, Scope, code_of, expanded, expanded_text,
+    number,
 };
 use bb_cases_histories::add_history;
-use bb_cases_machines::Asked;
-use bb_schema::Schema;
-use bb_verify::{Part, verify};
+use bb_cases_parts::{
+    Asked, Part, Schema, add_assembly, add_decoding, add_on_scene, add_verdict, entry_of, part_of,
+    schema_of, verify,
+};
 use std::alloc::Global;
-use std::fmt::Write;
 
 // What the rows of a table have in common.
 #[derive(Drop)]
@@ -152,28 +149,4 @@ impl<'a> Table<'a> {
         };
         add_on_scene(self.alloc, given, scene, &self.headed_code(text)?, asked)
     }
-}
-
-// Appends what comes of decoding the bytes of some hex.
-fn add_decoding(alloc: Global, given: &mut String, digits: &str) -> Result<(), Fault> {
-    let bytes = bytes_of(alloc, digits)?;
-    match Code::decode(alloc, &bytes) {
-        Ok(code) => {
-            drop(respelled(alloc, code, &bytes)?);
-            given.push_str("ok\n")?;
-        }
-        Err(CodeFault::Memory) => return Err(Fault::Memory),
-        Err(fault) => writeln!(given, "{fault:?}")?,
-    }
-    Ok(())
-}
-
-// Appends the line of the first fault of a text.
-fn add_assembly(alloc: Global, given: &mut String, text: &str) -> Result<(), Fault> {
-    match assemble(alloc, text) {
-        Ok(_) => given.push_str("ok\n")?,
-        Err(AsmFault::Memory) => return Err(Fault::Memory),
-        Err(fault) => writeln!(given, "{}", fault.line())?,
-    }
-    Ok(())
 }

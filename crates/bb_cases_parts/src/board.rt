@@ -5,8 +5,8 @@ use bb_cases_format::{Fault, Scene};
 use bb_schema::{Schema, UnitId};
 use std::alloc::Global;
 
-/// The schema of a document.
-pub(crate) fn schema_of(alloc: Global, document: &str) -> Result<Schema, Fault> {
+/// The schema of a document. The fault is `Schema` where it is none.
+pub fn schema_of(alloc: Global, document: &str) -> Result<Schema, Fault> {
     Schema::read(alloc, document).ok().ok_or(Fault::Schema)
 }
 

@@ -13,7 +13,7 @@ use std::alloc::{AllocError, Global};
 use std::fmt::Write;
 
 /// The part that a word is, as `do:1` or `obviate:1:2`.
-pub(crate) fn part_of(word: Option<&str>) -> Result<Part, Fault> {
+pub fn part_of(word: Option<&str>) -> Result<Part, Fault> {
     let (name, classes) = word
         .and_then(|word| word.split_once(':'))
         .ok_or(Fault::Part)?;
@@ -32,7 +32,7 @@ pub(crate) fn part_of(word: Option<&str>) -> Result<Part, Fault> {
 }
 
 /// Appends a line with the answer of the verifier.
-pub(crate) fn add_verdict(
+pub fn add_verdict(
     text: &mut String,
     answer: &Result<Checked, VerifyFault>,
 ) -> Result<(), AllocError> {
@@ -148,7 +148,7 @@ fn is_bent(header: &Header<'_>) -> Result<bool, Fault> {
 }
 
 /// Compares a case of a code.
-pub(crate) fn compare_code(
+pub fn compare_code(
     alloc: Global,
     names: &Names,
     entry: &Entry<'_>,

@@ -37,7 +37,7 @@ fn given(alloc: Global, document: &str, wanted: &str) -> Result<String, Fault> {
 }
 
 /// Compares a case of a schema.
-pub(crate) fn compare_schema(
+pub fn compare_schema(
     alloc: Global,
     scope: Scope<'_>,
     entry: &Entry<'_>,

@@ -5,8 +5,8 @@ use bb_cases_format::{Code, Fault, Scene, number};
 use bb_cases_machines::{Asked, Boards, Entry, add_execution};
 use std::alloc::Global;
 
-/// The units of an entry, `N` or `N:M`.
-pub(crate) fn entry_of(word: &str) -> Result<Entry, Fault> {
+/// The units of an entry, `N` or `N:M`. The fault is `Number` where one is none.
+pub fn entry_of(word: &str) -> Result<Entry, Fault> {
     let (it, ev) = match word.split_once(':') {
         None => (word, None),
         Some((it, ev)) => (it, Some(number(ev)?)),
@@ -16,7 +16,7 @@ pub(crate) fn entry_of(word: &str) -> Result<Entry, Fault> {
 }
 
 /// Executes a code on a blackboard of a scene, and appends how it ends and the lines of its notes.
-pub(crate) fn add_on_scene(
+pub fn add_on_scene(
     alloc: Global,
     text: &mut String,
     scene: &Scene,
