@@ -29,6 +29,16 @@ impl Frame {
         }
     }
 
+    /// Becomes a declared frame.
+    pub fn take_on(&mut self, declared: &Declared)
+        requires locals { length declared.now.locals ≤ LOCAL_LIMIT }
+        requires stack { length declared.now.stack ≤ STACK_LIMIT }
+        ensures { self.new ≡ frame_of declared.now }
+    {
+        self.locals.take_on(declared.locals.as_slice());
+        self.stack.take_on(declared.stack.as_slice());
+    }
+
     /// A copy of the frame.
     pub fn copied(&self) -> Frame
         ensures { result ≡ self.now }

@@ -1,7 +1,7 @@
 //! Kinds: which may stand where others are declared, and what a deletion leaves. Checks of ops and edges call it, and
 //! the compiler calls `mark_stale`.
 
-ghost use Rattle.std.specs.Prelude.{◌≡◌, map};
+ghost use Rattle.std.specs.Prelude.{◌≡◌, ◌≤◌, ◌++◌, drop, length, map};
 ghost use Rattle.std.specs.Cmp.Lexicographic.{pointwise};
 ghost use Rattle.bb_verify_frame.specs.Kinds.{is_same_plain, weakens, weakens_local, frame_weakens, struck};
 ghost use Rattle.bb_verify_frame.specs.Frame.{frame_of};
@@ -112,4 +112,13 @@ pub fn mark_stale(schema: &Schema, deleted: ClassId, kinds: &mut [Kind])
     for i in 0..kinds.len() {
         kinds[i] = struck(schema, deleted, kinds[i]);
     }
+}
+
+/// Puts kinds in place of the first ones of a slice.
+pub(crate) fn put_front(kinds: &mut [Kind], front: &[Kind])
+    requires { length front.now ≤ length kinds.old }
+    ensures value { kinds.new ≡ front.now ++ drop (length front.now) kinds.old }
+    ensures len { length kinds.new ≡ length kinds.old }
+{
+    kinds[..front.len()].copy_from_slice(front);
 }

@@ -5,7 +5,7 @@ ghost use Rattle.bb_code.specs.Limits.{LOCAL_LIMIT};
 ghost use Rattle.bb_code.specs.Kind.TheVariants.{Any};
 ghost use Rattle.bb_verify_frame.specs.Kinds.{struck};
 
-use crate::kind::mark_stale;
+use crate::kind::{mark_stale, put_front};
 use bb_code::{ClassId, Kind, LOCAL_LIMIT, Schema};
 use std::marker::Model;
 
@@ -53,6 +53,15 @@ impl Locals {
             kinds,
             count: declared.len(),
         }
+    }
+
+    /// Takes the kinds of a declared frame in place of its own.
+    pub(crate) fn take_on(&mut self, declared: &[Kind])
+        requires { length declared.now ≤ LOCAL_LIMIT }
+        ensures { self.new ≡ declared.now }
+    {
+        put_front(&mut self.kinds, declared);
+        self.count = declared.len();
     }
 
     /// A copy of the locals.

@@ -1,6 +1,6 @@
 //! The frames of places, one after another. The pass over the places fills it, and accepted codes keep it.
 
-ghost use Rattle.std.specs.Prelude.{◌≡◌, ◌<◌, ◌++◌, ◌∷◌, [], IfOk, OnErr, OnOk, Some, length, reverse, slice_get};
+ghost use Rattle.std.specs.Prelude.{◌≡◌, ◌<◌, ◌++◌, ◌∷◌, [], IfOk, OnErr, OnOk, IfSome, Some, length, reverse, slice_get};
 ghost use Rattle.bb_verify_frame.specs.proving.Packed.{Lies, frame_in};
 
 use crate::frame::Frame;
@@ -71,6 +71,23 @@ fn frame_in(kinds: &[Kind], span: Span) -> Frame
     }
 }
 
+// A frame becomes the one whose kinds lie in a span.
+fn take_on_in(kinds: &[Kind], span: Span, frame: &mut Frame)
+    requires { Lies (length kinds.now) span }
+    ensures { frame.new ≡ frame_in kinds.now span }
+{
+    frame.locals.take_on(&kinds[span.start..span.middle]);
+    frame.stack.take_on(&kinds[span.middle..span.end]);
+}
+
+// The kinds of the entries of the stack of a frame whose kinds lie in a span, the deepest entry first.
+fn entries_in(kinds: &[Kind], span: Span) -> &[Kind]
+    requires { Lies (length kinds.now) span }
+    ensures { result.now ≡ reverse (frame_in kinds.now span).stack }
+{
+    &kinds[span.middle..span.end]
+}
+
 impl PackedFrames {
     /// No frames. It allocates nothing.
     pub fn new(alloc: Global) -> PackedFrames
@@ -99,5 +116,21 @@ impl PackedFrames {
         ensures { slice_get self.now place ≡ Some result }
     {
         frame_in(self.kinds.as_slice(), self.spans[place])
+    }
+
+    /// A frame becomes that of a place.
+    pub fn put_into(&self, place: usize, frame: &mut Frame)
+        requires { place < length self.now }
+        ensures { slice_get self.now place ≡ Some frame.new }
+    {
+        take_on_in(self.kinds.as_slice(), self.spans[place], frame);
+    }
+
+    /// The kinds of the entries of the stack of a place, the deepest first.
+    pub fn entries(&self, place: usize) -> &[Kind]
+        requires { place < length self.now }
+        ensures { IfSome (slice_get self.now place) (λ f. result.now ≡ reverse f.stack) }
+    {
+        entries_in(self.kinds.as_slice(), self.spans[place])
     }
 }

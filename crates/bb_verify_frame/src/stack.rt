@@ -5,7 +5,7 @@ ghost use Rattle.bb_code.specs.Limits.{STACK_LIMIT};
 ghost use Rattle.bb_verify_frame.specs.Kinds.{struck};
 ghost use Rattle.bb_verify_frame.specs.Stack.{newest};
 
-use crate::kind::mark_stale;
+use crate::kind::{mark_stale, put_front};
 use bb_code::{ClassId, Kind, STACK_LIMIT, Schema};
 use std::marker::Model;
 
@@ -59,6 +59,15 @@ impl Stack {
             stack.push(*kind);
         }
         stack
+    }
+
+    /// Takes these entries, the deepest first, in place of its own.
+    pub(crate) fn take_on(&mut self, entries: &[Kind])
+        requires { length entries.now ≤ STACK_LIMIT }
+        ensures { self.new ≡ reverse entries.now }
+    {
+        put_front(&mut self.kinds, entries);
+        self.len = entries.len();
     }
 
     /// The number of entries.
