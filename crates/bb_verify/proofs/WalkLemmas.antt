@@ -13,10 +13,9 @@ use Rattle.bb_verify_effect.specs.Op.TheVariants as ops
 use Rattle.bb_verify_effect.specs.Edges.{Edges}
 use Rattle.bb_verify_effect.specs.FrameType.{Frame}
 use Rattle.bb_verify_effect.specs.PartType.{Part}
-use Rattle.bb_verify.specs.declared.walk.Walk.{Walk}
 use Rattle.bb_verify_effect.specs.Flaws.{fault_at}
 use Rattle.bb_verify_effect.specs.Effect.{effect}
-use Rattle.bb_verify.specs.Places.{declared_at, declared_for, declared_frames, entry_frame, frame_at, has_next, on_due, target_due, one_more, visit_op, visit, first_walk, frames_of}
+use Rattle.bb_verify.specs.Places.{Walk, declared_at, declared_for, declared_frames, entry_frame, frame_at, has_next, on_due, target_due, one_more, visit_op, visit, first_walk, frames_of}
 use Rattle.bb_verify_effect.proofs.Laws.{no_fault}
 
 -- ---- one place

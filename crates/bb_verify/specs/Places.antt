@@ -12,7 +12,6 @@ use Rattle.bb_verify_effect.specs.Flaw.TheVariants as flaws
 use Rattle.bb_verify_effect.specs.VerifyFault.{VerifyFault}
 use Rattle.bb_verify_effect.specs.FrameType.{Frame}
 use Rattle.bb_verify_effect.specs.PartType.{Part}
-use Rattle.bb_verify.specs.declared.walk.Walk.{Walk}
 use Rattle.bb_verify_effect.specs.Flaws.{fault_at}
 use Rattle.bb_verify_effect.specs.Part.{units_of}
 use Rattle.bb_verify_effect.specs.Frame.{frame_of}
@@ -72,6 +71,11 @@ has_next count place None = Ok tt
 -- the frame of the place that an op goes to
 abbrev pub declared_for : List (Option Frame) → Op → Option Frame
 declared_for declared op = option_and_then (declared_at declared) (target_of op)
+
+-- a walk over the places: the frames of those so far, and what the last of their ops leaves for the next place
+pub record Walk : Type 0 where
+  pub frames : List Frame
+  pub next : Option Frame
 
 -- one more place, with its frame and what its op leaves for the next place
 abbrev pub one_more : Frame → Option Frame → Walk → Walk

@@ -4,3 +4,5 @@ pub mod Codes
 pub mod Numbered
 -- the places of a code by the number of loops that hold them
 pub mod Depths
+-- a pass over the places, and the walk that it is
+pub mod Passes

@@ -11,10 +11,10 @@
 #![tactic(auto)]
 
 mod checked;
+mod pass;
 mod places;
 mod tables;
 mod verifier;
-mod walk;
 
 pub use bb_exec_lower::{Instruction, SLOT_COUNT, Slot};
 pub use bb_verify_effect::{Flaw, Frame, Locals, Part, Stack, VerifyFault};

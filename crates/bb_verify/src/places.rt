@@ -9,10 +9,12 @@ ghost use Rattle.bb_verify_effect.specs.Flaw.TheVariants.{Memory};
 ghost use Rattle.bb_verify_effect.specs.Part.{units_of};
 ghost use Rattle.bb_verify_effect.specs.Code.{places};
 ghost use Rattle.bb_verify.specs.proving.Numbered.{numbered_frame, numbered_frames, frames_by};
+ghost use Rattle.bb_verify.specs.proving.Passes.{left_by, walk_of};
+ghost use Rattle.bb_code.specs.Answers.{map_ok};
 ghost use Rattle.bb_verify.specs.Places.{declared_at, declared_for, declared_frames, entry_frame, frame_at, fits_declared, on_due, target_due, has_next, visit_op, visit, first_walk, frames_of, with_frames};
 ghost use Rattle.bb_verify_effect.specs.Frame.{frame_of};
 
-use crate::walk::Walk;
+use crate::pass::Pass;
 use bb_verify_effect::{
     ClassId, Code, DeclaredFrame as Declared, Flaw, Frame, FrameEntry, Kind, Locals, Op,
     PackedFrames, Part, Place, Schema, Stack, VerifyFault, effect, frame_weakens,
@@ -146,14 +148,19 @@ fn declared_frames(alloc: Global, code: &Code) -> Result<Vec<Option<usize>>, All
     Ok(all)
 }
 
-// The frame of a place: the declared one, or else what the op before leaves.
-fn frame_at(declared: Option<&Declared>, next: Option<Frame>) -> Result<Frame, Flaw>
+// The frame of a place takes the place of the one that the op before left: the declared frame, or else that one.
+fn arrive(declared: Option<&Declared>, goes_on: bool, frame: &mut Frame) -> Result<(), Flaw>
     requires { IfSome declared (λ f. (length f.now.locals ≤ LOCAL_LIMIT) × (length f.now.stack ≤ STACK_LIMIT)) }
-    ensures { result ≡ frame_at (option_map (λ f. frame_of f.now) declared.entry) next }
+    ensures { map_ok (λ _. frame.new) result
+        ≡ frame_at (option_map (λ f. frame_of f.now) declared.entry) (left_by goes_on frame.old) }
 {
     match declared {
-        Some(frame) => Ok(Frame::of(frame)),
-        None => next.ok_or(Flaw::Frame),
+        Some(declared) => {
+            frame.take_on(declared);
+            Ok(())
+        }
+        None if goes_on => Ok(()),
+        None => Err(Flaw::Frame),
     }
 }
 
@@ -169,12 +176,12 @@ fn fits_declared(schema: &Schema, left: &Frame, declared: &Declared) -> Result<(
 }
 
 // The edge to the next place, where a frame may be declared.
-fn on_due(schema: &Schema, left: &Option<Frame>, declared: Option<&Declared>) -> Result<(), Flaw>
-    ensures { result ≡ on_due schema.now left.now (option_map (λ f. frame_of f.now) declared.entry) }
+fn on_due(schema: &Schema, left: &Frame, declared: Option<&Declared>) -> Result<(), Flaw>
+    ensures { result ≡ on_due schema.now (Some left.now) (option_map (λ f. frame_of f.now) declared.entry) }
 {
-    match (left, declared) {
-        (Some(left), Some(declared)) => fits_declared(schema, left, declared),
-        _ => Ok(()),
+    match declared {
+        Some(declared) => fits_declared(schema, left, declared),
+        None => Ok(()),
     }
 }
 
@@ -194,21 +201,16 @@ fn target_due(
 }
 
 // The last op does not go on: where an op goes on to a place, a code of `count` ops has that place.
-fn has_next(count: usize, place: usize, left: &Option<Frame>) -> Result<(), Flaw>
-    ensures { result ≡ has_next count place left.now }
+fn has_next(count: usize, place: usize, left: &Frame) -> Result<(), Flaw>
+    ensures { result ≡ has_next count place (Some left.now) }
 {
-    match left {
-        Some(_) => {
-            if count <= place {
-                return Err(Flaw::End);
-            }
-            Ok(())
-        }
-        None => Ok(()),
+    if count <= place {
+        return Err(Flaw::End);
     }
+    Ok(())
 }
 
-// Checks an op at a place, and adds the place to the walk.
+// Checks an op at a place, and adds the place to the pass.
 #[tactic(auto, unfolding(crate::specs::Places::visit_op))]
 fn visit_op(
     schema: &Schema,
@@ -216,40 +218,45 @@ fn visit_op(
     framed: &Framed,
     place: Place,
     op: Op,
-    walk: &mut Walk,
+    pass: &mut Pass,
 ) -> Result<(), Flaw>
-    ensures { Gives Memory (λ _. walk.new) result
-        (visit_op schema.now part framed.now.code.now (frames_by framed.now) place op walk.old) }
+    ensures { Gives Memory (λ _. walk_of pass.new) result
+        (visit_op schema.now part framed.now.code.now (frames_by framed.now) place op (walk_of pass.old)) }
 {
-    let next = walk.next.take();
-    let mut frame = frame_at(declared_at(framed, place as usize), next)?;
-    walk.frames.push(&frame)?;
+    arrive(
+        declared_at(framed, place as usize),
+        pass.goes_on,
+        &mut pass.frame,
+    )?;
+    pass.frames.push(&pass.frame)?;
     let mut target = None;
-    let goes_on = effect(schema, part, framed.code, op, &mut frame, &mut target)?;
-    if goes_on {
-        walk.next = Some(frame);
+    let goes_on = effect(schema, part, framed.code, op, &mut pass.frame, &mut target)?;
+    if !goes_on {
+        pass.goes_on = false;
+        return target_due(schema, &target, declared_for(framed, op));
     }
+    pass.goes_on = true;
     let after = place as usize + 1;
-    has_next(framed.code.ops().len(), after, &walk.next)?;
-    on_due(schema, &walk.next, declared_at(framed, after))?;
+    has_next(framed.code.ops().len(), after, &pass.frame)?;
+    on_due(schema, &pass.frame, declared_at(framed, after))?;
     target_due(schema, &target, declared_for(framed, op))
 }
 
-// Checks the op at a place, if there is one, and adds the place to the walk.
+// Checks the op at a place, if there is one, and adds the place to the pass.
 #[tactic(auto, unfolding(crate::specs::Places::visit))]
 fn visit(
     schema: &Schema,
     part: Part,
     framed: &Framed,
-    walk: &mut Walk,
+    pass: &mut Pass,
     place: Place,
 ) -> Result<(), VerifyFault>
-    ensures { Gives out_of_memory (λ _. walk.new) result
-        (visit schema.now part framed.now.code.now (frames_by framed.now) walk.old place) }
+    ensures { Gives out_of_memory (λ _. walk_of pass.new) result
+        (visit schema.now part framed.now.code.now (frames_by framed.now) (walk_of pass.old) place) }
 {
     match framed.code.op(place as usize) {
         None => Ok(()),
-        Some(op) => match visit_op(schema, part, framed, place, op, walk) {
+        Some(op) => match visit_op(schema, part, framed, place, op, pass) {
             Ok(()) => Ok(()),
             Err(Flaw::Memory) => Err(VerifyFault {
                 place: 0,
@@ -264,15 +271,15 @@ fn visit_all(
     schema: &Schema,
     part: Part,
     framed: &Framed,
-    walk: &mut Walk,
+    pass: &mut Pass,
 ) -> Result<(), VerifyFault>
-    ensures { Gives out_of_memory (λ _. walk.new) result
-        (try_fold (visit schema.now part framed.now.code.now (frames_by framed.now)) walk.old
+    ensures { Gives out_of_memory (λ _. walk_of pass.new) result
+        (try_fold (visit schema.now part framed.now.code.now (frames_by framed.now)) (walk_of pass.old)
         (places framed.now.code.now)) }
 {
     let count = framed.code.ops().len() as u16;
     for place in 0..count {
-        visit(schema, part, framed, walk, place)?;
+        visit(schema, part, framed, pass, place)?;
     }
     Ok(())
 }
@@ -293,16 +300,20 @@ pub(crate) fn frames_of(
         code,
         declared: &declared,
     };
-    let next = Some(entry_frame(part, code.locals()));
-    match on_due(schema, &next, declared_at(&framed, 0)) {
+    let mut pass = Pass {
+        frames: PackedFrames::new(alloc),
+        frame: entry_frame(part, code.locals()),
+        goes_on: true,
+    };
+    match on_due(schema, &pass.frame, declared_at(&framed, 0)) {
         Ok(()) => {}
         Err(flaw) => return Err(VerifyFault { place: 0, flaw }),
     }
-    let mut walk = Walk {
-        frames: PackedFrames::new(alloc),
-        next,
-    };
-    visit_all(schema, part, &framed, &mut walk)?;
-    let Walk { frames, next: _ } = walk;
+    visit_all(schema, part, &framed, &mut pass)?;
+    let Pass {
+        frames,
+        frame: _,
+        goes_on: _,
+    } = pass;
     Ok(frames)
 }

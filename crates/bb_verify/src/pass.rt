@@ -4,7 +4,9 @@ use bb_verify_effect::{Frame, PackedFrames};
 
 /// The frames of the places so far, and what the last of their ops leaves for the next place.
 #[derive(Drop)]
-pub(crate) struct Walk {
+pub(crate) struct Pass {
     pub(crate) frames: PackedFrames,
-    pub(crate) next: Option<Frame>,
+    /// The frame that the op leaves, where it goes on to the next place, and else one that means nothing.
+    pub(crate) frame: Frame,
+    pub(crate) goes_on: bool,
 }
