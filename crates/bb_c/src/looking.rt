@@ -6,7 +6,7 @@ ghost use Rattle.bb_c.specs.Looked.{Fills, IfText, Looks, class_of, label_name_o
 ghost use Rattle.bb_c.specs.declared.status.TheConstants.{MEMORY};
 
 use crate::run::Run;
-use crate::status::{MEMORY, MISUSE, NONE, OK, REFUSED};
+use crate::status::{MEMORY, MISUSE, NONE, OK, REFUSED, given};
 use std::alloc::Global;
 use std::str;
 
@@ -35,13 +35,7 @@ pub extern "C" fn bb_int(
     };
     let found = held.number(unit, slot);
     run.put(held);
-    match found {
-        Some(number) => {
-            *value = number;
-            OK
-        }
-        None => NONE,
-    }
+    given(found, value)
 }
 
 /// The truth value in an ordinary slot of a unit: 1 or 0.
@@ -67,13 +61,7 @@ pub extern "C" fn bb_bool(
     };
     let found = held.truth(unit, slot);
     run.put(held);
-    match found {
-        Some(is_true) => {
-            *value = u8::from(is_true);
-            OK
-        }
-        None => NONE,
-    }
+    given(found.map(u8::from), value)
 }
 
 /// The first and the last number of the interval in an ordinary slot of a unit.
@@ -134,13 +122,7 @@ pub extern "C" fn bb_text(
     };
     let found = held.text(unit, slot, to);
     run.put(held);
-    match found {
-        Some(count) => {
-            *len = count;
-            OK
-        }
-        None => NONE,
-    }
+    given(found, len)
 }
 
 /// The name of the label in an ordinary slot of a unit: as much as there is room for, and the number of its bytes.
@@ -167,13 +149,7 @@ pub extern "C" fn bb_label(
     };
     let found = held.label_name(unit, slot, to);
     run.put(held);
-    match found {
-        Some(count) => {
-            *len = count;
-            OK
-        }
-        None => NONE,
-    }
+    given(found, len)
 }
 
 /// The name of the class of a unit: as much as there is room for, and the number of its bytes.
@@ -195,13 +171,7 @@ pub extern "C" fn bb_class(
     };
     let found = held.class(unit, to);
     run.put(held);
-    match found {
-        Some(count) => {
-            *len = count;
-            OK
-        }
-        None => NONE,
-    }
+    given(found, len)
 }
 
 /// The partners of a unit by a link slot, in order of addition: as many as there is room for, and their number. By an
@@ -231,11 +201,7 @@ pub extern "C" fn bb_links(
     let found = held.partners(unit, slot, to);
     run.put(held);
     match found {
-        Ok(Some(number)) => {
-            *count = number;
-            OK
-        }
-        Ok(None) => NONE,
+        Ok(found) => given(found, count),
         Err(_) => MEMORY,
     }
 }

@@ -6,7 +6,7 @@ ghost use Rattle.bb_c.specs.Looked.{Fills, IfText, Looks, creates_of, document_o
 ghost use Rattle.bb_c.specs.declared.status.TheConstants.{MEMORY};
 
 use crate::run::Run;
-use crate::status::{MEMORY, MISUSE, NONE, OK, REFUSED};
+use crate::status::{MEMORY, MISUSE, NONE, OK, REFUSED, given};
 use std::alloc::Global;
 use std::str;
 
@@ -67,11 +67,7 @@ pub extern "C" fn bb_units(
     let found = held.units(class, to);
     run.put(held);
     match found {
-        Ok(Some(number)) => {
-            *count = number;
-            OK
-        }
-        Ok(None) => NONE,
+        Ok(found) => given(found, count),
         Err(_) => MEMORY,
     }
 }
@@ -92,11 +88,7 @@ pub extern "C" fn bb_document(alloc: Global, run: &mut Run, to: &mut [u8], len: 
     let found = held.document(to);
     run.put(held);
     match found {
-        Ok(Some(count)) => {
-            *len = count;
-            OK
-        }
-        Ok(None) => NONE,
+        Ok(found) => given(found, len),
         Err(_) => MEMORY,
     }
 }
@@ -115,13 +107,7 @@ pub extern "C" fn bb_most_steps(alloc: Global, run: &mut Run, found: u32, steps:
     };
     let found = held.most_steps(found);
     run.put(held);
-    match found {
-        Some(number) => {
-            *steps = number;
-            OK
-        }
-        None => NONE,
-    }
+    given(found, steps)
 }
 
 /// Whether one of the run's sources has a code that makes a unit: 1 or 0.
@@ -137,11 +123,5 @@ pub extern "C" fn bb_creates(alloc: Global, run: &mut Run, creates: &mut u8) -> 
     };
     let found = held.creates();
     run.put(held);
-    match found {
-        Some(is_true) => {
-            *creates = u8::from(is_true);
-            OK
-        }
-        None => NONE,
-    }
+    given(found.map(u8::from), creates)
 }

@@ -2,6 +2,7 @@
 
 ghost use Rattle.std.specs.Prelude.{◌≡◌};
 ghost use Rattle.bb_c.specs.Called.{status_of};
+ghost use Rattle.bb_c.specs.Looked.{Comes};
 
 use bb_c_run::Stands;
 
@@ -40,5 +41,18 @@ pub(crate) fn status_of(stands: Stands) -> u8
         Stands::Full => FULL,
         Stands::Memory => MEMORY,
         Stands::Finished => MISUSE,
+    }
+}
+
+/// Puts what was looked up where the caller wants it, and says whether it is there.
+pub(crate) fn given<T: Copy>(found: Option<T>, to: &mut T) -> u8
+    ensures { Comes found (λ it. to.new ≡ it) (to.new ≡ to.old) result }
+{
+    match found {
+        Some(it) => {
+            *to = it;
+            OK
+        }
+        None => NONE,
     }
 }

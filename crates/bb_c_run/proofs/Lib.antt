@@ -1,3 +1,4 @@
 pub mod EndLemmas
+pub mod Laws
 pub mod NameLemmas
 pub mod OpenLemmas

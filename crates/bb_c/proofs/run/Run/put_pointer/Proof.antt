@@ -1,5 +1,5 @@
 -- `put_pointer`: the handle points where the pointer did, and owns what is there.
-use Rattle.bb_c_run.proofs.held.Held.TheLaws.{the_row_laws}
+use Rattle.bb_c_run.proofs.Laws.{held_laws}
 use Rattle.bb_c_run.specs.contracts.held.Held as held
 use Rattle.std.proofs.Common.{List, [], refl, ◌∷◌}
 use Rattle.std.proofs.raw_atomic.Walks.{proved}
@@ -38,17 +38,17 @@ put_pointer_spec 𝓤 𝓛 𝓜 𝓡 wired =
     proved 𝓛 f.ended slots asks 𝓜 𝓡
     (Goes-ref 𝓛 1 0 tt (plain (λ _. Handle)), (Goes-dropped 𝓛 1 (plain (λ _. Loosened)) yes (λ κs x w. refl), tt))
     f.Key.name code.function (code.unfolded 𝓤 𝓛.H 𝓜 𝓡 wired)
-    (λ κs. (mut_vals, ((λ p. (loose.lowers held.the_row the_row_laws).lowered p ∷ []), tt)))
-    (λ κs. (mut_Tells (named 0) κs.0 Handle, ((loose.lowers held.the_row the_row_laws).val_is, tt)))
+    (λ κs. (mut_vals, ((λ p. (loose.lowers held.the_row held_laws).lowered p ∷ []), tt)))
+    (λ κs. (mut_Tells (named 0) κs.0 Handle, ((loose.lowers held.the_row held_laws).val_is, tt)))
     (λ κs qs bounds a _ are.
     let r = a.0 in let p = a.1.0 in let fits = ((rawptr_Lawful 𝓛).typed p.at _ refl).0 in
     let h : Run = record { at = p.at; is_open = true; sitting = Some p.value } in
     let y : (walk_of 𝓛 f.ended slots asks).Ghost =
-    ((κs, qs, bounds, a, (mut_vals r, ((loose.lowers held.the_row the_row_laws).lowered p ∷ [], tt))), tt) in
+    ((κs, qs, bounds, a, (mut_vals r, ((loose.lowers held.the_row held_laws).lowered p ∷ [], tt))), tt) in
     qed 𝓛 (((‵ (flft κs.0 qs.0) ⊛ ‵ ftrue) ⊛ ‵ (owns (types_at f.ended.signature.params κs) a y.0.4)) ∷ raw ((asks κs a).requires tt) ∷ []) ∵
     split ! $ split ! $ move ! (2 ∷ []) $ fsplit ! $ move ! (1 ∷ []) $ fsplit ! $ keep ! (0 ∷ 2 ∷ 3 ∷ []) $ fsplit ! $ drop ! $
     -- [the box; the reference; its token]
-    enter ! _ _ _ _ _ $ alloc_all ! (λ l. pass_all ! refl ((tt, tt), ((loose.the_row_laws held.the_row the_row_laws).lawful 𝓛).typed p _ are.1.0) $
+    enter ! _ _ _ _ _ $ alloc_all ! (λ l. pass_all ! refl ((tt, tt), ((loose.the_row_laws held.the_row held_laws).lawful 𝓛).typed p _ are.1.0) $
     move ! (1 ∷ 2 ∷ []) $ opens_run ! tt r $ move ! (1 ∷ []) $ drop ! $
     -- [the handle's word; the loan, in three parts; the box]
     sets ! (of_opd ! (get_in ! (fld ! refl (stop !)) (sub ! 0 refl (whole !)))) refl fits $

@@ -1,7 +1,7 @@
 -- `take`: a handle that is open gives its box, and is open no more.
 use Rattle.core.proofs.atomic.Steps.{fm}
 use Rattle.core.proofs.option.Made.{Some-of, none_of}
-use Rattle.bb_c_run.proofs.held.Held.TheLaws as held_laws
+use Rattle.bb_c_run.proofs.Laws.{held_laws}
 use Rattle.bb_c_run.specs.contracts.held.Held as held
 use Rattle.std.proofs.Common.{List, [], ap, false, lit<, refl, sym, ◌∙◌, ◌∷◌, ◌≡◌}
 use Rattle.std.proofs.alloc.Global.TheLaws as global
@@ -55,7 +55,7 @@ abbrev Kept : RattleType
 Kept = Given held.the_row
 
 abbrev kept_laws : Laws Kept
-kept_laws = arg_laws (nameless (layout held.the_row)) no held.the_row held_laws.the_row_laws refl
+kept_laws = arg_laws (nameless (layout held.the_row)) no held.the_row held_laws refl
 
 abbrev Boxed : RattleType
 Boxed = box.the_row held.the_row heap.the_row ghosts
@@ -118,7 +118,7 @@ take_spec {M} 𝓤 𝓛 𝓜 𝓡 wired =
     await ! tt $ pick ! (λ b. split ! $ split ! $ drop ! $ move ! (1 ∷ []) $ pick ! (λ ls. split ! $ drop ! $
     split ! $ heard ! (b.value ≡ k) (λ same. drop ! $ peeks ! Boxed _ (shows 𝓛 Boxed) b (u ∷ []) (λ is.
     -- [the box; the reference; its token]
-    let fits = (((box_laws.the_row_laws held.the_row heap.the_row ghosts held_laws.the_row_laws global.the_row_laws).lawful 𝓛).typed b (u ∷ []) is).0 in
+    let fits = (((box_laws.the_row_laws held.the_row heap.the_row ghosts held_laws global.the_row_laws).lawful 𝓛).typed b (u ∷ []) is).0 in
     lands_last ! refl fits $ exec ! runs.C runs.Λ E code.Mir.t-6 (at_ret E Done) $
     sets ! (of_opd ! (get ! refl)) refl fits $ sets ! (of_opd ! (get ! refl)) refl fits $
     sets ! (agg ! (and_then ! (lit ! tt) (and_then ! (get ! refl) (no_more !)))) refl (and_tt _ fits.0, (record { fits = lit< tt }, (fits.1, tt))) $
