@@ -1,10 +1,9 @@
-//! Tests that cross crates and that no case can say: the numbers of refusals and what is said of them, whether two
-//! schemas are the same, natives and what they ask, and a shell that a host makes of its own board and sources.
+//! Tests that cross crates and that no case can say: whether two schemas are the same, natives and what they ask, and a
+//! shell that a host makes of its own board and sources.
 #![tactic(auto)]
 
 #[cfg(test)]
 mod asking;
-#[cfg(test)]
 mod input;
 #[cfg(test)]
 mod looking;
@@ -13,11 +12,7 @@ mod natives;
 #[cfg(test)]
 mod outside;
 #[cfg(test)]
-mod refusals;
-#[cfg(test)]
 mod refused;
-#[cfg(test)]
-mod reports;
 mod role;
 #[cfg(test)]
 mod schemas;
@@ -26,4 +21,5 @@ mod shells;
 #[cfg(test)]
 mod unread;
 
+pub use input::{FIRST, HAIL, Input, NOTE_SCHEMA, ONE_NOTE};
 pub use role::Role;

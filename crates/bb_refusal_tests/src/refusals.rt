@@ -1,7 +1,8 @@
 //! The numbers of refusals, of which the program writes only the lines.
 
-use crate::input::{FIRST, HAIL, Input, NOTE_SCHEMA, ONE_NOTE, run_input};
+use crate::outcome::run_input;
 use bb_shell::InputFault;
+use bb_shell_tests::{FIRST, HAIL, Input, NOTE_SCHEMA, ONE_NOTE};
 use std::alloc::Global;
 use std::test::Fail;
 

@@ -1,9 +1,10 @@
 //! The reports on refused inputs: the sentence of each step, what is shown of its place, and the line with its caret.
 
-use crate::input::{FIRST, HAIL, Input, NOTE_SCHEMA, ONE_NOTE, run_input, sections_of};
+use crate::outcome::{run_input, sections_of};
 use crate::refusals::{NOT_ACCEPTED, NOT_COMPILED};
 use bb_refusal_report::report;
 use bb_shell::InputFault;
+use bb_shell_tests::{FIRST, HAIL, Input, NOTE_SCHEMA, ONE_NOTE};
 use std::alloc::Global;
 use std::test::Fail;
 
