@@ -22,10 +22,10 @@ use Rattle.bb_run_plan.specs.Plan.{Plan}
 use Rattle.bb_run.specs.declared.execution.Verdict.{Verdict}
 use Rattle.bb_run.specs.declared.execution.Verdict.TheVariants as verdicts
 use Rattle.bb_run.specs.State.{State, with_board, with_natives}
-use Rattle.bb_run.specs.Emission.{Response, emitting, and_then_unless}
+use Rattle.bb_run.specs.Emission.{Response, Stretch, emitting, and_then_unless}
 use Rattle.bb_run.specs.Asking.{attempt, entry_of}
 use Rattle.bb_run.specs.Run.{answered, calling, chosen_with, each_applied, execution, finish, run, unfinished}
-use Rattle.bb_run.specs.Order.{ClosesEach, IsLike, closed_by, closed_in, notes_of}
+use Rattle.bb_run.specs.Order.{IsLike, closed_by, closed_in, notes_of}
 use Rattle.bb_run.proofs.AskRule.{HoldsOfAsks, asks_hold}
 use Rattle.bb_run.proofs.OrderLemmas.{Comes}
 use Rattle.bb_run.proofs.OrderlyParts.{May}
@@ -53,7 +53,7 @@ alike_acted natives left place unit seen None is like = like
 alike_acted natives left place unit seen (Some n) is like = alike_set natives left place unit seen n is like
 
 -- with their names
-same_names : (natives left : List Native) → AllZip IsLike natives left → map (λ (c : Closing). c.name) (closings_of left) ≡ map (λ (n : Native). n.name) natives
+pub same_names : (natives left : List Native) → AllZip IsLike natives left → map (λ (c : Closing). c.name) (closings_of left) ≡ map (λ (n : Native). n.name) natives
 same_names [] [] like = refl
 same_names [] (m ∷ left) like = absurd like
 same_names (n ∷ natives) [] like = absurd like
@@ -140,7 +140,12 @@ module _ (plan : Plan) (board : Blackboard) (natives : List Native) where
   none_closed past (Finished end ∷ notes) p = absurd p.0
   none_closed past (Closed closing ∷ notes) p = absurd p.0
 
-  pub run_closes_each : (limit : ℕ) → ClosesEach natives (run plan board natives limit)
+  -- each of the natives that were handed in is closed once, in order
+  pub record ClosesEach (run : Stretch) : Type 0 where
+    pub left : AllZip IsLike natives run.state.natives
+    pub closings : closed_in (notes_of run) ≡ closings_of run.state.natives
+
+  pub run_closes_each : (limit : ℕ) → ClosesEach (run plan board natives limit)
   run_closes_each limit =
       let left : AllZip IsLike natives (run plan board natives limit).state.natives = run_keeps plan (Left natives) (kept natives plan) board natives (alike natives) limit in
       let closings = closings_of (run plan board natives limit).state.natives in
@@ -149,4 +154,4 @@ module _ (plan : Plan) (board : Blackboard) (natives : List Native) where
       ap closed_in before.notes
       ∙ (flat_map-append closed_by (notes_of (unfinished plan board natives limit)) (finish before.end (run plan board natives limit).state.natives)
       ∙ (ap (λ l. l ++ closed_in (map Closed closings)) (none_closed [] (notes_of (unfinished plan board natives limit)) before.comes) ∙ closed_all closings)) in
-      record { left = left; closings = all; names = ap (map (λ (c : Closing). c.name)) all ∙ same_names natives (run plan board natives limit).state.natives left }
+      record { left = left; closings = all }

@@ -15,11 +15,11 @@ use Rattle.bb_run.specs.declared.execution.Verdict.{Verdict}
 use Rattle.bb_run.specs.declared.execution.Verdict.TheVariants as verdicts
 use Rattle.bb_run.specs.State.{State, with_board}
 use Rattle.bb_run.specs.Emission.{Response, Stretch, Emission, and_then, and_then_unless, over, segment}
-use Rattle.bb_run.specs.Continues.{HasWorldOf}
 use Rattle.bb_run.specs.Executed.{upon_choice, upon_verdict}
 use Rattle.bb_run.specs.Order.{At, notes_of}
 use Rattle.bb_run.specs.Processing.{events_in, processing_all, processing, reported, response}
 use Rattle.bb_run.specs.Reads.{AsksByReading}
+use Rattle.bb_run.specs.Responds.{HasWorldOf}
 use Rattle.bb_run.specs.Run.{acting, choice, chosen_with, cycle, cycle_of, cycles, execution, first_state, if_chosen, if_valid, noted, rating, run, start, validity, wait, wait_for}
 use Rattle.bb_run.proofs.OrderlyRuns.{run_goes_on}
 use Rattle.bb_run.proofs.ReadLemmas.{run_reads}

@@ -171,7 +171,7 @@ module _ (plan : Plan) (natives : List Native) (given : ¬ LacksNative plan nati
   by_cause s like (of_execution reason steps found was) = tt
   by_cause s like (of_native a lacks) = lacks_none s a like lacks
 
-  not_due : (s : State) (end : Option End) → AllZip IsLike natives s.natives → HasCause plan s end → NotDue end
+  pub not_due : (s : State) (end : Option End) → AllZip IsLike natives s.natives → HasCause plan s end → NotDue end
   not_due s None like cause = tt
   not_due s (Some finishes.Quiescence) like cause = tt
   not_due s (Some finishes.Limit) like cause = tt

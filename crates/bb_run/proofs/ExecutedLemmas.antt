@@ -22,7 +22,7 @@ use Rattle.bb_run.specs.Order.{all_of, notes_of, chosen_in, IsChosenAfter}
 use Rattle.bb_run.specs.Executed.{upon_verdict, upon_choice, finish_by, IsFollowed}
 use Rattle.bb_run.proofs.PendingLemmas.{chosen_then}
 use Rattle.bb_run.proofs.OrderlyParts.{all_of_more, all_of_two}
-use Rattle.bb_run.proofs.OrderlyRuns.{run_is_counted, run_keeps_limit, run_chooses}
+use Rattle.bb_run.proofs.OrderlyRuns.{run_keeps_limit, run_chooses, source_there}
 use Rattle.bb_run.proofs.LimitLemmas.{BeginsByCycle, GoesFurther, run_goes_further}
 
 pub finish_is : (end : Option End) (natives : List Native) → all_of (finish_segments end natives) ≡ finish_by end natives
@@ -92,7 +92,7 @@ module _ (plan : Plan) where
     pub emits : Chosen number a r ∷ after ≡ all_of segments
 
   -- a run that goes on where another one is over by its limit
-  goes_on : (number m : ℕ) (a : Activation) (r : ℤ) (p q : Stretch) (before after : List Note) → number ≡ m + 1 → number ≡ length (chosen_in before) + 1 → length (chosen_in (notes_of p)) ≤ m → IsChosenAfter plan p before a r
+  goes_on : (number m : ℕ) (a : Activation) (r : ℤ) (p q : Stretch) (before after : List Note) → number ≡ m + 1 → number ≡ length (chosen_in before) + 1 → length (chosen_in (notes_of p)) ≤ m → IsChosenAfter plan p before number a r
       → notes_of q ≡ before ++ Chosen number a r ∷ after → GoesFurther plan (m + 1) p q → FromChoice m number a r p after
   goes_on number m a r p q before after is counted few chosen emitted (inl same) =
       let more = chosen_more (notes_of p) before after number a r (ap notes_of (sym same) ∙ emitted) in
@@ -110,7 +110,7 @@ module _ (plan : Plan) where
       → FromChoice (number - 1) number a r (run plan board natives (number - 1)) after
   from_choice board natives limit before after number a r emitted =
       let m = number - 1 in
-      let counted : number ≡ length (chosen_in before) + 1 = (run_is_counted plan board natives limit).cycles before number a r (after, emitted) in
+      let counted : number ≡ length (chosen_in before) + 1 = (run_chooses plan board natives limit before number a r (after, emitted)).counted in
       let within : length (chosen_in (notes_of (run plan board natives limit))) ≤ limit = (run_keeps_limit plan board natives limit).within in
       let many = chosen_more (notes_of (run plan board natives limit)) before after number a r emitted in
       let one : number ≡ m + 1 = omega (arith, counted) in
@@ -124,4 +124,4 @@ module _ (plan : Plan) where
       let p = run plan board natives (number - 1) in
       let from = from_choice board natives limit before after number a r emitted in
       let chosen = run_chooses plan board natives limit before number a r (after, emitted) in
-      followed_by number (number - 1 + 1) a r p.state from.segments after chosen.source_there chosen.choice_is from.begins from.emits
+      followed_by number (number - 1 + 1) a r p.state from.segments after (source_there plan board natives limit before number a r (after, emitted)) chosen.choice_is from.begins from.emits

@@ -26,10 +26,13 @@ use Rattle.bb_run.specs.State.{State, with_board, with_natives}
 use Rattle.bb_run.specs.Emission.{Response, and_then_unless, emitting}
 use Rattle.bb_run.specs.Asking.{attempt, entry_of}
 use Rattle.bb_run.specs.Run.{answered, calling, chosen_with, each_applied, execution, run}
-use Rattle.bb_run.specs.Causes.{HasFew}
 use Rattle.bb_run.proofs.AskRule.{HoldsOfAsks, asks_hold}
 use Rattle.bb_run.proofs.ResponseRule.{HoldsOfParts, holds}
 use Rattle.bb_run.proofs.StateRule.{IsKept, kept_then, run_keeps}
+
+-- no more are pending than may be
+abbrev pub HasFew : Agenda → Type 0
+HasFew agenda = length (pending_of agenda) ≤ 65536
 
 -- ---- changes of the agenda
 

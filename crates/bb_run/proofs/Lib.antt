@@ -24,10 +24,6 @@ pub mod PendingLemmas
 pub mod OrderlyParts
 -- each cycle does
 pub mod OrderlyCycles
--- what answers to an event answers what it asks for
-pub mod PaidLemmas
--- each part of a run answers the events that it emits
-pub mod AskedLemmas
 -- a longer limit
 pub mod LimitLemmas
 -- each run does
@@ -82,10 +78,6 @@ pub mod UnstuckRuns
 pub mod MadeLemmas
 pub mod ServeLemmas
 pub mod ServeCycles
--- each event that is emitted is processed
-pub mod VisitLemmas
--- each event is processed in a state that is ready
-pub mod ProcessedLemmas
 -- the response to an event, by what was emitted before
 pub mod PastLemmas
 -- where events were emitted, the responses to them come next
@@ -102,5 +94,11 @@ pub mod EarlyLemmas
 pub mod MeetLemmas
 -- what lasts of a run between its parts
 pub mod SteadyLemmas
+-- what follows from the law of runs, and so is no clause of it
+pub mod TallyLemmas
+pub mod PaidLemmas
+pub mod UponLemmas
+pub mod FollowLemmas
+pub mod SafeLemmas
 -- what crates above use
 pub mod Laws

@@ -45,6 +45,19 @@ module _ (May : List Note → Note → Type 0) where
   comes_then past [] ys p q = subst (λ b. Comes b ys) (append-nil past) q
   comes_then past (x ∷ xs) ys p q = (p.0, comes_then (past ++ x ∷ []) xs ys p.1 (subst (λ b. Comes b ys) (sym (append_assoc past (x ∷ []) xs)) q))
 
+  -- a note of these may come where it is
+  pub comes_at : (past xs before : List Note) (note : Note) (after : List Note) → Comes past xs → xs ≡ before ++ note ∷ after → May (past ++ before) note
+  unfolding Comes
+  comes_at past [] [] note after p is = absurd cc
+  comes_at past [] (b ∷ bs) note after p is = absurd cc
+  comes_at past (x ∷ xs) [] note after p is =
+      let same : x ≡ note = cc in
+      subst (λ b. May b note) (sym (append-nil past)) (subst (May past) same p.0)
+  comes_at past (x ∷ xs) (b ∷ bs) note after p is =
+      let same : x ≡ b = cc in
+      let rest : xs ≡ bs ++ note ∷ after = cc in
+      subst (λ c. May c note) (append_assoc past (b ∷ []) bs) (comes_at (past ++ b ∷ []) xs bs note after (subst (λ y. Comes (past ++ y ∷ []) xs) same p.1) rest)
+
   -- a note of these, one more, and closings: it may come where it is, or it is that one, or a closing
   pub comes_or_last : (past xs : List Note) (last : Note) (closings : List Closing) (before : List Note) (note : Note) (after : List Note) → Comes past xs → xs ++ last ∷ map Closed closings ≡ before ++ note ∷ after
       → May (past ++ before) note ⊎ (((note ≡ last) × ((before ≡ xs) × (after ≡ map Closed closings))) ⊎ IsClosing note)

@@ -1,6 +1,6 @@
 -- Each part of a run goes on orderly after the notes before it.
 use Rattle.std.proofs.Common.{◌≡◌, ◌<◌, ℕ, zero, ℤ, ◌+◌, ◌-◌, Bool, true, false, cond, List, [], ◌∷◌, ◌++◌, length, map, Option, Some, None, Result, Ok, Err, refl, sym, ap, subst, ◌∙◌, append_assoc, arith, length-append}
-use Rattle.std.specs.Prelude.{⊤, All, Contains, ◌≤ℤ◌}
+use Rattle.std.specs.Prelude.{⊤, All}
 use Rattle.std.proofs.lemmas.List.{append-nil}
 use Rattle.std.proofs.lemmas.List.Concat.{flat_map-append}
 use Rattle.std.proofs.lemmas.List.Elements.{All-filter, All-head, All-tail, All-weaker}
@@ -38,9 +38,9 @@ use Rattle.bb_run.specs.Emission.{Response, Stretch, emitting, idle, over, and_t
 use Rattle.bb_run.specs.Asking.{attempt, asking, end_by, entry_of, reply_by, upon}
 use Rattle.bb_run.specs.Processing.{activating, events_in, if_triggered, obviated_by, processing, processing_all, reacting, reacting_to, reacting_to_each, reported, required_by, rerated_by, response, response_by, source_response, triggering}
 use Rattle.bb_run.specs.Run.{cycle, cycles, wait_for, run, validity, verdict_by, verdict_of}
-use Rattle.bb_run.specs.Order.{all_of, notes_of, triggered_in, chosen_in, gone_in, ends_in, is_among, pending_after, IsChosenAfter}
+use Rattle.bb_run.specs.Order.{all_of, notes_of, triggered_in, chosen_in, IsChosenAfter}
 use Rattle.bb_run.proofs.OrderLemmas.{Comes, comes_none, comes_one, comes_then}
-use Rattle.bb_run.proofs.PendingLemmas.{IsKnown, Stands, IsSilent, triggered_then, stands_silent, stands_triggered, stands_obviated, stands_rebased}
+use Rattle.bb_run.proofs.PendingLemmas.{IsKnown, Stands, IsSilent, ends_in, triggered_then, stands_silent, stands_triggered, stands_obviated, stands_rebased}
 
 pub all_of_two : (xs ys : List (List Note)) → all_of (xs ++ ys) ≡ all_of xs ++ all_of ys
 all_of_two xs ys = flat_map-append (λ segment. segment) xs ys
@@ -85,12 +85,7 @@ early_verdict (Some code) a b end is = early_by (attempt code.code (entry_of a.u
 module _ (plan : Plan) (board : Blackboard) (natives : List Native) where
   -- a cycle may choose after these notes
   pub record MayChoose (before : List Note) (number : ℕ) (a : Activation) (r : ℤ) : Type 0 where
-    pub counted : number ≡ length (chosen_in before) + 1
-    pub pending : Contains (pending_after before) a
-    pub once : is_among a.number (gone_in before) ≡ false
-    pub enough : plan.floor ≤ℤ r
-    pub in_turn : ends_in before ≡ length (chosen_in before)
-    pub choice : IsChosenAfter plan (run plan board natives (number - 1)) before a r
+    pub choice : IsChosenAfter plan (run plan board natives (number - 1)) before number a r
     pub stands : Stands (length plan.sources) before (number - 1) (number - 1) (run plan board natives (number - 1)).state.agenda
     -- the run whose limit is the cycle's number makes the cycle in that state
     pub goes_on : (run plan board natives number).state ≡ (and_then (cycle plan number a (run plan board natives (number - 1)).state) (cycles plan number zero)).state

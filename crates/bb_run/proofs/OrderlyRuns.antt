@@ -1,6 +1,5 @@
 -- Each run goes on orderly up to its end.
-use Rattle.std.proofs.Common.{◌≡◌, ◌≤◌, ℕ, zero, suc, ℤ, ◌+◌, ◌-◌, List, [], ◌∷◌, ◌++◌, length, map, Option, Some, None, refl, sym, ap, subst, ◌∙◌, append_assoc, arith}
-use Rattle.std.specs.Prelude.{Contains}
+use Rattle.std.proofs.Common.{◌≡◌, ◌<◌, ◌≤◌, ℕ, zero, suc, ℤ, ◌+◌, ◌-◌, List, [], ◌∷◌, ◌++◌, length, map, Option, Some, None, refl, sym, ap, subst, ◌∙◌, append_assoc, arith}
 use Rattle.std.proofs.lemmas.List.{append-nil}
 use Rattle.std.proofs.lemmas.List.Elements.{All-contains}
 use Rattle.bb_trace.specs.Board.{Board as Blackboard}
@@ -10,7 +9,7 @@ use Rattle.bb_agenda.proofs.Laws.{chosen_some}
 use Rattle.bb_trace.specs.End.{End}
 use Rattle.bb_trace.specs.End as finishes
 use Rattle.bb_trace.specs.declared.note.Note.{Note}
-use Rattle.bb_trace.specs.declared.note.Note.TheVariants.{Triggered, Chosen, Invalid, Ended, Refused, NativeEnded, Finished, Closed}
+use Rattle.bb_trace.specs.declared.note.Note.TheVariants.{Chosen, Finished, Closed}
 use Rattle.bb_trace.specs.Closing.{Closing}
 use Rattle.bb_trace.specs.Native.{Native}
 use Rattle.bb_trace.specs.Roster.{closings_of}
@@ -19,11 +18,8 @@ use Rattle.bb_run.specs.State.{State}
 use Rattle.bb_run.specs.Emission.{Stretch, emitting, over, after_emitted, and_then, and_then_unless}
 use Rattle.bb_run.specs.Run.{rating, choice, wait, noted, cycle, if_chosen, cycles, finish, first_state, start, finish_segments, with_finish, unfinished, run}
 use Rattle.bb_run.specs.Foci.{setting_of}
-use Rattle.bb_run.specs.Order.{all_of, notes_of, At, chosen_in, IsCounted, ActsOnPending, ExecutesInTurn, IsFinished, KeepsLimit, IsChosenAfter}
+use Rattle.bb_run.specs.Order.{all_of, notes_of, At, chosen_in, IsChosenAfter}
 use Rattle.bb_run.proofs.OrderLemmas.{Comes, ComesBefore, comes_before, comes_last, comes_none, comes_then}
-use Rattle.bb_run.specs.Processing.{events_in}
-use Rattle.bb_run.specs.Asked.{asked_for, answered_in, IsAnswered, MayOwe}
-use Rattle.bb_run.proofs.AskedLemmas.{GoesOn, MayAsk, goes_then, reports_board, cycles_go}
 use Rattle.bb_run.proofs.PendingLemmas.{IsKnown, Stands, chosen_then, is_apart, stands_first}
 use Rattle.bb_run.proofs.OrderlyParts.{all_of_more, all_of_two, IsEarly, MayChoose, May, Agrees, Emits, reports, waits_for}
 use Rattle.bb_run.proofs.OrderlyCycles.{keeps_board, cycles_once}
@@ -83,17 +79,18 @@ module _ (plan : Plan) (board : Blackboard) (natives : List Native) where
 
   -- the state where a choice is made is the last of the run that ends by its limit there
   choice_after : (u : Stretch) (past : List Note) (emitted segments : List (List Note)) (made : ℕ) (t : State) (a : Activation) → u ≡ after_emitted emitted (after_emitted segments (over finishes.Limit t)) → past ≡ all_of emitted → Agrees plan board natives (past ++ all_of segments) made made t.agenda
-      → choice plan t ≡ Some a → IsChosenAfter plan (with_finish u) (past ++ all_of segments) a (rating plan t a)
+      → choice plan t ≡ Some a → IsChosenAfter plan (with_finish u) (past ++ all_of segments) (made + 1) a (rating plan t a)
   choice_after u past emitted segments made t a is before stands chosen =
       let last = finish finishes.Limit t.natives in
       let best = chosen_some (rating plan t) plan.floor (pending_of t.agenda) a chosen in
-      subst (λ v. IsChosenAfter plan (with_finish v) (past ++ all_of segments) a (rating plan t a)) (sym is) (record {
+      subst (λ v. IsChosenAfter plan (with_finish v) (past ++ all_of segments) (made + 1) a (rating plan t a)) (sym is) (record {
+        counted = ap (λ n. n + 1) stands.cycles;
+        once = is_apart (length plan.sources) (past ++ all_of segments) made made t.agenda stands a best.waits;
         emitted = all_of_more (emitted ++ (segments ++ [])) last ∙ ap (λ l. l ++ last) (all_of_two emitted (segments ++ []) ∙ ap (λ l. all_of emitted ++ all_of l) (append-nil segments) ∙ ap (λ l. l ++ all_of segments) (sym before));
         agenda = stands.pending;
         choice_is = chosen;
         rated = refl;
         best = best;
-        source_there = (All-contains (IsKnown (next_number t.agenda) (length plan.sources)) (pending_of t.agenda) a stands.known best.waits).source;
       })
 
   -- a cycle may choose what is chosen after the wait
@@ -101,16 +98,10 @@ module _ (plan : Plan) (board : Blackboard) (natives : List Native) where
       → Agrees plan board natives (past ++ notes_of (wait plan s)) made made (wait plan s).state.agenda → MayChoose plan board natives (past ++ notes_of (wait plan s)) (made + 1) a (rating plan (wait plan s).state a)
   may_choose past emitted made s a begins before goes chosen stands =
       let p = wait plan s in
-      let best = chosen_some (rating plan p.state) plan.floor (pending_of p.state.agenda) a chosen in
       let count : made + 1 - 1 ≡ made + zero = omega arith in
       let one : made ≡ made + 1 - 1 = omega arith in
       let ends = begins zero (made + 1 - 1) count ∙ ap (λ q. after_emitted emitted q) (limit_after made s a goes chosen) in
       record {
-        counted = ap (λ n. n + 1) stands.cycles;
-        pending = subst (λ l. Contains l a) stands.pending best.waits;
-        once = is_apart (length plan.sources) (past ++ notes_of p) made made p.state.agenda stands a best.waits;
-        enough = best.enough;
-        in_turn = sym stands.executions ∙ stands.cycles;
         choice = choice_after (unfinished plan board natives (made + 1 - 1)) past emitted p.emitted made p.state a ends before stands chosen;
         stands =
             subst (λ n. Stands (length plan.sources) (past ++ notes_of p) n n (run plan board natives (made + 1 - 1)).state.agenda) one
@@ -278,27 +269,12 @@ module _ (plan : Plan) (board : Blackboard) (natives : List Native) where
   may_choose_at : (limit : ℕ) (before : List Note) (number : ℕ) (a : Activation) (r : ℤ) → At (notes_of (run plan board natives limit)) before (Chosen number a r) → MayChoose plan board natives before number a r
   may_choose_at limit before number a r at = may_come limit before (Chosen number a r) tt at
 
-  pub run_is_counted : (limit : ℕ) → IsCounted (notes_of (run plan board natives limit))
-  run_is_counted limit = record {
-    activations = λ before a at. may_come limit before (Triggered a) tt at;
-    cycles = λ before number a r at. (may_choose_at limit before number a r at).counted;
-  }
-
-  pub run_acts_on_pending : (limit : ℕ) → ActsOnPending plan.floor (notes_of (run plan board natives limit))
-  run_acts_on_pending limit = record {
-    pending = λ before number a r at. (may_choose_at limit before number a r at).pending;
-    once = λ before number a r at. (may_choose_at limit before number a r at).once;
-    enough = λ before number a r at. (may_choose_at limit before number a r at).enough;
-  }
-
-  pub run_executes_in_turn : (limit : ℕ) → ExecutesInTurn (notes_of (run plan board natives limit))
-  run_executes_in_turn limit = record {
-    choices = λ before number a r at. (may_choose_at limit before number a r at).in_turn;
-    ends = λ before steps found budget at. may_come limit before (Ended steps found budget) tt at;
-    native_ends = λ before asks at. may_come limit before (NativeEnded asks) tt at;
-    invalids = λ before number at. may_come limit before (Invalid number) tt at;
-    refusals = λ before ask refusal at. may_come limit before (Refused ask refusal) tt at;
-  }
+  -- the run has an end, which it emits once, and after it what each native says at its close, in order
+  pub record IsFinished (run : Stretch) : Type 0 where
+    pub end : End
+    pub ends : run.end ≡ Some end
+    pub last : (before : List Note) × (notes_of run ≡ before ++ finish end run.state.natives)
+    pub once : (before : List Note) (e : End) (after : List Note) → notes_of run ≡ before ++ Finished e ∷ after → after ≡ map Closed (closings_of run.state.natives)
 
   pub run_finishes : (limit : ℕ) → IsFinished (run plan board natives limit)
   run_finishes limit = record {
@@ -314,7 +290,14 @@ module _ (plan : Plan) (board : Blackboard) (natives : List Native) where
       let notes = notes_of (unfinished plan board natives limit) in
       ap (λ l. length (chosen_in l)) (notes_of_run limit) ∙ ap length (chosen_then notes (Finished (end_of_run limit).0 ∷ map Closed (closings limit)) ∙ ap (λ l. chosen_in notes ++ l) (closed_unchosen (closings limit)) ∙ append-nil (chosen_in notes))
 
-  pub run_keeps_limit : (limit : ℕ) → KeepsLimit plan limit (run plan board natives limit)
+  -- the run makes no more cycles than the limit, and its end says why it made no more
+  pub record KeepsLimit (limit : ℕ) (run : Stretch) : Type 0 where
+    pub within : length (chosen_in (notes_of run)) ≤ limit
+    pub met : run.end ≡ Some finishes.Limit → length (chosen_in (notes_of run)) ≡ limit
+    pub left : run.end ≡ Some finishes.Limit → (a : Activation) × (choice plan run.state ≡ Some a)
+    pub exhausted : run.end ≡ Some finishes.Quiescence → choice plan run.state ≡ None
+
+  pub run_keeps_limit : (limit : ℕ) → KeepsLimit limit (run plan board natives limit)
   run_keeps_limit limit =
       let all = ends_all limit in
       let same = sym (choices_of_run limit) in
@@ -325,7 +308,7 @@ module _ (plan : Plan) (board : Blackboard) (natives : List Native) where
         exhausted = all.exhausted;
       }
 
-  pub run_chooses : (limit : ℕ) (before : List Note) (number : ℕ) (a : Activation) (r : ℤ) → At (notes_of (run plan board natives limit)) before (Chosen number a r) → IsChosenAfter plan (run plan board natives (number - 1)) before a r
+  pub run_chooses : (limit : ℕ) (before : List Note) (number : ℕ) (a : Activation) (r : ℤ) → At (notes_of (run plan board natives limit)) before (Chosen number a r) → IsChosenAfter plan (run plan board natives (number - 1)) before number a r
   run_chooses limit before number a r at = (may_choose_at limit before number a r at).choice
 
   -- at a choice the agenda is what is pending by the notes
@@ -337,28 +320,8 @@ module _ (plan : Plan) (board : Blackboard) (natives : List Native) where
       → (run plan board natives number).state ≡ (and_then (cycle plan number a (run plan board natives (number - 1)).state) (cycles plan number zero)).state
   run_goes_on limit before number a r at = (may_choose_at limit before number a r at).goes_on
 
-  -- ---- what the events ask for
-
-  -- the run up to its finish answers the events that it emits
-  goes_all : (limit : ℕ) → GoesOn plan (unfinished plan board natives limit)
-  goes_all limit =
-      let first : State = first_state plan board natives in
-      let p = start plan board natives in
-      goes_then plan p (cycles plan 0 limit) p.end refl (reports_board plan first) (λ s. cycles_go plan 0 limit s)
-
-  pub run_is_answered : (limit : ℕ) → IsAnswered plan (notes_of (run plan board natives limit))
-  run_is_answered limit =
-      record {
-        choices = λ before cycle a r at.
-            comes_before (MayAsk plan) [] (notes_of (unfinished plan board natives limit)) (end_of_run limit).0 (closings limit) before (Chosen cycle a r) at.0 ((goes_all limit).comes [] refl) tt (sym (notes_of_run limit) ∙ at.1);
-        finish = λ before e at. at_finish limit before e at.0 at.1;
-      }
-    where
-      at_finish : (limit : ℕ) (before : List Note) (e : End) (after : List Note) → notes_of (run plan board natives limit) ≡ before ++ Finished e ∷ after
-          → (owed : List (ℕ × ℕ)) × (answered_in before ++ owed ≡ asked_for plan (events_in before)) × MayOwe e owed
-      at_finish limit before e after is =
-          let end = end_of_run limit in
-          let parts = finish_at limit before e after is in
-          let left = (goes_all limit).owes end.0 end.1 in
-          subst (λ ns. (owed : List (ℕ × ℕ)) × (answered_in ns ++ owed ≡ asked_for plan (events_in ns)) × MayOwe e owed) (sym parts.1.0)
-          (left.0, left.1, subst (λ f. MayOwe f left.0) (sym parts.0) left.2)
+  -- the source of what is chosen is there
+  pub source_there : (limit : ℕ) (before : List Note) (number : ℕ) (a : Activation) (r : ℤ) → At (notes_of (run plan board natives limit)) before (Chosen number a r) → a.source < length plan.sources
+  source_there limit before number a r at =
+      let agenda = (run plan board natives (number - 1)).state.agenda in
+      (All-contains (IsKnown (next_number agenda) (length plan.sources)) (pending_of agenda) a (run_stands limit before number a r at).known (run_chooses limit before number a r at).best.waits).source

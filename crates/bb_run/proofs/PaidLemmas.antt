@@ -1,203 +1,282 @@
--- What answers to an event answers what the event asks for.
-use Rattle.std.proofs.Common.{◌≡◌, ℕ, ◌+◌, ℤ, Bool, true, false, cond, List, [], ◌∷◌, ◌++◌, Option, Some, None, Result, Ok, Err, refl, sym, ap, subst, ◌∙◌, append_assoc}
+-- What the sources emit in response to events gives activations the next numbers, and answers what the events ask for.
+use Rattle.std.proofs.Common.{◌≡◌, ◌⊎◌, inl, inr, ℕ, ◌+◌, ℤ, Bool, true, false, cond, if◌then◌else◌, List, [], ◌∷◌, ◌++◌, length, map, Option, Some, None, refl, sym, ap, subst, ◌∙◌, append_assoc}
+use Rattle.std.specs.Prelude.{⊤}
+use Rattle.std.specs.List.{flat_map, fold}
 use Rattle.std.proofs.lemmas.List.{append-nil}
 use Rattle.std.proofs.lemmas.List.Concat.{flat_map-append}
+use Rattle.std.proofs.lemmas.List.Sums.{fold-append}
+use Rattle.bb_schema.specs.Schema.{Schema}
+use Rattle.bb_agenda.specs.Activation.{Activation}
+use Rattle.bb_machine.specs.Answer.{Answer}
+use Rattle.bb_machine.specs.Answer.TheVariants as answers
+use Rattle.bb_verify.specs.Accepted.{Checked}
+use Rattle.bb_trace.specs.Board.{Board as Blackboard}
 use Rattle.bb_trace.specs.Event.{Event}
 use Rattle.bb_trace.specs.Events.{unit_of}
 use Rattle.bb_trace.specs.Match.{any_match}
-use Rattle.bb_agenda.specs.Activation.{Activation}
-use Rattle.bb_agenda.specs.Agenda.{is_full, pending_for}
-use Rattle.bb_agenda.specs.Changes.{new_activation, with_activation}
-use Rattle.bb_code.specs.Code.{Code}
-use Rattle.bb_verify.specs.Accepted.{Checked}
-use Rattle.bb_machine.specs.Answer.{Answer}
-use Rattle.bb_machine.specs.Answer.TheVariants as answers
-use Rattle.bb_machine.specs.Entry.{Entry}
-use Rattle.bb_machine.specs.Outcome.{Outcome}
-use Rattle.bb_machine.specs.Stop.{Stop}
 use Rattle.bb_trace.specs.Reaction.{Reaction}
 use Rattle.bb_trace.specs.Source.{Source}
 use Rattle.bb_trace.specs.End.{End}
-use Rattle.bb_trace.specs.End as finishes
+use Rattle.bb_trace.specs.End as ends
 use Rattle.bb_trace.specs.declared.note.Note.{Note}
-use Rattle.bb_trace.specs.declared.note.Note.TheVariants.{Triggered, Declined, Obviated, Retriggered}
+use Rattle.bb_trace.specs.declared.note.Note.TheVariants.{Triggered, Declined, Obviated, Retriggered, Chosen, Finished}
 use Rattle.bb_run_plan.specs.Plan.{Plan}
-use Rattle.bb_run.specs.State.{State, with_board, with_agenda}
-use Rattle.bb_run.specs.Emission.{Response, emitting, idle, over, and_then, and_then_unless}
-use Rattle.bb_run.specs.Asking.{attempt, asking, end_by, entry_of, reply_by, upon}
-use Rattle.bb_run.specs.Processing.{activating, event_in, events_in, if_triggered, obviated_by, reacting, reacting_to, reacting_to_each, required_by, rerated_by, response, response_by, source_response, triggering}
-use Rattle.bb_run.specs.Run.{quiet}
-use Rattle.bb_run.specs.Order.{chosen_in, chosen_by}
-use Rattle.bb_run.specs.Asked.{triggered_from, asked_by, answered_by, answered_in, MayOwe}
-use Rattle.bb_run.proofs.OrderlyParts.{IsEarly, early_end}
+use Rattle.bb_run.specs.Asking.{entry_of}
+use Rattle.bb_run.specs.Order.{triggered_in}
+use Rattle.bb_run.specs.Phases.{Phase, after_in}
+use Rattle.bb_run.specs.Processing.{events_in}
+use Rattle.bb_run.specs.Responses.{and_after, answer_of, told_about_each, gets, gets_by, gets_if_rated, if_rated, if_yes, known, reacts, responses, responses_from, responses_of, triggers, waiting_for}
+use Rattle.bb_run.proofs.OrderLemmas.{Comes, comes_none, comes_one, comes_then}
+use Rattle.bb_run.proofs.PendingLemmas.{events_two}
 
--- ---- notes, one after another
+-- ---- what events ask for, and what is answered
+
+-- the places of the sources that an event triggers, in order from this place on, each with the event's unit
+abbrev pub triggered_from : Schema → Event → (place : ℕ) → List Source → List (ℕ × ℕ)
+triggered_from schema event place [] = []
+triggered_from schema event place (source ∷ more) =
+    if any_match schema source.triggers event then (place, unit_of event) ∷ triggered_from schema event (place + 1) more else triggered_from schema event (place + 1) more
+
+abbrev pub asked_by : Plan → Event → List (ℕ × ℕ)
+asked_by plan event = triggered_from plan.schema event 0 plan.sources
+
+-- what events ask for, one after another
+abbrev pub asked_for : Plan → List Event → List (ℕ × ℕ)
+asked_for plan events = flat_map (asked_by plan) events
+
+-- a source that was triggered: it got an activation, or declined
+abbrev pub answered_by : Note → List (ℕ × ℕ)
+answered_by (Triggered a) = (a.source, a.unit) ∷ []
+answered_by (Declined source unit) = (source, unit) ∷ []
+answered_by _ = []
+
+abbrev pub answered_in : List Note → List (ℕ × ℕ)
+answered_in notes = flat_map answered_by notes
+
+-- a run with this end may leave this unanswered of what its events ask for
+abbrev pub MayOwe : End → List (ℕ × ℕ) → Type 0
+MayOwe ends.Quiescence owed = owed ≡ []
+MayOwe ends.Limit owed = owed ≡ []
+MayOwe _ owed = ⊤
 
 pub answered_two : (xs ys : List Note) → answered_in (xs ++ ys) ≡ answered_in xs ++ answered_in ys
 answered_two xs ys = flat_map-append answered_by xs ys
 
-pub events_two : (xs ys : List Note) → events_in (xs ++ ys) ≡ events_in xs ++ events_in ys
-events_two xs ys = flat_map-append event_in xs ys
+-- ---- the first of some responses
 
-pub chosen_two : (xs ys : List Note) → chosen_in (xs ++ ys) ≡ chosen_in xs ++ chosen_in ys
-chosen_two xs ys = flat_map-append chosen_by xs ys
+-- notes that are all known
+pub known_all : (notes : List Note) → known (map Some notes) ≡ notes
+known_all [] = refl
+known_all (note ∷ notes) = ap (λ l. note ∷ l) (known_all notes)
 
-pub none_of_two : {X : Type 0} (all xs ys : List X) → all ≡ xs ++ ys → xs ≡ [] → ys ≡ [] → all ≡ []
-none_of_two all xs ys is x y = is ∙ ap (λ l. l ++ ys) x ∙ y
+-- notes are emitted up to an element of the first of two lists
+record StopsIn (xs ys : List (Option Note)) (emitted : List Note) (left : List (Option Note)) : Type 0 where
+  element : Option Note
+  more : List (Option Note)
+  first_is : map Some emitted ++ element ∷ more ≡ xs
+  left_is : left ≡ element ∷ (more ++ ys)
 
-pub may_owe : (e : End) (owed : List (ℕ × ℕ)) → IsEarly (Some e) → MayOwe e owed
-may_owe finishes.Quiescence owed early = absurd early
-may_owe finishes.Limit owed early = absurd early
-may_owe finishes.Full owed early = tt
-may_owe (finishes.Due a) owed early = tt
-may_owe (finishes.Stuck reason) owed early = tt
+-- all of the first is emitted, and then some of the second
+record GoesPast (xs ys : List (Option Note)) (emitted : List Note) (left : List (Option Note)) : Type 0 where
+  first : List Note
+  more : List Note
+  notes : emitted ≡ first ++ more
+  first_is : map Some first ≡ xs
+  more_is : map Some more ++ left ≡ ys
 
--- ---- a response to an event
+split : (xs ys : List (Option Note)) (emitted : List Note) (left : List (Option Note)) → map Some emitted ++ left ≡ xs ++ ys → StopsIn xs ys emitted left ⊎ GoesPast xs ys emitted left
+split [] ys emitted left is = inr (record { first = []; more = emitted; notes = refl; first_is = refl; more_is = is })
+split (x ∷ xs) ys [] left is = inl (record { element = x; more = xs; first_is = refl; left_is = is })
+split (x ∷ xs) ys (note ∷ notes) left is =
+    let same : Some note ≡ x = cc in
+    let rest : map Some notes ++ left ≡ xs ++ ys = cc in
+    elim (split xs ys notes left rest) [
+      | inl c ↦ inl (record { element = c.element; more = c.more; first_is = ap (λ l. Some note ∷ l) c.first_is ∙ ap (λ o. o ∷ xs) same; left_is = c.left_is })
+      | inr c ↦ inr (record { first = note ∷ c.first; more = c.more; notes = ap (λ l. note ∷ l) c.notes; first_is = ap (λ l. Some note ∷ l) c.first_is ∙ ap (λ o. o ∷ xs) same; more_is = c.more_is })
+    ]
 
--- notes that tell no event and no choice answer this, or, where the run ends in them, the first of it
-pub record Pays (owed : List (ℕ × ℕ)) (notes : List Note) (end : Option End) : Type 0 where
-  pub quiet : events_in notes ≡ []
-  pub unchosen : chosen_in notes ≡ []
-  pub whole : end ≡ None → answered_in notes ≡ owed
-  pub front : (rest : List (ℕ × ℕ)) × (answered_in notes ++ rest ≡ owed)
-  pub early : IsEarly end
+not_none : (x : Option Note) (xs left : List (Option Note)) → left ≡ x ∷ xs → left ≡ [] → ⊥
+not_none x xs left is none = absurd cc
 
-pub pays_none : Pays [] [] None
-pays_none = record { quiet = refl; unchosen = refl; whole = λ e. refl; front = ([], refl); early = tt }
+module _ (plan : Plan) where
+  -- all that the events among notes ask for is answered in them
+  abbrev pub IsPaid : List Note → Type 0
+  IsPaid notes = answered_in notes ≡ asked_for plan (events_in notes)
 
--- the run ends before anything is answered
-pays_over : (owed : List (ℕ × ℕ)) (e : End) → IsEarly (Some e) → Pays owed [] (Some e)
-pays_over owed e early = record { quiet = refl; unchosen = refl; whole = λ none. absurd cc; front = (owed, refl); early = early }
+  -- but for this
+  abbrev pub Owes : List Note → List (ℕ × ℕ) → Type 0
+  Owes notes owed = answered_in notes ++ owed ≡ asked_for plan (events_in notes)
 
--- notes that end the run, whatever was to come
-pub pays_first : (xs ys : List (ℕ × ℕ)) (notes : List Note) (e : End) → Pays xs notes (Some e) → Pays (xs ++ ys) notes (Some e)
-pays_first xs ys notes e p = record {
-  quiet = p.quiet;
-  unchosen = p.unchosen;
-  whole = λ none. absurd cc;
-  front = (p.front.0 ++ ys, sym (append_assoc (answered_in notes) p.front.0 ys) ∙ ap (λ l. l ++ ys) p.front.1);
-  early = p.early;
-}
+  -- a note of a run comes after notes by which it may
+  abbrev pub MayStand : List Note → Note → Type 0
+  MayStand before (Triggered a) = a.number ≡ length (triggered_in before) + 1
+  MayStand before (Chosen cycle a r) = IsPaid before
+  MayStand before (Finished end) = (owed : List (ℕ × ℕ)) × (Owes before owed × MayOwe end owed)
+  MayStand before _ = ⊤
 
--- notes before others
-pub pays_then : (xs ys : List (ℕ × ℕ)) (first notes : List Note) (end : Option End) → Pays xs first None → Pays ys notes end → Pays (xs ++ ys) (first ++ notes) end
-pays_then xs ys first notes end p q =
-    let before = p.whole refl in
-    record {
-      quiet = none_of_two (events_in (first ++ notes)) (events_in first) (events_in notes) (events_two first notes) p.quiet q.quiet;
-      unchosen = none_of_two (chosen_in (first ++ notes)) (chosen_in first) (chosen_in notes) (chosen_two first notes) p.unchosen q.unchosen;
-      whole = λ none. answered_two first notes ∙ ap (λ l. l ++ answered_in notes) before ∙ ap (λ l. xs ++ l) (q.whole none);
-      front = (q.front.0, ap (λ l. l ++ q.front.0) (answered_two first notes ∙ ap (λ l. l ++ answered_in notes) before) ∙ append_assoc xs (answered_in notes) q.front.0 ∙ ap (λ l. xs ++ l) q.front.1);
-      early = q.early;
-    }
+  -- these notes answer the first of this, and all of it where nothing is left out
+  pub record Paid (past : List Note) (owed : List (ℕ × ℕ)) (emitted : List Note) (left : List (Option Note)) : Type 0 where
+    pub comes : Comes MayStand past emitted
+    pub quiet : events_in emitted ≡ []
+    pub still : (phase : Phase) → fold after_in phase emitted ≡ phase
+    pub rest : List (ℕ × ℕ)
+    pub front : answered_in emitted ++ rest ≡ owed
+    pub whole : left ≡ [] → rest ≡ []
 
-abbrev pub Answers : List (ℕ × ℕ) → Response → Type 0
-Answers owed r = Pays owed r.emitted r.end
+  -- so do all that may be emitted of these responses
+  abbrev pub Pays : (past : List Note) (owed : List (ℕ × ℕ)) → List (Option Note) → Type 0
+  Pays past owed all = (emitted : List Note) (left : List (Option Note)) → map Some emitted ++ left ≡ all → Paid past owed emitted left
 
-answers_then : (xs ys : List (ℕ × ℕ)) (p : Response) (next : State → Response) (end : Option End) → p.end ≡ end → Answers xs p → ((s : State) → Answers ys (next s)) → Answers (xs ++ ys) (and_then_unless end p next)
-answers_then xs ys p next (Some e) is first rest =
-    subst (Pays (xs ++ ys) p.emitted) (sym is) (pays_first xs ys p.emitted e (subst (Pays xs p.emitted) is first))
-answers_then xs ys p next None is first rest = let q = next p.state in pays_then xs ys p.emitted q.emitted q.end (subst (Pays xs p.emitted) is first) (rest p.state)
+  paid_none : (past : List Note) (owed : List (ℕ × ℕ)) (left : List (Option Note)) → (left ≡ [] → owed ≡ []) → Paid past owed [] left
+  paid_none past owed left none = record { comes = comes_none MayStand past; quiet = refl; still = λ phase. refl; rest = owed; front = refl; whole = none }
 
--- a response by a test
-answers_if : (x : ℕ × ℕ) (b : Bool) (p q : Response) → Answers (x ∷ []) p → Answers [] q → Answers (cond b (x ∷ []) []) (cond b p q)
-answers_if x true p q yes' no' = yes'
-answers_if x false p q yes' no' = no'
+  pays_none : (past : List Note) → Pays past [] []
+  pays_none past [] left is = paid_none past [] left (λ e. refl)
+  pays_none past (note ∷ notes) left is = absurd cc
 
-either : (owed : List (ℕ × ℕ)) (b : Bool) (p q : Response) → Answers owed p → Answers owed q → Answers owed (cond b p q)
-either owed true p q x y = x
-either owed false p q x y = y
+  -- there is no answer
+  pays_stop : (past : List Note) (owed : List (ℕ × ℕ)) → Pays past owed (None ∷ [])
+  pays_stop past owed [] left is = paid_none past owed left (λ e. absurd (not_none None [] left is e))
+  pays_stop past owed (note ∷ notes) left is = absurd cc
 
-replied : (owed : List (ℕ × ℕ)) (next : Answer → State → Response) (r : Result Outcome Stop) (s : State) → ((answer : Answer) (t : State) → Answers owed (next answer t)) → Answers owed (upon (reply_by r) next s)
-replied owed next (Ok o) s goes = goes o.answer s
-replied owed next (Err stop) s goes = pays_over owed (end_by stop) (early_end stop)
+  pays_one : (past : List Note) (owed : List (ℕ × ℕ)) (note : Note) → MayStand past note → events_in (note ∷ []) ≡ [] → ((phase : Phase) → after_in phase note ≡ phase) → answered_in (note ∷ []) ≡ owed → Pays past owed (Some note ∷ [])
+  pays_one past owed note may quiet still answered [] left is = paid_none past owed left (λ e. absurd (not_none (Some note) [] left is e))
+  pays_one past owed note may quiet still answered (x ∷ []) left is =
+      let same : note ≡ x = cc in
+      subst (λ n. Paid past owed (n ∷ []) left) same (record {
+        comes = comes_one MayStand past note may;
+        quiet = quiet;
+        still = still;
+        rest = [];
+        front = append-nil (answered_in (note ∷ [])) ∙ answered;
+        whole = λ e. refl;
+      })
+  pays_one past owed note may quiet still answered (x ∷ y ∷ more) left is = absurd cc
 
-asks : (owed : List (ℕ × ℕ)) (code : Code) (entry : Entry) (next : Answer → State → Response) (s : State) → ((answer : Answer) (t : State) → Answers owed (next answer t)) → Answers owed (asking code entry next s)
-asks owed code entry next s goes = let e = attempt code entry s.board in replied owed next e.0 (with_board s e.1) goes
+  paid_then : (past first more : List Note) (xs ys : List (ℕ × ℕ)) (left : List (Option Note)) → Paid past xs first [] → Paid (past ++ first) ys more left → Paid past (xs ++ ys) (first ++ more) left
+  paid_then past first more xs ys left p q =
+      let before : answered_in first ≡ xs = sym (append-nil (answered_in first)) ∙ ap (λ l. answered_in first ++ l) (sym (p.whole refl)) ∙ p.front in
+      record {
+        comes = comes_then MayStand past first more p.comes q.comes;
+        quiet = events_two first more ∙ ap (λ l. l ++ events_in more) p.quiet ∙ q.quiet;
+        still = λ phase. fold-append after_in phase first more ∙ ap (λ x. fold after_in x more) (p.still phase) ∙ q.still phase;
+        rest = q.rest;
+        front =
+            ap (λ l. l ++ q.rest) (answered_two first more) ∙ append_assoc (answered_in first) (answered_in more) q.rest ∙ ap (λ l. answered_in first ++ l) q.front
+            ∙ ap (λ l. l ++ ys) before;
+        whole = q.whole;
+      }
 
--- a note that answers nothing
-pays_silent : (note : Note) → events_in (note ∷ []) ≡ [] → chosen_in (note ∷ []) ≡ [] → answered_in (note ∷ []) ≡ [] → Pays [] (note ∷ []) None
-pays_silent note quiet unchosen silent = record { quiet = quiet; unchosen = unchosen; whole = λ e. silent; front = ([], ap (λ l. l ++ []) silent); early = tt }
+  pub pays_then : (past : List Note) (xs ys : List (ℕ × ℕ)) (first : List (Option Note)) (next : List Note → List (Option Note)) → Pays past xs first → Pays (past ++ known first) ys (next (past ++ known first)) → Pays past (xs ++ ys) (and_after past first next)
+  pays_then past xs ys first next p q emitted left is =
+      elim (split first (next (past ++ known first)) emitted left is) [
+        | inl c ↦ (let f = p emitted (c.element ∷ c.more) c.first_is in record {
+          comes = f.comes;
+          quiet = f.quiet;
+          still = f.still;
+          rest = f.rest ++ ys;
+          front = sym (append_assoc (answered_in emitted) f.rest ys) ∙ ap (λ l. l ++ ys) f.front;
+          whole = λ e. absurd (not_none c.element (c.more ++ next (past ++ known first)) left c.left_is e);
+        })
+        | inr c ↦ (let same : known first ≡ c.first = ap known (sym c.first_is) ∙ known_all c.first in
+            subst (λ l. Paid past (xs ++ ys) l left) (sym c.notes)
+            (paid_then past c.first c.more xs ys left (p c.first [] (append-nil (map Some c.first) ∙ c.first_is)) (subst (λ l. Paid (past ++ l) ys c.more left) same (q c.more left c.more_is))))
+      ]
 
-obviates : (a : Activation) (answer : Answer) (s : State) → Answers [] (obviated_by a answer s)
-obviates a answers.Yes s = pays_silent (Obviated a.number) refl refl refl
-obviates a answers.No s = pays_none
-obviates a answers.Done s = pays_none
-obviates a answers.Declined s = pays_none
-obviates a (answers.Rated base) s = pays_none
+  -- by a test
+  pays_if : (past : List Note) (owed : List (ℕ × ℕ)) (b : Bool) (all : List (Option Note)) → Pays past owed all → Pays past (cond b owed []) (cond b all [])
+  pays_if past owed true all pays = pays
+  pays_if past owed false all pays = pays_none past
 
-rerates : (a : Activation) (answer : Answer) (s : State) → Answers [] (rerated_by a answer s)
-rerates a (answers.Rated base) s = pays_silent (Retriggered a.number base) refl refl refl
-rerates a answers.Yes s = pays_none
-rerates a answers.No s = pays_none
-rerates a answers.Done s = pays_none
-rerates a answers.Declined s = pays_none
+  pays_silent_if : (past : List Note) (b : Bool) (all : List (Option Note)) → Pays past [] all → Pays past [] (cond b all [])
+  pays_silent_if past true all pays = pays
+  pays_silent_if past false all pays = pays_none past
 
-module _ (plan : Plan) (event : Event) where
-  module _ (by : Activation → Answer → State → Response) (silent : (a : Activation) (answer : Answer) (s : State) → Answers [] (by a answer s)) where
-    reacts_each : (reaction : Reaction) (items : List Activation) (s : State) → Answers [] (reacting_to_each event by reaction items s)
-    unfolding reacting_to_each
-    reacts_each reaction [] s = pays_none
-    reacts_each reaction (a ∷ more) s =
-        let r = reacting_to event by reaction a s in
-        answers_then [] [] r (reacting_to_each event by reaction more) r.end refl
-        (asks [] reaction.code.code (entry_of a.unit (Some (unit_of event))) (by a) s (λ answer t. silent a answer t)) (λ t. reacts_each reaction more t)
+  -- ---- what becomes of what waits
 
-    reacts_if : (place : ℕ) (reaction : Option Reaction) (s : State) → Answers [] (reacting plan.schema event place by reaction s)
-    reacts_if place None s = pays_none
-    reacts_if place (Some reaction) s =
-        either [] (any_match plan.schema reaction.clauses event) (reacting_to_each event by reaction (pending_for s.agenda place) s) (idle s)
-        (reacts_each reaction (pending_for s.agenda place) s) pays_none
+  obviates : (a : Activation) (answer : Option Answer) (past : List Note) → Pays past [] (if_yes a answer)
+  obviates a None past = pays_stop past []
+  obviates a (Some answers.Yes) past = pays_one past [] (Obviated a.number) tt refl (λ phase. refl) refl
+  obviates a (Some answers.No) past = pays_none past
+  obviates a (Some answers.Done) past = pays_none past
+  obviates a (Some answers.Declined) past = pays_none past
+  obviates a (Some (answers.Rated base)) past = pays_none past
 
-  abbrev here : ℕ → ℕ × ℕ
-  here place = (place, unit_of event)
+  rerates : (a : Activation) (answer : Option Answer) (past : List Note) → Pays past [] (if_rated a answer)
+  rerates a None past = pays_stop past []
+  rerates a (Some (answers.Rated base)) past = pays_one past [] (Retriggered a.number base) tt refl (λ phase. refl) refl
+  rerates a (Some answers.Yes) past = pays_none past
+  rerates a (Some answers.No) past = pays_none past
+  rerates a (Some answers.Done) past = pays_none past
+  rerates a (Some answers.Declined) past = pays_none past
 
-  pays_one : (place : ℕ) (note : Note) → events_in (note ∷ []) ≡ [] → chosen_in (note ∷ []) ≡ [] → answered_in (note ∷ []) ≡ here place ∷ [] → Pays (here place ∷ []) (note ∷ []) None
-  pays_one place note quiet unchosen emitted = record { quiet = quiet; unchosen = unchosen; whole = λ e. emitted; front = ([], append-nil (answered_in (note ∷ [])) ∙ emitted); early = tt }
+  module _ (board : Blackboard) (event : Event) where
+    module _ (by : Activation → Option Answer → List (Option Note)) (silent : (a : Activation) (answer : Option Answer) (past : List Note) → Pays past [] (by a answer)) where
+      each : (reaction : Reaction) (waiting : List Activation) (past : List Note) → Pays past [] (told_about_each board event by reaction waiting)
+      each reaction [] past = pays_none past
+      each reaction (a ∷ more) past =
+          let first = by a (answer_of reaction.code (entry_of a.unit (Some (unit_of event))) board) in
+          pays_then past [] [] first (λ _. told_about_each board event by reaction more) (silent a (answer_of reaction.code (entry_of a.unit (Some (unit_of event))) board) past) (each reaction more (past ++ known first))
 
-  activates : (place : ℕ) (base : ℤ) (s : State) → Answers (here place ∷ []) (activating event place base s)
-  activates place base s =
-      let a = new_activation s.agenda place (unit_of event) base in
-      either (here place ∷ []) (is_full s.agenda) (over finishes.Full s) (emitting (Triggered a ∷ []) (with_agenda s (with_activation s.agenda place (unit_of event) base)) None)
-      (pays_over (here place ∷ []) finishes.Full tt) (pays_one place (Triggered a) refl refl refl)
+      reacts_silent : (reaction : Option Reaction) (waiting : List Activation) (past : List Note) → Pays past [] (reacts plan board event by reaction waiting)
+      reacts_silent None waiting past = pays_none past
+      reacts_silent (Some reaction) waiting past =
+          pays_silent_if past (any_match plan.schema reaction.clauses event) (told_about_each board event by reaction waiting) (each reaction waiting past)
 
-  requires_by : (place : ℕ) (answer : Answer) (s : State) → Answers (here place ∷ []) (required_by event place answer s)
-  requires_by place (answers.Rated base) s = activates place base s
-  requires_by place answers.Declined s = pays_one place (Declined place (unit_of event)) refl refl refl
-  requires_by place answers.Yes s = pays_one place (Declined place (unit_of event)) refl refl refl
-  requires_by place answers.No s = pays_one place (Declined place (unit_of event)) refl refl refl
-  requires_by place answers.Done s = pays_one place (Declined place (unit_of event)) refl refl refl
+    -- ---- what a source gets that an event triggers
 
-  triggers : (place : ℕ) (rate : ℤ) (code : Option Checked) (s : State) → Answers (here place ∷ []) (triggering event place rate code s)
-  triggers place rate None s = activates place rate s
-  triggers place rate (Some code) s = asks (here place ∷ []) code.code (entry_of (unit_of event) None) (required_by event place) s (λ answer t. requires_by place answer t)
+    abbrev here : ℕ → ℕ × ℕ
+    here place = (place, unit_of event)
 
-  -- what is asked of one source
-  abbrev of_source : ℕ → Source → List (ℕ × ℕ)
-  of_source place source = cond (any_match plan.schema source.triggers event) (here place ∷ []) []
+    gets_next : (place : ℕ) (base : ℤ) (past : List Note) → Pays past (here place ∷ []) (gets event place base past)
+    gets_next place base past =
+        pays_one past (here place ∷ []) (Triggered (record { number = length (triggered_in past) + 1; source = place; unit = unit_of event; base = base })) refl refl (λ phase. refl) refl
 
-  source_answers : (place : ℕ) (source : Source) (s : State) → Answers (of_source place source) (source_response plan.schema event place source s)
-  source_answers place source s =
-      let first = reacting plan.schema event place obviated_by source.obviate s in
-      answers_then [] (of_source place source) first (λ t. and_then (reacting plan.schema event place rerated_by source.retrigger t) (if_triggered plan.schema event place source)) first.end refl
-      (reacts_if obviated_by obviates place source.obviate s)
-      (λ t. let second = reacting plan.schema event place rerated_by source.retrigger t in
-      answers_then [] (of_source place source) second (if_triggered plan.schema event place source) second.end refl
-      (reacts_if rerated_by rerates place source.retrigger t)
-      (λ u. answers_if (here place) (any_match plan.schema source.triggers event) (triggering event place source.rate source.require u) (idle u) (triggers place source.rate source.require u) pays_none))
+    declines : (place : ℕ) (past : List Note) → Pays past (here place ∷ []) (Some (Declined place (unit_of event)) ∷ [])
+    declines place past = pays_one past (here place ∷ []) (Declined place (unit_of event)) tt refl (λ phase. refl) refl
 
-  first_or_none : (x : ℕ × ℕ) (ys : List (ℕ × ℕ)) (b : Bool) → cond b (x ∷ []) [] ++ ys ≡ cond b (x ∷ ys) ys
-  first_or_none x ys true = refl
-  first_or_none x ys false = refl
+    gets_by_answer : (place : ℕ) (answer : Option Answer) (past : List Note) → Pays past (here place ∷ []) (gets_if_rated event place answer past)
+    gets_by_answer place None past = pays_stop past (here place ∷ [])
+    gets_by_answer place (Some (answers.Rated base)) past = gets_next place base past
+    gets_by_answer place (Some answers.Declined) past = declines place past
+    gets_by_answer place (Some answers.Yes) past = declines place past
+    gets_by_answer place (Some answers.No) past = declines place past
+    gets_by_answer place (Some answers.Done) past = declines place past
 
-  sources_answer : (place : ℕ) (sources : List Source) (s : State) → Answers (triggered_from plan.schema event place sources) (response_by plan.schema event place sources s)
-  unfolding response_by
-  sources_answer place [] s = pays_none
-  sources_answer place (source ∷ more) s =
-      let r = source_response plan.schema event place source s in
-      let rest = triggered_from plan.schema event (place + 1) more in
-      subst (λ owed. Answers owed (and_then r (response_by plan.schema event (place + 1) more))) (first_or_none (here place) rest (any_match plan.schema source.triggers event))
-      (answers_then (of_source place source) rest r (response_by plan.schema event (place + 1) more) r.end refl (source_answers place source s) (λ t. sources_answer (place + 1) more t))
+    gets_one : (place : ℕ) (rate : ℤ) (code : Option Checked) (past : List Note) → Pays past (here place ∷ []) (gets_by board event place rate code past)
+    gets_one place rate None past = gets_next place rate past
+    gets_one place rate (Some code) past = gets_by_answer place (answer_of code (entry_of (unit_of event) None) board) past
 
-  pub answers_event : (s : State) → Answers (asked_by plan event) (response plan event s)
-  answers_event s = sources_answer 0 plan.sources s
+    -- what is asked of one source
+    abbrev of_source : ℕ → Source → List (ℕ × ℕ)
+    of_source place source = cond (any_match plan.schema source.triggers event) (here place ∷ []) []
+
+    source_pays : (place : ℕ) (source : Source) (past : List Note) → Pays past (of_source place source) (responses_of plan board event place source past)
+    source_pays place source past =
+        let gone = reacts plan board event if_yes source.obviate (waiting_for past place) in
+        let later = past ++ known gone in
+        let again = reacts plan board event if_rated source.retrigger (waiting_for later place) in
+        pays_then past [] (of_source place source) gone (λ l. and_after l (reacts plan board event if_rated source.retrigger (waiting_for l place)) (triggers plan board event place source))
+        (reacts_silent if_yes obviates source.obviate (waiting_for past place) past)
+        (pays_then later [] (of_source place source) again (triggers plan board event place source)
+        (reacts_silent if_rated rerates source.retrigger (waiting_for later place) later)
+        (pays_if (later ++ known again) (here place ∷ []) (any_match plan.schema source.triggers event) (gets_by board event place source.rate source.require (later ++ known again))
+        (gets_one place source.rate source.require (later ++ known again))))
+
+    first_or_none : (x : ℕ × ℕ) (ys : List (ℕ × ℕ)) (b : Bool) → cond b (x ∷ []) [] ++ ys ≡ cond b (x ∷ ys) ys
+    first_or_none x ys true = refl
+    first_or_none x ys false = refl
+
+    sources_pay : (place : ℕ) (sources : List Source) (past : List Note) → Pays past (triggered_from plan.schema event place sources) (responses_from plan board event place sources past)
+    sources_pay place [] past = pays_none past
+    sources_pay place (source ∷ more) past =
+        let first = responses_of plan board event place source past in
+        let rest = triggered_from plan.schema event (place + 1) more in
+        subst (λ owed. Pays past owed (responses_from plan board event place (source ∷ more) past)) (first_or_none (here place) rest (any_match plan.schema source.triggers event))
+        (pays_then past (of_source place source) rest first (responses_from plan board event (place + 1) more) (source_pays place source past) (sources_pay (place + 1) more (past ++ known first)))
+
+  pub responses_pay : (board : Blackboard) (events : List Event) (past : List Note) → Pays past (asked_for plan events) (responses plan board events past)
+  responses_pay board [] past = pays_none past
+  responses_pay board (event ∷ events) past =
+      let first = responses_from plan board event 0 plan.sources past in
+      pays_then past (asked_by plan event) (asked_for plan events) first (responses plan board events) (sources_pay board event 0 plan.sources past) (responses_pay board events (past ++ known first))

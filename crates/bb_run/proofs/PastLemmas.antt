@@ -1,8 +1,8 @@
 -- The response to an event is what the sources emit by what was emitted before.
-use Rattle.std.proofs.Common.{◌≡◌, inl, inr, ℕ, ◌+◌, ℤ, Bool, true, false, cond, List, [], ◌∷◌, ◌++◌, length, filter, Option, Some, None, option_map, Result, Ok, Err, refl, sym, ap, subst, ◌∙◌, append_assoc, length-append}
+use Rattle.std.proofs.Common.{◌≡◌, inl, inr, ℕ, ◌+◌, ℤ, Bool, true, false, cond, List, [], ◌∷◌, ◌++◌, length, filter, map, Option, Some, None, option_map, Result, Ok, Err, refl, sym, ap, subst, ◌∙◌, append_assoc, length-append}
 use Rattle.std.specs.Prelude.{All, Contains}
 use Rattle.std.specs.List.{fold}
-use Rattle.std.proofs.lemmas.List.{append-nil}
+use Rattle.std.proofs.lemmas.List.{append-nil, map-append}
 use Rattle.std.proofs.lemmas.List.Elements.{All-contains_itself, All-head, All-tail}
 use Rattle.bb_agenda.specs.Activation.{Activation}
 use Rattle.bb_agenda.specs.Agenda.{Agenda, is_full, is_of, next_number, pending_for, pending_of}
@@ -38,8 +38,9 @@ use Rattle.bb_run.specs.Foci.{with_foci}
 use Rattle.bb_run.specs.Order.{after_note, notes_of, pending_after, triggered_in}
 use Rattle.bb_run.specs.Processing.{activating, if_triggered, obviated_by, processing, processing_all, reacting, reacting_to, reacting_to_each, required_by, rerated_by, response, response_by, source_response, triggering}
 use Rattle.bb_run.specs.Reads.{AsksByReading}
-use Rattle.bb_run.specs.Responses.{and_after, answer_in, answer_of, told_about_each, gets, gets_by, gets_if_rated, if_rated, if_yes, reacts, responses, responses_from, responses_of, triggers, waiting_for}
+use Rattle.bb_run.specs.Responses.{and_after, answer_in, answer_of, told_about_each, gets, gets_by, gets_if_rated, if_rated, if_yes, known, reacts, responses, responses_from, responses_of, triggers, waiting_for}
 use Rattle.bb_run.proofs.OrderlyParts.{all_of_two}
+use Rattle.bb_run.proofs.PaidLemmas.{known_all}
 use Rattle.bb_run.proofs.PendingLemmas.{pending_then, triggered_then}
 
 -- ---- the agenda by the notes
@@ -90,11 +91,14 @@ module _ (past : List Note) (agenda : Agenda) (by : IsBy past agenda) where
 
 -- ---- what is emitted, against what there is to emit
 
+some_two : (xs ys : List Note) → map Some (xs ++ ys) ≡ map Some xs ++ map Some ys
+some_two xs ys = map-append (λ note. Some note) xs ys
+
 -- these notes are emitted of those that there are to emit, all of them unless the run is over; the blackboard stays, and the
 -- agenda goes by the notes
-pub record Says (past : List Note) (board : Blackboard) (all emitted : List Note) (s : State) (end : Option End) : Type 0 where
-  pub left : List Note
-  pub whole : emitted ++ left ≡ all
+pub record Says (past : List Note) (board : Blackboard) (all : List (Option Note)) (emitted : List Note) (s : State) (end : Option End) : Type 0 where
+  pub left : List (Option Note)
+  pub whole : map Some emitted ++ left ≡ all
   pub none_left : end ≡ None → left ≡ []
   pub same_board : s.board ≡ board
   pub agenda : end ≡ None → IsBy (past ++ emitted) s.agenda
@@ -103,57 +107,60 @@ module _ (past : List Note) (board : Blackboard) where
   says_none : (s : State) → s.board ≡ board → IsBy past s.agenda → Says past board [] [] s None
   says_none s same by = record { left = []; whole = refl; none_left = λ e. refl; same_board = same; agenda = λ e. subst (λ l. IsBy l s.agenda) (sym (append-nil past)) by }
 
-  says_over : (all : List Note) (s : State) (e : End) → s.board ≡ board → Says past board all [] s (Some e)
+  says_over : (all : List (Option Note)) (s : State) (e : End) → s.board ≡ board → Says past board all [] s (Some e)
   says_over all s e same = record { left = all; whole = refl; none_left = λ none. absurd cc; same_board = same; agenda = λ none. absurd cc }
 
-  says_one : (note : Note) (s : State) → s.board ≡ board → IsBy (past ++ note ∷ []) s.agenda → Says past board (note ∷ []) (note ∷ []) s None
+  says_one : (note : Note) (s : State) → s.board ≡ board → IsBy (past ++ note ∷ []) s.agenda → Says past board (Some note ∷ []) (note ∷ []) s None
   says_one note s same by = record { left = []; whole = refl; none_left = λ e. refl; same_board = same; agenda = λ e. by }
 
   -- the run is over in the first of it
-  says_first : (xs ys emitted : List Note) (s : State) (e : End) → Says past board xs emitted s (Some e) → Says past board (xs ++ ys) emitted s (Some e)
+  says_first : (xs ys : List (Option Note)) (emitted : List Note) (s : State) (e : End) → Says past board xs emitted s (Some e) → Says past board (xs ++ ys) emitted s (Some e)
   says_first xs ys emitted s e p = record {
     left = p.left ++ ys;
-    whole = sym (append_assoc emitted p.left ys) ∙ ap (λ l. l ++ ys) p.whole;
+    whole = sym (append_assoc (map Some emitted) p.left ys) ∙ ap (λ l. l ++ ys) p.whole;
     none_left = λ none. absurd cc;
     same_board = p.same_board;
     agenda = λ none. absurd cc;
   }
 
   -- all of the first is emitted, and then what comes after it
-  says_more : (xs emitted more : List Note) (next : List Note → List Note) (s t : State) (end : Option End) → Says past board xs emitted s None
-      → (IsBy (past ++ xs) s.agenda → s.board ≡ board → Says (past ++ xs) board (next (past ++ xs)) more t end) → Says past board (and_after past xs next) (emitted ++ more) t end
+  says_more : (xs : List (Option Note)) (emitted more : List Note) (next : List Note → List (Option Note)) (s t : State) (end : Option End) → Says past board xs emitted s None
+      → (IsBy (past ++ known xs) s.agenda → s.board ≡ board → Says (past ++ known xs) board (next (past ++ known xs)) more t end) → Says past board (and_after past xs next) (emitted ++ more) t end
   says_more xs emitted more next s t end first rest =
-      let same : emitted ≡ xs = sym (append-nil emitted) ∙ ap (λ l. emitted ++ l) (sym (first.none_left refl)) ∙ first.whole in
+      let all : map Some emitted ≡ xs = sym (append-nil (map Some emitted)) ∙ ap (λ l. map Some emitted ++ l) (sym (first.none_left refl)) ∙ first.whole in
+      let same : emitted ≡ known xs = sym (known_all emitted) ∙ ap known all in
       let q = rest (subst (λ l. IsBy (past ++ l) s.agenda) same (first.agenda refl)) first.same_board in
       record {
         left = q.left;
-        whole = append_assoc emitted more q.left ∙ ap (λ l. emitted ++ l) q.whole ∙ ap (λ l. l ++ next (past ++ xs)) same;
+        whole =
+            ap (λ l. l ++ q.left) (some_two emitted more) ∙ append_assoc (map Some emitted) (map Some more) q.left ∙ ap (λ l. map Some emitted ++ l) q.whole
+            ∙ ap (λ l. l ++ next (past ++ known xs)) all;
         none_left = q.none_left;
         same_board = q.same_board;
         agenda = λ e. subst (λ l. IsBy l t.agenda) (ap (λ l. (past ++ l) ++ more) (sym same) ∙ append_assoc past emitted more) (q.agenda e);
       }
 
   -- by a test
-  either : (b : Bool) (xs ys : List Note) (p q : Response) → Says past board xs p.emitted p.state p.end → Says past board ys q.emitted q.state q.end → let r = cond b p q in Says past board (cond b xs ys) r.emitted r.state r.end
+  either : (b : Bool) (xs ys : List (Option Note)) (p q : Response) → Says past board xs p.emitted p.state p.end → Says past board ys q.emitted q.state q.end → let r = cond b p q in Says past board (cond b xs ys) r.emitted r.state r.end
   either true xs ys p q x y = x
   either false xs ys p q x y = y
 
   -- a response, and then the next
-  says_then : (xs : List Note) (after : List Note → List Note) (r : Response) (next : State → Response) (end : Option End) → r.end ≡ end → Says past board xs r.emitted r.state r.end
-      → (IsBy (past ++ xs) r.state.agenda → r.state.board ≡ board → let q = next r.state in Says (past ++ xs) board (after (past ++ xs)) q.emitted q.state q.end)
+  says_then : (xs : List (Option Note)) (after : List Note → List (Option Note)) (r : Response) (next : State → Response) (end : Option End) → r.end ≡ end → Says past board xs r.emitted r.state r.end
+      → (IsBy (past ++ known xs) r.state.agenda → r.state.board ≡ board → let q = next r.state in Says (past ++ known xs) board (after (past ++ known xs)) q.emitted q.state q.end)
       → let p = and_then_unless end r next in Says past board (and_after past xs after) p.emitted p.state p.end
   says_then xs after r next (Some e) is first rest =
-      subst (Says past board (and_after past xs after) r.emitted r.state) (sym is) (says_first xs (after (past ++ xs)) r.emitted r.state e (subst (Says past board xs r.emitted r.state) is first))
+      subst (Says past board (and_after past xs after) r.emitted r.state) (sym is) (says_first xs (after (past ++ known xs)) r.emitted r.state e (subst (Says past board xs r.emitted r.state) is first))
   says_then xs after r next None is first rest =
       let q = next r.state in
       says_more xs r.emitted q.emitted after r.state q.state q.end (subst (Says past board xs r.emitted r.state) is first) rest
 
   -- a stretch, and then the next
-  pub says_all_then : (xs : List Note) (after : List Note → List Note) (p : Stretch) (next : State → Stretch) (end : Option End) → p.end ≡ end → Says past board xs (notes_of p) p.state p.end
-      → (IsBy (past ++ xs) p.state.agenda → p.state.board ≡ board → let q = next p.state in Says (past ++ xs) board (after (past ++ xs)) (notes_of q) q.state q.end)
+  pub says_all_then : (xs : List (Option Note)) (after : List Note → List (Option Note)) (p : Stretch) (next : State → Stretch) (end : Option End) → p.end ≡ end → Says past board xs (notes_of p) p.state p.end
+      → (IsBy (past ++ known xs) p.state.agenda → p.state.board ≡ board → let q = next p.state in Says (past ++ known xs) board (after (past ++ known xs)) (notes_of q) q.state q.end)
       → let u = and_then_unless end p next in Says past board (and_after past xs after) (notes_of u) u.state u.end
   says_all_then xs after p next (Some e) is first rest =
-      subst (Says past board (and_after past xs after) (notes_of p) p.state) (sym is) (says_first xs (after (past ++ xs)) (notes_of p) p.state e (subst (Says past board xs (notes_of p) p.state) is first))
+      subst (Says past board (and_after past xs after) (notes_of p) p.state) (sym is) (says_first xs (after (past ++ known xs)) (notes_of p) p.state e (subst (Says past board xs (notes_of p) p.state) is first))
   says_all_then xs after p next None is first rest =
       let q = next p.state in
       subst (λ l. Says past board (and_after past xs after) l q.state q.end) (sym (all_of_two p.emitted q.emitted))
@@ -161,7 +168,7 @@ module _ (past : List Note) (board : Blackboard) where
 
 module _ (plan : Plan) (board : Blackboard) where
   -- a response emits this, after these notes
-  abbrev Emits : (past all : List Note) → Response → Type 0
+  abbrev Emits : (past : List Note) → (all : List (Option Note)) → Response → Type 0
   Emits past all r = Says past board all r.emitted r.state r.end
 
   -- a code that does not write is asked
@@ -171,12 +178,12 @@ module _ (plan : Plan) (board : Blackboard) where
   kept : (code : Checked) (entry : Entry) (b : Blackboard) → Reads code → b ≡ board → (attempt code.code entry b).1 ≡ board
   kept code entry b reads same = activation_reads (budget code.code FOUND_LIMIT) code.code entry b reads ∙ same
 
-  replied : (past : List Note) (says : Option Answer → List Note) (next : Answer → State → Response) (r : Result Outcome Stop) (t : State) → t.board ≡ board
+  replied : (past : List Note) (says : Option Answer → List (Option Note)) (next : Answer → State → Response) (r : Result Outcome Stop) (t : State) → t.board ≡ board
       → ((answer : Answer) → Emits past (says (Some answer)) (next answer t)) → Emits past (says (answer_in r)) (upon (reply_by r) next t)
   replied past says next (Ok o) t same goes = goes o.answer
   replied past says next (Err stop) t same goes = says_over past board (says None) t (end_by stop) same
 
-  asks : (past : List Note) (says : Option Answer → List Note) (code : Checked) (entry : Entry) (next : Answer → State → Response) (s : State) → Reads code → s.board ≡ board → IsBy past s.agenda
+  asks : (past : List Note) (says : Option Answer → List (Option Note)) (code : Checked) (entry : Entry) (next : Answer → State → Response) (s : State) → Reads code → s.board ≡ board → IsBy past s.agenda
       → ((answer : Answer) (t : State) → t.board ≡ board → IsBy past t.agenda → Emits past (says (Some answer)) (next answer t)) → Emits past (says (answer_of code entry board)) (asking code.code entry next s)
   asks past says code entry next s reads same by goes =
       let e = attempt code.code entry s.board in
@@ -187,7 +194,7 @@ module _ (plan : Plan) (board : Blackboard) where
   -- ---- what becomes of what waits
 
   -- what an answer about an activation brings about
-  abbrev Brings : (Activation → Option Answer → List Note) → (Activation → Answer → State → Response) → Type 0
+  abbrev Brings : (Activation → Option Answer → List (Option Note)) → (Activation → Answer → State → Response) → Type 0
   Brings says by' = (past : List Note) (a : Activation) (answer : Answer) (t : State) → t.board ≡ board → IsBy past t.agenda → Emits past (says a (Some answer)) (by' a answer t)
 
   obviates : Brings if_yes obviated_by
@@ -204,7 +211,7 @@ module _ (plan : Plan) (board : Blackboard) where
   rerates past a answers.Done t same by = says_none past board t same by
   rerates past a answers.Declined t same by = says_none past board t same by
 
-  module _ (event : Event) (says : Activation → Option Answer → List Note) (does : Activation → Answer → State → Response) (brings : Brings says does) where
+  module _ (event : Event) (says : Activation → Option Answer → List (Option Note)) (does : Activation → Answer → State → Response) (brings : Brings says does) where
     each : (reaction : Reaction) (items : List Activation) (past : List Note) (s : State) → Reads reaction.code → s.board ≡ board → IsBy past s.agenda → Emits past (told_about_each board event says reaction items) (reacting_to_each event does reaction items s)
     unfolding reacting_to_each
     each reaction [] past s reads same by = says_none past board s same by
@@ -213,7 +220,7 @@ module _ (plan : Plan) (board : Blackboard) where
         let entry = entry_of a.unit (Some (unit_of event)) in
         says_then past board (says a (answer_of reaction.code entry board)) (λ _. told_about_each board event says reaction more) r (reacting_to_each event does reaction more) r.end refl
         (asks past (says a) reaction.code entry (does a) s reads same by (λ answer t. brings past a answer t))
-        (λ later kept'. each reaction more (past ++ says a (answer_of reaction.code entry board)) r.state reads kept' later)
+        (λ later kept'. each reaction more (past ++ known (says a (answer_of reaction.code entry board))) r.state reads kept' later)
 
     reaction_says : (place : ℕ) (reaction : Option Reaction) (past : List Note) (s : State) → ((x : Reaction) → reaction ≡ Some x → Reads x.code) → s.board ≡ board → IsBy past s.agenda
         → Emits past (reacts plan board event says reaction (waiting_for past place)) (reacting plan.schema event place does reaction s)
@@ -233,8 +240,8 @@ module _ (plan : Plan) (board : Blackboard) where
       a : Activation
       a = new_activation s.agenda place (unit_of event) base
 
-      note_is : Triggered a ∷ [] ≡ gets event place base past
-      note_is = ap (λ n. Triggered (record { number = n; source = place; unit = unit_of event; base = base }) ∷ []) by.numbers
+      note_is : Some (Triggered a) ∷ [] ≡ gets event place base past
+      note_is = ap (λ n. Some (Triggered (record { number = n; source = place; unit = unit_of event; base = base })) ∷ []) by.numbers
 
       new : Response
       new = record { emitted = Triggered a ∷ []; state = with_agenda s (with_activation s.agenda place (unit_of event) base); end = None }
@@ -243,7 +250,7 @@ module _ (plan : Plan) (board : Blackboard) where
       activates_if true = says_over past board (gets event place base past) s finishes.Full same
       activates_if false = subst (λ l. Emits past l new) note_is (says_one past board (Triggered a) new.state same (by_triggered past s.agenda by place (unit_of event) base))
 
-  declines : (event : Event) (place : ℕ) (past : List Note) (s : State) → s.board ≡ board → IsBy past s.agenda → Says past board (Declined place (unit_of event) ∷ []) (Declined place (unit_of event) ∷ []) s None
+  declines : (event : Event) (place : ℕ) (past : List Note) (s : State) → s.board ≡ board → IsBy past s.agenda → Says past board (Some (Declined place (unit_of event)) ∷ []) (Declined place (unit_of event) ∷ []) s None
   declines event place past s same by =
       let note : Note = Declined place (unit_of event) in
       says_one past board note s same (by_silent past (note ∷ []) s.agenda refl (λ pending. refl) by)
@@ -269,7 +276,7 @@ module _ (plan : Plan) (board : Blackboard) where
     source_responds event place source past s there same by =
         let first = reacting plan.schema event place obviated_by source.obviate s in
         let gone = reacts plan board event if_yes source.obviate (waiting_for past place) in
-        let behind = past ++ gone in
+        let behind = past ++ known gone in
         let again = reacts plan board event if_rated source.retrigger (waiting_for behind place) in
         says_then past board gone (λ l. and_after l (reacts plan board event if_rated source.retrigger (waiting_for l place)) (triggers plan board event place source)) first
         (λ t. and_then (reacting plan.schema event place rerated_by source.retrigger t) (if_triggered plan.schema event place source)) first.end refl
@@ -279,10 +286,10 @@ module _ (plan : Plan) (board : Blackboard) where
         says_then behind board again (triggers plan board event place source) second (if_triggered plan.schema event place source) second.end refl
         (reaction_says event if_rated rerated_by rerates place source.retrigger behind first.state (λ x is. reading source x.code there (inr (inr (inr (ap (option_map code_of) is))))) same' later)
         (λ last kept'.
-        either (behind ++ again) board (any_match plan.schema source.triggers event) (gets_by board event place source.rate source.require (behind ++ again)) []
+        either (behind ++ known again) board (any_match plan.schema source.triggers event) (gets_by board event place source.rate source.require (behind ++ known again)) []
         (triggering event place source.rate source.require second.state) (idle second.state)
-        (triggered event place source.rate source.require (behind ++ again) second.state (λ x is. reading source x there (inl is)) kept' last)
-        (says_none (behind ++ again) board second.state kept' last)))
+        (triggered event place source.rate source.require (behind ++ known again) second.state (λ x is. reading source x there (inl is)) kept' last)
+        (says_none (behind ++ known again) board second.state kept' last)))
 
     sources_respond : (event : Event) (place : ℕ) (sources : List Source) (past : List Note) (s : State) → All (Contains plan.sources) sources → s.board ≡ board → IsBy past s.agenda
         → Emits past (responses_from plan board event place sources past) (response_by plan.schema event place sources s)
@@ -293,7 +300,7 @@ module _ (plan : Plan) (board : Blackboard) where
         let first = responses_of plan board event place source past in
         says_then past board first (responses_from plan board event (place + 1) more) r (response_by plan.schema event (place + 1) more) r.end refl
         (source_responds event place source past s (All-head (Contains plan.sources) source more all) same by)
-        (λ later kept'. sources_respond event (place + 1) more (past ++ first) r.state (All-tail (Contains plan.sources) source more all) kept' later)
+        (λ later kept'. sources_respond event (place + 1) more (past ++ known first) r.state (All-tail (Contains plan.sources) source more all) kept' later)
 
     -- all sources respond to an event
     pub event_emitted : (event : Event) (past : List Note) (s : State) → s.board ≡ board → IsBy past s.agenda → Emits past (responses_from plan board event 0 plan.sources past) (response plan event s)
@@ -310,4 +317,4 @@ module _ (plan : Plan) (board : Blackboard) where
         let first = responses_from plan board event 0 plan.sources past in
         says_all_then past board first (responses plan board events) p (processing_all plan events) p.end refl
         (subst (λ l. Says past board first l r.state r.end) (sym (append-nil r.emitted)) (event_emitted event past s same by))
-        (λ later kept'. events_emitted events (past ++ first) p.state kept' later)
+        (λ later kept'. events_emitted events (past ++ known first) p.state kept' later)

@@ -1,7 +1,7 @@
 -- The agenda is what is pending by the notes so far.
 use Rattle.std.proofs.Common.{◌≡◌, ℕ, ℤ, ◌+◌, ◌<◌, Bool, true, false, not, cond, ◌||◌, ◌==◌, List, [], ◌∷◌, ◌++◌, length, map, refl, sym, ap, subst, ◌∙◌, arith, length-append}
 use Rattle.std.specs.Prelude.{All, Contains}
-use Rattle.std.specs.List.{fold}
+use Rattle.std.specs.List.{count_by, fold}
 use Rattle.std.proofs.lemmas.Bool.{ne_eqb}
 use Rattle.std.proofs.lemmas.List.{append-nil}
 use Rattle.std.proofs.lemmas.List.Concat.{flat_map-append}
@@ -14,9 +14,10 @@ use Rattle.bb_agenda.specs.Foci.{Foci, Setting}
 use Rattle.bb_agenda.specs.Changes.{based_at, new_activation, other_than, rebased, with_activation, with_base, with_executed, with_obviated}
 use Rattle.bb_agenda.proofs.Laws.{pending_added, pending_executed, pending_obviated, pending_rebased, given_added, given_executed, given_obviated, given_rebased}
 use Rattle.bb_trace.specs.declared.note.Note.{Note}
-use Rattle.bb_trace.specs.declared.note.Note.TheVariants.{Triggered, Obviated, Retriggered, Chosen}
+use Rattle.bb_trace.specs.declared.note.Note.TheVariants.{Triggered, Obviated, Retriggered, Chosen, Invalid, Ended, NativeEnded}
 use Rattle.bb_run.specs.Foci.{with_foci}
-use Rattle.bb_run.specs.Order.{triggered_by, chosen_by, gone_by, is_end, triggered_in, chosen_in, gone_in, ends_in, is_among, without, after_note, pending_after}
+use Rattle.bb_run.specs.Processing.{event_in, events_in}
+use Rattle.bb_run.specs.Order.{triggered_by, chosen_by, gone_by, triggered_in, chosen_in, gone_in, is_among, without, after_note, pending_after}
 
 -- ---- lists
 
@@ -56,16 +57,30 @@ all_rebased P keeps number base (a ∷ xs) all =
 
 -- ---- notes, one after another
 
+-- a cycle is over by the note: its execution has ended, or its activation was invalid
+abbrev pub is_end : Note → Bool
+is_end (Ended steps found budget) = true
+is_end (NativeEnded asks) = true
+is_end (Invalid number) = true
+is_end _ = false
+
+-- the number of cycles that are over
+abbrev pub ends_in : List Note → ℕ
+ends_in notes = count_by is_end notes
+
 pub triggered_then : (xs ys : List Note) → triggered_in (xs ++ ys) ≡ triggered_in xs ++ triggered_in ys
 triggered_then xs ys = flat_map-append triggered_by xs ys
 
 pub chosen_then : (xs ys : List Note) → chosen_in (xs ++ ys) ≡ chosen_in xs ++ chosen_in ys
 chosen_then xs ys = flat_map-append chosen_by xs ys
 
+pub events_two : (xs ys : List Note) → events_in (xs ++ ys) ≡ events_in xs ++ events_in ys
+events_two xs ys = flat_map-append event_in xs ys
+
 gone_then : (xs ys : List Note) → gone_in (xs ++ ys) ≡ gone_in xs ++ gone_in ys
 gone_then xs ys = flat_map-append gone_by xs ys
 
-ends_then : (xs ys : List Note) → ends_in (xs ++ ys) ≡ ends_in xs + ends_in ys
+pub ends_then : (xs ys : List Note) → ends_in (xs ++ ys) ≡ ends_in xs + ends_in ys
 ends_then xs ys = sum_by-append (λ note. cond (is_end note) 1 0) xs ys
 
 pub pending_then : (xs ys : List Note) → pending_after (xs ++ ys) ≡ fold after_note (pending_after xs) ys

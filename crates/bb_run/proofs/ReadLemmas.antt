@@ -27,7 +27,7 @@ use Rattle.bb_run.specs.Asking.{attempt, entry_of}
 use Rattle.bb_run.specs.Processing.{response}
 use Rattle.bb_run.specs.Run.{validity}
 use Rattle.bb_run.specs.Causes.{IsAsked, code_of}
-use Rattle.bb_run.specs.Reads.{AsksByReading, LeavesBoard}
+use Rattle.bb_run.specs.Reads.{AsksByReading, ReadsOnly}
 use Rattle.bb_run.proofs.ResponseRule.{HoldsOfParts, OfPlan, holds}
 
 -- no native answers to an event
@@ -84,7 +84,13 @@ module _ (plan : Plan) (reading : AsksByReading plan) where
   validity_leaves source None a board there is = refl
   validity_leaves source (Some code) a board there is = asked_leaves code (entry_of a.unit None) board (source, there, inr (inl is))
 
-  pub run_reads : LeavesBoard plan
+  -- what answers to an event, and what is asked about a choice, leaves the blackboard and the natives
+  pub record LeavesBoard : Type 0 where
+    pub events : (event : Event) (s : State) → (response plan event s).state.board ≡ s.board
+    pub natives : (event : Event) (s : State) → (response plan event s).state.natives ≡ s.natives
+    pub choices : (source : Source) (a : Activation) (board : Blackboard) → Contains plan.sources source → (validity source.revalidate a board).1 ≡ board
+
+  pub run_reads : LeavesBoard
   run_reads = record {
     events = λ event s. holds plan Leaves response_parts event s;
     natives = same_natives plan;
@@ -117,3 +123,11 @@ sound_reads source code sound (inr (inr (inr is))) = reaction_reads source.retri
 
 pub plan_reads : (plan : Plan) → All HasSoundCodes plan.sources → AsksByReading plan
 plan_reads plan sound source code there asked = sound_reads source code (All-contains HasSoundCodes plan.sources source sound there) asked
+
+pub plan_reads_only : (plan : Plan) → ReadsOnly plan
+plan_reads_only plan = record {
+  sound = plan_reads plan;
+  events = λ event s reading. (run_reads plan reading).events event s;
+  choices = λ source a board reading there. (run_reads plan reading).choices source a board there;
+  natives = same_natives plan;
+}

@@ -25,7 +25,7 @@ use Rattle.bb_run.specs.Reads.{AsksByReading}
 use Rattle.bb_run.specs.Responses.{responses}
 use Rattle.bb_run.specs.Responds.{Answers, AnswersChoice, MayComeNext, MayFollow, MayOmit}
 use Rattle.bb_run.specs.Run.{acting, choice, chosen_with, cycle, cycle_of, cycles, execution, finish, finish_segments, if_chosen, if_valid, quiet, rating, run, validity, wait_for, with_finish}
-use Rattle.bb_run.proofs.AskedLemmas.{events_answered}
+use Rattle.bb_run.proofs.EarlyLemmas.{processes_early}
 use Rattle.bb_run.proofs.ExecutedLemmas.{finish_is, from_choice}
 use Rattle.bb_run.proofs.OrderlyCycles.{act_executes}
 use Rattle.bb_run.proofs.OrderlyParts.{IsEarly, all_of_two}
@@ -56,7 +56,7 @@ pub starts_then : (p : Stretch) (next : State → Stretch) (end : Option End) �
 starts_then p next (Some e) starts = starts
 starts_then p next None starts = starts_more p.emitted (next p.state).emitted starts
 
-may_omit : (e : End) (left : List Note) → IsEarly (Some e) → MayOmit e left
+may_omit : (e : End) (left : List (Option Note)) → IsEarly (Some e) → MayOmit e left
 may_omit finishes.Quiescence left early = absurd early
 may_omit finishes.Limit left early = absurd early
 may_omit finishes.Full left early = tt
@@ -142,7 +142,7 @@ module _ (plan : Plan) where
         let events = events_in r.emitted in
         let q = processing_all plan events r.state in
         subst (Answers plan r.state.board events past) (sym (emitted_with_finish q more))
-        (answers_by plan r.state.board events past (notes_of q) q.state q.end (all_of more) (events_emitted plan r.state.board reading events past r.state refl by) (events_answered plan events r.state).early next)
+        (answers_by plan r.state.board events past (notes_of q) q.state q.end (all_of more) (events_emitted plan r.state.board reading events past r.state refl by) (processes_early plan events r.state) next)
 
     -- the sources respond to the events of an execution, after a note that comes before it
     answers_act : (note : Note) (r : Response) (end : Option End) (past : List Note) (more : List (List Note)) (after : List Note) → end ≡ None → IsBy past r.state.agenda

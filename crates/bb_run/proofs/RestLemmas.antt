@@ -26,10 +26,10 @@ use Rattle.bb_run.specs.Responds.{Answers, MayComeNext}
 use Rattle.bb_run.specs.Run.{choice, cycle, cycles, finish_segments, first_state, if_chosen, noted, quiet, run, start, unfinished, wait_for, with_finish}
 use Rattle.bb_run.proofs.ContinueLemmas.{no_cycle}
 use Rattle.bb_run.proofs.CountLemmas.{silent_board}
+use Rattle.bb_run.proofs.EarlyLemmas.{response_early}
 use Rattle.bb_run.proofs.LimitLemmas.{first_emits}
 use Rattle.bb_run.proofs.OrderlyParts.{all_of_two}
 use Rattle.bb_run.proofs.OrderlyRuns.{run_keeps_limit}
-use Rattle.bb_run.proofs.PaidLemmas.{answers_event}
 use Rattle.bb_run.proofs.PendingLemmas.{chosen_then, pending_then, triggered_then}
 use Rattle.bb_run.proofs.PhasedRuns.{run_goes_by_phases}
 use Rattle.bb_run.proofs.PastLemmas.{IsBy, Says, by_foci, by_silent, event_emitted}
@@ -116,7 +116,7 @@ module _ (plan : Plan) (reading : AsksByReading plan) (board : Blackboard) (nati
       subst (Answers plan s.board (quiescence ∷ []) past) (sym same)
       (answers_by plan s.board (quiescence ∷ []) past r.emitted r.state r.end (all_of emits.0)
       (subst (λ l. Says past s.board l r.emitted r.state r.end) (sym (append-nil all_told)) (event_emitted plan s.board reading quiescence past s refl by))
-      (answers_event plan quiescence s).early
+      (response_early plan quiescence s)
       (λ e. subst (λ l. MayComeNext [] (all_of l)) (emits.2 e) (comes_next (with_finish (begins.next r.state)).emitted (begins.turns r.state))))
 
   -- where the run is in that state after so many cycles

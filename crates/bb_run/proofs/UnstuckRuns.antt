@@ -18,13 +18,12 @@ use Rattle.bb_machine.specs.Stop.{Stop}
 use Rattle.bb_machine.specs.Stop.TheVariants as stops
 use Rattle.bb_agenda.specs.Activation.{Activation}
 use Rattle.bb_agenda.specs.Agenda.{pending_of}
-use Rattle.bb_agenda.specs.Changes.{other_than}
+use Rattle.bb_agenda.specs.Changes.{other_than, with_executed}
 use Rattle.bb_agenda.proofs.Laws.{chosen_some, pending_executed, pending_obviated}
 use Rattle.bb_trace.specs.Act.{Act}
 use Rattle.bb_trace.specs.Act.TheVariants as acts
 use Rattle.bb_trace.specs.Board.{Board as Blackboard}
 use Rattle.bb_trace.specs.BoardNote.TheVariants.{Event as happened}
-use Rattle.bb_trace.specs.Event.{Event}
 use Rattle.bb_trace.specs.Event.TheVariants.{Quiescence as quiescence}
 use Rattle.bb_trace.specs.Law.{HasSoundCodes, IsMade}
 use Rattle.bb_trace.specs.Ask.{Ask}
@@ -40,21 +39,21 @@ use Rattle.bb_trace.specs.declared.note.Note.TheVariants.{Board, Chosen, Invalid
 use Rattle.bb_run_plan.specs.Plan.{Plan}
 use Rattle.bb_run.specs.declared.execution.Verdict.{Verdict}
 use Rattle.bb_run.specs.declared.execution.Verdict.TheVariants as verdicts
-use Rattle.bb_run.specs.State.{State, with_board, with_natives}
+use Rattle.bb_run.specs.State.{State, with_agenda, with_board, with_natives}
 use Rattle.bb_run.specs.Emission.{Response, Stretch, idle, over, after_emitted, and_then, segment}
 use Rattle.bb_run.specs.Asking.{attempt, entry_of, reply_by}
-use Rattle.bb_run.specs.Processing.{response}
-use Rattle.bb_run.specs.Order.{At, all_of, notes_of}
+use Rattle.bb_run.specs.Processing.{events_in, response}
+use Rattle.bb_run.specs.Executed.{upon_choice, upon_verdict}
+use Rattle.bb_run.specs.Order.{all_of, notes_of}
 use Rattle.bb_run.specs.Causes.{IsPart}
 use Rattle.bb_run.specs.Turns.{answering, posting, turn, turn_by}
 use Rattle.bb_run.specs.Run.{rating, choice, quiet, wait, wait_for, noted, answered, asked, calling, executing, execution, acting, verdict_by, verdict_of, validity, chosen_with, if_valid, cycle, if_chosen, cycles, first_state, start, finish, finish_segments, unfinished, run}
-use Rattle.bb_run.specs.Unstuck.{AsksFor, BeginsFor, FitsPlan, IsEventOf, IsReady, IsWellMade, KeepsBudget, NotStuck, SuitsSource}
+use Rattle.bb_run.specs.Unstuck.{BeginsEach, BeginsFor, FitsPlan, IsEventOf, IsReady, IsUnstuck, IsWellMade, KeepsBudget, NotStuck, SuitsSource}
 use Rattle.bb_run.proofs.EntryLemmas.{begins_with, code_within, fits_do, fits_revalidate}
-use Rattle.bb_run.proofs.OrderlyRuns.{run_chooses}
 use Rattle.bb_run.proofs.ReadLemmas.{plan_reads, run_reads}
 use Rattle.bb_run.proofs.UnstuckParts.{GoesWell, well_idle, well_one, well_over, well_segment, well_then}
 use Rattle.bb_run.proofs.UnstuckStates as states
-use Rattle.bb_run.proofs.UnstuckStates.{answer_to, answers_well, event_asks, posts_well, reports, there_at, well_noted}
+use Rattle.bb_run.proofs.UnstuckStates.{answer_to, answers_well, posts_well, reacts, reports, requires, there_at, well_noted}
 
 -- all notes of segments
 all_told : (P : Note → Type 0) (segments : List (List Note)) → All (All P) segments → All P (all_of segments)
@@ -327,18 +326,41 @@ module _ (plan : Plan) (sound : IsWellMade plan) where
     pub run_ready : IsReady plan (run plan board natives limit).state
     run_ready = goes.state
 
-  pub run_begins : (natives : List Native) (board : Blackboard) (limit : ℕ) (before : List Note) (number : ℕ) (a : Activation) (r : ℤ) → FitsPlan plan board → At (notes_of (run plan board natives limit)) before (Chosen number a r)
-      → BeginsFor plan (run plan board natives (number - 1)).state a
-  run_begins natives board limit before number a r fits at =
-      let s = (run plan board natives (number - 1)).state in
-      let ready = (goes natives board (number - 1) fits).state in
-      let chosen' = run_chooses plan board natives limit before number a r at in
-      begins_for s a ready (All-contains (SuitsSource plan s.board) (pending_of s.agenda) a ready.waiting chosen'.best.waits)
-    where
-      begins_for : (s : State) (a : Activation) → Ready s → SuitsSource plan s.board a → BeginsFor plan s a
-      begins_for s a ready suits source code there' (inl is) = act_begins source a s there' ready suits code is
-      begins_for s a ready suits source code there' (inr is) = revalidation_begins source a s there' ready suits code is
+    pub run_is_unstuck : IsUnstuck (run plan board natives limit)
+    run_is_unstuck = record { end = run_not_stuck; budgets = run_keeps_budgets }
 
--- what sources ask about an event in a state that is ready
-pub state_asks : (plan : Plan) (s : State) (event : Event) → IsWellMade plan → IsReady plan s → IsEventOf plan.schema s.board event → AsksFor plan s event
-state_asks plan s event made ready here = event_asks plan made s event ready here
+  -- ---- a state that is ready
+
+  -- what comes upon a choice leaves one, and its events are of the blackboard then
+  abbrev LeavesReady : Response → Type 0
+  LeavesReady r = Ready r.state × All (IsEventOf plan.schema r.state.board) (events_in r.emitted)
+
+  upon_ready : (source : Source) (v : Verdict) (a : Activation) (t : State) → slice_get plan.sources a.source ≡ Some source → Ready t → SuitsSource plan t.board a → LeavesReady (upon_verdict v source a t)
+  upon_ready source verdicts.Valid a t at ready suits =
+      let acting' = with_agenda t (with_executed t.agenda a.number) in
+      let is = acts_by source a acting' at (chooses 0 a (rating plan t a) verdicts.Valid t ready (λ end none. absurd cc)).state suits source.act refl in
+      (is.well.state, is.events)
+  upon_ready source verdicts.Invalid a t at ready suits = (ready, All-nil (IsEventOf plan.schema t.board))
+  upon_ready source (verdicts.Over end) a t at ready suits = (ready, All-nil (IsEventOf plan.schema t.board))
+
+  choice_ready : (source : Source) (a : Activation) (s : State) → slice_get plan.sources a.source ≡ Some source → Ready s → SuitsSource plan s.board a → LeavesReady (upon_choice source a s)
+  choice_ready source a s at ready suits =
+      let v = validity source.revalidate a s.board in
+      let same : v.1 ≡ s.board = same_board (Some source) a s.board at in
+      upon_ready source v.0 a (with_board s v.1) at (ready_on s v.1 same ready) (subst (λ (x : Blackboard). SuitsSource plan x a) (sym same) suits)
+
+  suits_pending : (s : State) (a : Activation) → Ready s → Contains (pending_of s.agenda) a → SuitsSource plan s.board a
+  suits_pending s a ready waits = All-contains (SuitsSource plan s.board) (pending_of s.agenda) a ready.waiting waits
+
+  act_or_revalidation : (s : State) (a : Activation) → Ready s → SuitsSource plan s.board a → BeginsFor plan s a
+  act_or_revalidation s a ready suits source code at (inl is) = act_begins source a s at ready suits code is
+  act_or_revalidation s a ready suits source code at (inr is) = revalidation_begins source a s at ready suits code is
+
+  pub state_begins : (s : State) → Ready s → BeginsEach plan s
+  state_begins s ready = record {
+    act = λ a waits. act_or_revalidation s a ready (suits_pending s a ready waits);
+    leaves = λ a source waits at. choice_ready source a s at ready (suits_pending s a ready waits);
+    require = λ event source code here. requires plan sound s event ready here source code;
+    react = λ event source reaction a here. reacts plan sound s event ready here source reaction a;
+    answers = λ event here. (answer_to plan sound event s ready here).state;
+  }

@@ -19,6 +19,7 @@ use Rattle.bb_trace.specs.Event.{Event}
 use Rattle.bb_trace.specs.Events.{unit_of}
 use Rattle.bb_trace.specs.Match.{any_match}
 use Rattle.bb_trace.specs.Reaction.{Reaction}
+use Rattle.bb_verify.specs.Accepted.{Checked}
 use Rattle.bb_trace.specs.Applied.{applied}
 use Rattle.bb_trace.specs.Ask.{Ask}
 use Rattle.bb_trace.proofs.Laws.{applied_fits, applied_leads}
@@ -34,10 +35,10 @@ use Rattle.bb_run.specs.Emission.{Response, Stretch, emitting, idle, over, after
 use Rattle.bb_run.specs.Asking.{entry_of}
 use Rattle.bb_run.specs.Processing.{event_in, events_in, processing_all, reported, response}
 use Rattle.bb_run.specs.Run.{asked, each_applied, with_notes_taken, noted}
-use Rattle.bb_run.specs.Unstuck.{AsksFor, FitsPlan, IsEventOf, IsReady, IsWellMade, KeepsBudget, NotStuck, SuitsSource}
+use Rattle.bb_run.specs.Unstuck.{FitsPlan, IsEventOf, IsReady, IsWellMade, KeepsBudget, NotStuck, SuitsSource}
 use Rattle.bb_run.proofs.EntryLemmas.{event_lasts, noted_events}
 use Rattle.bb_run.proofs.AskRule.{HoldsOfAsks, asks_hold}
-use Rattle.bb_run.proofs.PaidLemmas.{events_two}
+use Rattle.bb_run.proofs.PendingLemmas.{events_two}
 use Rattle.bb_run.proofs.UnstuckParts.{GoesWell, Waits, all_answer, obviate_begins, processes_all, require_begins, retrigger_begins, well_one, well_segment, well_then, well_weaker}
 
 -- what a blackboard noted keeps every budget
@@ -78,7 +79,7 @@ module _ (plan : Plan) (sound : IsWellMade plan) where
 
   -- what sources ask about an event
   module _ (s : State) (event : Event) (ready : Ready s) (here : IsEventOf plan.schema s.board event) where
-    reacts : (source : Source) (reaction : Reaction) (a : Activation) → Contains (pending_of s.agenda) a → slice_get plan.sources a.source ≡ Some source
+    pub reacts : (source : Source) (reaction : Reaction) (a : Activation) → Contains (pending_of s.agenda) a → slice_get plan.sources a.source ≡ Some source
         → (source.obviate ≡ Some reaction) ⊎ (source.retrigger ≡ Some reaction) → any_match plan.schema reaction.clauses event ≡ true
         → Begins reaction.code.part reaction.code.frames reaction.code.code (entry_of a.unit (Some (unit_of event))) s.board
     reacts source reaction a waits at (inl is) matched =
@@ -88,12 +89,9 @@ module _ (plan : Plan) (sound : IsWellMade plan) where
         let suits = All-contains (SuitsSource plan s.board) (pending_of s.agenda) a ready.waiting waits in
         retrigger_begins plan sound s.board ready.board event here source (there_at plan.sources a.source source at) reaction is matched a (suits source at)
 
-    pub event_asks : AsksFor plan s event
-    event_asks = record {
-      require = λ source code there' is matched. require_begins plan sound s.board ready.board event here source there' code is matched;
-      react = reacts;
-      leaves = (answer_to event s ready here).state;
-    }
+    pub requires : (source : Source) (code : Checked) → Contains plan.sources source → source.require ≡ Some code → any_match plan.schema source.triggers event ≡ true
+        → Begins code.part code.frames code.code (entry_of (unit_of event) None) s.board
+    requires source code there' is matched = require_begins plan sound s.board ready.board event here source there' code is matched
 
   -- ---- what was noted is emitted, and its events are processed
 

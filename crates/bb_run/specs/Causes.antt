@@ -85,10 +85,6 @@ LacksNativeFor plan natives a =
 abbrev pub IsFull : Agenda → Type 0
 IsFull agenda = (65536 ≤ length (pending_of agenda)) ⊎ (2 ^ 63 - 1 ≤ length agenda.given)
 
--- no more are pending than may be
-abbrev pub HasFew : Agenda → Type 0
-HasFew agenda = length (pending_of agenda) ≤ 65536
-
 -- why a run ends in this state
 pub data Cause (plan : Plan) (s : State) : End → Type 0 where
   -- the run is full: its agenda is

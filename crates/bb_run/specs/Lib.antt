@@ -12,32 +12,28 @@ pub mod Processing
 pub mod Run
 -- a turn of a run, and asks from outside
 pub mod Turns
--- what every run is like
+-- what notes tell, how each choice is made, and how each run ends
 pub mod Order
--- whether the sources are asked what the events ask for
-pub mod Asked
 -- the phases of a run
 pub mod Phases
 -- what comes after a choice
 pub mod Executed
 -- why a run ends full or stuck, or with a native due
 pub mod Causes
--- the events that a run processes, and the states in which it does
-pub mod Processed
--- why no run is stuck, and none ends with a native due
+-- why no run is stuck
 pub mod Unstuck
 -- what leaves the blackboard as it was
 pub mod Reads
 -- what the sources emit in response to events
 pub mod Responses
--- what comes in a run where events were emitted
+-- how a run goes on
 pub mod Responds
 -- what the act of a source emits and leaves
 pub mod Acts
--- what lasts from one cycle to the next
-pub mod Continues
 -- the foci that a run rates by
 pub mod Weighed
+-- the state that a run leaves
+pub mod Left
 -- the end of a run by what `run` returns, and what was written where it was cut short
 pub mod Finish
 -- what a part of the run's code emits, against the definitions

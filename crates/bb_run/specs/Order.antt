@@ -1,7 +1,7 @@
 -- What every run is like. Most of it is read off the notes alone.
-use Rattle.std.specs.Prelude.{◌≡◌, ◌⊎◌, ℕ, ◌+◌, ◌≤◌, ◌<◌, ℤ, ◌≤ℤ◌, Bool, true, false, ◌==◌, Some, None}
-use Rattle.std.specs.Prelude.{List, [], ◌∷◌, ◌++◌, length, map, filter, Contains}
-use Rattle.std.specs.List.{AllZip, count_by, flat_map, fold, list_any}
+use Rattle.std.specs.Prelude.{◌≡◌, ◌⊎◌, ℕ, ◌+◌, ◌≤◌, ℤ, Bool, false, ◌==◌, Some, None}
+use Rattle.std.specs.Prelude.{List, [], ◌∷◌, ◌++◌, length, map, filter}
+use Rattle.std.specs.List.{AllZip, flat_map, fold, list_any}
 use Rattle.bb_agenda.specs.Activation.{Activation}
 use Rattle.bb_agenda.specs.Agenda.{pending_of}
 use Rattle.bb_agenda.specs.Changes.{other_than, rebased}
@@ -9,13 +9,12 @@ use Rattle.bb_agenda.specs.Chosen.{IsChosen}
 use Rattle.bb_trace.specs.End.{End}
 use Rattle.bb_trace.specs.End as ends
 use Rattle.bb_trace.specs.declared.note.Note.{Note}
-use Rattle.bb_trace.specs.declared.note.Note.TheVariants.{Triggered, Obviated, Retriggered, Chosen}
-use Rattle.bb_trace.specs.declared.note.Note.TheVariants.{Invalid, Ended, Refused, NativeEnded, Finished, Closed}
+use Rattle.bb_trace.specs.declared.note.Note.TheVariants.{Triggered, Obviated, Retriggered, Chosen, Finished, Closed}
 use Rattle.bb_trace.specs.Closing.{Closing}
 use Rattle.bb_trace.specs.Native.{Native}
-use Rattle.bb_trace.specs.Refusal.{Refusal}
 use Rattle.bb_trace.specs.Roster.{closings_of}
 use Rattle.bb_run_plan.specs.Plan.{Plan}
+use Rattle.bb_run.specs.Causes.{HasCause}
 use Rattle.bb_run.specs.Emission.{Stretch}
 use Rattle.bb_run.specs.Run.{choice, finish, rating}
 
@@ -49,13 +48,6 @@ gone_by (Chosen cycle a r) = a.number ∷ []
 gone_by (Obviated number) = number ∷ []
 gone_by _ = []
 
--- a cycle is over by the note: its execution has ended, or its activation was invalid
-abbrev pub is_end : Note → Bool
-is_end (Ended steps found budget) = true
-is_end (NativeEnded asks) = true
-is_end (Invalid number) = true
-is_end _ = false
-
 -- what a native said at its close, by a note
 abbrev pub closed_by : Note → List Closing
 closed_by (Closed closing) = closing ∷ []
@@ -77,10 +69,6 @@ gone_in notes = flat_map gone_by notes
 abbrev pub closed_in : List Note → List Closing
 closed_in notes = flat_map closed_by notes
 
--- the number of cycles that are over
-abbrev pub ends_in : List Note → ℕ
-ends_in notes = count_by is_end notes
-
 -- the number is among these
 abbrev pub is_among : ℕ → List ℕ → Bool
 is_among number numbers = list_any (λ n. number == n) numbers
@@ -101,96 +89,55 @@ after_note pending _ = pending
 abbrev pub pending_after : List Note → List Activation
 pending_after notes = fold after_note [] notes
 
--- ---- what holds of the notes of every run
-
--- activations and cycles have the numbers from 1 on, in order
-pub record IsCounted (notes : List Note) : Type 0 where
-  -- the number of a new activation is one more than the number of those before it
-  pub activations : (before : List Note) (a : Activation) → At notes before (Triggered a)
-      → a.number ≡ length (triggered_in before) + 1
-  -- the number of a cycle is one more than the number of choices before it
-  pub cycles : (before : List Note) (cycle : ℕ) (a : Activation) (r : ℤ) → At notes before (Chosen cycle a r)
-      → cycle ≡ length (chosen_in before) + 1
-
--- a cycle acts on what is pending then
-pub record ActsOnPending (floor : ℤ) (notes : List Note) : Type 0 where
-  -- what is chosen was triggered before, and neither chosen nor obviated before
-  pub pending : (before : List Note) (cycle : ℕ) (a : Activation) (r : ℤ) → At notes before (Chosen cycle a r)
-      → Contains (pending_after before) a
-  pub once : (before : List Note) (cycle : ℕ) (a : Activation) (r : ℤ) → At notes before (Chosen cycle a r)
-      → is_among a.number (gone_in before) ≡ false
-  -- the rating that the line of the choice prints is at least the floor
-  pub enough : (before : List Note) (cycle : ℕ) (a : Activation) (r : ℤ) → At notes before (Chosen cycle a r)
-      → floor ≤ℤ r
-
--- each execution follows its choice
-pub record ExecutesInTurn (notes : List Note) : Type 0 where
-  -- at a choice each cycle before is over: its execution has ended, or its activation was invalid
-  pub choices : (before : List Note) (cycle : ℕ) (a : Activation) (r : ℤ) → At notes before (Chosen cycle a r)
-      → ends_in before ≡ length (chosen_in before)
-  -- where a cycle is over, one choice more was made than cycles were over before
-  pub ends : (before : List Note) (steps found budget : ℕ) → At notes before (Ended steps found budget)
-      → ends_in before + 1 ≡ length (chosen_in before)
-  pub native_ends : (before : List Note) (asks : ℕ) → At notes before (NativeEnded asks)
-      → ends_in before + 1 ≡ length (chosen_in before)
-  pub invalids : (before : List Note) (number : ℕ) → At notes before (Invalid number)
-      → ends_in before + 1 ≡ length (chosen_in before)
-  -- where an ask is refused, one choice more was made than cycles were over before
-  pub refusals : (before : List Note) (ask : ℕ) (refusal : Refusal) → At notes before (Refused ask refusal)
-      → ends_in before + 1 ≡ length (chosen_in before)
-
--- ---- how every run ends
-
--- the run has an end, which it emits once, and after it what each native says at its close, in order
-pub record IsFinished (run : Stretch) : Type 0 where
-  pub end : End
-  -- the run ends in this way
-  pub ends : run.end ≡ Some end
-  -- the last notes of the run are its end and the closings
-  pub last : (before : List Note) × (notes_of run ≡ before ++ finish end run.state.natives)
-  -- nothing but the closings comes after a finish
-  pub once : (before : List Note) (e : End) (after : List Note) → notes_of run ≡ before ++ Finished e ∷ after
-      → after ≡ map Closed (closings_of run.state.natives)
-
--- two natives are the same but for what they hold
-abbrev pub IsLike : Native → Native → Type 0
-IsLike native left = (held : List ℤ) × (left ≡ record native { held = held })
-
--- each of the natives that were handed in is closed once, in order
-pub record ClosesEach (natives : List Native) (run : Stretch) : Type 0 where
-  -- the natives at the end are those that were handed in, but for what they hold
-  pub left : AllZip IsLike natives run.state.natives
-  -- the natives are closed in order, and nothing else is closed
-  pub closings : closed_in (notes_of run) ≡ closings_of run.state.natives
-  pub names : map (λ (c : Closing). c.name) (closed_in (notes_of run)) ≡ map (λ (n : Native). n.name) natives
-
--- the run makes no more cycles than the limit, and its end says why it made no more
-pub record KeepsLimit (plan : Plan) (limit : ℕ) (run : Stretch) : Type 0 where
-  -- no more cycles than the limit
-  pub within : length (chosen_in (notes_of run)) ≤ limit
-  -- a run that ends by its limit made as many cycles
-  pub met : run.end ≡ Some ends.Limit → length (chosen_in (notes_of run)) ≡ limit
-  -- something can be chosen in the last state of a run that ends by its limit
-  pub left : run.end ≡ Some ends.Limit → (a : Activation) × (choice plan run.state ≡ Some a)
-  -- nothing can be chosen in the last state of a run that ends in quiescence
-  pub exhausted : run.end ≡ Some ends.Quiescence → choice plan run.state ≡ None
-
 -- ---- how every choice is made
 
--- after these notes an activation is chosen in the last state of a run, and its line prints this rating
-pub record IsChosenAfter (plan : Plan) (run : Stretch) (before : List Note) (a : Activation) (r : ℤ) : Type 0 where
-  -- the run emits these notes, and then ends by its limit
+-- after these notes a cycle chooses an activation in the last state of a run, and its line prints this rating
+pub record IsChosenAfter (plan : Plan) (run : Stretch) (before : List Note) (cycle : ℕ) (a : Activation) (r : ℤ)
+    : Type 0 where
+  -- the number of the cycle is one more than the number of choices before it
+  pub counted : cycle ≡ length (chosen_in before) + 1
+  -- the activation was neither chosen nor obviated before
+  pub once : is_among a.number (gone_in before) ≡ false
+  -- that run emits these notes, and then ends by its limit
   pub emitted : notes_of run ≡ before ++ finish ends.Limit run.state.natives
   -- what is pending in its last state is what is pending by the notes
   pub agenda : pending_of run.state.agenda ≡ pending_after before
   -- the activation is the choice in that state
   pub choice_is : choice plan run.state ≡ Some a
-  -- the line prints the rating that the activation has there
-  pub rated : r ≡ rating plan run.state a
-  -- nothing that is pending there is rated higher, and of equals it is the earliest
+  -- it is rated at least the floor there, nothing that is pending is rated higher, and of equals it is the earliest
   pub best : IsChosen (rating plan run.state) plan.floor (pending_of run.state.agenda) a
-  -- the source of the activation is one of the plan
-  pub source_there : a.source < length plan.sources
+  -- the line prints the rating that it has there
+  pub rated : r ≡ rating plan run.state a
+
+-- ---- how every run ends
+
+-- two natives are the same but for what they hold
+abbrev pub IsLike : Native → Native → Type 0
+IsLike native left = (held : List ℤ) × (left ≡ record native { held = held })
+
+-- a run of these natives and this limit ends once, for a cause, and closes each native
+pub record EndsOnce (plan : Plan) (natives : List Native) (limit : ℕ) (run : Stretch) : Type 0 where
+  -- the run ends in this way
+  pub end : End
+  pub end_is : run.end ≡ Some end
+  -- where it is full or stuck, or a native is due, it has a cause for that
+  pub cause : HasCause plan run.state run.end
+  -- its last notes are its end, and what each native says at its close, in order
+  pub last : (before : List Note) × (notes_of run ≡ before ++ finish end run.state.natives)
+  -- nothing but that comes after a finish
+  pub once : (before : List Note) (e : End) (after : List Note) → notes_of run ≡ before ++ Finished e ∷ after
+      → after ≡ map Closed (closings_of run.state.natives)
+  -- nothing else is closed
+  pub closings : closed_in (notes_of run) ≡ closings_of run.state.natives
+  -- the natives are those that were handed in, but for what they hold
+  pub natives_left : AllZip IsLike natives run.state.natives
+  -- the run makes no more cycles than the limit
+  pub within : length (chosen_in (notes_of run)) ≤ limit
+  -- where it ends by its limit it made as many, and something can still be chosen
+  pub met : run.end ≡ Some ends.Limit → length (chosen_in (notes_of run)) ≡ limit
+  pub left : run.end ≡ Some ends.Limit → (a : Activation) × (choice plan run.state ≡ Some a)
+  -- where it ends in quiescence nothing can be chosen
+  pub exhausted : run.end ≡ Some ends.Quiescence → choice plan run.state ≡ None
 
 -- ---- how runs of two limits compare
 

@@ -1,10 +1,11 @@
 -- What is asked about events and activations changes nothing of the blackboard.
-use Rattle.std.specs.Prelude.{◌≡◌, true, Contains}
+use Rattle.std.specs.Prelude.{◌≡◌, true, All, Contains}
 use Rattle.bb_agenda.specs.Activation.{Activation}
 use Rattle.bb_machine.specs.Writes.{has_no_writes}
 use Rattle.bb_verify.specs.Accepted.{Checked}
 use Rattle.bb_trace.specs.Board.{Board as Blackboard}
 use Rattle.bb_trace.specs.Event.{Event}
+use Rattle.bb_trace.specs.Law.{HasSoundCodes}
 use Rattle.bb_trace.specs.Source.{Source}
 use Rattle.bb_run_plan.specs.Plan.{Plan}
 use Rattle.bb_run.specs.State.{State}
@@ -18,10 +19,13 @@ AsksByReading plan =
     (source : Source) (code : Checked) → Contains plan.sources source → IsAsked source code
     → has_no_writes code.code ≡ true
 
--- what answers to an event, and what is asked about a choice, leaves the blackboard as it was, and no native answers to
--- an event
-pub record LeavesBoard (plan : Plan) : Type 0 where
-  pub events : (event : Event) (s : State) → (response plan event s).state.board ≡ s.board
+-- what is asked of sources only reads
+pub record ReadsOnly (plan : Plan) : Type 0 where
+  -- no code that a source asks writes, where the codes of the sources are sound, as those of every plan are
+  pub sound : All HasSoundCodes plan.sources → AsksByReading plan
+  -- then what answers to an event leaves the blackboard as it was, and so does what is asked about a choice
+  pub events : (event : Event) (s : State) → AsksByReading plan → (response plan event s).state.board ≡ s.board
+  pub choices : (source : Source) (a : Activation) (board : Blackboard) → AsksByReading plan
+      → Contains plan.sources source → (validity source.revalidate a board).1 ≡ board
+  -- no native answers to an event
   pub natives : (event : Event) (s : State) → (response plan event s).state.natives ≡ s.natives
-  pub choices : (source : Source) (a : Activation) (board : Blackboard) → Contains plan.sources source
-      → (validity source.revalidate a board).1 ≡ board

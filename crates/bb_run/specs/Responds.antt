@@ -1,5 +1,6 @@
--- What comes in a run where events were emitted: the responses of the sources to them, and then its next turn.
-use Rattle.std.specs.Prelude.{◌≡◌, ℕ, ◌-◌, ℤ, List, [], ◌∷◌, ◌++◌, length, map, Some, None, slice_get}
+-- How a run goes on: where events were emitted come the responses of the sources to them, and then its next turn, which
+-- finds the blackboard and the natives as the execution before it left them.
+use Rattle.std.specs.Prelude.{◌≡◌, ℕ, ◌-◌, ℤ, List, [], ◌∷◌, ◌++◌, length, map, Option, Some, None, slice_get}
 use Rattle.bb_agenda.specs.Activation.{Activation}
 use Rattle.bb_trace.specs.Board.{Board as Blackboard, with_world}
 use Rattle.bb_trace.specs.World.{after_take}
@@ -17,8 +18,8 @@ use Rattle.bb_run.specs.State.{State}
 use Rattle.bb_run.specs.Executed.{upon_choice}
 use Rattle.bb_run.specs.Processing.{events_in}
 use Rattle.bb_run.specs.Responses.{responses}
-use Rattle.bb_run.specs.Run.{run}
-use Rattle.bb_run.specs.Order.{chosen_in, notes_of}
+use Rattle.bb_run.specs.Run.{first_state, run}
+use Rattle.bb_run.specs.Order.{At, chosen_in, notes_of}
 use Rattle.bb_run.specs.Phases.{outside, phase_after}
 
 -- what a blackboard had noted, as notes of a run
@@ -30,31 +31,31 @@ abbrev pub taken : Blackboard → Blackboard
 taken board = with_world board (after_take board.world)
 
 -- a run with this end may leave out these responses: none, unless it is full or stuck, or a native is due
-abbrev pub MayOmit : End → List Note → Type 0
+abbrev pub MayOmit : End → List (Option Note) → Type 0
 MayOmit ends.Quiescence left = left ≡ []
 MayOmit ends.Limit left = left ≡ []
 MayOmit _ left = Unit {0}
 
 -- the note may come after responses of which these are left out: the finish, or, where none is, quiescence or a choice
-abbrev pub MayFollow : (left : List Note) → Note → Type 0
+abbrev pub MayFollow : (left : List (Option Note)) → Note → Type 0
 MayFollow left (Finished end) = MayOmit end left
 MayFollow left (Chosen cycle a r) = left ≡ []
 MayFollow left (Board note) = (left ≡ []) × (note ≡ happened quiescence)
 MayFollow left _ = ⊥
 
 -- these notes may
-abbrev pub MayComeNext : (left : List Note) → List Note → Type 0
+abbrev pub MayComeNext : (left : List (Option Note)) → List Note → Type 0
 MayComeNext left [] = ⊥
 MayComeNext left (note ∷ more) = MayFollow left note
 
 -- events were emitted last of what is past: the responses to them come next, and then the finish, quiescence or a choice
 pub record Answers (plan : Plan) (board : Blackboard) (events : List Event) (past after : List Note) : Type 0 where
   pub emitted : List Note
-  pub left : List Note
+  pub left : List (Option Note)
   pub rest : List Note
   pub comes : after ≡ emitted ++ rest
   -- all responses are emitted, but for those that are left out
-  pub all : emitted ++ left ≡ responses plan board events past
+  pub all : map Some emitted ++ left ≡ responses plan board events past
   pub next : MayComeNext left rest
 
 -- an activation was chosen in this state: after what is emitted upon the choice come the responses to the events of that,
@@ -65,7 +66,12 @@ AnswersChoice plan s a past after =
     let emitted = upon_choice source a s in emitted.end ≡ None → after ≡ emitted.emitted ++ more
     → Answers plan emitted.state.board (events_in emitted.emitted) (past ++ emitted.emitted) more
 
--- the sources respond to what is emitted in a run where it is emitted
+-- the blackboard and the natives of one state are those of another
+pub record HasWorldOf (s t : State) : Type 0 where
+  pub board : s.board ≡ t.board
+  pub natives : s.natives ≡ t.natives
+
+-- the sources respond to what is emitted in a run where it is emitted, and nothing changes but by executions
 pub record Responds (plan : Plan) (board : Blackboard) (natives : List Native) (limit : ℕ) : Type 0 where
   -- what the blackboard had noted comes first, and then the responses to its events
   pub first : (after : List Note) → notes_of (run plan board natives limit) ≡ noted_on board ++ after
@@ -80,3 +86,11 @@ pub record Responds (plan : Plan) (board : Blackboard) (natives : List Native) (
       notes_of (run plan board natives limit) ≡ past ++ Board (happened quiescence) ∷ after
       → Answers plan (run plan board natives (length (chosen_in before))).state.board (quiescence ∷ [])
       (past ++ Board (happened quiescence) ∷ []) after
+  -- a run without cycles leaves what was handed in, with its notes taken
+  pub begins : HasWorldOf (run plan board natives 0).state (first_state plan (taken board) natives)
+  -- a run up to a cycle leaves what the execution upon its choice leaves, from where the run up to the one before ends
+  pub lasts : (before : List Note) (cycle : ℕ) (a : Activation) (r : ℤ) (source : Source)
+      → At (notes_of (run plan board natives limit)) before (Chosen cycle a r)
+      → slice_get plan.sources a.source ≡ Some source
+      → HasWorldOf (run plan board natives cycle).state
+      (upon_choice source a (run plan board natives (cycle - 1)).state).state

@@ -23,7 +23,10 @@ use Rattle.bb_trace.specs.declared.note.Note.TheVariants.{Ended}
 use Rattle.bb_run_plan.specs.Plan.{Plan}
 use Rattle.bb_run.specs.State.{State}
 use Rattle.bb_run.specs.Asking.{entry_of}
-use Rattle.bb_run.specs.Processing.{response}
+use Rattle.bb_run.specs.Emission.{Stretch}
+use Rattle.bb_run.specs.Executed.{upon_choice}
+use Rattle.bb_run.specs.Order.{notes_of}
+use Rattle.bb_run.specs.Processing.{events_in, response}
 
 -- ---- what a run needs
 
@@ -66,20 +69,29 @@ IsEventOf s board event = is_event_of s board.world.units event ≡ true
 abbrev pub IsReadyFor : Plan → Event × State → Type 0
 IsReadyFor plan visit = IsReady plan visit.1 × IsEventOf plan.schema visit.1.board visit.0
 
--- what sources ask about an event begins with what fits its part
-pub record AsksFor (plan : Plan) (s : State) (event : Event) : Type 0 where
-  -- the requirement of a source that the event triggers
-  pub require : (source : Source) (code : Checked) → Contains plan.sources source → source.require ≡ Some code
+-- in a state, each code that comes to be executed there begins with what fits its part
+pub record BeginsEach (plan : Plan) (s : State) : Type 0 where
+  -- what is executed for an activation that is pending
+  pub act : (a : Activation) → Contains (pending_of s.agenda) a → BeginsFor plan s a
+  -- what comes of that leaves a state that is ready, and the events that it emits are of its blackboard
+  pub leaves : (a : Activation) (source : Source) → Contains (pending_of s.agenda) a
+      → slice_get plan.sources a.source ≡ Some source → let r = upon_choice source a s in
+      IsReady plan r.state × All (IsEventOf plan.schema r.state.board) (events_in r.emitted)
+  -- the requirement of a source that an event of the blackboard triggers
+  pub require : (event : Event) (source : Source) (code : Checked) → IsEventOf plan.schema s.board event
+      → Contains plan.sources source → source.require ≡ Some code
       → any_match plan.schema source.triggers event ≡ true
       → Begins code.part code.frames code.code (entry_of (unit_of event) None) s.board
-  -- a reaction of a source to the event, about each of its pending activations
-  pub react : (source : Source) (reaction : Reaction) (a : Activation) → Contains (pending_of s.agenda) a
+  -- a reaction of a source to such an event, about each of its pending activations
+  pub react : (event : Event) (source : Source) (reaction : Reaction) (a : Activation)
+      → IsEventOf plan.schema s.board event → Contains (pending_of s.agenda) a
       → slice_get plan.sources a.source ≡ Some source
       → (source.obviate ≡ Some reaction) ⊎ (source.retrigger ≡ Some reaction)
       → any_match plan.schema reaction.clauses event ≡ true
-      → Begins reaction.code.part reaction.code.frames reaction.code.code (entry_of a.unit (Some (unit_of event))) s.board
-  -- what answers to the event leaves a state that is ready
-  pub leaves : IsReady plan (response plan event s).state
+      → Begins reaction.code.part reaction.code.frames reaction.code.code (entry_of a.unit (Some (unit_of event)))
+      s.board
+  -- what answers to such an event leaves a state that is ready
+  pub answers : (event : Event) → IsEventOf plan.schema s.board event → IsReady plan (response plan event s).state
 
 -- ---- what comes of it
 
@@ -97,3 +109,10 @@ NotDue _ = ⊤
 abbrev pub KeepsBudget : Note → Type 0
 KeepsBudget (Ended steps found budget) = steps ≤ budget
 KeepsBudget _ = ⊤
+
+-- a run of sources that are well made, on a blackboard that fits them
+pub record IsUnstuck (run : Stretch) : Type 0 where
+  -- it does not end stuck
+  pub end : NotStuck run.end
+  -- no execution in it makes more steps than the budget on its line
+  pub budgets : All KeepsBudget (notes_of run)
