@@ -1,5 +1,5 @@
--- What follows from the law of runs, and so is no clause of it: activations have the numbers from 1 on, and sources are
--- triggered as the events ask for it, all of them.
+-- What follows from the law of runs, and so is no clause of it: sources are triggered as the events ask for it, all of
+-- them, in their order.
 use Rattle.std.proofs.Common.{◌≡◌, ◌⊎◌, ◌≤◌, inl, inr, ℕ, zero, suc, ◌+◌, ◌-◌, ℤ, List, [], ◌∷◌, ◌++◌, length, map, slice_get, Option, Some, None, refl, sym, ap, subst, ◌∙◌, append_assoc, arith, length-append}
 use Rattle.std.specs.List.{fold}
 use Rattle.std.proofs.lemmas.List.{append-nil, append_cancel_left}
@@ -22,7 +22,7 @@ use Rattle.bb_trace.specs.Source.{Source}
 use Rattle.bb_run_plan.specs.Plan.{Plan}
 use Rattle.bb_run.specs.Emission.{Response}
 use Rattle.bb_run.specs.Executed.{IsFollowed, finish_by, upon_choice}
-use Rattle.bb_run.specs.Order.{At, EndsOnce, all_of, chosen_in, notes_of, triggered_in}
+use Rattle.bb_run.specs.Order.{At, EndsOnce, all_of, chosen_in, notes_of}
 use Rattle.bb_run.specs.Phases.{GoesByPhases, Phase, after_in, inside, outside, phase_after, rested}
 use Rattle.bb_run.specs.Processing.{events_in}
 use Rattle.bb_run.specs.Responds.{Answers, MayComeNext, MayOmit, Responds, noted_on, taken}
@@ -281,10 +281,6 @@ module _ (plan : Plan) where
       stands before note at = comes_at (MayStand plan) [] all before note at.0 run_comes at.1
 
       -- ---- what follows
-
-      -- activations have the numbers from 1 on, in order
-      pub run_counts : (before : List Note) (a : Activation) → At all before (Triggered a) → a.number ≡ length (triggered_in before) + 1
-      run_counts before a at = stands before (Triggered a) at
 
       -- sources are triggered as the events ask for it, in their order, source by source: all of them at a choice
       pub run_is_paid : (before : List Note) (cycle : ℕ) (a : Activation) (r : ℤ) → At all before (Chosen cycle a r) → answered_in before ≡ asked_for plan (events_in before)

@@ -256,7 +256,7 @@ module _ (plan : Plan) (board : Blackboard) (natives : List Native) where
   run_notes limit = record { end = (end_of_run limit).0; notes = notes_of_run limit; comes = (ends_all limit).comes }
 
   -- a note of the run that does not come with the finish
-  may_come : (limit : ℕ) (before : List Note) (note : Note) → ComesBefore note → At (notes_of (run plan board natives limit)) before note → May plan board natives before note
+  pub may_come : (limit : ℕ) (before : List Note) (note : Note) → ComesBefore note → At (notes_of (run plan board natives limit)) before note → May plan board natives before note
   may_come limit before note early at =
       comes_before (May plan board natives) [] (notes_of (unfinished plan board natives limit)) (end_of_run limit).0 (closings limit) before note at.0 (ends_all limit).comes early (sym (notes_of_run limit) ∙ at.1)
 

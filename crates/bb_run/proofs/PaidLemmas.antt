@@ -1,4 +1,4 @@
--- What the sources emit in response to events gives activations the next numbers, and answers what the events ask for.
+-- What the sources emit in response to events answers what the events ask for.
 use Rattle.std.proofs.Common.{◌≡◌, ◌⊎◌, inl, inr, ℕ, ◌+◌, ℤ, Bool, true, false, cond, if◌then◌else◌, List, [], ◌∷◌, ◌++◌, length, map, Option, Some, None, refl, sym, ap, subst, ◌∙◌, append_assoc}
 use Rattle.std.specs.Prelude.{⊤}
 use Rattle.std.specs.List.{flat_map, fold}
@@ -109,7 +109,6 @@ module _ (plan : Plan) where
 
   -- a note of a run comes after notes by which it may
   abbrev pub MayStand : List Note → Note → Type 0
-  MayStand before (Triggered a) = a.number ≡ length (triggered_in before) + 1
   MayStand before (Chosen cycle a r) = IsPaid before
   MayStand before (Finished end) = (owed : List (ℕ × ℕ)) × (Owes before owed × MayOwe end owed)
   MayStand before _ = ⊤
@@ -230,7 +229,7 @@ module _ (plan : Plan) where
 
     gets_next : (place : ℕ) (base : ℤ) (past : List Note) → Pays past (here place ∷ []) (gets event place base past)
     gets_next place base past =
-        pays_one past (here place ∷ []) (Triggered (record { number = length (triggered_in past) + 1; source = place; unit = unit_of event; base = base })) refl refl (λ phase. refl) refl
+        pays_one past (here place ∷ []) (Triggered (record { number = length (triggered_in past) + 1; source = place; unit = unit_of event; base = base })) tt refl (λ phase. refl) refl
 
     declines : (place : ℕ) (past : List Note) → Pays past (here place ∷ []) (Some (Declined place (unit_of event)) ∷ [])
     declines place past = pays_one past (here place ∷ []) (Declined place (unit_of event)) tt refl (λ phase. refl) refl

@@ -1,11 +1,13 @@
 -- Each run goes by its phases, after what its blackboard had noted.
-use Rattle.std.proofs.Common.{◌≡◌, ℕ, List, [], ◌∷◌, ◌++◌, length, map, Option, Some, None, refl, sym, ap, ◌∙◌, arith}
+use Rattle.std.proofs.Common.{◌≡◌, ℕ, ◌+◌, List, [], ◌∷◌, ◌++◌, length, map, Option, Some, None, refl, sym, ap, ◌∙◌, append_assoc, arith}
 use Rattle.std.proofs.lemmas.List.{append-nil}
+use Rattle.bb_agenda.specs.Activation.{Activation}
 use Rattle.bb_trace.specs.Board.{Board as Blackboard}
+use Rattle.bb_trace.specs.BoardNote.{Note as BoardNote}
 use Rattle.bb_trace.specs.End.{End}
 use Rattle.bb_trace.specs.End as finishes
 use Rattle.bb_trace.specs.declared.note.Note.{Note}
-use Rattle.bb_trace.specs.declared.note.Note.TheVariants.{Board, Chosen, Invalid, Ended, Refused, NativeEnded, Finished}
+use Rattle.bb_trace.specs.declared.note.Note.TheVariants.{Board, Triggered, Chosen, Invalid, Ended, Refused, NativeEnded, Finished}
 use Rattle.bb_trace.specs.Native.{Native}
 use Rattle.bb_trace.specs.Roster.{closings_of}
 use Rattle.bb_run_plan.specs.Plan.{Plan}
@@ -14,14 +16,20 @@ use Rattle.bb_run.specs.Emission.{Response, Stretch, after_emitted, and_then_unl
 use Rattle.bb_run.specs.Processing.{events_in, processing_all}
 use Rattle.bb_run.specs.Run.{first_state, noted, cycles, finish, finish_segments, unfinished, run}
 use Rattle.bb_run.specs.Foci.{setting_of}
-use Rattle.bb_run.specs.Order.{At, all_of, notes_of}
+use Rattle.bb_run.specs.Order.{At, all_of, notes_of, triggered_in}
 use Rattle.bb_run.specs.Phases.{outside, rested, phase_after, GoesByPhases}
 use Rattle.bb_run.proofs.OrderLemmas.{ComesBefore, comes_before, comes_last}
 use Rattle.bb_run.proofs.OrderlyParts.{all_of_more}
-use Rattle.bb_run.proofs.OrderlyRuns.{Begins, run_finishes}
+use Rattle.bb_run.proofs.OrderlyRuns.{Begins, may_come, run_finishes}
+use Rattle.bb_run.proofs.PendingLemmas.{triggered_then}
 use Rattle.bb_run.proofs.PhaseLemmas.{SoFar, EmitsLast, all_cycles, ends_then, processes_all}
 use Rattle.bb_run.proofs.PhaseMoves.{MayStand, at_first}
 use Rattle.bb_run.proofs.CountLemmas.{events_silent}
+
+-- notes of the blackboard tell of no activation
+pub none_triggered : (notes : List BoardNote) → triggered_in (map Board notes) ≡ []
+none_triggered [] = refl
+none_triggered (note ∷ notes) = none_triggered notes
 
 -- a segment stays the first
 after_first : (notes : List Note) (q : Stretch) (next : State → Stretch) (end : Option End) → and_then_unless end (after_emitted (notes ∷ []) q) next ≡ after_emitted (notes ∷ []) (and_then_unless end q next)
@@ -86,10 +94,23 @@ module _ (plan : Plan) (board : Blackboard) (natives : List Native) (limit : ℕ
       let quiet' : later.end ≡ Some finishes.Quiescence = later_ends ∙ ap (λ e. Some e) (sym parts.0) in
       ap phase_after parts.1.0 ∙ ends.quiet_end quiet'
 
+  first_is : (run plan board natives limit).emitted ≡ map Board board.world.notes ∷ rest
+  first_is = ap (λ u. u.emitted ++ finish_segments u.end u.state.natives) begun ∙ ap (λ l. l ∷ rest) (append-nil (map Board board.world.notes))
+
+  -- the number of a new activation
+  numbered : (before : List Note) (a : Activation) → At (all_of rest) before (Triggered a) → a.number ≡ length (triggered_in before) + 1
+  numbered before a at =
+      let noted' : List Note = map Board board.world.notes in
+      let all : notes_of (run plan board natives limit) ≡ (noted' ++ before) ++ Triggered a ∷ at.0 =
+      ap all_of first_is ∙ ap (λ l. noted' ++ l) at.1 ∙ sym (append_assoc noted' before (Triggered a ∷ at.0)) in
+      may_come plan board natives limit (noted' ++ before) (Triggered a) tt (at.0, all)
+      ∙ ap (λ l. length l + 1) (triggered_then noted' before ∙ ap (λ l. l ++ triggered_in before) (none_triggered board.world.notes))
+
   pub run_goes_by_phases : GoesByPhases plan board natives (run plan board natives limit)
   run_goes_by_phases = record {
     rest = rest;
-    begins = ap (λ u. u.emitted ++ finish_segments u.end u.state.natives) begun ∙ ap (λ l. l ∷ rest) (append-nil (map Board board.world.notes));
+    begins = first_is;
+    numbers = numbered;
     notes = λ before note at. stands before (Board note) at tt;
     choices = λ before cycle a r at. stands before (Chosen cycle a r) at tt;
     ends = λ before steps found budget at. stands before (Ended steps found budget) at tt;

@@ -31,15 +31,11 @@ use Rattle.bb_run.proofs.LimitLemmas.{first_emits}
 use Rattle.bb_run.proofs.OrderlyParts.{all_of_two}
 use Rattle.bb_run.proofs.OrderlyRuns.{run_keeps_limit}
 use Rattle.bb_run.proofs.PendingLemmas.{chosen_then, pending_then, triggered_then}
-use Rattle.bb_run.proofs.PhasedRuns.{run_goes_by_phases}
+use Rattle.bb_run.proofs.PhasedRuns.{none_triggered, run_goes_by_phases}
 use Rattle.bb_run.proofs.PastLemmas.{IsBy, Says, by_foci, by_silent, event_emitted}
 use Rattle.bb_run.proofs.RespondLemmas.{StartsTurn, answers_by, answers_reported, chosen_starts, comes_next, cycles_next, cycle_starts, starts_more, starts_then, emitted_with_finish}
 
 -- notes of the blackboard tell of no activation
-none_triggered : (notes : List BoardNote) → triggered_in (map Board notes) ≡ []
-none_triggered [] = refl
-none_triggered (note ∷ notes) = none_triggered notes
-
 none_pending : (notes : List BoardNote) (pending : List Activation) → fold after_note pending (map Board notes) ≡ pending
 none_pending [] pending = refl
 none_pending (note ∷ notes) pending = none_pending notes pending

@@ -9,7 +9,8 @@ use Rattle.bb_trace.specs.BoardNote.{Note as BoardNote}
 use Rattle.bb_trace.specs.BoardNote.TheVariants.{Event as happened}
 use Rattle.bb_trace.specs.End as finishes
 use Rattle.bb_trace.specs.declared.note.Note.{Note}
-use Rattle.bb_trace.specs.declared.note.Note.TheVariants.{Board, Chosen, Invalid, Ended, Refused, NativeEnded, Finished}
+use Rattle.bb_trace.specs.declared.note.Note.TheVariants.{Board, Triggered, Chosen, Invalid, Ended, Refused}
+use Rattle.bb_trace.specs.declared.note.Note.TheVariants.{NativeEnded, Finished}
 use Rattle.bb_trace.specs.Native.{Native}
 use Rattle.bb_trace.specs.Refusal.{Refusal}
 use Rattle.bb_run_plan.specs.Plan.{Plan}
@@ -74,6 +75,9 @@ pub record GoesByPhases (plan : Plan) (board : Blackboard) (natives : List Nativ
   pub rest : List (List Note)
   -- the first segment is what had been noted
   pub begins : run.emitted ≡ map Board board.world.notes ∷ rest
+  -- activations have the numbers from 1 on, in order
+  pub numbers : (before : List Note) (a : Activation) → At (all_of rest) before (Triggered a)
+      → a.number ≡ length (triggered_in before) + 1
   -- after the first segment a note of the blackboard comes in a cycle, or is quiescence where it may come
   pub notes : (before : List Note) (note : BoardNote) → At (all_of rest) before (Board note)
       → (phase_after before ≡ inside) ⊎ IsQuiet plan board natives before note

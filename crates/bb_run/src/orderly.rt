@@ -24,7 +24,8 @@ ghost use Rattle.bb_run.specs.Unstuck.{BeginsEach, FitsPlan, IsReady, IsUnstuck,
 /// - `phases`: a run begins with what its blackboard had noted. After that a note of the blackboard comes between a
 ///   choice and the end of its cycle, or it is quiescence, which comes where no cycle is open, not twice without a
 ///   choice between, and in a state in which nothing that is pending by the notes can be chosen. A cycle ends before
-///   the next begins. A run that finishes by quiescence has emitted it, and made no choice after it.
+///   the next begins. A run that finishes by quiescence has emitted it, and made no choice after it. Activations
+///   have the numbers from 1 on.
 /// - `choices`: up to the choice of a cycle a run is the run whose limit is one less, and in the last state of that
 ///   run the activation is chosen. It is pending by the notes, and was never chosen nor obviated; it is rated at
 ///   least the floor, nothing that is pending is rated higher, and of equals it is the earliest. Cycles have the
@@ -66,10 +67,9 @@ ghost use Rattle.bb_run.specs.Unstuck.{BeginsEach, FitsPlan, IsReady, IsUnstuck,
 /// - `unstuck`: so no run of such sources is stuck, whatever the reason, and no execution makes more steps than the
 ///   budget on its line.
 ///
-/// What follows from these clauses is no clause: that activations have the numbers from 1 on, that sources are
-/// triggered as the events ask for it, that each execution follows its choice, and that no native is due at the end
-/// where none is lacking. Lemmas show it from the clauses alone (`FollowLemmas`, `TallyLemmas` and `SafeLemmas` in
-/// `proofs/`).
+/// What follows from these clauses is no clause: that sources are triggered as the events ask for it, that each
+/// execution follows its choice, and that no native is due at the end where none is lacking. Lemmas show it from the
+/// clauses alone (`FollowLemmas`, `TallyLemmas` and `SafeLemmas` in `proofs/`).
 pub fn runs_are_orderly()
     ensures phases { (plan : Plan) (board : Board) (natives : List Native) (limit : ℕ) →
         GoesByPhases plan board natives (run plan board natives limit) }
