@@ -47,9 +47,6 @@ may_owe_early finishes.Full owed early = tt
 may_owe_early (finishes.Due a) owed early = tt
 may_owe_early (finishes.Stuck reason) owed early = tt
 
-outside_rested : outside ≡ rested → ⊥
-outside_rested is = absurd cc
-
 inside_rested : inside ≡ rested → ⊥
 inside_rested is = absurd cc
 

@@ -99,6 +99,6 @@ pub mod TallyLemmas
 pub mod PaidLemmas
 pub mod UponLemmas
 pub mod FollowLemmas
-pub mod SafeLemmas
+pub mod Corollaries
 -- what crates above use
 pub mod Laws

@@ -69,7 +69,7 @@ ghost use Rattle.bb_run.specs.Unstuck.{BeginsEach, FitsPlan, IsReady, IsUnstuck,
 ///
 /// What follows from these clauses is no clause: that sources are triggered as the events ask for it, that each
 /// execution follows its choice, and that no native is due at the end where none is lacking. Lemmas show it from the
-/// clauses alone (`FollowLemmas`, `TallyLemmas` and `SafeLemmas` in `proofs/`).
+/// clauses alone (`proofs/Corollaries`).
 pub fn runs_are_orderly()
     ensures phases { (plan : Plan) (board : Board) (natives : List Native) (limit : ℕ) →
         GoesByPhases plan board natives (run plan board natives limit) }

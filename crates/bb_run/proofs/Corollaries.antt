@@ -1,5 +1,8 @@
--- What follows from the law of runs, and so is no clause of it: where no source lacks a native none is due at the end, each
--- native is closed under its name, and what is executed upon a choice begins with units that fit its part.
+-- What follows from the law of runs, and so is no clause of it. Sources are triggered as the events ask for it; each cycle is
+-- over before the next; where no source lacks a native none is due at the end; each native is closed under its name; and
+-- what is executed upon a choice begins with units that fit its part.
+pub use Rattle.bb_run.proofs.FollowLemmas.{run_is_paid, run_owes}
+pub use Rattle.bb_run.proofs.TallyLemmas.{choices_in_turn, open_in_turn}
 use Rattle.std.proofs.Common.{◌≡◌, ℕ, ℤ, List, [], map, refl, ap, subst, ◌∙◌}
 use Rattle.std.specs.Prelude.{All}
 use Rattle.std.proofs.lemmas.List.{append-nil}
