@@ -53,7 +53,6 @@ KINDS = source_texts.kinds(short) + [
     ("Objects of one key", "objects", inputs.objects, [("short", short)], 62_500, 2_000_000),
     ("Clauses of a class beside units of another", "clauses", inputs.clauses, [("short", short)], 26_781, 857_000),
     ("Units of a deep class beside 256 sources", "units", inputs.deep, [("short", short)], 4_096, 65_536),
-    ("Units of a class beside 256 sources that name 250 others", "units", inputs.listed, [("short", short)], 4_096, 65_536),
     ("Spaces in a line of a bundle", "spaces", inputs.spaces, [("short", short)], 1_000_000, 16_000_000),
     ("Sources with wide frames", "sources", inputs.wide, [("short", short)], 125, 2_000),
     ("Activations that wait beside events of another source", "units", inputs.waiting, [("short", short)], 4_096, 65_536),

@@ -1,6 +1,6 @@
 #!/usr/bin/env python3
 """Runs the program on what authors are in the habit of writing, over more and more units: each of them asks something of
-all of them. Prints a row for each habit, the fastest of three runs.
+all of them, or of all sources. Prints a row for each habit, the fastest of three runs.
 
     bench/habits.py crates/bb/out/bb [--runs N]
 """
@@ -11,6 +11,9 @@ import subprocess
 import sys
 import tempfile
 import time
+
+sys.dont_write_bytecode = True
+import inputs  # noqa: E402
 
 COUNTS = 4_000, 8_000, 16_000
 
@@ -68,12 +71,17 @@ HABITS = [
 ]
 
 
-def written(source, count):
+def stars(source, count):
     """An input with so many stars, each brighter than those before it."""
     units = [{"name": "s%d" % i, "class": "star", "slots": {"mag": i}} for i in range(count)]
     spaces = [["s%d" % i, "sky"] for i in range(count)]
     document = json.dumps({"units": units, "spaces": spaces})
     return "\n".join(["%schema", json.dumps(SCHEMA), "%units", document, "%sources", source]) + "\n"
+
+
+def listed(count):
+    """An input with so many units of one class, beside 256 sources that each name 250 others."""
+    return "".join(inputs.listed(lambda number: "c%d" % number, count))
 
 
 def seconds(program, text, runs):
@@ -101,8 +109,10 @@ def main():
     words = parser.parse_args()
     print("| Habit | " + " | ".join("%s units" % format(it, ",") for it in COUNTS) + " |")
     print("|---|" + "---|" * len(COUNTS))
-    for title, source in HABITS:
-        took = [seconds(words.program, written(source, it), words.runs) for it in COUNTS]
+    rows = [(title, lambda count, source=source: stars(source, count)) for title, source in HABITS]
+    rows.append(("units of one class beside 256 sources that each name 250 others", listed))
+    for title, text in rows:
+        took = [seconds(words.program, text(it), words.runs) for it in COUNTS]
         print("| %s | " % title + " | ".join("%.2f" % it for it in took) + " |", flush=True)
 
 
