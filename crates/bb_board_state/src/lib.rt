@@ -8,7 +8,6 @@ mod found;
 mod links;
 mod may;
 mod members;
-mod moves;
 mod note;
 mod reason;
 mod state;

@@ -12,10 +12,10 @@ ghost use Rattle.bb_board_state.specs.Fits.{Fits};
 ghost use Rattle.bb_board_state.specs.World.{empty_world, event, after_note, after_create, after_set, after_say, after_take};
 
 use crate::event::{Change, Event};
-use crate::moves::{Setting, moves_of};
 use crate::note::{Note, Said};
 use bb_basis::{Items, Memory};
 use bb_links::Couples;
+use bb_query::{Setting, moves_of};
 use bb_schema::{ClassId, Schema, SlotId, UnitId, Value};
 use bb_space::Spaces;
 use bb_units::{CreateFault, Units};

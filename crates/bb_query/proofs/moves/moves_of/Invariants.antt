@@ -1,8 +1,8 @@
 use Rattle.std.proofs.Common.{◌≡◌, ◌++◌, drop}
 use Rattle.std.specs.Prelude.{option_map}
 use Rattle.std.specs.List.{filter_map}
-use Rattle.bb_board_state.specs.proving.Moves.{values_anew, moves_for}
-use Rattle.bb_board_state.proofs.moves.moves_of.Given as goal
+use Rattle.bb_query.specs.Moves.{values_anew, moves_for}
+use Rattle.bb_query.proofs.moves.moves_of.Given as goal
 
 abbrev pub invariant-loop-space : goal.invariant-loop-space
 invariant-loop-space l =

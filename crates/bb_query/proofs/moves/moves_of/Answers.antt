@@ -1,9 +1,9 @@
 use Rattle.std.proofs.Common.{◌<◌, ◌∙◌, ◌++◌, ap, sym, subst, length, get_or}
 use Rattle.std.specs.Prelude.{option_map}
 use Rattle.std.specs.List.{filter_map}
-use Rattle.bb_board_state.specs.proving.Moves.{values_anew}
-use Rattle.bb_board_state.proofs.SettingLemmas.{own_moves, space_within}
-use Rattle.bb_board_state.proofs.moves.moves_of.Goals as goal
+use Rattle.bb_query.specs.Moves.{values_anew}
+use Rattle.bb_query.proofs.MovesLemmas.{own_moves, space_within}
+use Rattle.bb_query.proofs.moves.moves_of.Goals as goal
 
 pub loop-space-init : goal.loop-space-init
 loop-space-init c =

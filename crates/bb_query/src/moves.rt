@@ -1,20 +1,20 @@
-//! What spaces are told of a unit whose slot is set. The board's state sets it.
+//! What spaces are told of a unit whose slot is set. The board's state (bb_board_state) sets it.
 
 ghost use Rattle.std.specs.Prelude.{◌≡◌, ◌<◌, ◌^◌, IfOk, length, position, slice_set};
 ghost use Rattle.std.specs.Str.{bytes_eq};
-ghost use Rattle.bb_board_state.specs.proving.Moves.{reading, values_anew, moves_for};
+ghost use Rattle.bb_query.specs.Moves.{reading, values_anew, moves_for};
 
 use bb_basis::{Items, Memory};
-use bb_query::DimValue;
+use bb_pattern::DimValue;
 use bb_schema::{Dim, Schema, SlotId, SpaceId, UnitId, Value};
 use bb_space::Spaces;
 use std::alloc::Global;
 
 /// A slot of a unit, and the value that it is set to.
 #[derive(Clone, Copy)]
-pub(crate) struct Setting<'a> {
-    pub(crate) slot: SlotId,
-    pub(crate) value: &'a Value,
+pub struct Setting<'a> {
+    pub slot: SlotId,
+    pub value: &'a Value,
 }
 
 // The place of the dimension of a name.
@@ -77,7 +77,7 @@ fn values_anew(
 }
 
 /// What the spaces of a unit that read a slot are told where it is set to a value, in the order of the spaces.
-pub(crate) fn moves_of(
+pub fn moves_of(
     alloc: Global,
     schema: &Schema,
     spaces: &Spaces,

@@ -3,7 +3,7 @@ use Rattle.std.specs.Prelude.{option_and_then, position}
 use Rattle.std.specs.Str.{bytes_eq}
 use Rattle.bb_schema.specs.Schema.{dims_of}
 use Rattle.bb_schema.specs.declared.space.Dim.{Dim}
-use Rattle.bb_board_state.proofs.moves.reading.Goals as goal
+use Rattle.bb_query.proofs.moves.reading.Goals as goal
 
 pub returns : goal.returns
 returns c =
