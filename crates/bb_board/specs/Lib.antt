@@ -8,6 +8,8 @@ pub use Rattle.bb_board_state.specs.declared.note.Note
 pub use Rattle.bb_board_state.specs.declared.note.Said
 -- why a change may not be made
 pub use Rattle.bb_board_state.specs.declared.reason.Reason
+-- units by their numbers
+pub use Rattle.bb_units.specs.Units
 -- the state of a blackboard, and what each change makes of it
 pub use Rattle.bb_board_state.specs.State
 pub use Rattle.bb_board_state.specs.World

@@ -158,6 +158,17 @@ impl Board {
         self.world.find(query, operands)
     }
 
+    /// How many units a query that fits the schema answers, with operands of its kinds: 65,536 at most.
+    pub fn count(&self, query: &Query, operands: &[DimValue]) -> Result<usize, Memory>
+        requires fits { query_fits self.now.schema query.now ≡ Ok tt }
+        requires kinds { map kind_of_operand operands.now ≡ query.now.kinds }
+        ensures count { IfOk result (λ n. n
+            ≡ length (answer self.now.schema self.now.world.units self.now.world.spaces query.now operands.now)) }
+        ensures few { IfOk result (λ n. n ≤ UNIT_LIMIT) }
+    {
+        self.world.count(query, operands)
+    }
+
     /// Whether a slot of a unit may be set to a value, or the first reason why not: `Deleted` where the unit is not
     /// live, `Slot` where its class has no such ordinary slot, `Kind` where the slot can't hold the value.
     pub fn may_set(&self, unit: UnitId, slot: SlotId, value: &Value) -> Result<(), Reason>

@@ -32,7 +32,7 @@ use Rattle.bb_board_state.specs.State.{World}
 use Rattle.bb_board_state.specs.World.{class_at}
 use Rattle.bb_board_state.specs.Fits.{Fits}
 use Rattle.bb_board_state.specs.Told.{told_again}
-use Rattle.bb_board_state.specs.proving.Moves.{reading, values_anew, moves_for}
+use Rattle.bb_query.specs.Moves.{reading, values_anew, moves_for}
 use Rattle.bb_board_state.proofs.ClassLemmas.{same_class_of}
 use Rattle.bb_board_state.proofs.DimLemmas.{IsWhole, IsAnew, same_values, anew}
 use Rattle.bb_board_state.proofs.KeepLemmas.{class_there, slot_within}

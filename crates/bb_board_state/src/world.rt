@@ -23,7 +23,7 @@ use crate::note::Said;
 use crate::reason::Reason;
 use crate::state::State;
 use bb_basis::Memory;
-use bb_query::{DimValue, Query, find};
+use bb_query::{DimValue, Query, count, find};
 use bb_schema::{ClassId, Schema, SharedSchema, SlotId, SpaceId, UnitId, Value};
 use std::alloc::Global;
 use std::marker::Model;
@@ -254,6 +254,19 @@ impl World {
         let State { units, spaces, .. } = &self.state;
         let schema = self.schema.get();
         find(self.alloc, schema, units, spaces, query, operands)
+    }
+
+    /// How many units a query that fits the schema answers, with operands of its kinds: 65,536 at most.
+    pub fn count(&self, query: &Query, operands: &[DimValue]) -> Result<usize, Memory>
+        requires fits { query_fits self.now.schema query.now ≡ Ok tt }
+        requires kinds { map kind_of_operand operands.now ≡ query.now.kinds }
+        ensures count { IfOk result (λ n. n
+            ≡ length (answer self.now.schema self.now.world.units self.now.world.spaces query.now operands.now)) }
+        ensures few { IfOk result (λ n. n ≤ UNIT_LIMIT) }
+    {
+        let State { units, spaces, .. } = &self.state;
+        let schema = self.schema.get();
+        count(self.alloc, schema, units, spaces, query, operands)
     }
 
     /// The partners of a unit by a slot, in order of addition, 65,536 at most: each is live, and none comes twice. A

@@ -1,16 +1,17 @@
 -- What spaces know of units is kept by each change that tells what holds.
 use Rattle.std.proofs.Common.{◌≡◌, ℕ, zero, suc, ◌⊎◌, inl, inr, Bool, true, false, cond, List, [], ◌∷◌, length, map, Option, Some, None, refl, sym, ap, subst, ◌∙◌}
-use Rattle.std.specs.Prelude.{slice_get, slice_set}
+use Rattle.std.specs.Prelude.{slice_get, slice_set, IfSome, IsTrue}
 use Rattle.std.specs.Option.{option_map_or}
 use Rattle.std.specs.Ordering.{nat_cmp, eq_by_cmp}
 use Rattle.std.specs.Cmp.{nat_cmp_total, Equal-is}
 use Rattle.std.specs.FinMap as fin
 use Rattle.bb_schema.specs.Schema.{Schema}
-use Rattle.bb_units.specs.Units.{Units, is_live}
+use Rattle.bb_schema.specs.Spaces.{allowed}
+use Rattle.bb_units.specs.Units.{Units, is_live, class_of}
 use Rattle.bb_pattern.specs.declared.value.DimValue.{DimValue}
 use Rattle.bb_space.specs.Spaces.{Spaces, Membership, no_spaces, membership, values_in, entered, changed, after_enter}
 use Rattle.bb_query.specs.PresentValues.{present_values}
-use Rattle.bb_query.specs.Knows.{KnowsValues}
+use Rattle.bb_query.specs.Knows.{Knows}
 
 -- the members of the space of a number, in a list of spaces
 abbrev at : List Membership → ℕ → Membership
@@ -81,27 +82,30 @@ module _ (P : ℕ → ℕ → List DimValue → Type 0) where
 -- what holds of a member
 pub record IsTold (s : Schema) (u : Units) (space n : ℕ) (values : List DimValue) : Type 0 where
   pub live : is_live u n ≡ true
+  pub admitted : IfSome (class_of u n) (λ class. IsTrue (allowed s space class))
   pub told : values ≡ present_values s u n space
 
 module _ (s : Schema) (u : Units) where
-  pub told_of_known : (t : Spaces) → KnowsValues s u t → AllTold (IsTold s u) t
-  told_of_known t knows space n values is = record { live = knows.live space n values is; told = knows.told space n values is }
+  pub told_of_known : (t : Spaces) → Knows s u t → AllTold (IsTold s u) t
+  told_of_known t knows space n values is = record { live = knows.live space n values is; admitted = knows.admitted space n values is; told = knows.told space n values is }
 
-  pub known_of_told : (t : Spaces) → length t.spaces ≡ length s.spaces → AllTold (IsTold s u) t → KnowsValues s u t
+  pub known_of_told : (t : Spaces) → length t.spaces ≡ length s.spaces → AllTold (IsTold s u) t → Knows s u t
   known_of_told t same law = record {
     spaces = same;
     live = λ space n values is. (law space n values is).live;
+    admitted = λ space n values is. (law space n values is).admitted;
     told = λ space n values is. (law space n values is).told;
   }
 
-  pub known_after_enter : (t : Spaces) (space n : ℕ) (values : List DimValue) → KnowsValues s u t → is_live u n ≡ true → values ≡ present_values s u n space → KnowsValues s u (after_enter t space n values)
-  known_after_enter t space n values knows live told =
+  pub known_after_enter : (t : Spaces) (space n : ℕ) (values : List DimValue) → Knows s u t → is_live u n ≡ true
+      → IfSome (class_of u n) (λ class. IsTrue (allowed s space class)) → values ≡ present_values s u n space → Knows s u (after_enter t space n values)
+  known_after_enter t space n values knows live admitted told =
       known_of_told (after_enter t space n values) (length_by t space (entered n values) (slice_get t.spaces space) ∙ knows.spaces)
-      (kept_by_enter (IsTold s u) t space n values (told_of_known t knows) (record { live = live; told = told }))
+      (kept_by_enter (IsTold s u) t space n values (told_of_known t knows) (record { live = live; admitted = admitted; told = told }))
 
   length_blank : {A B : Type 0} (b : B) (xs : List A) → length (map (λ _. b) xs) ≡ length xs
   length_blank b [] = refl
   length_blank b (x ∷ xs) = ap suc (length_blank b xs)
 
-  pub known_of_none : KnowsValues s u (no_spaces s)
+  pub known_of_none : Knows s u (no_spaces s)
   known_of_none = known_of_told (no_spaces s) (length_blank fin.empty s.spaces) (kept_by_none (IsTold s u) s)

@@ -1,7 +1,7 @@
 //! Tests of what queries find with memory, also against a scan of all units.
 
 ghost use Rattle.std.specs.Prelude.{IfOk};
-ghost use Rattle.bb_query.specs.Knows.{KnowsValues};
+ghost use Rattle.bb_query.specs.Knows.{Knows};
 
 use crate::board_spaces::kinds_of;
 use crate::pattern::{is, not, ordered};
@@ -80,8 +80,8 @@ fn enter(
     space: SpaceId,
     unit: UnitId,
 ) -> Result<(), Fail>
-    requires { KnowsValues schema.now units.now spaces.old }
-    ensures { KnowsValues schema.now units.now spaces.new }
+    requires { Knows schema.now units.now spaces.old }
+    ensures { Knows schema.now units.now spaces.new }
 {
     if space as usize >= schema.space_count() || !units.live(unit) {
         return Err(Fail::from(PatternFault::Space));
@@ -96,7 +96,7 @@ fn enter(
 
 // The spaces, without members.
 fn no_members(alloc: Global, schema: &Schema, units: &Units) -> Result<Spaces, Fail>
-    ensures { IfOk result (λ spaces. KnowsValues schema.now units.now spaces) }
+    ensures { IfOk result (λ spaces. Knows schema.now units.now spaces) }
 {
     Ok(Spaces::new(alloc, schema)?)
 }
@@ -112,7 +112,7 @@ fn found(
     pattern: Pattern,
     operands: &[DimValue],
 ) -> Result<Vec<UnitId>, Fail>
-    requires { KnowsValues schema.now units.now spaces.now }
+    requires { Knows schema.now units.now spaces.now }
 {
     let query = Query {
         class,
@@ -144,7 +144,7 @@ fn scene(alloc: Global, schema: &Schema) -> Result<Units, Fail> {
 
 // The spaces of the scene.
 fn scene_spaces(alloc: Global, schema: &Schema, units: &Units) -> Result<Spaces, Fail>
-    ensures { IfOk result (λ spaces. KnowsValues schema.now units.now spaces) }
+    ensures { IfOk result (λ spaces. Knows schema.now units.now spaces) }
 {
     let mut spaces = no_members(alloc, schema, units)?;
     enter(alloc, schema, units, &mut spaces, SHELF, 4)?;

@@ -3,6 +3,7 @@ use Rattle.std.proofs.Common.{◌≡◌, ℕ, suc, ◌&&◌, Bool, true, false, 
 use Rattle.std.specs.Prelude.{is_some, filter}
 use Rattle.std.specs.List.{All}
 use Rattle.std.specs.List.Sorted.{IsStrictlySortedBy}
+use Rattle.std.specs.Option.{option_map_or}
 use Rattle.std.specs.Map.{keys_of, lookup}
 use Rattle.std.specs.Ordering.{nat_cmp}
 use Rattle.std.specs.BTreeMap.{is_at}
@@ -16,15 +17,20 @@ use Rattle.bb_units.specs.Units.{Units, is_live}
 use Rattle.bb_pattern.specs.declared.query.Query.{Query}
 use Rattle.bb_pattern.specs.declared.value.DimValue.{DimValue}
 use Rattle.bb_pattern.specs.Holds.{holds}
+use Rattle.bb_space_index.specs.declared.leaf.Leaf.{Leaf}
+use Rattle.bb_space_index.specs.Leaf.{fits_leaf}
+use Rattle.bb_space.specs.Passing.{passes_one}
 use Rattle.bb_space.specs.Spaces.{Spaces, Membership, membership, members, is_member, values_in}
 use Rattle.bb_query.specs.Answer.{answers, answer, is_of_class}
-use Rattle.bb_query.specs.Knows.{KnowsValues}
+use Rattle.bb_query.specs.Knows.{Knows}
 use Rattle.bb_query.specs.PresentValues.{present_values}
 use Rattle.bb_query.specs.proving.Enough.{AreEnough, among}
+use Rattle.bb_query.specs.proving.Tests.{Asks, HoldsOfAll}
+use Rattle.bb_query.proofs.MemberLemmas.{passes_told, fails_told}
 use Rattle.bb_query.proofs.NearLemmas.{members_enough}
 use Rattle.bb_space.proofs.Laws.{keys_rise, same_numbers, any_filter}
 
-module _ (s : Schema) (u : Units) (t : Spaces) (knows : KnowsValues s u t) (q : Query) (operands : List DimValue) where
+module _ (s : Schema) (u : Units) (t : Spaces) (knows : Knows s u t) (q : Query) (operands : List DimValue) where
   -- a unit that the query answers is live, and among the units
   record Answered (list : List ℕ) (n : ℕ) : Type 0 where
     live : is_live u n ≡ true
@@ -92,5 +98,45 @@ module _ (p : ℕ → Bool) (made : List ℕ) (n : ℕ) (rest whole : List ℕ) 
   scan_over is = one_first false is
 
 -- all members hold the answer
-pub answer_members : (s : Schema) (u : Units) (t : Spaces) → KnowsValues s u t → (q : Query) (operands : List DimValue) → filter (answers s u t q operands) (members t q.space) ≡ answer s u t q operands
+pub answer_members : (s : Schema) (u : Units) (t : Spaces) → Knows s u t → (q : Query) (operands : List DimValue) → filter (answers s u t q operands) (members t q.space) ≡ answer s u t q operands
 answer_members s u t knows q operands = answer_among s u t knows q operands (members t q.space) (members_enough t q.space (λ values. holds operands values q.pattern))
+
+-- ---- a query that asks for no more than membership
+
+module _ (s : Schema) (u : Units) (t : Spaces) (knows : Knows s u t) (q : Query) (operands : List DimValue) (always : HoldsOfAll q.pattern)
+    (of_class : (n : ℕ) (values : List DimValue) → values_in t q.space n ≡ Some values → is_of_class s u q n ≡ true) where
+  member_answers : (n : ℕ) (o : Option (List DimValue)) → values_in t q.space n ≡ o → is_some o ≡ true → answers s u t q operands n ≡ true
+  member_answers n None there some = absurd cc
+  member_answers n (Some values) there some = passes_told s u t knows q operands n values there (always operands values) ∙ of_class n values there
+
+  and_given : (a b : Bool) → (a ≡ true → b ≡ true) → (a && b) ≡ a
+  and_given true b h = h refl
+  and_given false b h = refl
+
+  -- all members are its answer
+  pub all_answer : filter (answers s u t q operands) (members t q.space) ≡ members t q.space
+  all_answer =
+      let passes = answers s u t q operands in
+      let all = members t q.space in
+      let rise = keys_rise (membership t q.space) in
+      same_numbers (filter passes all) all (IsStrictlySortedBy-filter nat_cmp passes all rise) rise (λ n.
+      any_filter passes n all ∙ and_given (among n all) (passes n) (λ h. member_answers n (values_in t q.space n) refl (contains_key-keys (membership t q.space) n ∙ h)))
+
+-- ---- a query that is one test
+
+module _ (s : Schema) (u : Units) (t : Spaces) (knows : Knows s u t) (q : Query) (operands : List DimValue) (test : Leaf) (asks : Asks (λ values. holds operands values q.pattern) test)
+    (of_class : (n : ℕ) (values : List DimValue) → values_in t q.space n ≡ Some values → is_of_class s u q n ≡ true) where
+  told_answers : (n : ℕ) (values : List DimValue) → values_in t q.space n ≡ Some values → (b : Bool) → holds operands values q.pattern ≡ b → answers s u t q operands n ≡ b
+  told_answers n values told true passes = passes_told s u t knows q operands n values told passes ∙ of_class n values told
+  told_answers n values told false fails = fails_told s u t knows q operands n values told fails
+
+  -- it answers who passes the test
+  one_answers : (n : ℕ) (o : Option (List DimValue)) → values_in t q.space n ≡ o → option_map_or (fits_leaf test) o false ≡ answers s u t q operands n
+  one_answers n None none = sym (ap (λ o. is_some o && is_of_class s u q n && holds operands (present_values s u n q.space) q.pattern) none)
+  one_answers n (Some values) told = asks values ∙ sym (told_answers n values told (holds operands values q.pattern) refl)
+
+  pub test_answers : filter (passes_one (membership t q.space) test) (members t q.space) ≡ filter (answers s u t q operands) (members t q.space)
+  test_answers =
+      let same : (n : ℕ) → passes_one (membership t q.space) test n ≡ answers s u t q operands n = λ n.
+      ap (λ o. option_map_or (fits_leaf test) o false) refl ∙ one_answers n (values_in t q.space n) refl in
+      (λ k. filter (λ n. same n k) (members t q.space))

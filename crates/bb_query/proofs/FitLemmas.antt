@@ -22,3 +22,7 @@ space_there s class space kinds p fits = not_refused (length s.spaces) space (na
 -- the space of a query that fits is there
 pub fitting_space : (s : Schema) (t : Spaces) (q : Query) → length t.spaces ≡ length s.spaces → query_fits s q ≡ Ok tt → q.space < length t.spaces
 fitting_space s t q same fits = subst (λ n. q.space < n) (sym same) (space_there s q.class q.space q.kinds q.pattern fits)
+
+-- and is one of the schema's
+pub listed_space : (s : Schema) (q : Query) → query_fits s q ≡ Ok tt → q.space < length s.spaces
+listed_space s q fits = space_there s q.class q.space q.kinds q.pattern fits

@@ -1,16 +1,16 @@
 -- Tests leave all units of which a pattern holds.
-use Rattle.std.proofs.Common.{◌≡◌, ℕ, ℤ, ◌&&◌, Bool, true, false, List, [], ◌∷◌, ◌++◌, Some, refl, sym, ap, ◌∙◌, subst, slice_get}
+use Rattle.std.proofs.Common.{◌≡◌, ℕ, ℤ, ◌&&◌, ◌==◌, Bool, true, false, List, [], ◌∷◌, ◌++◌, length, Some, refl, sym, ap, ◌∙◌, subst, slice_get, arith}
 use Rattle.std.specs.Prelude.{filter}
 use Rattle.std.specs.Option.{option_map_or}
 use Rattle.std.specs.List.Sorted.{IsStrictlySortedBy}
 use Rattle.std.specs.Ordering.{nat_cmp}
-use Rattle.std.proofs.lemmas.Bool.{and_from}
+use Rattle.std.proofs.lemmas.Bool.{and_from, eqb-true}
 use Rattle.std.proofs.lemmas.List.Folds.{list_all-append}
 use Rattle.std.proofs.lemmas.List.Kept.{IsStrictlySortedBy-filter}
 use Rattle.bb_pattern.specs.declared.pattern.Relation.{Relation}
 use Rattle.bb_pattern.specs.declared.value.DimValue.{DimValue}
 use Rattle.bb_pattern.specs.declared.value.DimValue.TheVariants.{Interval, Label}
-use Rattle.bb_pattern.specs.Trees.{Tree, Trees, and_of, ordered, is_label}
+use Rattle.bb_pattern.specs.Trees.{Tree, Trees, all, and_of, ordered, is_label}
 use Rattle.bb_pattern.specs.Holds.{holds, holds_each, ordered_holds, is_holds}
 use Rattle.bb_pattern.specs.View.{trees_of}
 use Rattle.bb_space_index.specs.declared.leaf.Leaf.{Leaf}
@@ -19,7 +19,7 @@ use Rattle.bb_space_index.specs.Leaf.{fits_leaf, fit_each}
 use Rattle.bb_space.specs.Passing.{passes}
 use Rattle.bb_space.specs.Spaces.{Spaces, membership}
 use Rattle.bb_query.specs.proving.Enough.{AreEnough, among}
-use Rattle.bb_query.specs.proving.Tests.{Asks, AskNoMore}
+use Rattle.bb_query.specs.proving.Tests.{Asks, AskNoMore, HoldsOfAll}
 use Rattle.bb_query.proofs.NearLemmas.{each_one}
 use Rattle.bb_space.proofs.Laws.{any_filter}
 
@@ -51,6 +51,17 @@ one_asked operands ps k p test old new there asks more ask = λ values h.
 pub and_asked : (operands : List DimValue) (p : Tree) (ps : Trees) (tests : List Leaf) → and_of ps ≡ p → AskNoMore (λ values. holds_each operands values ps) tests → AskNoMore (λ values. holds operands values p) tests
 unfolding holds
 and_asked operands p ps tests is_and ask = subst (λ q. AskNoMore (λ values. holds operands values q) tests) is_and ask
+
+-- ---- what asks for nothing
+
+pub all_holds : (p : Tree) → all ≡ p → HoldsOfAll p
+unfolding holds
+all_holds p is = subst HoldsOfAll is (λ operands values. refl)
+
+pub none_asked : (p : Tree) (ps : List Tree) → and_of (trees_of ps) ≡ p → (length ps == 0) ≡ true → HoldsOfAll p
+unfolding holds
+none_asked p [] is none = subst HoldsOfAll is (λ operands values. refl)
+none_asked p (q ∷ qs) is none = absurd (omega (arith, eqb-true (length (q ∷ qs)) 0 none))
 
 -- ---- what is left
 

@@ -42,10 +42,10 @@ use Rattle.bb_query.specs.PresentValues.{value_on, values_on, present_values}
 use Rattle.bb_query.specs.Whole.{Admits, kind_on}
 
 -- one that passes both tests
-record PassesBoth {X : Type 0} (f g : X → Bool) : Type 0 where
-  item : X
-  first : f item ≡ true
-  second : g item ≡ true
+pub record PassesBoth {X : Type 0} (f g : X → Bool) : Type 0 where
+  pub item : X
+  pub first : f item ≡ true
+  pub second : g item ≡ true
 
 passes_by : {X : Type 0} (f g : X → Bool) (x : X) (xs : List X) (b : Bool) → f x ≡ b → list_any f (x ∷ xs) ≡ true → list_all g (x ∷ xs) ≡ true → (list_any f xs ≡ true → list_all g xs ≡ true → PassesBoth f g) → PassesBoth f g
 passes_by f g x xs true is any_of all_of later = record { item = x; first = is; second = (and_parts (g x) (list_all g xs) all_of).0 }
@@ -54,7 +54,7 @@ passes_by f g x xs false is any_of all_of later = later (later_any (list_any f x
     later_any : (rest : Bool) → f x ≡ false → (f x || rest) ≡ true → rest ≡ true
     later_any rest fails some = ap (λ b. b || rest) (sym fails) ∙ some
 
-passes_both : {X : Type 0} (f g : X → Bool) (xs : List X) → list_any f xs ≡ true → list_all g xs ≡ true → PassesBoth f g
+pub passes_both : {X : Type 0} (f g : X → Bool) (xs : List X) → list_any f xs ≡ true → list_all g xs ≡ true → PassesBoth f g
 passes_both f g [] any_of all_of = absurd cc
 passes_both f g (x ∷ xs) any_of all_of = passes_by f g x xs (f x) refl any_of all_of (passes_both f g xs)
 

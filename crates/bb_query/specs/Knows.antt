@@ -1,4 +1,4 @@
--- What spaces know of units: the board's law, and the part of it on which a query's answer rests.
+-- What spaces know of units: the board's law, on which a query's answer rests.
 use Rattle.std.specs.Prelude.{◌≡◌, ℕ, List, length, Some, true, IfSome, IsTrue}
 use Rattle.bb_schema.specs.Schema.{Schema}
 use Rattle.bb_schema.specs.Spaces.{allowed}
@@ -6,14 +6,6 @@ use Rattle.bb_units.specs.Units.{Units, is_live, class_of}
 use Rattle.bb_pattern.specs.declared.value.DimValue.{DimValue}
 use Rattle.bb_space.specs.Spaces.{Spaces, values_in}
 use Rattle.bb_query.specs.PresentValues.{present_values}
-
--- members are live, and the spaces were told their present values
-pub record KnowsValues (s : Schema) (u : Units) (t : Spaces) : Type 0 where
-  -- the spaces are those of the schema
-  pub spaces : length t.spaces ≡ length s.spaces
-  pub live : (space n : ℕ) (values : List DimValue) → values_in t space n ≡ Some values → is_live u n ≡ true
-  pub told : (space n : ℕ) (values : List DimValue) → values_in t space n ≡ Some values
-      → values ≡ present_values s u n space
 
 -- members are live, of classes that the space admits, and the spaces were told their present values
 pub record Knows (s : Schema) (u : Units) (t : Spaces) : Type 0 where

@@ -4,6 +4,8 @@ pub mod PresentValues
 pub mod Whole
 -- what a query answers
 pub mod Answer
+-- what spaces are told of a slot that is set
+pub mod Moves
 -- what spaces know of units
 pub mod Knows
 -- what only the contracts of private functions speak of

@@ -1,9 +1,9 @@
-//! The tests that a pattern is an `and` of. near.rs goes by them.
+//! The tests that a pattern is an `and` of, by which near.rs goes, and whether it asks for anything.
 
-ghost use Rattle.std.specs.Prelude.{◌≡◌, IfOk, IfSome, slice_get};
+ghost use Rattle.std.specs.Prelude.{◌≡◌, IfOk, IfSome, IsTrue, slice_get};
 ghost use Rattle.bb_pattern.specs.Holds.{ordered_holds, is_holds, holds, holds_each};
 ghost use Rattle.bb_pattern.specs.View.{trees_of};
-ghost use Rattle.bb_query.specs.proving.Tests.{Asks, AskNoMore};
+ghost use Rattle.bb_query.specs.proving.Tests.{Asks, AskNoMore, HoldsOfAll};
 
 use bb_basis::Memory;
 use bb_pattern::{DimValue, Node, Pattern, Relation};
@@ -87,5 +87,16 @@ pub(crate) fn tests_of(
     match pattern.node() {
         Node::And(parts) => tests_among(alloc, parts.as_slice(), operands),
         _ => Ok(Vec::new(alloc)),
+    }
+}
+
+/// Whether a pattern asks for nothing: it is `all`, or an `and` without parts.
+pub(crate) fn is_all(pattern: &Pattern) -> bool
+    ensures { IsTrue result → HoldsOfAll pattern.now }
+{
+    match pattern.node() {
+        Node::All => true,
+        Node::And(parts) => parts.as_slice().is_empty(),
+        _ => false,
     }
 }

@@ -12,7 +12,7 @@ ghost use Rattle.bb_schema_classes.specs.declared.read.labels.TheConstants.{LABE
 ghost use Rattle.bb_schema_classes.specs.declared.read.classes.TheConstants.{CLASS_LIMIT};
 ghost use Rattle.bb_schema_classes.specs.declared.draft.TheConstants.{SLOT_LIMIT};
 ghost use Rattle.bb_schema.specs.declared.read.spaces.TheConstants.{SPACE_LIMIT};
-ghost use Rattle.bb_schema.specs.Spaces.{allowed, IsAllowed};
+ghost use Rattle.bb_schema.specs.Spaces.{classes_in, allowed, IsAllowed};
 
 use crate::couple::{CoupleId, Side, couple_end};
 use crate::space::{Dim, Space, SpaceId};
@@ -337,6 +337,14 @@ impl Schema {
         ensures { result.now ≡ dims_of self.now space }
     {
         self.spaces.as_slice()[space as usize].dims.as_slice()
+    }
+
+    /// The classes that a space lists: it admits units of these and of all classes below them.
+    pub fn classes_in(&self, space: SpaceId) -> &[ClassId]
+        requires { space < length self.now.spaces }
+        ensures { result.now ≡ classes_in self.now space }
+    {
+        self.spaces.as_slice()[space as usize].classes.as_slice()
     }
 
     /// Whether a space admits units of a class: it descends from one of the classes that the space lists. A number

@@ -1,17 +1,24 @@
 -- What the index of a space says of its members.
-use Rattle.std.proofs.Common.{◌≡◌, ℕ, true, List, filter}
+use Rattle.std.proofs.Common.{◌≡◌, ℕ, true, false, ◌&&◌, List, filter, length, Option, Some, None, refl, sym, ap, ◌∙◌}
+use Rattle.std.specs.Option.{option_map_or}
+use Rattle.std.specs.Ordering.{nat_cmp}
 use Rattle.std.specs.FinMap as fin
+use Rattle.std.proofs.lemmas.List.Kept.{IsStrictlySortedBy-filter}
+use Rattle.bb_pattern.specs.declared.value.DimValue.{DimValue}
 use Rattle.bb_space_index.specs.declared.leaf.Leaf.{Leaf}
 use Rattle.bb_space_index.specs.declared.place.Place.{Place}
 use Rattle.bb_space_index.specs.Places.{has}
-use Rattle.bb_space_index.specs.Stretches.{is_near}
+use Rattle.bb_space_index.specs.Leaf.{fits_leaf}
+use Rattle.bb_space_index.specs.Stretches.{is_near, IsCount}
 use Rattle.bb_space_index.specs.Pairs.{AreAllNear}
 use Rattle.bb_space_index.specs.Marks.{LeavesAllNear}
-use Rattle.bb_space_index.proofs.Laws.{AreOf, by_bool, near_is, passes_near, near_kept, near_all}
+use Rattle.bb_space_index.proofs.Laws.{AreOf, by_bool, near_is, passes_near, near_kept, near_all, count_is}
 use Rattle.bb_space.specs.declared.members.Members.{Members}
 use Rattle.bb_space.specs.Candidates.{is_candidate}
-use Rattle.bb_space.specs.Passing.{passes, HaveAllPassing}
+use Rattle.bb_space.specs.Passing.{passes, passes_one, HaveAllPassing}
+use Rattle.bb_space.specs.Spaces.{Membership}
 use Rattle.bb_space.specs.proving.Indexed.{membership, is_told, IsIndexed}
+use Rattle.bb_space.proofs.RisingLemmas.{keys_rise, any_filter, second_only}
 
 pub told_value : (m : Members) → IsIndexed m → (p : Place) → has m.places p ≡ true → is_told (membership m) p ≡ true
 told_value m indexed p there = by_bool (is_told (membership m) p) _ (λ told. told) (λ out. let never = indexed.only p there out in absurd cc)
@@ -33,3 +40,18 @@ all_passing m indexed tests list near = record {
   members = λ n h. near_kept (fin.get (membership m)) m.places (indexed_of m indexed) tests list near n h;
   all = λ n h. near_all (fin.get (membership m)) m.places (indexed_of m indexed) tests list near n h;
 }
+
+one_there : (m : Membership) (leaf : Leaf) (n : ℕ) → passes_one m leaf n ≡ true → fin.contains_key m n ≡ true
+one_there m leaf n h = at (fin.get m n) refl h
+  where
+    at : (o : Option (List DimValue)) → fin.get m n ≡ o → option_map_or (fits_leaf leaf) o false ≡ true → fin.contains_key m n ≡ true
+    at None none g = absurd cc
+    at (Some values) some g = rw some refl
+
+-- what the index counts is the number of members that pass
+pub counted : (m : Members) → IsIndexed m → (leaf : Leaf) (n : ℕ) → IsCount leaf m.places n → n ≡ length (filter (passes_one (membership m) leaf) (fin.keys (membership m)))
+counted m indexed leaf n count =
+    let all = membership m in
+    let passing = passes_one all leaf in
+    count_is (fin.get all) m.places (indexed_of m indexed) leaf n count (filter passing (fin.keys all)) (IsStrictlySortedBy-filter nat_cmp passing (fin.keys all) (keys_rise all)) (λ q.
+    any_filter passing q (fin.keys all) ∙ (ap (λ b. b && passing q) (sym (fin.contains_key-keys all q)) ∙ second_only (fin.contains_key all q) (passing q) (one_there all leaf q)))

@@ -1,11 +1,11 @@
 //! The members of one space. spaces.rt keeps them for each space.
 
-ghost use Rattle.std.specs.Prelude.{◌≡◌, [], IfOk, IfSome, OnOk, OnErr, not, option_map, filter};
+ghost use Rattle.std.specs.Prelude.{◌≡◌, [], IfOk, IfSome, OnOk, OnErr, not, option_map, filter, length};
 ghost use Rattle.std.specs.Option.{unwrap_or};
 ghost use Rattle.std.specs.FinMap as map;
 ghost use Rattle.bb_space.specs.Spaces.{entered, left, moved};
 ghost use Rattle.bb_space.specs.Candidates.{candidates_of};
-ghost use Rattle.bb_space.specs.Passing.{passes, HaveAllPassing};
+ghost use Rattle.bb_space.specs.Passing.{passes, passes_one, HaveAllPassing};
 ghost use Rattle.bb_space.specs.proving.Entries.{members_of_entries};
 ghost use Rattle.bb_space_index.specs.Places.{ArePut, AreIn, AreTaken};
 ghost use Rattle.bb_space.specs.proving.Indexed.{membership, IsIndexed};
@@ -15,8 +15,8 @@ use bb_basis::{Items, Memory};
 use bb_pattern::DimValue;
 use bb_schema::UnitId;
 use bb_space_index::{
-    CLOSE_NUMBERS, FEW_UNITS, Leaf, MARKED_NUMBERS, Place, collect_near, few_by_two, is_few,
-    put_all, rise, take_all, thin_all,
+    CLOSE_NUMBERS, FEW_UNITS, Leaf, MARKED_NUMBERS, Place, collect_near, count_passing, few_by_two,
+    is_few, put_all, rise, take_all, thin_all,
 };
 use std::alloc::{AllocError, Global};
 use std::collections::{BTreeMap, BTreeSet};
@@ -237,6 +237,15 @@ impl Members {
             return Ok(None);
         }
         Ok(Some(self.candidates(alloc, leaf)?))
+    }
+
+    /// The number of members whose values pass a test, where the index tells it.
+    pub(crate) fn count_passing(&self, leaf: &Leaf) -> Option<usize>
+        requires { IsIndexed self.now }
+        ensures { IfSome result (λ n.
+            n ≡ length (filter (passes_one (membership self.now) leaf.now) (map.keys (membership self.now)))) }
+    {
+        count_passing(&self.places, leaf)
     }
 
     /// Members, rising, among them all whose values pass each of some tests: by two tests of neighbouring dimensions.

@@ -6,7 +6,7 @@ ghost use Rattle.bb_space.specs.Fits.{Fits};
 ghost use Rattle.bb_space.specs.Spaces.{no_spaces, is_member, values_in, membership, members};
 ghost use Rattle.bb_space.specs.Spaces.{AreCandidates, spaces_of};
 ghost use Rattle.bb_space.specs.Candidates.{candidates_of};
-ghost use Rattle.bb_space.specs.Passing.{passes, HaveAllPassing};
+ghost use Rattle.bb_space.specs.Passing.{passes, passes_one, HaveAllPassing};
 ghost use Rattle.bb_space.specs.Spaces.{after_enter, after_leave, after_moved, after_moves, after_forget};
 ghost use Rattle.bb_space.specs.proving.Indexed.{seen, AreIndexed};
 ghost use Rattle.bb_space.specs.proving.Standing.{AreStanding};
@@ -272,6 +272,16 @@ impl Spaces {
         ensures { IfOk result (λ few. IfSome few (λ list. AreCandidates self.now space leaf.now list.items)) }
     {
         self.spaces[space as usize].few(self.alloc, leaf, most)
+    }
+
+    /// The number of members of a space whose values, as they were told last, pass a test: where the index tells it
+    /// without a look at each, as for a label or for more than a number. It goes over those that pass.
+    pub fn count_passing(&self, space: SpaceId, leaf: &Leaf) -> Option<usize>
+        requires { space < length self.now.spaces }
+        ensures { IfSome result (λ n.
+            n ≡ length (filter (passes_one (membership self.now space) leaf.now) (members self.now space))) }
+    {
+        self.spaces[space as usize].count_passing(leaf)
     }
 
     /// Members of a space, rising, among them all whose values, as they were told last, pass each of some tests: by two

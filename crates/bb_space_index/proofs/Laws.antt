@@ -6,3 +6,4 @@ pub use Rattle.bb_space_index.proofs.StretchLemmas.{near_is}
 pub use Rattle.bb_space_index.proofs.MarkLemmas.{passes_near}
 pub use Rattle.bb_space_index.proofs.PairLemmas.{near_kept, near_all}
 pub use Rattle.bb_space_index.proofs.AmongLemmas.{meets_among}
+pub use Rattle.bb_space_index.proofs.CountLemmas.{count_is}

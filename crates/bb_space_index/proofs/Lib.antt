@@ -3,6 +3,7 @@ pub mod NearLemmas
 pub mod StretchLemmas
 pub mod AmongLemmas
 pub mod CandidateLemmas
+pub mod CountLemmas
 pub mod MarkLemmas
 pub mod PairLemmas
 pub mod Laws

@@ -146,7 +146,7 @@ pub stands_within : (unit : ℕ) (values : List DimValue) (p : Place) → is_pla
 stands_within unit values p h = let s = stands unit values p h in slice_get_within values p.dim s.value s.there
 
 -- the place of the value on a dimension is the one of these values that stands there
-stands_as : (unit dim : ℕ) (values : List DimValue) (v : DimValue) (p : Place) → slice_get values dim ≡ Some v → is_place_of unit values p ≡ true → p.dim ≡ dim → place_in dim unit values v ≡ p
+pub stands_as : (unit dim : ℕ) (values : List DimValue) (v : DimValue) (p : Place) → slice_get values dim ≡ Some v → is_place_of unit values p ≡ true → p.dim ≡ dim → place_in dim unit values v ≡ p
 stands_as unit dim values v p there h here =
     let s = stands unit values p h in
     same_some v s.value (sym there ∙ (ap (slice_get values) (sym here) ∙ s.there)) ∙ s.place

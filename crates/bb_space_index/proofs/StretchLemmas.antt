@@ -269,21 +269,21 @@ either_way relation dim low high (Interval from to) = by (int_le from to)
     by false = refl
 either_way relation dim low high (Label set label) = refl
 
--- the units near a test are those whose value can pass
-pub near_is : (had : ℕ → Option (List DimValue)) (places : BTreeSet Place) → AreOf had places → (leaf : Leaf) (n : ℕ) → is_near leaf places n ≡ by_value leaf (may_pass leaf) (had n)
-near_is had places are leaf n = by leaf
-  where
-    asked_there : (leaf : Leaf) → stands_in (stretch_of leaf) places n ≡ by_value leaf (asks_of leaf) (had n)
-    asked_there leaf = found_by had places are (is_in (stretch_of leaf)) (dim_of leaf) (asks_of leaf) (λ d k v next. between (dim_of leaf) (stretch_of leaf) (spots_of leaf) d k v next ∙ ap (λ b. (d == dim_of leaf) && b) (asked_says leaf v)) n
+module _ (had : ℕ → Option (List DimValue)) (places : BTreeSet Place) (are : AreOf had places) where
+  -- the units that stand where a test asks, by their values
+  pub asked_there : (leaf : Leaf) (n : ℕ) → stands_in (stretch_of leaf) places n ≡ by_value leaf (asks_of leaf) (had n)
+  asked_there leaf n = found_by had places are (is_in (stretch_of leaf)) (dim_of leaf) (asks_of leaf) (λ d k v next. between (dim_of leaf) (stretch_of leaf) (spots_of leaf) d k v next ∙ ap (λ b. (d == dim_of leaf) && b) (asked_says leaf v)) n
 
-    turned_there : (leaf : Leaf) → stands_in (turned (dim_of leaf)) places n ≡ by_value leaf is_turned (had n)
-    turned_there leaf = found_by had places are (is_in (turned (dim_of leaf))) (dim_of leaf) is_turned (λ d k v next. between (dim_of leaf) (turned (dim_of leaf)) (spots_turned (dim_of leaf)) d k v next ∙ ap (λ b. (d == dim_of leaf) && b) (turned_says (dim_of leaf) v)) n
+  -- and those with two numbers on its dimension of which the second is less
+  pub turned_there : (leaf : Leaf) (n : ℕ) → stands_in (turned (dim_of leaf)) places n ≡ by_value leaf is_turned (had n)
+  turned_there leaf n = found_by had places are (is_in (turned (dim_of leaf))) (dim_of leaf) is_turned (λ d k v next. between (dim_of leaf) (turned (dim_of leaf)) (spots_turned (dim_of leaf)) d k v next ∙ ap (λ b. (d == dim_of leaf) && b) (turned_says (dim_of leaf) v)) n
 
-    by : (leaf : Leaf) → is_near leaf places n ≡ by_value leaf (may_pass leaf) (had n)
-    by (Ordered relation dim low high) =
-        let leaf = Ordered relation dim low high in
-        ap₂ (λ a b. a || b) (asked_there leaf) (turned_there leaf) ∙ either leaf (asks_of leaf) is_turned (may_pass leaf) (either_way relation dim low high) (had n)
-    by (Is dim set label) = or_false (stands_in (stretch_of (Is dim set label)) places n) ∙ asked_there (Is dim set label)
+  -- the units near a test are those whose value can pass
+  pub near_is : (leaf : Leaf) (n : ℕ) → is_near leaf places n ≡ by_value leaf (may_pass leaf) (had n)
+  near_is (Ordered relation dim low high) n =
+      let leaf = Ordered relation dim low high in
+      ap₂ (λ a b. a || b) (asked_there leaf n) (turned_there leaf n) ∙ either leaf (asks_of leaf) is_turned (may_pass leaf) (either_way relation dim low high) (had n)
+  near_is (Is dim set label) n = or_false (stands_in (stretch_of (Is dim set label)) places n) ∙ asked_there (Is dim set label) n
 
 -- ---- a stretch whose end comes before its first
 

@@ -27,3 +27,9 @@ may_pass (Is dim set label) (values.Label of other) = (of == set) && (other == l
 abbrev pub dim_of : Leaf → ℕ
 dim_of (Ordered relation dim low high) = dim
 dim_of (Is dim set label) = dim
+
+-- an interval, or a label, that can pass the test passes: the high end of an interval does not matter
+abbrev pub is_exact : Leaf → Bool
+is_exact (Ordered More dim low high) = true
+is_exact (Ordered relation dim low high) = false
+is_exact (Is dim set label) = true

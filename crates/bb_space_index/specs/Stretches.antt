@@ -1,6 +1,7 @@
 -- The stretches of an index where the candidates for a test stand.
-use Rattle.std.specs.Prelude.{ℕ, ℤ, pos, Bool, false, ◌==◌, ◌+◌, ◌&&◌, ◌||◌, List, Option, Some, None}
+use Rattle.std.specs.Prelude.{◌≡◌, ℕ, ℤ, pos, Bool, true, false, ◌==◌, ◌+◌, ◌&&◌, ◌||◌, List, [], length, Option, Some, None, IfSome}
 use Rattle.std.specs.List.{list_any}
+use Rattle.std.specs.List.Sorted.{IsStrictlySortedBy}
 use Rattle.std.specs.Option.{option_map_or}
 use Rattle.std.specs.Ordering.{int_eq}
 use Rattle.std.specs.BTreeSet.{BTreeSet, keys_between}
@@ -11,6 +12,7 @@ use Rattle.bb_space_index.specs.declared.leaf.Leaf.{Leaf}
 use Rattle.bb_space_index.specs.declared.leaf.Leaf.TheVariants.{Ordered, Is}
 use Rattle.bb_space_index.specs.declared.place.Place.{Place}
 use Rattle.bb_space_index.specs.declared.stretch.Stretch.{Stretch}
+use Rattle.bb_space_index.specs.Candidates.{is_exact}
 use Rattle.bb_space_index.specs.Places.{place_cmp}
 
 -- a place where no value stands: before the values of a sort and key, or after them
@@ -91,3 +93,14 @@ is_near leaf places n =
 -- the places of the intervals, or labels, that a test asks for
 abbrev pub asked : Leaf → BTreeSet Place → List Place
 asked leaf places = places_in (stretch_of leaf) places
+
+-- no two numbers stand on the dimension of a test of which the second is less
+abbrev pub HasNoTurned : Leaf → BTreeSet Place → Type 0
+HasNoTurned leaf places = IfSome (turned_of leaf) (λ stretch. places_in stretch places ≡ [])
+
+-- the number is that of the places where a test asks, and whoever has one passes it
+pub record IsCount (leaf : Leaf) (places : BTreeSet Place) (n : ℕ) : Type 0 where
+  pub number : n ≡ length (asked leaf places)
+  pub ordered : IsStrictlySortedBy place_cmp places.keys
+  pub exact : is_exact leaf ≡ true
+  pub not_turned : HasNoTurned leaf places

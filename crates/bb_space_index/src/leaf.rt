@@ -1,7 +1,7 @@
 //! One test of a pattern with its operand's value. Queries ask the spaces for the members that pass one.
 
 ghost use Rattle.std.specs.Prelude.{◌≡◌, slice_get};
-ghost use Rattle.bb_space_index.specs.Candidates.{dim_of};
+ghost use Rattle.bb_space_index.specs.Candidates.{dim_of, is_exact};
 ghost use Rattle.bb_space_index.specs.Leaf.{related, labelled, fits_leaf};
 ghost use Rattle.bb_space_index.specs.Stretches.{has_one_key, stretch_of};
 
@@ -62,6 +62,20 @@ impl Leaf {
         match *self {
             Leaf::Ordered { dim, .. } => dim,
             Leaf::Is { dim, .. } => dim,
+        }
+    }
+
+    /// Whether an interval, or a label, passes that stands where the test asks: its high end does not matter.
+    pub(crate) fn is_exact(&self) -> bool
+        ensures { result ≡ is_exact self.now }
+    {
+        match *self {
+            Leaf::Ordered {
+                relation: Relation::More,
+                ..
+            } => true,
+            Leaf::Ordered { .. } => false,
+            Leaf::Is { .. } => true,
         }
     }
 

@@ -17,7 +17,7 @@ pub use costs::{
 };
 pub use index::{put_all, take_all};
 pub use leaf::Leaf;
-pub use near::{collect_near, is_few, rise};
+pub use near::{collect_near, count_passing, is_few, rise};
 pub use pair::few_by_two;
 pub use place::Place;
 pub use thin::thin_all;

@@ -1,9 +1,10 @@
 //! Which units have places where a test asks, and whether these are few. `bb_space` asks for them.
 
-ghost use Rattle.std.specs.Prelude.{◌≡◌, ℕ, ◌||◌, OnOk, nat_le, length};
+ghost use Rattle.std.specs.Prelude.{◌≡◌, ℕ, ◌||◌, IfSome, IsTrue, OnOk, nat_le, length};
 ghost use Rattle.std.specs.List.Sorted.{IsStrictlySortedBy};
 ghost use Rattle.std.specs.Ordering.{nat_cmp};
 ghost use Rattle.bb_space_index.specs.Stretches.{places_in, stands_in, is_near, asked, is_among};
+ghost use Rattle.bb_space_index.specs.Stretches.{HasNoTurned, IsCount};
 
 use crate::leaf::Leaf;
 use crate::place::Place;
@@ -55,6 +56,27 @@ pub fn is_few(places: &BTreeSet<Place>, leaf: &Leaf, most: usize) -> bool
     ensures few { result ≡ nat_le (length (asked leaf.now places.now)) most }
 {
     are_few(places, Stretch::of(leaf), most)
+}
+
+// Whether no two numbers stand on the dimension of a test of which the second is less.
+fn has_no_turned(places: &BTreeSet<Place>, leaf: &Leaf) -> bool
+    ensures { IsTrue result → HasNoTurned leaf.now places.now }
+{
+    match Stretch::turned_of(leaf) {
+        None => true,
+        Some(turned) => are_few(places, turned, 0),
+    }
+}
+
+/// How many units pass a test, where the places tell it: those of one label, or of what is more than a number, where no
+/// two numbers stand on the dimension of which the second is less. It goes over the places of those that pass.
+pub fn count_passing(places: &BTreeSet<Place>, leaf: &Leaf) -> Option<usize>
+    ensures { IfSome result (λ n. IsCount leaf.now places.now n) }
+{
+    if !leaf.is_exact() || !has_no_turned(places, leaf) {
+        return None;
+    }
+    Some(Stretch::of(leaf).places(places).count())
 }
 
 /// Puts units in rising order, each once.

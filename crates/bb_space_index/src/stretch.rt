@@ -1,8 +1,10 @@
 //! The stretches of an index where tests ask, each made here. near.rt, pair.rt and thin.rt go over their places.
 
-ghost use Rattle.std.specs.Prelude.{◌≡◌};
+ghost use Rattle.std.specs.Prelude.{◌≡◌, ◌<◌, ◌^◌, length};
+ghost use Rattle.std.specs.List.Sorted.{IsStrictlySortedBy};
 ghost use Rattle.std.specs.Map.Iter.{ShowsInOrder, deref};
 ghost use Rattle.bb_space_index.specs.declared.place.Place.{Place as At};
+ghost use Rattle.bb_space_index.specs.Places.{place_cmp};
 ghost use Rattle.bb_space_index.specs.Stretches.{spot, intervals, stretch_of, turned, turned_of, has_one_key, beside, all_beside, places_in};
 
 use crate::leaf::Leaf;
@@ -133,7 +135,9 @@ impl Stretch {
     /// Its places, in their order.
     pub(crate) fn places(self, index: &BTreeSet<Place>) -> Range<'_, Place>
         ensures stand { result ≡ places_in self index.now }
+        ensures ordered { IsStrictlySortedBy place_cmp index.now.keys }
         ensures runs { ShowsInOrder (deref {X = At}) }
+        ensures fits { length result < 2 ^ 63 }
     {
         if self.end < self.first {
             return index.range(self.first..self.first);

@@ -14,7 +14,7 @@ near-requires c = fitting_space c.args.schema.now c.args.spaces.now c.args.query
 
 pub returns-in-None : goal.returns-in-None
 returns-in-None c =
-    IfOk-weaker c.scanned.result _ _ (λ found is_all. is_all ∙ answer_members c.args.schema.now c.args.units.now c.args.spaces.now c.requires.knows c.args.query.now c.args.operands.now) c.scanned.ensures
+    IfOk-weaker c.walked.result _ _ (λ found is_all. is_all ∙ answer_members c.args.schema.now c.args.units.now c.args.spaces.now c.requires.knows c.args.query.now c.args.operands.now) c.walked.ensures
 
 pub returns-in-Some : goal.returns-in-Some
 returns-in-Some c =

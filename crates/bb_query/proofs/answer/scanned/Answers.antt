@@ -10,7 +10,7 @@ use Rattle.bb_query.proofs.answer.scanned.Goals as goal
 pub told-requires : goal.told-requires
 told-requires c =
     let asked = c.args.search.now in
-    fitting_space asked.schema.now asked.spaces.now asked.query.now c.requires.knows.spaces c.requires.fits
+    fitting_space asked.schema.now asked.spaces.now asked.query.now c.requires.suits.knows.spaces c.requires.suits.fits
 
 pub loop-member-init : goal.loop-member-init
 loop-member-init c =
