@@ -56,7 +56,6 @@ pub mod PhaseLemmas
 -- each run does
 pub mod PhasedRuns
 -- what the agenda is told of foci
-pub mod FociLemmas
 -- the agenda has the foci of the blackboard
 pub mod WeighLemmas
 -- the code goes on knowing them

@@ -17,7 +17,7 @@ use Rattle.bb_run_plan.specs.Plan.{Plan}
 use Rattle.bb_run.specs.State.{State}
 use Rattle.bb_run.specs.Emission.{Stretch, emitting, over, after_emitted, and_then, and_then_unless}
 use Rattle.bb_run.specs.Run.{rating, choice, wait, noted, cycle, if_chosen, cycles, finish, first_state, start, finish_segments, with_finish, unfinished, run}
-use Rattle.bb_run.specs.Foci.{setting_of}
+use Rattle.bb_run_plan.specs.Foci.{setting_of}
 use Rattle.bb_run.specs.Order.{all_of, notes_of, At, chosen_in, IsChosenAfter}
 use Rattle.bb_run.proofs.OrderLemmas.{Comes, ComesBefore, comes_before, comes_last, comes_none, comes_then}
 use Rattle.bb_run.proofs.PendingLemmas.{IsKnown, Stands, chosen_then, is_apart, stands_first}

@@ -34,7 +34,7 @@ use Rattle.bb_run.specs.State.{State, with_agenda, with_board}
 use Rattle.bb_run.specs.Emission.{Response, Stretch, and_then, and_then_unless, idle, over}
 use Rattle.bb_run.specs.Asking.{attempt, asking, end_by, entry_of, reply_by, upon}
 use Rattle.bb_run.specs.Causes.{code_of}
-use Rattle.bb_run.specs.Foci.{with_foci}
+use Rattle.bb_run_plan.specs.Foci.{with_foci}
 use Rattle.bb_run.specs.Order.{after_note, notes_of, pending_after, triggered_in}
 use Rattle.bb_run.specs.Processing.{activating, if_triggered, obviated_by, processing, processing_all, reacting, reacting_to, reacting_to_each, required_by, rerated_by, response, response_by, source_response, triggering}
 use Rattle.bb_run.specs.Reads.{AsksByReading}

@@ -15,7 +15,7 @@ use Rattle.bb_agenda.specs.Changes.{based_at, new_activation, other_than, rebase
 use Rattle.bb_agenda.proofs.Laws.{pending_added, pending_executed, pending_obviated, pending_rebased, given_added, given_executed, given_obviated, given_rebased}
 use Rattle.bb_trace.specs.declared.note.Note.{Note}
 use Rattle.bb_trace.specs.declared.note.Note.TheVariants.{Triggered, Obviated, Retriggered, Chosen, Invalid, Ended, NativeEnded}
-use Rattle.bb_run.specs.Foci.{with_foci}
+use Rattle.bb_run_plan.specs.Foci.{with_foci}
 use Rattle.bb_run.specs.Processing.{event_in, events_in}
 use Rattle.bb_run.specs.Order.{triggered_by, chosen_by, gone_by, triggered_in, chosen_in, gone_in, is_among, without, after_note, pending_after}
 

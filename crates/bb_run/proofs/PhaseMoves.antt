@@ -17,7 +17,7 @@ use Rattle.bb_run_plan.specs.Plan.{Plan}
 use Rattle.bb_run.specs.State.{State}
 use Rattle.bb_run.specs.Emission.{Stretch, emitting, and_then_unless}
 use Rattle.bb_run.specs.Run.{cycle}
-use Rattle.bb_run.specs.Foci.{with_foci}
+use Rattle.bb_run_plan.specs.Foci.{with_foci}
 use Rattle.bb_run.specs.Order.{notes_of, after_note, triggered_in, without}
 use Rattle.bb_run.specs.Phases.{Phase, outside, rested, inside, after_in, phase_after, IsQuiet}
 use Rattle.bb_run.proofs.OrderLemmas.{Comes, comes_none, comes_one, comes_then}

@@ -15,7 +15,7 @@ use Rattle.bb_run.specs.State.{State}
 use Rattle.bb_run.specs.Emission.{Response, Stretch, after_emitted, and_then_unless}
 use Rattle.bb_run.specs.Processing.{events_in, processing_all}
 use Rattle.bb_run.specs.Run.{first_state, noted, cycles, finish, finish_segments, unfinished, run}
-use Rattle.bb_run.specs.Foci.{setting_of}
+use Rattle.bb_run_plan.specs.Foci.{setting_of}
 use Rattle.bb_run.specs.Order.{At, all_of, notes_of, triggered_in}
 use Rattle.bb_run.specs.Phases.{outside, rested, phase_after, GoesByPhases}
 use Rattle.bb_run.proofs.OrderLemmas.{ComesBefore, comes_before, comes_last}

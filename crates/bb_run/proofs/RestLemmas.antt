@@ -16,7 +16,7 @@ use Rattle.bb_run_plan.specs.Plan.{Plan}
 use Rattle.bb_run.specs.State.{State}
 use Rattle.bb_run.specs.Emission.{Response, Stretch, after_emitted, and_then, over}
 use Rattle.bb_run.specs.Executed.{finish_by}
-use Rattle.bb_run.specs.Foci.{setting_of}
+use Rattle.bb_run_plan.specs.Foci.{setting_of}
 use Rattle.bb_run.specs.Order.{At, all_of, chosen_in, notes_of, pending_after, triggered_in, after_note}
 use Rattle.bb_run.specs.Phases.{IsQuiet, inside, outside, phase_after}
 use Rattle.bb_run.specs.Processing.{events_in, processing_all, response}

@@ -48,12 +48,12 @@ use Rattle.bb_run.specs.declared.execution.Verdict.TheVariants as verdicts
 use Rattle.bb_run.specs.State.{State, with_board, with_natives}
 use Rattle.bb_run.specs.Emission.{Response, after_emitted, idle, emitting, and_then_unless}
 use Rattle.bb_run.specs.Asking.{attempt, entry_of}
-use Rattle.bb_run.specs.Foci.{focus_from, text_in, number_in, truth_in, focus_of, foci_on, told_unit, told_note, told_notes, first_agenda}
+use Rattle.bb_run_plan.specs.Foci.{focus_from, text_in, number_in, truth_in, focus_of, foci_on, told_unit, told_note, told_notes, first_agenda}
 use Rattle.bb_run.specs.Processing.{response}
 use Rattle.bb_run.specs.Reads.{AsksByReading}
 use Rattle.bb_run.specs.Run.{rating, choice, quiet, wait_for, with_notes_taken, noted, answered, asked, calling, each_applied, execution, validity, chosen_with, cycle, cycles, if_chosen, first_state, start, run}
 use Rattle.bb_run.specs.Weighed.{KnowsFoci, NumbersGiven}
-use Rattle.bb_run.proofs.FociLemmas.{fold_range}
+use Rattle.bb_run_plan.proofs.Laws.{fold_range}
 use Rattle.bb_run.proofs.ReadLemmas.{run_reads}
 use Rattle.bb_run.proofs.AskRule.{HoldsOfAsks, asks_hold}
 use Rattle.bb_run.proofs.ResponseRule.{HoldsOfParts, holds}

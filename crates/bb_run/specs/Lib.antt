@@ -4,8 +4,6 @@ pub mod State
 pub mod Emission
 -- what a code of a source answers
 pub mod Asking
--- the foci of a blackboard, and what the agenda is told of them
-pub mod Foci
 -- what an event brings about
 pub mod Processing
 -- the run

@@ -38,7 +38,7 @@ use Rattle.bb_run.specs.declared.asking.Reply.TheVariants as replies
 use Rattle.bb_run.specs.declared.execution.Verdict.{Verdict}
 use Rattle.bb_run.specs.declared.execution.Verdict.TheVariants as verdicts
 use Rattle.bb_run.specs.State.{State, with_board, with_agenda, with_natives}
-use Rattle.bb_run.specs.Foci.{foci_on, told_notes, with_foci, rated_source, first_agenda}
+use Rattle.bb_run_plan.specs.Foci.{foci_on, told_notes, with_foci, rated_source, first_agenda}
 use Rattle.bb_run.specs.Emission.{Response, Stretch, emitting, idle, over, after_emitted, and_then, segment}
 use Rattle.bb_run.specs.Asking.{attempt, end_by, entry_of, reply_by}
 use Rattle.bb_run.specs.Processing.{response, reported}

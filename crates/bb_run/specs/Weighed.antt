@@ -5,7 +5,7 @@ use Rattle.bb_machine.specs.Units.{is_live}
 use Rattle.bb_trace.specs.Board.{Board as Blackboard}
 use Rattle.bb_run_plan.specs.Plan.{Plan}
 use Rattle.bb_run.specs.State.{State}
-use Rattle.bb_run.specs.Foci.{focus_of, setting_of}
+use Rattle.bb_run_plan.specs.Foci.{focus_of, setting_of}
 
 -- the agenda has the foci of the blackboard, and no others
 pub record KnowsFoci (plan : Plan) (s : State) : Type 0 where

@@ -13,7 +13,6 @@ mod cycles;
 mod ending;
 mod execution;
 mod finish;
-mod foci;
 mod noting;
 mod orderly;
 mod processing;

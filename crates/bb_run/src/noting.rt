@@ -8,8 +8,8 @@ ghost use Rattle.bb_run.specs.Run.{noted};
 ghost use Rattle.bb_run.specs.Seen.{seen};
 ghost use Rattle.bb_run.specs.Emitting.{IsResponse, option_list};
 
-use crate::foci::tell_notes;
 use crate::state::State;
+use bb_run_plan::tell_notes;
 use bb_trace::{BoardNote as Noted, NativeSource, Note};
 use std::alloc::AllocError;
 

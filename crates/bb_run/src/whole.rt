@@ -3,7 +3,7 @@
 
 ghost use Rattle.std.specs.Prelude.{◌≡◌, [], All, Some, IfOk, IfSome, IsSomeAnd, false, map};
 ghost use Rattle.std.specs.Io.KnownBytes.{Appends};
-ghost use Rattle.bb_run.specs.Foci.{first_agenda};
+ghost use Rattle.bb_run_plan.specs.Foci.{first_agenda};
 ghost use Rattle.bb_trace.specs.Law.{IsMade};
 ghost use Rattle.bb_trace.specs.Page.{stopped_by_write};
 ghost use Rattle.bb_trace.specs.TraceText.{trace_text};
@@ -17,12 +17,11 @@ ghost use Rattle.bb_run.specs.Serving.{MayServe, Serves};
 ghost use Rattle.bb_run.specs.Emitting.{EndsRun, Finishes, Makes, Same, Writes, at};
 
 use crate::finish::Finish;
-use crate::foci::{rated_sources, tell_all};
 use crate::noting::take_noted;
 use crate::runner::Runner;
 use crate::state::{Start, State};
 use bb_agenda::Agenda;
-use bb_run_plan::Plan;
+use bb_run_plan::{Plan, rated_sources, tell_all};
 use bb_trace::{Board, End, Halt, NativeSource, Out, Page};
 use std::alloc::{AllocError, Global};
 

@@ -1,15 +1,15 @@
-//! The foci of the blackboard: units of the built-in class `focus`, and of classes below it. The agenda is told of
-//! those that there are when a run begins (cycles.rt), and then of each unit that the notes of the blackboard name
-//! (execution.rt).
+//! The foci of the blackboard: units of the built-in class `focus`, and of classes below it. A run (bb_run) tells the
+//! agenda of those that there are when it begins, and then of each unit that the notes of the blackboard name.
 
 ghost use Rattle.std.specs.Prelude.{◌≡◌, IfOk, map, option_map};
-ghost use Rattle.bb_machine.specs.Units.{value_of};
-ghost use Rattle.bb_run.specs.Foci as def;
+ghost use Rattle.bb_board.specs.Units.{value_of};
+ghost use Rattle.bb_run_plan.specs.Foci as def;
 
 use bb_agenda::{Agenda, Focus, RatedSource};
 use bb_basis::Text;
+use bb_board::{Board, Note as BoardNote};
+use bb_rules::Source;
 use bb_schema::{ClassId, SlotId, UnitId, Value};
-use bb_trace::{Board, BoardNote, Source};
 use std::alloc::{AllocError, Global};
 
 // The built-in class, and its slots.
@@ -105,7 +105,7 @@ fn focus_of(board: &Board, unit: UnitId) -> Result<Option<Focus>, AllocError>
     Ok(focus_from(source, area, weight, active))
 }
 
-// Emits the agenda which focus a unit is, or that it is none.
+// Tells the agenda which focus a unit is, or that it is none.
 fn tell_unit(agenda: &mut Agenda, board: &Board, unit: UnitId) -> Result<(), AllocError>
     ensures { IfOk result (λ _. agenda.new ≡ def.with_foci agenda.old
         (def.told_unit board.now.schema board.now.world.units agenda.old.foci unit)) }
@@ -116,7 +116,7 @@ fn tell_unit(agenda: &mut Agenda, board: &Board, unit: UnitId) -> Result<(), All
     }
 }
 
-// Emits the agenda of the unit that a note names.
+// Tells the agenda of the unit that a note names.
 fn tell_note(agenda: &mut Agenda, board: &Board, note: &BoardNote) -> Result<(), AllocError>
     ensures { IfOk result (λ _. agenda.new ≡ def.with_foci agenda.old
         (def.told_note board.now.schema board.now.world.units agenda.old.foci note.now)) }
@@ -127,12 +127,9 @@ fn tell_note(agenda: &mut Agenda, board: &Board, note: &BoardNote) -> Result<(),
     }
 }
 
-/// Emits the agenda of the units that notes of the blackboard name.
-pub(crate) fn tell_notes(
-    agenda: &mut Agenda,
-    board: &Board,
-    notes: &[BoardNote],
-) -> Result<(), AllocError>
+/// Tells the agenda of the units that notes of the blackboard name. The error is out of memory, and the agenda may then
+/// have been told of some.
+pub fn tell_notes(agenda: &mut Agenda, board: &Board, notes: &[BoardNote]) -> Result<(), AllocError>
     ensures { IfOk result (λ _. agenda.new ≡ def.with_foci agenda.old
         (def.told_notes board.now.schema board.now.world.units notes.now agenda.old.foci)) }
 {
@@ -142,8 +139,8 @@ pub(crate) fn tell_notes(
     Ok(())
 }
 
-/// Emits the agenda of all units that were created on the blackboard. 0 names no unit.
-pub(crate) fn tell_all(agenda: &mut Agenda, board: &Board) -> Result<(), AllocError>
+/// Tells the agenda of all units that were created on the blackboard, as `tell_notes` does. 0 names no unit.
+pub fn tell_all(agenda: &mut Agenda, board: &Board) -> Result<(), AllocError>
     ensures { IfOk result (λ _. agenda.new ≡ def.with_foci agenda.old
         (def.told_all board.now.schema board.now.world.units agenda.old.foci)) }
 {
@@ -153,11 +150,8 @@ pub(crate) fn tell_all(agenda: &mut Agenda, board: &Board) -> Result<(), AllocEr
     Ok(())
 }
 
-/// What the agenda knows of sources: their names and classes.
-pub(crate) fn rated_sources(
-    alloc: Global,
-    sources: &[Source],
-) -> Result<Vec<RatedSource>, AllocError>
+/// What the agenda knows of sources: their names and classes. The error is out of memory.
+pub fn rated_sources(alloc: Global, sources: &[Source]) -> Result<Vec<RatedSource>, AllocError>
     ensures { IfOk result (λ rated. rated.items ≡ map def.rated_source sources.now) }
 {
     let mut rated = Vec::new(alloc);

@@ -1,9 +1,9 @@
 use Rattle.std.proofs.Common.{◌+◌, ◌∙◌, ap, drop, refl, sym}
 use Rattle.std.specs.List.{fold}
 use Rattle.std.proofs.lemmas.List.{drop_all}
-use Rattle.bb_run.specs.Foci.{told_note, with_foci}
-use Rattle.bb_run.proofs.FociLemmas.{fold_next, foci_again, foci_are}
-use Rattle.bb_run.proofs.foci.tell_notes.Goals as goal
+use Rattle.bb_run_plan.specs.Foci.{told_note, with_foci}
+use Rattle.bb_run_plan.proofs.FociLemmas.{fold_next, foci_again, foci_are}
+use Rattle.bb_run_plan.proofs.foci.tell_notes.Goals as goal
 
 pub loop-note-init : goal.loop-note-init
 loop-note-init c = record { same = refl; left = refl }

@@ -1,7 +1,7 @@
 use Rattle.std.proofs.Common.{◌≡◌}
 use Rattle.std.specs.List.{fold, range_with_len}
-use Rattle.bb_run.specs.Foci.{told_unit, with_foci}
-use Rattle.bb_run.proofs.foci.tell_all.Given as goal
+use Rattle.bb_run_plan.specs.Foci.{told_unit, with_foci}
+use Rattle.bb_run_plan.proofs.foci.tell_all.Given as goal
 
 abbrev pub invariant-loop-unit : goal.invariant-loop-unit
 invariant-loop-unit l = record {

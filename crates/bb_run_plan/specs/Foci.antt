@@ -11,12 +11,12 @@ use Rattle.bb_agenda.specs.Focus.{Focus}
 use Rattle.bb_agenda.specs.RatedSource.{RatedSource}
 use Rattle.bb_agenda.specs.Foci.{Foci, Setting}
 use Rattle.bb_agenda.specs.Agenda.{Agenda, no_activations}
-use Rattle.bb_trace.specs.Board.{Board as Blackboard}
-use Rattle.bb_trace.specs.BoardNote.{Note as BoardNote}
-use Rattle.bb_trace.specs.BoardNote.TheVariants.{Event as happened, Said as said}
-use Rattle.bb_trace.specs.Events.{unit_of}
-use Rattle.bb_machine.specs.Units.{Units, class_of, value_of}
-use Rattle.bb_trace.specs.Source.{Source}
+use Rattle.bb_board.specs.Board.{Board as Blackboard}
+use Rattle.bb_board.specs.Note.{Note as BoardNote}
+use Rattle.bb_board.specs.Note.TheVariants.{Event as happened, Said as said}
+use Rattle.bb_board.specs.Events.{unit_of}
+use Rattle.bb_board.specs.Units.{Units, class_of, value_of}
+use Rattle.bb_rules.specs.Parts.{Source}
 use Rattle.bb_run_plan.specs.Plan.{Plan}
 
 -- ---- the foci of a blackboard

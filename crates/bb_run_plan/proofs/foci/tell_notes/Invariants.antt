@@ -1,7 +1,7 @@
 use Rattle.std.proofs.Common.{◌≡◌, drop}
 use Rattle.std.specs.List.{fold}
-use Rattle.bb_run.specs.Foci.{told_note, with_foci}
-use Rattle.bb_run.proofs.foci.tell_notes.Given as goal
+use Rattle.bb_run_plan.specs.Foci.{told_note, with_foci}
+use Rattle.bb_run_plan.proofs.foci.tell_notes.Given as goal
 
 abbrev pub invariant-loop-note : goal.invariant-loop-note
 invariant-loop-note l = record {

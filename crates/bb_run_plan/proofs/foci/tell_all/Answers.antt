@@ -1,8 +1,8 @@
 use Rattle.std.proofs.Common.{◌≡◌, ◌∙◌, ap, refl, sym, arith}
 use Rattle.std.specs.List.{fold, range_with_len}
-use Rattle.bb_run.specs.Foci.{told_unit, with_foci}
-use Rattle.bb_run.proofs.FociLemmas.{fold_range, foci_again, foci_are}
-use Rattle.bb_run.proofs.foci.tell_all.Goals as goal
+use Rattle.bb_run_plan.specs.Foci.{told_unit, with_foci}
+use Rattle.bb_run_plan.proofs.FociLemmas.{fold_range, foci_again, foci_are}
+use Rattle.bb_run_plan.proofs.foci.tell_all.Goals as goal
 
 pub loop-unit-init : goal.loop-unit-init
 loop-unit-init c = record { same = refl; emitted = refl }
