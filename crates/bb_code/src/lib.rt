@@ -16,10 +16,10 @@ mod table;
 
 pub use bb_code_ops::{
     Bound, Calculation, ClassId, CodeParts, Comparison, DimValue, Division, FRAME_LIMIT, Flaw,
-    Frame, FrameEntry, Kind, LOCAL_LIMIT, LOOP_LIMIT, LabelId, LabelSetId, LinkChange, LocalId,
-    Logic, Loop, NODE_LIMIT, Node, OP_LIMIT, OPERAND_LIMIT, Op, OperandKind, Pattern, PatternFault,
-    Place, QUERY_LIMIT, Query, Relation, SAID_LIMIT, STACK_LIMIT, Schema, SlotId, SpaceId,
-    TEXT_BYTES_LIMIT, TEXT_COUNT_LIMIT, VerifyFault, Version,
+    Frame, FrameEntry, Kind, Kinds, LOCAL_LIMIT, LOOP_LIMIT, LabelId, LabelSetId, LinkChange,
+    LocalId, Logic, Loop, NODE_LIMIT, Node, OP_LIMIT, OPERAND_LIMIT, Op, OperandKind, Pattern,
+    PatternFault, Place, QUERY_LIMIT, Query, Relation, SAID_LIMIT, STACK_LIMIT, Schema, SlotId,
+    SpaceId, TEXT_BYTES_LIMIT, TEXT_COUNT_LIMIT, VerifyFault, Version,
 };
 pub use code::Code;
 pub use fault::CodeFault;

@@ -9,7 +9,7 @@ use crate::pattern::read_pattern;
 use crate::statement::{Statement, statements_of};
 use bb_basis::{Items, Text};
 use bb_code::{
-    Code, CodeParts, FRAME_LIMIT, Frame, FrameEntry, Kind, LOCAL_LIMIT, LOOP_LIMIT, Loop,
+    Code, CodeParts, FRAME_LIMIT, Frame, FrameEntry, Kinds, LOCAL_LIMIT, LOOP_LIMIT, Loop,
     NODE_LIMIT, OP_LIMIT, OPERAND_LIMIT, QUERY_LIMIT, Query, STACK_LIMIT, TEXT_BYTES_LIMIT,
     TEXT_COUNT_LIMIT, Version,
 };
@@ -185,8 +185,8 @@ impl Draft {
 }
 
 // The kinds up to a `/` or the end.
-fn kinds_of(alloc: Global, operands: &mut Operands<'_>) -> Result<Items<Kind>, StatementFault> {
-    let mut kinds = Items::new(alloc);
+fn kinds_of(alloc: Global, operands: &mut Operands<'_>) -> Result<Kinds, StatementFault> {
+    let mut kinds = Kinds::new(alloc);
     // More kinds than a frame may have are a fault, so there is no need to read on.
     for _ in 0..=STACK_LIMIT {
         if operands.takes("/") {

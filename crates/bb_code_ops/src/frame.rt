@@ -1,13 +1,14 @@
 //! Frames and loops: what a code declares of its places. The verifier checks them, and the machine does not read them.
 
+use crate::kinds::Kinds;
 use crate::op::Place;
-use bb_basis::Items;
 use bb_schema::{ClassId, LabelSetId};
 
 /// What is known of a local or of an entry of the stack.
-#[derive(Clone, Copy, Debug, PartialEq, Eq)]
+#[derive(Clone, Copy, Debug, Default, PartialEq, Eq)]
 pub enum Kind {
     /// Anything, or nothing. It can't be used.
+    #[default]
     Any,
     Int,
     Text,
@@ -24,11 +25,11 @@ pub enum Kind {
 }
 
 /// The kinds of all locals and of the stack at a place.
-#[derive(Debug, PartialEq, Drop)]
+#[derive(Debug, Drop)]
 pub struct Frame {
-    pub locals: Items<Kind>,
+    pub locals: Kinds,
     /// The deepest entry first.
-    pub stack: Items<Kind>,
+    pub stack: Kinds,
 }
 
 /// A place and the frame that a code declares for it.

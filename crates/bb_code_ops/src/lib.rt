@@ -4,6 +4,7 @@
 
 mod flaw;
 mod frame;
+mod kinds;
 mod op;
 mod parts;
 mod version;
@@ -16,6 +17,7 @@ pub use bb_pattern::{
 pub use bb_schema::{Schema, SlotId};
 pub use flaw::{Flaw, VerifyFault};
 pub use frame::{Frame, FrameEntry, Kind, Loop};
+pub use kinds::Kinds;
 pub use op::{Bound, Calculation, Comparison, Division, LinkChange, LocalId, Logic, Op, Place};
 pub use parts::{
     CodeParts, FRAME_LIMIT, LOCAL_LIMIT, LOOP_LIMIT, OP_LIMIT, QUERY_LIMIT, SAID_LIMIT,

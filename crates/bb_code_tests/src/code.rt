@@ -2,8 +2,8 @@
 
 use bb_basis::{Items, Text};
 use bb_code::{
-    Code, CodeFault, CodeParts, Division, Frame, FrameEntry, Kind, Node, Op, OperandKind, Pattern,
-    Query, Version, one_spelling,
+    Code, CodeFault, CodeParts, Division, Frame, FrameEntry, Kind, Kinds, Node, Op, OperandKind,
+    Pattern, Query, Version, one_spelling,
 };
 use std::alloc::Global;
 use std::test::Fail;
@@ -187,8 +187,8 @@ fn takes_frame(alloc: Global, locals: usize, stack: usize) -> Result<bool, Fail>
     let ops = vec![in alloc; Op::Done]?;
     let mut made = parts(alloc, 2, ops);
     let mut frame = Frame {
-        locals: Items::new(alloc),
-        stack: Items::new(alloc),
+        locals: Kinds::new(alloc),
+        stack: Kinds::new(alloc),
     };
     for _ in 0..locals {
         frame.locals.push(Kind::Any)?;

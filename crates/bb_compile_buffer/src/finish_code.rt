@@ -10,15 +10,15 @@ ghost use Rattle.bb_compile_buffer.specs.Finish.{frame_of, last_frame, frames_of
 use crate::buffer::Buffer;
 use crate::label::Label;
 use bb_basis::Items;
-use bb_code::{Code, CodeParts, Frame, FrameEntry, Version};
-use bb_compile_scope::{CompileFault, Kind, LocalKinds, Place, TextFlaw};
+use bb_code::{Code, CodeParts, Frame, FrameEntry, Kinds, Version};
+use bb_compile_scope::{CompileFault, LocalKinds, Place, TextFlaw};
 use std::alloc::{AllocError, Global};
 
 // The kinds of the first `locals` locals.
-fn first_kinds(alloc: Global, kinds: &LocalKinds, locals: u8) -> Result<Vec<Kind>, AllocError>
-    ensures { IfOk result (λ v. v.items ≡ map (kind_at kinds.now) (range_with_len 0 locals)) }
+fn first_kinds(alloc: Global, kinds: &LocalKinds, locals: u8) -> Result<Kinds, AllocError>
+    ensures { IfOk result (λ k. k ≡ map (kind_at kinds.now) (range_with_len 0 locals)) }
 {
-    let mut first = Vec::new(alloc);
+    let mut first = Kinds::new(alloc);
     for local in 0..locals {
         first.push(kinds.get(local))?;
     }
@@ -33,8 +33,8 @@ fn frame_of(alloc: Global, label: &Label, locals: u8) -> Result<FrameEntry, Allo
     Ok(FrameEntry {
         place: label.place,
         frame: Frame {
-            locals: Items::from(kinds),
-            stack: Items::new(alloc),
+            locals: kinds,
+            stack: Kinds::new(alloc),
         },
     })
 }

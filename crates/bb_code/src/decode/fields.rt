@@ -33,14 +33,14 @@ where
     F: Drop,
     ensures { Gives CodeFault.Memory (λ x. (x.0, x.1.now)) result (repeated F.at count bytes.now) }
 {
-    let mut items = Items::new(alloc);
+    let mut items = Vec::with_capacity(alloc, count)?;
     let mut rest = bytes;
     for _ in 0..count {
         let (item, after) = F::read(alloc, rest)?;
         items.push(item)?;
         rest = after;
     }
-    Ok((items, rest))
+    Ok((Items::from(items), rest))
 }
 
 /// Reads a count from `low` to `high`, and as many fields.

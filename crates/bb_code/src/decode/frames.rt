@@ -3,13 +3,13 @@
 ghost use Rattle.std.specs.Prelude.{◌≡◌};
 ghost use Rattle.bb_basis.specs.Results.{Gives};
 ghost use Rattle.bb_code_ops.specs.Answers.{map_ok};
-ghost use Rattle.bb_code.specs.Fields.{kind_after, frame_at, list_at};
+ghost use Rattle.bb_code.specs.Fields.{kind_after, frame_at, kind_at, list_at, repeated, short_list_at};
 
-use super::fields::{Field, read_byte, read_count, read_each, read_number, read_short_list};
+use super::fields::{Field, read_byte, read_count, read_number, read_short_count};
 use crate::fault::CodeFault;
 use crate::table::{KindForm, kind_form};
 use bb_basis::Items;
-use bb_code_ops::{FRAME_LIMIT, Frame, FrameEntry, Kind, Loop, STACK_LIMIT};
+use bb_code_ops::{FRAME_LIMIT, Frame, FrameEntry, Kind, Kinds, Loop, STACK_LIMIT};
 use std::alloc::Global;
 
 #[tactic(auto, unfolding(crate::specs::Fields::kind_after))]
@@ -63,14 +63,38 @@ impl Field for Loop {
     }
 }
 
+// Reads `count` kinds.
+fn read_kinds(alloc: Global, count: usize, bytes: &[u8]) -> Result<(Kinds, &[u8]), CodeFault>
+    ensures { Gives CodeFault.Memory (λ x. (x.0, x.1.now)) result (repeated kind_at count bytes.now) }
+{
+    let mut kinds = Kinds::new(alloc);
+    let mut rest = bytes;
+    for _ in 0..count {
+        let (kind, after) = Kind::read(alloc, rest)?;
+        kinds.push(kind)?;
+        rest = after;
+    }
+    Ok((kinds, rest))
+}
+
+// Reads the kinds of a stack, and how many they are before them.
+#[tactic(auto, unfolding(crate::specs::Fields::short_list_at))]
+fn read_stack(alloc: Global, bytes: &[u8]) -> Result<(Kinds, &[u8]), CodeFault>
+    ensures { Gives CodeFault.Memory (λ x. (x.0, x.1.now)) result
+        (short_list_at STACK_LIMIT kind_at bytes.now) }
+{
+    let (count, rest) = read_short_count(bytes, 0, STACK_LIMIT)?;
+    read_kinds(alloc, count as usize, rest)
+}
+
 // Reads a frame of a code with `locals` locals.
 #[tactic(auto, unfolding(crate::specs::Fields::frame_at))]
 fn read_frame(alloc: Global, locals: u8, bytes: &[u8]) -> Result<(FrameEntry, &[u8]), CodeFault>
     ensures { Gives CodeFault.Memory (λ x. (x.0, x.1.now)) result (frame_at locals bytes.now) }
 {
     let (place, rest) = read_number(bytes)?;
-    let (locals, rest) = read_each(alloc, locals as usize, rest)?;
-    let (stack, rest) = read_short_list(alloc, rest, STACK_LIMIT)?;
+    let (locals, rest) = read_kinds(alloc, locals as usize, rest)?;
+    let (stack, rest) = read_stack(alloc, rest)?;
     let frame = Frame { locals, stack };
     Ok((FrameEntry { place, frame }, rest))
 }
@@ -86,11 +110,11 @@ pub(crate) fn read_frames(
         (list_at 0 FRAME_LIMIT (frame_at locals) bytes.now) }
 {
     let (count, mut rest) = read_count(bytes, 0, FRAME_LIMIT)?;
-    let mut frames = Items::new(alloc);
+    let mut frames = Vec::with_capacity(alloc, count as usize)?;
     for _ in 0..count {
         let (frame, after) = read_frame(alloc, locals, rest)?;
         frames.push(frame)?;
         rest = after;
     }
-    Ok((frames, rest))
+    Ok((Items::from(frames), rest))
 }

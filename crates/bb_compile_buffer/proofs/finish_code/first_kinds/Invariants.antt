@@ -4,4 +4,4 @@ use Rattle.bb_compile_scope.specs.LocalKinds.{kind_at}
 use Rattle.bb_compile_buffer.proofs.finish_code.first_kinds.Given as goal
 
 abbrev pub invariant-loop-local : goal.invariant-loop-local
-invariant-loop-local l = l.first.items ≡ map (kind_at l.kinds) (range_with_len 0 l.local)
+invariant-loop-local l = l.first ≡ map (kind_at l.kinds) (range_with_len 0 l.local)

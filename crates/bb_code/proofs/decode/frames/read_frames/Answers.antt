@@ -9,11 +9,11 @@ use Rattle.bb_code.proofs.decode.frames.read_frames.Goals as goal
 pub returns-in_err-frame : goal.returns-in_err-frame
 returns-in_err-frame c =
     let p = err_from_is_err_and c.from_residual-in_err-frame.result c.from_residual-in_err-frame.ensures.1 in
-    rw (p.1, p.2) (ends FrameEntry (List ℕ) (frame_at c.args.locals) c.loop.frames c.in_ok-count.count c.loop.counter c.loop.rest.now _ (list_at 0 FRAME_LIMIT (frame_at c.args.locals) c.args.bytes.now) c.loop-test.true c.in_err-frame.ensures c.loop.invariant)
+    rw (p.1, p.2) (ends FrameEntry (List ℕ) (frame_at c.args.locals) c.loop.frames.items c.in_ok-count.count c.loop.counter c.loop.rest.now _ (list_at 0 FRAME_LIMIT (frame_at c.args.locals) c.args.bytes.now) c.loop-test.true c.in_err-frame.ensures c.loop.invariant)
 
 pub loop-preserved : goal.loop-preserved
 loop-preserved c =
-    rw c.in_ok-push.ensures.ok (goes_on FrameEntry (List ℕ) (frame_at c.args.locals) c.loop.frames c.in_ok-count.count c.loop.counter c.loop.rest.now c.in_ok-frame.frame c.in_ok-frame.after.now (list_at 0 FRAME_LIMIT (frame_at c.args.locals) c.args.bytes.now) c.loop-test.true c.in_ok-frame.ensures c.loop.invariant)
+    rw c.in_ok-push.ensures.items (goes_on FrameEntry (List ℕ) (frame_at c.args.locals) c.loop.frames.items c.in_ok-count.count c.loop.counter c.loop.rest.now c.in_ok-frame.frame c.in_ok-frame.after.now (list_at 0 FRAME_LIMIT (frame_at c.args.locals) c.args.bytes.now) c.loop-test.true c.in_ok-frame.ensures c.loop.invariant)
 
 pub returns : goal.returns
-returns c = is_done FrameEntry (List ℕ) (frame_at c.args.locals) c.loop.frames c.in_ok-count.count c.loop.counter c.loop.rest.now (list_at 0 FRAME_LIMIT (frame_at c.args.locals) c.args.bytes.now) c.loop-test.false c.loop.invariant
+returns c = rw c.from.ensures (is_done FrameEntry (List ℕ) (frame_at c.args.locals) c.loop.frames.items c.in_ok-count.count c.loop.counter c.loop.rest.now (list_at 0 FRAME_LIMIT (frame_at c.args.locals) c.args.bytes.now) c.loop-test.false c.loop.invariant)
