@@ -9,4 +9,6 @@ pub(crate) struct Pass {
     /// The frame that the op leaves, where it goes on to the next place, and else one that means nothing.
     pub(crate) frame: Frame,
     pub(crate) goes_on: bool,
+    /// The frame that the op leaves for the place that it goes to, if it goes to one.
+    pub(crate) target: Option<Frame>,
 }

@@ -113,7 +113,7 @@ fn entry_frame(part: Part, locals: u8) -> Frame
 fn no_frames(alloc: Global, count: usize) -> Result<Vec<Option<usize>>, AllocError>
     ensures { IfOk result (λ v. v.items ≡ replicate count None) }
 {
-    let mut all = Vec::new(alloc);
+    let mut all = Vec::with_capacity(alloc, count)?;
     for place in 0..count {
         all.push(None)?;
     }
@@ -210,6 +210,15 @@ fn has_next(count: usize, place: usize, left: &Frame) -> Result<(), Flaw>
     Ok(())
 }
 
+// No frame is left for the target of an op. Most ops have none, and then nothing of a frame's size is written.
+fn forget(target: &mut Option<Frame>)
+    ensures { target.new ≡ None }
+{
+    if target.is_some() {
+        *target = None;
+    }
+}
+
 // Checks an op at a place, and adds the place to the pass.
 #[tactic(auto, unfolding(crate::specs::Places::visit_op))]
 fn visit_op(
@@ -229,17 +238,24 @@ fn visit_op(
         &mut pass.frame,
     )?;
     pass.frames.push(&pass.frame)?;
-    let mut target = None;
-    let goes_on = effect(schema, part, framed.code, op, &mut pass.frame, &mut target)?;
+    forget(&mut pass.target);
+    let goes_on = effect(
+        schema,
+        part,
+        framed.code,
+        op,
+        &mut pass.frame,
+        &mut pass.target,
+    )?;
     if !goes_on {
         pass.goes_on = false;
-        return target_due(schema, &target, declared_for(framed, op));
+        return target_due(schema, &pass.target, declared_for(framed, op));
     }
     pass.goes_on = true;
     let after = place as usize + 1;
     has_next(framed.code.ops().len(), after, &pass.frame)?;
     on_due(schema, &pass.frame, declared_at(framed, after))?;
-    target_due(schema, &target, declared_for(framed, op))
+    target_due(schema, &pass.target, declared_for(framed, op))
 }
 
 // Checks the op at a place, if there is one, and adds the place to the pass.
@@ -301,9 +317,10 @@ pub(crate) fn frames_of(
         declared: &declared,
     };
     let mut pass = Pass {
-        frames: PackedFrames::new(alloc),
+        frames: PackedFrames::with_capacity(alloc, code.ops().len())?,
         frame: entry_frame(part, code.locals()),
         goes_on: true,
+        target: None,
     };
     match on_due(schema, &pass.frame, declared_at(&framed, 0)) {
         Ok(()) => {}
@@ -314,6 +331,7 @@ pub(crate) fn frames_of(
         frames,
         frame: _,
         goes_on: _,
+        target: _,
     } = pass;
     Ok(frames)
 }

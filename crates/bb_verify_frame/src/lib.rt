@@ -3,6 +3,7 @@
 #![tactic(auto)]
 
 mod frame;
+mod frame_view;
 mod kind;
 mod locals;
 mod packed_frames;
@@ -14,6 +15,7 @@ pub use bb_code::{
     Op, OperandKind, Place, Query, Schema, SlotId, SpaceId, VerifyFault,
 };
 pub use frame::Frame;
+pub use frame_view::FrameView;
 pub use kind::{frame_weakens, is_same_plain, mark_stale};
 pub use locals::Locals;
 pub use packed_frames::PackedFrames;

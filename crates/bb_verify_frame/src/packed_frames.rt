@@ -1,9 +1,11 @@
 //! The frames of places, one after another. The pass over the places fills it, and accepted codes keep it.
 
-ghost use Rattle.std.specs.Prelude.{◌≡◌, ◌<◌, ◌++◌, ◌∷◌, [], IfOk, OnErr, OnOk, IfSome, Some, length, reverse, slice_get};
+ghost use Rattle.std.specs.Prelude.{◌≡◌, ◌<◌, ◌≤◌, ◌+◌, ◌++◌, ◌∷◌, [], IfOk, OnErr, OnOk, Some, length, reverse, slice_get};
+ghost use Rattle.std.specs.Vec.{vec_capacity, vec_len};
 ghost use Rattle.bb_verify_frame.specs.proving.Packed.{Lies, frame_in};
 
 use crate::frame::Frame;
+use crate::frame_view::FrameView;
 use crate::locals::Locals;
 use crate::stack::Stack;
 use bb_code::Kind;
@@ -39,6 +41,18 @@ impl Model for PackedFrames {
     ghost invariant = { λ p. All (Lies (length p.kinds.items)) p.spans.items };
 }
 
+// Appends kinds to a list that has room for them. They are few: to copy them as one block would cost more.
+fn add_kinds(kinds: &mut Vec<Kind>, more: &[Kind])
+    requires { vec_len kinds.old + length more.now ≤ vec_capacity kinds.old }
+    ensures items { kinds.new.items ≡ kinds.old.items ++ more.now }
+    ensures len { vec_len kinds.new ≡ vec_len kinds.old + length more.now }
+    ensures capacity { vec_capacity kinds.new ≡ vec_capacity kinds.old }
+{
+    for kind in more {
+        kinds.push_reserved(*kind);
+    }
+}
+
 // Appends the kinds of a frame, and returns where they lie. An error changes nothing.
 fn put_kinds(kinds: &mut Vec<Kind>, frame: &Frame) -> Result<Span, AllocError>
     ensures ok { OnOk result (kinds.new.items ≡ kinds.old.items ++ (frame.now.locals ++ reverse frame.now.stack)) }
@@ -50,9 +64,9 @@ fn put_kinds(kinds: &mut Vec<Kind>, frame: &Frame) -> Result<Span, AllocError>
     let entries = frame.stack.entries();
     kinds.reserve(locals.len() + entries.len())?;
     let start = kinds.len();
-    kinds.extend_from_slice(locals)?;
+    add_kinds(kinds, locals);
     let middle = kinds.len();
-    kinds.extend_from_slice(entries)?;
+    add_kinds(kinds, entries);
     Ok(Span {
         start,
         middle,
@@ -71,32 +85,26 @@ fn frame_in(kinds: &[Kind], span: Span) -> Frame
     }
 }
 
-// A frame becomes the one whose kinds lie in a span.
-fn take_on_in(kinds: &[Kind], span: Span, frame: &mut Frame)
+// The frame whose kinds lie in a span, as it lies there.
+fn view_in(kinds: &[Kind], span: Span) -> FrameView<'_>
     requires { Lies (length kinds.now) span }
-    ensures { frame.new ≡ frame_in kinds.now span }
+    ensures { result ≡ frame_in kinds.now span }
 {
-    frame.locals.take_on(&kinds[span.start..span.middle]);
-    frame.stack.take_on(&kinds[span.middle..span.end]);
-}
-
-// The kinds of the entries of the stack of a frame whose kinds lie in a span, the deepest entry first.
-fn entries_in(kinds: &[Kind], span: Span) -> &[Kind]
-    requires { Lies (length kinds.now) span }
-    ensures { result.now ≡ reverse (frame_in kinds.now span).stack }
-{
-    &kinds[span.middle..span.end]
+    FrameView::new(
+        &kinds[span.start..span.middle],
+        &kinds[span.middle..span.end],
+    )
 }
 
 impl PackedFrames {
-    /// No frames. It allocates nothing.
-    pub fn new(alloc: Global) -> PackedFrames
-        ensures { result ≡ [] }
+    /// No frames, with room for those of so many places of one kind each.
+    pub fn with_capacity(alloc: Global, places: usize) -> Result<PackedFrames, AllocError>
+        ensures { IfOk result (λ frames. frames ≡ []) }
     {
-        PackedFrames {
-            kinds: Vec::new(alloc),
-            spans: Vec::new(alloc),
-        }
+        Ok(PackedFrames {
+            kinds: Vec::with_capacity(alloc, places)?,
+            spans: Vec::with_capacity(alloc, places)?,
+        })
     }
 
     /// Appends a frame. An error changes nothing.
@@ -118,19 +126,11 @@ impl PackedFrames {
         frame_in(self.kinds.as_slice(), self.spans[place])
     }
 
-    /// A frame becomes that of a place.
-    pub fn put_into(&self, place: usize, frame: &mut Frame)
+    /// The frame of a place, as it lies here.
+    pub fn view(&self, place: usize) -> FrameView<'_>
         requires { place < length self.now }
-        ensures { slice_get self.now place ≡ Some frame.new }
+        ensures { slice_get self.now place ≡ Some result }
     {
-        take_on_in(self.kinds.as_slice(), self.spans[place], frame);
-    }
-
-    /// The kinds of the entries of the stack of a place, the deepest first.
-    pub fn entries(&self, place: usize) -> &[Kind]
-        requires { place < length self.now }
-        ensures { IfSome (slice_get self.now place) (λ f. result.now ≡ reverse f.stack) }
-    {
-        entries_in(self.kinds.as_slice(), self.spans[place])
+        view_in(self.kinds.as_slice(), self.spans[place])
     }
 }
