@@ -3,10 +3,11 @@
 docs/contributors/PERFORMANCE.md. Where Lua 5.4 and the interpreter of wabt are on the path, they do the same sums
 beside it.
 
-    bench/executing.py crates/bb/out/bb [--runs N] [--only WORD]
+    bench/executing.py crates/bb/out/bb [--runs N] [--only WORD] [--instructions]
 
 Times are of the processor: that of a run less that of the same without what is measured, so none has the start of a
-program. So are the steps, which the trace tells. The fastest of the runs counts.
+program. So are the steps, which the trace tells. The fastest of the runs counts. With --instructions it counts those of
+the processor for the sums and a turn, by callgrind of valgrind, which says the same on a machine that does other work.
 """
 
 import argparse
@@ -16,11 +17,13 @@ import resource
 import shutil
 import subprocess
 import tempfile
+from functools import partial
 from pathlib import Path
 from typing import NamedTuple
 
 WORDS = 1000
-PAIRS = WORDS * WORDS
+# So many suffice where instructions are counted.
+FEW_WORDS = 100
 ACTIVATIONS = 60_000
 
 SCHEMA = {
@@ -88,7 +91,7 @@ class Search(NamedTuple):
 
 SEARCHES = [
     Search("`say x`, noted and written", "say x;", 1000),
-    Search("`size(find ..)` of all 1,000 units of a space", "x = size(find word in board);", 3),
+    Search("`size(find ..)` of all 1,000 units of a space", "x = size(find word in board);", 100),
     Search("the same, by `not` of a test", f"x = size(find word in board where not(span more [{WORDS}, {WORDS}]));", 3),
     Search("the same, by an `or` of 16 tests", f"x = size(find word in board where or({WIDE}));", 3),
     Search("the same, by an `and` of 16 tests", f"x = size(find word in board where and({WIDE}));", 3),
@@ -212,16 +215,15 @@ def sums():
     for it in SUMS:
         lua, wat = f"{it.lua} " * it.times, it.wat * it.times
         bb = in_loops(it.bb * it.times), in_loops("")
-        yield Row(it.of, PAIRS * it.times, bb, (in_lua(lua), in_lua("")), (in_wat(wat), in_wat("")))
+        yield Row(it.of, WORDS * WORDS * it.times, bb, (in_lua(lua), in_lua("")), (in_wat(wat), in_wat("")))
 
 
 def turns():
-    """Inner loops one after another. The searches for their words are in both."""
+    """Inner loops one after another, each with the search for its words, which is what a loop over them takes."""
     loops = 10
-    searches = "".join(f"let n{it} = size(find word in board); " for it in range(loops))
-    bb = in_loop(over_words("b", "") * loops), in_loop(searches)
+    bb = in_loop(over_words("b", "") * loops), in_loop("")
     lua, wat = (in_lua("", loops), in_lua("", 0)), (in_wat("", loops), in_wat("", 0))
-    yield Row("a turn of the inner loop", PAIRS * loops, bb, lua, wat)
+    yield Row("a turn of the inner loop, with the search for its unit", WORDS * WORDS * loops, bb, lua, wat)
 
 
 def parts():
@@ -252,7 +254,7 @@ def seconds_of_children():
     return used.ru_utime + used.ru_stime
 
 
-def fastest(words, runs, text=""):
+def fastest(runs, words, text=""):
     """The processor seconds of the fastest run, and what it wrote."""
     best = None
     for _ in range(runs):
@@ -265,29 +267,39 @@ def fastest(words, runs, text=""):
     return best, ran.stdout
 
 
-class Programs:
-    """The program, and what is on the path of Lua and of the interpreter of wabt."""
+def counted(words, text=""):
+    """The instructions of the processor that a run takes, and what it wrote."""
+    valgrind = ["valgrind", "--tool=callgrind", "--callgrind-out-file=/dev/null"]
+    ran = subprocess.run([*valgrind, *words], input=text, capture_output=True, text=True)
+    found = re.search(r"Collected : (\d+)", ran.stderr)
+    if ran.returncode != 0 or not found:
+        raise SystemExit(f"{words[0]} fails:\n{ran.stdout[-300:]}{ran.stderr}")
+    return int(found[1]), ran.stdout
 
-    def __init__(self, bb, folder, runs):
-        self.bb, self.folder, self.runs = bb, Path(folder), runs
+
+class Programs:
+    """The program, what is on the path of Lua and of the interpreter of wabt, and how a run of one is measured."""
+
+    def __init__(self, bb, folder, measured):
+        self.bb, self.folder, self.measured = bb, Path(folder), measured
         self.lua = shutil.which("lua5.4")
         self.wabt = shutil.which("wat2wasm") and shutil.which("wasm-interp")
 
     def by_bb(self, text):
-        """The seconds of a run, and the steps of its activations."""
-        took, trace = fastest([self.bb], self.runs, text)
+        """What a run takes, and the steps of its activations."""
+        took, trace = self.measured([self.bb], text)
         return took, sum(map(int, re.findall(r"^end steps (\d+)", trace, re.MULTILINE)))
 
     def by_lua(self, text):
         file = self.folder / "sum.lua"
         file.write_text(text)
-        return fastest([self.lua, str(file)], self.runs)[0]
+        return self.measured([self.lua, str(file)])[0]
 
     def by_wabt(self, text):
         source, module = self.folder / "sum.wat", self.folder / "sum.wasm"
         source.write_text(text)
         subprocess.run(["wat2wasm", str(source), "-o", str(module)], check=True)
-        return fastest([self.wabt, str(module), "--run-all-exports"], self.runs)[0]
+        return self.measured([self.wabt, str(module), "--run-all-exports"])[0]
 
     def cells(self, row):
         """A row of the table: how often, steps of one, nanoseconds of a step and of one, and of one elsewhere."""
@@ -300,21 +312,37 @@ class Programs:
         for there, pair, by in [(self.lua, row.lua, self.by_lua), (self.wabt, row.wat, self.by_wabt)]:
             yield f"{(by(pair[0]) - by(pair[1])) / row.number * 1e9:.1f}" if there and pair else ""
 
+    def instructions(self, row):
+        """A row of the table: instructions of one, and of one in Lua."""
+        for there, pair, by in [(self.bb, row.bb, lambda text: self.by_bb(text)[0]), (self.lua, row.lua, self.by_lua)]:
+            yield f"{(by(pair[0]) - by(pair[1])) / row.number:.0f}" if there else ""
+
+
+def print_rows(head, rows, cells):
+    print(head)
+    print("|---" * (head.count("|") - 1) + "|")
+    for row in rows:
+        print(f"| {' | '.join([row.of, *cells(row)])} |", flush=True)
+
 
 def main():
+    global WORDS
     parser = argparse.ArgumentParser(description=__doc__, formatter_class=argparse.RawDescriptionHelpFormatter)
     parser.add_argument("program", help="the built program, crates/bb/out/bb")
     parser.add_argument("--runs", type=int, default=3, help="runs of each program, of which the fastest counts")
     parser.add_argument("--only", default="", help="rows that have this word")
+    parser.add_argument("--instructions", action="store_true", help="count instructions, of sums and a turn alone")
     wanted = parser.parse_args()
-    print("| | Number | Steps | ns a step | ns | Lua 5.4, ns | `wasm-interp`, ns |")
-    print("|---|---|---|---|---|---|---|")
     with tempfile.TemporaryDirectory() as folder:
-        programs = Programs(wanted.program, folder, wanted.runs)
-        for row in [*sums(), *turns(), *parts(), *searches(), *sets()]:
-            if wanted.only in row.of:
-                print(f"| {' | '.join([row.of, *programs.cells(row)])} |", flush=True)
-
+        if wanted.instructions:
+            WORDS = FEW_WORDS
+            rows = [row for row in [*sums(), *turns()] if wanted.only in row.of]
+            print_rows("| | Instructions | Lua 5.4 |", rows, Programs(wanted.program, folder, counted).instructions)
+        else:
+            rows = [row for row in [*sums(), *turns(), *parts(), *searches(), *sets()] if wanted.only in row.of]
+            programs = Programs(wanted.program, folder, partial(fastest, wanted.runs))
+            head = "| | Number | Steps | ns a step | ns | Lua 5.4, ns | `wasm-interp`, ns |"
+            print_rows(head, rows, programs.cells)
 
 if __name__ == "__main__":
     main()

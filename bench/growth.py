@@ -71,7 +71,7 @@ def run_once(program, path):
     """The seconds, the megabytes and the first line of the answer."""
     with open(path, "rb") as stdin, tempfile.TemporaryFile() as stdout:
         begun = time.perf_counter()
-        child = subprocess.Popen([program], stdin=stdin, stdout=stdout)
+        child = subprocess.Popen([program], stdin=stdin, stdout=stdout, stderr=subprocess.DEVNULL)
         _, _, used = os.wait4(child.pid, 0)
         seconds = time.perf_counter() - begun
         child.returncode = 0
