@@ -4,7 +4,7 @@ use bb_basis::Text;
 
 /// A focus of attention, by the slots of a unit of the built-in class `focus`. That control is data on the blackboard
 /// is an idea of Hayes-Roth (1985); the weights and their sum are of this project.
-#[derive(Debug, PartialEq, Drop)]
+#[derive(Drop)]
 pub struct Focus {
     /// The name of the source whose activations it matches. If it is empty, those of all sources do.
     pub source: Text,

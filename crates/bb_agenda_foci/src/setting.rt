@@ -9,7 +9,7 @@ use bb_schema::{ClassId, SharedSchema};
 use std::marker::Model;
 
 /// What the agenda knows of a source.
-#[derive(Debug, PartialEq, Drop)]
+#[derive(Drop)]
 pub struct RatedSource {
     pub name: Text,
     /// The class of the units that it works on.
@@ -26,10 +26,19 @@ pub(crate) enum Area {
 }
 
 /// The schema, and the sources in their order.
-#[derive(Drop)]
 pub struct Setting {
     schema: SharedSchema,
     sources: Items<RatedSource>,
+}
+
+// By hand, so that a proof meets one call where it is dropped, and not each of its parts.
+impl Drop for Setting {
+    fn drop(self) {
+        let Setting {
+            schema: _,
+            sources: _,
+        } = self;
+    }
 }
 
 impl Model for Setting {

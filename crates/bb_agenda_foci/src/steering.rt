@@ -21,12 +21,22 @@ use std::marker::Model;
 
 /// The foci that are set, and what they are matched with. For each source it keeps the weights of all foci that match
 /// it, so that a rating goes over no foci, and a focus that comes or goes over the sources alone.
-#[derive(Drop)]
 pub struct Steering {
     setting: Setting,
     foci: Foci,
     // The sum of each source at its index, since the first focus was set.
     weights: Vec<i128>,
+}
+
+// By hand, so that a proof meets one call where it is dropped, and not each of its parts.
+impl Drop for Steering {
+    fn drop(self) {
+        let Steering {
+            setting: _,
+            foci: _,
+            weights: _,
+        } = self;
+    }
 }
 
 impl Model for Steering {

@@ -10,7 +10,7 @@ use bb_lang_tree::ClauseText;
 use std::mem;
 
 /// What a source has besides its codes.
-#[derive(Debug, Drop)]
+#[derive(Drop)]
 pub struct Header {
     /// The source's name.
     pub name: Text,
@@ -23,7 +23,7 @@ pub struct Header {
 }
 
 /// What a source does about its pending activations when certain events happen: `C` is the code.
-#[derive(Debug, Drop)]
+#[derive(Drop)]
 pub struct ReactionDraft<C> {
     /// The name of the class of the units whose events are told.
     pub class: Text,
@@ -34,7 +34,6 @@ pub struct ReactionDraft<C> {
 }
 
 /// The parts that a source has besides its act, where it has them: `C` is the code.
-#[derive(Debug)]
 pub struct Parts<C> {
     /// Whether an event that triggers it makes an activation, and with which base rating.
     pub require: Option<C>,
@@ -47,7 +46,7 @@ pub struct Parts<C> {
 }
 
 /// What an activation does: `C` is the code.
-#[derive(Debug, Drop)]
+#[derive(Drop)]
 pub enum ActDraft<C> {
     /// The activation executes this code.
     Do(C),
@@ -56,7 +55,7 @@ pub enum ActDraft<C> {
 }
 
 /// A source whose names are not looked up yet, with a `C` for each of its codes (`Code`, or `Checked` once verified).
-#[derive(Debug, Drop)]
+#[derive(Drop)]
 pub struct SourceDraft<C> {
     /// The name, class, rate and triggers.
     pub header: Header,

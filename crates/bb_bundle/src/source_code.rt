@@ -11,7 +11,7 @@ use bb_code::Code;
 use std::marker::Model;
 
 /// A source as a bundle can spell it: all names are names, and it has a trigger, as each reaction has a clause.
-#[derive(Debug, Drop)]
+#[derive(Drop)]
 pub struct SourceCode {
     draft: SourceDraft<Code>,
 }

@@ -8,7 +8,7 @@ use bb_code_ops::{CodeParts, FrameEntry, Loop, Op, Query, Version, are_parts};
 use std::marker::Model;
 
 /// A code that bytes can spell. Contracts see its parts.
-#[derive(Debug, Drop)]
+#[derive(Drop)]
 pub struct Code {
     parts: CodeParts,
 }

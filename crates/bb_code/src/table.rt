@@ -11,7 +11,7 @@ use bb_code_ops::{
 };
 
 /// The ops with one number of two bytes.
-#[derive(Clone, Copy, Debug)]
+#[derive(Clone, Copy)]
 pub(crate) enum Numbered {
     PushText,
     Get,
@@ -29,21 +29,21 @@ pub(crate) enum Numbered {
 }
 
 /// The ops with one local.
-#[derive(Clone, Copy, Debug)]
+#[derive(Clone, Copy)]
 pub(crate) enum OfLocal {
     Load,
     Store,
 }
 
 /// The ops with a number of two bytes and a place.
-#[derive(Clone, Copy, Debug)]
+#[derive(Clone, Copy)]
 pub(crate) enum Branch {
     One,
     As,
 }
 
 /// What follows an opcode, and which op it is.
-#[derive(Clone, Copy, Debug)]
+#[derive(Clone, Copy)]
 pub(crate) enum OpForm {
     /// Nothing: this op.
     Plain(Op),
@@ -122,7 +122,7 @@ pub(crate) const OPS: [Option<OpForm>; 50] = [
 ];
 
 /// What follows the byte of a kind, and which kind it is.
-#[derive(Clone, Copy, Debug)]
+#[derive(Clone, Copy)]
 pub(crate) enum KindForm {
     /// Nothing: this kind.
     Plain(Kind),
@@ -150,7 +150,7 @@ pub(crate) const KINDS: [KindForm; 9] = [
 ];
 
 /// What follows the byte of a node, and which node it is.
-#[derive(Clone, Copy, Debug)]
+#[derive(Clone, Copy)]
 pub(crate) enum NodeForm {
     /// Nothing.
     All,

@@ -39,12 +39,13 @@ fn read_label(parser: &mut Parser<'_>, variable: Variable) -> Result<Atom, LangF
     ensures read { Gives OutOfMemory (λ a. (a, parser.new.state)) result (label_or_variable variable parser.old.state) }
     ensures nesting { OnOk result (parser.new.nesting ≡ parser.old.nesting) }
 {
-    let Variable::Named(set) = variable else {
+    let Variable::Named(set) = &variable else {
         return Ok(Atom::Variable(variable));
     };
     if !parser.at(":") {
-        return Ok(Atom::Variable(Variable::Named(set)));
+        return Ok(Atom::Variable(variable));
     }
+    let set = set.clone()?;
     parser.advance()?;
     let label = parser.read_name()?;
     Ok(Atom::Label { set, label })

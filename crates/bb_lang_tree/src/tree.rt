@@ -6,14 +6,14 @@ use std::marker::Model;
 
 /// An expression. Contracts see it as a tree.
 #[cycle(tree)]
-#[derive(Debug, Drop)]
+#[derive(Drop)]
 pub struct Expr {
     pub(crate) node: ExprNode,
 }
 
 /// What an expression is made of.
 #[cycle(tree)]
-#[derive(Debug, Drop)]
+#[derive(Drop)]
 pub enum ExprNode {
     /// An expression without parts.
     Atom(Atom),
@@ -40,7 +40,7 @@ pub enum ExprNode {
 
 /// One more operator of a chain, with its operand.
 #[cycle(tree)]
-#[derive(Debug, Drop)]
+#[derive(Drop)]
 pub enum Step {
     /// An operator with an expression.
     Apply { operator: Operator, operand: Expr },
@@ -50,7 +50,7 @@ pub enum Step {
 
 /// Units in order.
 #[cycle(tree)]
-#[derive(Debug, Drop)]
+#[derive(Drop)]
 pub enum Sequence {
     /// `find class in space where pattern`
     Find {
@@ -67,14 +67,14 @@ pub enum Sequence {
 
 /// A condition on the values that a unit has on the dimensions of a space. Contracts see it as a tree.
 #[cycle(tree)]
-#[derive(Debug, Drop)]
+#[derive(Drop)]
 pub struct Pattern {
     pub(crate) node: PatternNode,
 }
 
 /// What a pattern is made of.
 #[cycle(tree)]
-#[derive(Debug, Drop)]
+#[derive(Drop)]
 pub enum PatternNode {
     /// `all`: it holds of each unit.
     All,

@@ -7,7 +7,7 @@ use std::fmt::Write;
 pub(crate) const NUMBERS: usize = 6;
 
 /// The widths of the columns: that of the sources, and those of the numbers.
-#[derive(Debug, Drop)]
+#[derive(Drop)]
 pub(crate) struct Widths {
     pub(crate) source: usize,
     pub(crate) numbers: [usize; NUMBERS],

@@ -8,7 +8,7 @@ use bb_schema::UnitId;
 use std::marker::Model;
 
 /// Units in order, and how many of them were gone through.
-#[derive(Debug, Drop)]
+#[derive(Drop)]
 pub struct Sequence {
     units: Vec<UnitId>,
     passed: usize,

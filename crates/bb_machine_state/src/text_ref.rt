@@ -6,7 +6,7 @@ use bb_basis::{Memory, Text};
 use std::marker::Model;
 
 // Where a text lies.
-#[derive(Debug, Drop)]
+#[derive(Drop)]
 enum Storage<'a> {
     // In the code.
     Borrowed(&'a Text),
@@ -15,7 +15,7 @@ enum Storage<'a> {
 }
 
 /// A text. Contracts see its bytes, wherever they lie.
-#[derive(Debug, Drop)]
+#[derive(Drop)]
 pub struct TextRef<'a> {
     storage: Storage<'a>,
 }

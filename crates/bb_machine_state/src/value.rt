@@ -16,7 +16,7 @@ use bb_board::Said;
 use bb_schema::{LabelId, LabelSetId, UnitId, Value as SlotValue};
 
 /// A value with its sort.
-#[derive(Debug, Drop)]
+#[derive(Drop)]
 pub enum Value<'a> {
     Int(i64),
     Text(TextRef<'a>),

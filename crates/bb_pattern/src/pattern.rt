@@ -20,14 +20,14 @@ pub enum Relation {
 /// A condition on the values that a unit has on the dimensions of a space (GBBopen Reference Manual, find-instances).
 /// Contracts see it as a tree.
 #[cycle(pattern)]
-#[derive(Debug, Drop)]
+#[derive(Drop)]
 pub struct Pattern {
     pub(crate) node: Node,
 }
 
 /// A node of a pattern. Dimensions are numbered by the space, operands by the query, both from 0.
 #[cycle(pattern)]
-#[derive(Debug, Drop)]
+#[derive(Drop)]
 pub enum Node {
     /// Holds of each unit.
     All,

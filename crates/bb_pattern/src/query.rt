@@ -11,13 +11,24 @@ use bb_schema::{ClassId, Schema, SpaceId};
 
 /// A question for the units of a class, or one below it, that are in a space and of which a pattern holds (GBBopen
 /// Reference Manual, find-instances).
-#[derive(Debug, Drop)]
 pub struct Query {
     pub class: ClassId,
     pub space: SpaceId,
     /// What each operand has to be.
     pub kinds: Items<OperandKind>,
     pub pattern: Pattern,
+}
+
+// By hand, so that a proof meets one call where it is dropped, and not each of its parts.
+impl Drop for Query {
+    fn drop(self) {
+        let Query {
+            class: _,
+            space: _,
+            kinds: _,
+            pattern: _,
+        } = self;
+    }
 }
 
 impl Query {

@@ -14,7 +14,6 @@ use std::alloc::{AllocError, Global};
 
 /// A set of numbers for each kind of change, in the order in which they were added. Those of a kind are found by the
 /// order of slots or spaces.
-#[derive(Drop)]
 pub struct KindIndex {
     created: IdSet,
     deleted: IdSet,
@@ -23,6 +22,21 @@ pub struct KindIndex {
     unlinked: IdsBy,
     entered: IdsBy,
     left: IdsBy,
+}
+
+// By hand, so that a proof meets one call where it is dropped, and not each of its parts.
+impl Drop for KindIndex {
+    fn drop(self) {
+        let KindIndex {
+            created: _,
+            deleted: _,
+            updated: _,
+            linked: _,
+            unlinked: _,
+            entered: _,
+            left: _,
+        } = self;
+    }
 }
 
 impl KindIndex {

@@ -1,6 +1,9 @@
 //! Tests of the source language: a text with its tree, and for each fault its first and last places.
 
-use bb_lang::{ActText, LangFault, Place, parse};
+use bb_lang::{
+    ActText, Action, Atom, ChangeText, ClauseText, Division, Expr, ExprNode, LangFault, Operator,
+    Place, Statement, Step, Variable, parse,
+};
 use std::alloc::{AllocError, Global};
 use std::test::Fail;
 
@@ -141,37 +144,92 @@ fn limits(rt: HostRuntime) -> Result<(), Fail> {
     Ok(())
 }
 
-// A source, and its tree as `Debug` writes it.
 const SOURCE: &str = "source a on c { when update c.at; rate -5;
   do { let x = it.at - 2 / 3; }
 }";
 
-const HEADER: &str =
-    "HeaderText { name: Text { inner: \"a\" }, on: Place { line: 1, column: 10 }, class: Text { inner: \"c\" } }";
-
-const CLAUSES: &str =
-    "[Change { kind: Update(Text { inner: \"at\" }), class: Text { inner: \"c\" } }]";
-
-const STATEMENTS: &str = "[Placed { place: Place { line: 2, column: 8 }, statement: Action(Let { \
-    name: Text { inner: \"x\" }, value: Expr { node: Chain { \
-    first: Expr { node: Atom(Slot { unit: It, slot: Text { inner: \"at\" } }) }, steps: [Apply { operator: Minus, \
-    operand: Expr { node: Chain { first: Expr { node: Atom(Int(2)) }, \
-    steps: [Divide { division: Quotient, divisor: 3 }] } } }] } } }) }]";
-
 #[test]
 fn tree(rt: HostRuntime) -> Result<(), Fail> {
     for source in parse(rt.alloc(), SOURCE)? {
-        let header = format!(in rt.alloc(); "{:?}", source.header)?;
-        assert_eq!(rt; header.as_str(), HEADER);
-        let clauses = format!(in rt.alloc(); "{:?}", source.clauses.as_slice())?;
-        assert_eq!(rt; clauses.as_str(), CLAUSES);
+        assert_eq!(rt; source.header.name.as_str(), "a");
+        assert_eq!(rt;
+            source.header.on,
+            Place {
+                line: 1,
+                column: 10
+            }
+        );
+        assert_eq!(rt; source.header.class.as_str(), "c");
+        let [
+            ClauseText::Change {
+                kind: ChangeText::Update(slot),
+                class,
+            },
+        ] = source.clauses.as_slice()
+        else {
+            panic!(rt; "no clause of an update");
+        };
+        assert_eq!(rt; slot.as_str(), "at");
+        assert_eq!(rt; class.as_str(), "c");
         assert_eq!(rt; source.rate, -5);
         let ActText::Do(part) = &source.act else {
             panic!(rt; "a native");
         };
         assert_eq!(rt; part.place, Place { line: 2, column: 3 });
-        let statements = format!(in rt.alloc(); "{:?}", part.block.statements())?;
-        assert_eq!(rt; statements.as_str(), STATEMENTS);
+        let [first] = part.block.statements() else {
+            panic!(rt; "no single statement");
+        };
+        assert_eq!(rt; first.place, Place { line: 2, column: 8 });
+        let Statement::Action(Action::Let { name, value }) = &first.statement else {
+            panic!(rt; "no `let`");
+        };
+        assert_eq!(rt; name.as_str(), "x");
+        assert!(rt; is_difference(value));
     }
     Ok(())
+}
+
+// Whether an expression is `it.at - 2 / 3`: a difference, whose second operand is the quotient.
+fn is_difference(value: &Expr) -> bool {
+    let ExprNode::Chain { first, steps } = value.node() else {
+        return false;
+    };
+    let [
+        Step::Apply {
+            operator: Operator::Minus,
+            operand,
+        },
+    ] = steps.as_slice()
+    else {
+        return false;
+    };
+    is_slot_of_it(first) && is_quotient(operand)
+}
+
+fn is_slot_of_it(value: &Expr) -> bool {
+    match value.node() {
+        ExprNode::Atom(
+            Atom::Slot {
+                unit: Variable::It,
+                slot,
+            },
+        ) => slot.as_str() == "at",
+        _ => false,
+    }
+}
+
+fn is_quotient(value: &Expr) -> bool {
+    let ExprNode::Chain { first, steps } = value.node() else {
+        return false;
+    };
+    let [
+        Step::Divide {
+            division: Division::Quotient,
+            divisor: 3,
+        },
+    ] = steps.as_slice()
+    else {
+        return false;
+    };
+    matches!(first.node(), ExprNode::Atom(Atom::Int(2)))
 }

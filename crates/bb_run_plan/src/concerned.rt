@@ -14,10 +14,19 @@ use bb_rules::{Clause, KindIndex, Reaction, Source};
 use std::alloc::{AllocError, Global};
 
 /// The places of the sources that have a clause of the kind of an event, in order, for each kind.
-#[derive(Drop)]
 pub(crate) struct Concerned {
     changes: KindIndex,
     quiescence: IdSet,
+}
+
+// By hand, so that a proof meets one call where it is dropped, and not each of its parts.
+impl Drop for Concerned {
+    fn drop(self) {
+        let Concerned {
+            changes: _,
+            quiescence: _,
+        } = self;
+    }
 }
 
 impl Concerned {

@@ -8,7 +8,7 @@ pub type SpaceId = u16;
 
 /// A dimension of a space, which reads the slot of its name: an enumerated one a label of a set, an ordered one a
 /// number or an interval.
-#[derive(Debug, PartialEq, Drop)]
+#[derive(PartialEq, Drop)]
 pub struct Dim {
     pub name: Text,
     /// The label set of an enumerated dimension.

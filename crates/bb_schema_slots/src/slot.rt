@@ -9,7 +9,7 @@ use bb_basis::Text;
 use bb_schema_classes::{ClassId, Kind, Link, SlotId, Value};
 
 /// What a slot holds in a new unit: an ordinary one its default, a link slot no unit.
-#[derive(Debug, PartialEq, Drop)]
+#[derive(PartialEq, Drop)]
 pub enum Content {
     Default(Value),
     Link(Link),
@@ -38,7 +38,7 @@ impl Content {
 }
 
 /// A slot of a class.
-#[derive(Debug, PartialEq, Drop)]
+#[derive(PartialEq, Drop)]
 pub struct Slot {
     pub name: Text,
     /// The class that declares the slot.

@@ -6,7 +6,6 @@ use bb_native::{Closing, Refusal};
 use bb_schema::UnitId;
 
 /// What a run reports: what the blackboard noted, and the steps of control.
-#[derive(Debug, Drop)]
 pub enum Note {
     /// What the blackboard noted, or quiescence.
     Board(bb_board::Note),
@@ -61,4 +60,34 @@ pub enum Note {
     Finished(End),
     /// A native was closed, after the end of the run.
     Closed(Closing),
+}
+
+// By hand, so that a proof meets one call where it is dropped, and not each of its variants.
+impl Drop for Note {
+    fn drop(self) {
+        match self {
+            Note::Board(_) => {}
+            Note::Triggered(_) => {}
+            Note::Declined { source: _, unit: _ } => {}
+            Note::Obviated { number: _ } => {}
+            Note::Retriggered { number: _, base: _ } => {}
+            Note::Chosen {
+                cycle: _,
+                activation: _,
+                rating: _,
+            } => {}
+            Note::Invalid { number: _ } => {}
+            Note::Ended {
+                steps: _,
+                found: _,
+                budget: _,
+            } => {}
+            Note::Refused { ask: _, refusal: _ } => {}
+            Note::NativeEnded { asks: _ } => {}
+            Note::Posted => {}
+            Note::PostEnded { asks: _ } => {}
+            Note::Finished(_) => {}
+            Note::Closed(_) => {}
+        }
+    }
 }
