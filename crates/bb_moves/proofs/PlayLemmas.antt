@@ -6,10 +6,10 @@ use Rattle.std.proofs.lemmas.List.Concat.{flat_map-append}
 use Rattle.bb_shell.specs.Emitting.{WroteUntil}
 use Rattle.bb_shell.specs.Halt.{Halt}
 use Rattle.bb_shell.specs.Halt.TheVariants as halts
-use Rattle.bb_shell.specs.Making.{Begins, Makes}
-use Rattle.bb_shell.specs.Moves.{Move, Moved, Standing, moved, played}
+use Rattle.bb_run_held.specs.Making.{Begins, Makes}
+use Rattle.bb_run_held.specs.Moves.{Move, Moved, Standing, moved, played}
 use Rattle.bb_shell.specs.Note.{Note}
-use Rattle.bb_shell.specs.Pause.{Pause}
+use Rattle.bb_run_held.specs.declared.pause.Pause.{Pause}
 use Rattle.bb_shell.specs.Plan.{Plan}
 use Rattle.bb_shell.specs.TraceText.{segment_text, trace_text}
 use Rattle.bb_moves.specs.Meant.{replayed}

@@ -2,7 +2,7 @@
 use Rattle.std.specs.Prelude.{Bool, true, false, List, ◌++◌, Result, Ok, Err}
 use Rattle.bb_shell.specs.Halt.{Halt}
 use Rattle.bb_shell.specs.Halt.TheVariants as halts
-use Rattle.bb_shell.specs.Moves.{Move, Moved, one_turn, advance, post, answer, played}
+use Rattle.bb_run_held.specs.Moves.{Move, Moved, one_turn, advance, post, answer, played}
 use Rattle.bb_shell.specs.Plan.{Plan}
 use Rattle.bb_moves.specs.declared.moves.Move.{Move as Kept}
 use Rattle.bb_moves.specs.declared.moves.Move.TheVariants.{Turn, Advance, Post, Answer}

@@ -7,7 +7,7 @@ use Rattle.std.specs.Str.Lines.{lines}
 use Rattle.bb_basis.specs.Results.{◌>>=◌, ok_or, try_fold_at}
 use Rattle.bb_schema.specs.Schema.{Schema}
 use Rattle.bb_shell.specs.Ask.{Ask}
-use Rattle.bb_shell.specs.Moves.{Move, one_turn, advance, post, answer}
+use Rattle.bb_run_held.specs.Moves.{Move, one_turn, advance, post, answer}
 use Rattle.bb_moves.specs.Asks.{ask_of}
 use Rattle.bb_moves.specs.Faults.{fault_at}
 use Rattle.bb_moves.specs.Keywords.{keyword_of}

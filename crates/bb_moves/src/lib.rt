@@ -17,10 +17,11 @@ mod replaying;
 mod values;
 mod words;
 
+pub use bb_run_held::{Pause, Running};
 pub use bb_schema::{Schema, SchemaFault};
 pub use bb_shell::{
-    Ask, Board, Closed, Finish, Halt, HostedShell, InputFault, NativeSource, Out, Pause, Pipe,
-    Running, Shell, Text, Texts, UnitId, Value, View,
+    Ask, Board, Closed, Finish, Halt, HostedShell, InputFault, NativeSource, Out, Pipe, Shell,
+    Text, Texts, UnitId, Value, View,
 };
 pub use fault::{MovesFault, MovesFlaw};
 pub use moves::Move;

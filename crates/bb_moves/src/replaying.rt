@@ -2,13 +2,14 @@
 //! `replay_hosted`.
 
 ghost use Rattle.std.specs.Prelude.{◌≡◌, None, false, map, IfOk};
-ghost use Rattle.bb_shell.specs.Making.{Begins, Makes, halt_of, stands};
-ghost use Rattle.bb_shell.specs.Moves.{moved, played, started};
+ghost use Rattle.bb_run_held.specs.Making.{Begins, Makes, halt_of, stands};
+ghost use Rattle.bb_run_held.specs.Moves.{moved, played, started};
 ghost use Rattle.bb_shell.specs.Seen.{seen};
 ghost use Rattle.bb_moves.specs.Meant.{meant, replayed, stopped_by_write};
 
 use crate::moves::Move;
-use bb_shell::{Halt, HostedShell, NativeSource, Out, Pause, Running, Shell};
+use bb_run_held::{Pause, Running};
+use bb_shell::{Halt, HostedShell, NativeSource, Out, Shell};
 use std::alloc::Global;
 
 /// Makes moves of a run, one after another. One that can't be made where the run stands changes nothing. `Memory`,
@@ -73,7 +74,7 @@ pub fn replay<N: NativeSource, O: Out>(
     ensures kept { IfOk result (λ r. (r.plan ≡ shell.plan) × (r.cut ≡ None)) }
     ensures failed { O.has_failed out.new ≡ stopped_by_write result }
 {
-    let running = shell.start(alloc, out)?;
+    let running = Running::of_shell(alloc, shell, out)?;
     go_on(running, moves, out)
 }
 
@@ -93,7 +94,7 @@ pub fn replay_hosted<N: NativeSource, O: Out>(
     ensures kept { IfOk result (λ r. (r.plan ≡ shell.plan) × (r.cut ≡ None)) }
     ensures failed { O.has_failed out.new ≡ stopped_by_write result }
 {
-    let running = shell.start(alloc, out)?;
+    let running = Running::of_hosted(alloc, shell, out)?;
     go_on(running, moves, out)
 }
 

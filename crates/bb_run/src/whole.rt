@@ -1,5 +1,5 @@
 //! A whole run of the blackboard machine, from its start to its finish. `run_texts` calls `run`, and who wants the
-//! blackboard that is left (bb_shell_units) `run_to_end`.
+//! blackboard that is left (bb_shell) `run_to_end`.
 
 ghost use Rattle.std.specs.Prelude.{◌≡◌, [], All, Some, IfOk, IfSome, IsSomeAnd, false, map};
 ghost use Rattle.std.specs.Io.KnownBytes.{Appends};

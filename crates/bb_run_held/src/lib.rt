@@ -1,12 +1,13 @@
 //! A run that its host holds. It makes some of the run and comes back; then the host can look at the blackboard, say what
 //! happened in the world outside, go on, or end it.
 //!
-//! - In: a `Plan`, a `Board` and a roster of natives (`Start`), moves one after another, and an output for each.
+//! - In: a shell (bb_shell), moves one after another, and an output for each.
 //! - Out: how the run stands after each move, with its trace written; at the end the blackboard.
 //! - Callers rely on: each move emits what the abstract blackboard machine emits there (`specs/Moves`), and where a host
 //!   comes back from `advance` shows nowhere in the trace.
 #![tactic(auto)]
 
+mod beginning;
 mod orderly;
 mod pause;
 mod running;

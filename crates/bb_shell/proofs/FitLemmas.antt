@@ -8,9 +8,9 @@ use Rattle.bb_basis.specs.Results.{map_err, try_fold}
 use Rattle.bb_basis.proofs.ResultLemmas.{bind_ok, guard_ok, same_ok}
 use Rattle.bb_verify.specs.VerifyFault.{VerifyFault}
 use Rattle.bb_verify.specs.PartType.{Part}
-use Rattle.bb_run_held.specs.RuleFault.TheVariants as rules
-use Rattle.bb_run_held.specs.Source.{Source}
-use Rattle.bb_run_held.specs.Limits.{SOURCE_LIMIT}
+use Rattle.bb_run.specs.RuleFault.TheVariants as rules
+use Rattle.bb_run.specs.Source.{Source}
+use Rattle.bb_run.specs.Limits.{SOURCE_LIMIT}
 use Rattle.bb_refusal.specs.declared.input_fault.InputFault.TheVariants as inputs
 use Rattle.bb_shell.specs.declared.fitting.Unfit.{Unfit}
 use Rattle.bb_shell.specs.declared.fitting.Unfit.TheVariants as unfits

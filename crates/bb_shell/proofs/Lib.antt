@@ -12,3 +12,4 @@ pub mod UnstuckLemmas
 pub mod FitLemmas
 -- for crates above
 pub mod Laws
+pub mod UnitsMeaningLemmas

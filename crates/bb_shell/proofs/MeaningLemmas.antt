@@ -5,10 +5,10 @@ use Rattle.bb_schema.specs.Schema.{Schema}
 use Rattle.bb_schema.specs.Reading.{schema_of}
 use Rattle.bb_refusal.specs.declared.input_fault.InputFault.{InputFault}
 use Rattle.bb_refusal.specs.declared.input_fault.InputFault.TheVariants as inputs
-use Rattle.bb_run_held.specs.Board.{Board, new_board}
-use Rattle.bb_run_held.specs.Load.{loaded}
+use Rattle.bb_run.specs.Board.{Board, new_board}
+use Rattle.bb_run.specs.Load.{loaded}
 use Rattle.bb_shell.specs.Meaning.{Meaning, meaning}
-use Rattle.bb_run_held.specs.Source.{Source}
+use Rattle.bb_run.specs.Source.{Source}
 use Rattle.bb_shell.specs.Sources.{given}
 
 module _ (natives : List (List ℕ)) where

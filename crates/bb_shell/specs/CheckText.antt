@@ -4,9 +4,9 @@ use Rattle.std.specs.Fmt.{decimal}
 use Rattle.std.specs.List.{flat_map}
 use Rattle.bb_verify.specs.Accepted.{Checked}
 use Rattle.bb_verify.specs.Budget.{budget}
-use Rattle.bb_run_held.specs.Act.{Act}
-use Rattle.bb_run_held.specs.Act.TheVariants as acts
-use Rattle.bb_run_held.specs.Source.{Source}
+use Rattle.bb_run.specs.Act.{Act}
+use Rattle.bb_run.specs.Act.TheVariants as acts
+use Rattle.bb_run.specs.Source.{Source}
 
 -- `NAME PART ops N budget B0 B1`: the ops of a code, and its budget where it finds nothing, and one unit at most
 abbrev pub part_line : (name part : List ℕ) → Checked → List ℕ

@@ -20,40 +20,37 @@ pub mod proving
 -- of bb_refusal: why an input is refused, and the line of a refusal
 pub use Rattle.bb_refusal.specs.Refusals
 pub use Rattle.bb_refusal.specs.declared.input_fault.InputFault
--- of bb_run_held: a held run, what each of its moves emits, where the run stands after it, and what the code of a move did
-pub use Rattle.bb_run_held.specs.Moves
-pub use Rattle.bb_run_held.specs.Making
-pub use Rattle.bb_run_held.specs.declared.pause.Pause
-pub use Rattle.bb_run_held.specs.declared.running.Running
 -- of bb_run: what a part of a run emits, what of it was written, and what an event brings about
-pub use Rattle.bb_run_held.specs.Emission
-pub use Rattle.bb_run_held.specs.Emitting
-pub use Rattle.bb_run_held.specs.Note
-pub use Rattle.bb_run_held.specs.Plan
-pub use Rattle.bb_run_held.specs.Processing
-pub use Rattle.bb_run_held.specs.Seen
+pub use Rattle.bb_run.specs.Emission
+pub use Rattle.bb_run.specs.Emitting
+pub use Rattle.bb_run.specs.Note
+pub use Rattle.bb_run.specs.Plan
+pub use Rattle.bb_run.specs.Processing
+pub use Rattle.bb_run.specs.Seen
 -- of bb_run: the run, and what every run is like
-pub use Rattle.bb_run_held.specs.Run
-pub use Rattle.bb_run_held.specs.Order
-pub use Rattle.bb_run_held.specs.Unstuck
+pub use Rattle.bb_run.specs.Run
+pub use Rattle.bb_run.specs.Order
+pub use Rattle.bb_run.specs.Unstuck
 -- of bb_run: how a run ends, by what `run` returns, and what was written where it was cut short
-pub use Rattle.bb_run_held.specs.End
-pub use Rattle.bb_run_held.specs.Finish
-pub use Rattle.bb_run_held.specs.Finishes
-pub use Rattle.bb_run_held.specs.Halt
+pub use Rattle.bb_run.specs.End
+pub use Rattle.bb_run.specs.Finish
+pub use Rattle.bb_run.specs.declared.finish.Finish as Finishes
+pub use Rattle.bb_run.specs.Halt
 -- of bb_trace: the text of a trace
-pub use Rattle.bb_run_held.specs.TraceText
+pub use Rattle.bb_run.specs.TraceText
 -- of bb_bundle: sources with codes, and the text that is written for them
 pub use Rattle.bb_bundle.specs.Written as BundleText
 pub use Rattle.bb_bundle.specs.declared.draft.SourceDraft
 pub use Rattle.bb_code.specs.Code
 -- of bb_native: natives, what they see and ask, and what a roster of them means
-pub use Rattle.bb_run_held.specs.Native
-pub use Rattle.bb_run_held.specs.Roster
-pub use Rattle.bb_run_held.specs.Sight
-pub use Rattle.bb_run_held.specs.Ask
-pub use Rattle.bb_run_held.specs.Closing
+pub use Rattle.bb_run.specs.Native
+pub use Rattle.bb_run.specs.Roster
+pub use Rattle.bb_run.specs.Sight
+pub use Rattle.bb_run.specs.Ask
+pub use Rattle.bb_run.specs.Closing
 pub use Rattle.bb_schema_classes.specs.declared.value.Value
 -- of bb_rules: what sources were made of
-pub use Rattle.bb_run_held.specs.Law
-pub use Rattle.bb_run_held.specs.Source
+pub use Rattle.bb_run.specs.Law
+pub use Rattle.bb_run.specs.Source
+-- what a run leaves
+pub mod Left

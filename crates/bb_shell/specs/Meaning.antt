@@ -2,11 +2,11 @@
 use Rattle.std.specs.Prelude.{ℕ, ℤ, List, Result, Ok}
 use Rattle.bb_basis.specs.Results.{◌>>=◌, map_err}
 use Rattle.bb_schema.specs.Reading.{schema_of}
-use Rattle.bb_run_held.specs.Board.{Board, new_board}
-use Rattle.bb_run_held.specs.Load.{loaded}
+use Rattle.bb_run.specs.Board.{Board, new_board}
+use Rattle.bb_run.specs.Load.{loaded}
 use Rattle.bb_refusal.specs.declared.input_fault.InputFault.{InputFault}
 use Rattle.bb_refusal.specs.declared.input_fault.InputFault.TheVariants as inputs
-use Rattle.bb_run_held.specs.Plan.{Plan}
+use Rattle.bb_run.specs.Plan.{Plan}
 use Rattle.bb_shell.specs.Sources.{given}
 
 pub record Meaning : Type 0 where

@@ -1,9 +1,9 @@
 -- The shell of a blackboard, sources that fit together and the natives of these names, or the first fault.
 use Rattle.std.specs.Prelude.{ℕ, ℤ, List, Result, Ok}
 use Rattle.bb_basis.specs.Results.{◌>>=◌, map_err}
-use Rattle.bb_run_held.specs.Board.{Board}
-use Rattle.bb_run_held.specs.RuleFault.{RuleFault}
-use Rattle.bb_run_held.specs.Source.{Source}
+use Rattle.bb_run.specs.Board.{Board}
+use Rattle.bb_run.specs.RuleFault.{RuleFault}
+use Rattle.bb_run.specs.Source.{Source}
 use Rattle.bb_shell.specs.Fitting.{fault_of, fitted}
 use Rattle.bb_shell.specs.Meaning.{Meaning}
 

@@ -5,13 +5,13 @@ ghost use Rattle.bb_basis.specs.Results.{Gives, map_err};
 ghost use Rattle.bb_shell.specs.declared.accepting.CodeFault.TheVariants.{Memory as OutOfMemory};
 ghost use Rattle.bb_shell.specs.Accepting.{accepted_act, accepted_code, accepted_draft, accepted_part};
 ghost use Rattle.bb_shell.specs.Accepting.{accepted_parts, accepted_reaction, accepted_source, in_source};
-ghost use Rattle.bb_run_held.specs.MadeSource.{classes_of};
+ghost use Rattle.bb_run.specs.MadeSource.{classes_of};
 
 use bb_basis::Text;
 use bb_bundle::{ActDraft, Parts, ReactionDraft, SourceDraft};
 use bb_code::Code;
 use bb_refusal::InputFault;
-use bb_run_held::Classes;
+use bb_run::Classes;
 use bb_schema::Schema;
 use bb_verify::{Checked, Flaw, Part, VerifyFault, verify};
 use std::alloc::Global;

@@ -4,7 +4,7 @@
 ghost use Rattle.std.specs.Prelude.{◌≡◌, ◌⊎◌, Ok, true, false, map, IfErr, IfOk, OnErr};
 ghost use Rattle.bb_basis.specs.Results.{Gives, map_err};
 ghost use Rattle.bb_schema.specs.Reading.{schema_of};
-ghost use Rattle.bb_run_held.specs.Roster.{all_open};
+ghost use Rattle.bb_run.specs.Roster.{all_open};
 ghost use Rattle.bb_shell.specs.Fitting.{names_in, native_names};
 ghost use Rattle.bb_shell.specs.Check.{WritesCheck, sources_in};
 ghost use Rattle.bb_shell.specs.Written.{is_cut};
@@ -14,18 +14,28 @@ use crate::given::given;
 use crate::texts::read_schema;
 use crate::written::{Done, write};
 use bb_refusal::InputFault;
-use bb_run_held::{Closing, NativeSource, Out, Roster, Source};
+use bb_run::{Closing, NativeSource, Out, Roster, Source};
 use bb_schema::Schema;
 use std::alloc::Global;
 
 /// An input that was checked.
-#[derive(Drop)]
 pub struct Check {
     /// How far the lines on the input were written.
     pub done: Done,
     pub schema: Schema,
     /// The sources of the input: those that are text, then those of the bundle.
     pub sources: Vec<Source>,
+}
+
+// By hand, so that a proof meets one call where it is dropped, and not each of its parts.
+impl Drop for Check {
+    fn drop(self) {
+        let Check {
+            done: _,
+            schema: _,
+            sources: _,
+        } = self;
+    }
 }
 
 /// Reads a schema and sources, as text and of a bundle, verifies all codes of all of them, and writes what the parts of

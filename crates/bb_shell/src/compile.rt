@@ -2,7 +2,7 @@
 
 ghost use Rattle.std.specs.Prelude.{◌≡◌, ◌⊎◌, true, false, map, IfErr, IfOk, OnErr};
 ghost use Rattle.bb_basis.specs.Results.{Gives};
-ghost use Rattle.bb_run_held.specs.Roster.{all_open};
+ghost use Rattle.bb_run.specs.Roster.{all_open};
 ghost use Rattle.bb_shell.specs.Compile.{IsReadAgain, WritesBundle, bundle_in};
 ghost use Rattle.bb_shell.specs.Written.{is_cut};
 
@@ -11,7 +11,7 @@ use crate::texts::read_schema;
 use crate::written::{Done, write};
 use bb_bundle::{SourceCode, bundle};
 use bb_refusal::InputFault;
-use bb_run_held::{NativeSource, Out, close_each};
+use bb_run::{NativeSource, Out, close_each};
 use std::alloc::Global;
 
 /// Reads a schema and a text of sources, compiles these, and writes them as a bundle. Neither units nor a bundle are

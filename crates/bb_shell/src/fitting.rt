@@ -6,13 +6,13 @@ ghost use Rattle.std.specs.List.{list_any};
 ghost use Rattle.std.specs.Str.{bytes_eq};
 ghost use Rattle.std.specs.Vec.{vec_capacity};
 ghost use Rattle.bb_basis.specs.Results.{Gives};
-ghost use Rattle.bb_run_held.specs.Closing.{Closing};
+ghost use Rattle.bb_run.specs.Closing.{Closing};
 ghost use Rattle.bb_shell.specs.declared.fitting.Unfit.TheVariants.{Memory as OutOfMemory};
 ghost use Rattle.bb_shell.specs.Fitting.{fitted, has_native, is_native, lacks_native, names_in, names_of};
 ghost use Rattle.bb_shell.specs.Fitting.{source_after};
 
 use bb_basis::{Names, Text};
-use bb_run_held::{Act, Closing, RuleFault, SOURCE_LIMIT, Source};
+use bb_run::{Act, Closing, RuleFault, SOURCE_LIMIT, Source};
 use std::alloc::{AllocError, Global};
 use std::marker::Model;
 
@@ -26,18 +26,27 @@ pub(crate) enum Unfit {
 }
 
 /// Sources that run together, in order: each fits those before it. Contracts see them as their list.
-#[derive(Drop)]
 pub(crate) struct SourceSet {
     names: Names,
     sources: Vec<Source>,
 }
 
+// By hand, so that a proof meets one call where it is dropped, and not each of its parts.
+impl Drop for SourceSet {
+    fn drop(self) {
+        let SourceSet {
+            names: _,
+            sources: _,
+        } = self;
+    }
+}
+
 impl Model for SourceSet {
     ghost use Rattle.std.specs.Prelude.{◌≡◌, ◌≤◌, List, length};
-    ghost use Rattle.bb_run_held.specs.Limits.{SOURCE_LIMIT};
-    ghost use Rattle.bb_run_held.specs.Source.{Source as Placed};
+    ghost use Rattle.bb_run.specs.Limits.{SOURCE_LIMIT};
+    ghost use Rattle.bb_run.specs.Source.{Source as Placed};
     ghost use Rattle.bb_shell.specs.Fitting.{names_of};
-    ghost use Rattle.bb_run_held.specs.proving.Codes.{sources_code};
+    ghost use Rattle.bb_run.specs.proving.Codes.{sources_code};
 
     ghost Value = { List Placed };
 
@@ -86,7 +95,7 @@ fn lacks_native(natives: &[Closing], source: &Source) -> bool
 fn refuse(source: Source, fault: RuleFault) -> Unfit
     ensures { result ≡ Unfit.Source source.name fault }
 {
-    let name = source.into_parts().name;
+    let name = source.into_parts().into_name();
     Unfit::Source { name, fault }
 }
 
@@ -179,7 +188,8 @@ impl SourceSet {
         ensures sources { result.items ≡ self }
         ensures few { length result.items ≤ SOURCE_LIMIT }
     {
-        self.sources
+        let SourceSet { names: _, sources } = self;
+        sources
     }
 }
 

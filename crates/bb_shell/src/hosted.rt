@@ -2,24 +2,20 @@
 
 ghost use Rattle.std.specs.Prelude.{◌≡◌, ◌++◌, true, false, map, All, None, IfOk, OnOk};
 ghost use Rattle.bb_basis.specs.Results.{Gives};
-ghost use Rattle.bb_run_held.specs.Law.{IsMade};
-ghost use Rattle.bb_run_held.specs.Making.{Begins, stands};
-ghost use Rattle.bb_run_held.specs.Moves.{started};
-ghost use Rattle.bb_run_held.specs.Page.{stopped_by_write};
-ghost use Rattle.bb_run_held.specs.Roster.{all_open};
-ghost use Rattle.bb_run_held.specs.Seen.{seen};
+ghost use Rattle.bb_run.specs.Law.{IsMade};
+ghost use Rattle.bb_run.specs.Roster.{all_open};
 ghost use Rattle.bb_shell.specs.Fitting.{names_in, native_names};
 ghost use Rattle.bb_shell.specs.Meaning.{meaning};
 
 use crate::texts::{Texts, read_input};
 use bb_basis::Text;
 use bb_refusal::InputFault;
-use bb_run_held::{Board, Closing, Halt, NativeSource, Out, Plan, Roster, Running, Start};
+use bb_run::{Board, Closing, NativeSource, Plan, Roster};
 use std::alloc::{AllocError, Global};
 
 /// A blackboard and the sources that run on it, which may act by natives that were handed in, and by natives of the
 /// names for which the host answers. Its run is held by the host: where one of these is due it stops, and the host
-/// answers (`Running::answer`). It can't be dropped, as its natives have to be closed: `start` spends it.
+/// answers (`Running::answer` of bb_run_held). It can't be dropped, as its natives have to be closed: `into_parts` spends it.
 pub struct HostedShell<N: NativeSource> {
     plan: Plan,
     board: Board,
@@ -65,22 +61,20 @@ impl<N: NativeSource> HostedShell<N> {
         &self.plan
     }
 
-    /// Begins a run that the host holds: tells what the creation of the first units noted, processes its events, and
-    /// writes that. `Memory`: memory ran out. `Write`: the output failed. Then each native is closed, in order, and the
-    /// blackboard is dropped.
-    pub fn start<O: Out>(self, alloc: Global, out: &mut O) -> Result<Running<N>, Halt>
-        requires open { O.has_failed out.old ≡ false }
-        ensures begun { Begins self.plan (started self.plan self.board (map N.meaning self.roster.natives.items))
-            (λ r. stands (seen N.meaning r.state) r.made r.pause) (O.taken out.old) (O.taken out.new) result }
-        ensures kept { IfOk result (λ r. (r.plan ≡ self.plan) × (r.cut ≡ None)) }
-        ensures failed { O.has_failed out.new ≡ stopped_by_write result }
+    /// The plan, the blackboard and the natives, of which `Running::of_hosted` (bb_run_held) begins a run.
+    pub fn into_parts(self) -> (Plan, Board, Roster<N>)
+        ensures plan { result.0 ≡ self.plan }
+        ensures board { result.1 ≡ self.board }
+        ensures natives { map N.meaning result.2.natives.items ≡ map N.meaning self.roster.natives.items }
+        ensures of_schema { result.1.schema ≡ result.0.schema }
+        ensures made { ∥ All (IsMade result.0.schema) result.0.sources ∥₁ }
     {
         let HostedShell {
             plan,
             board,
             roster,
         } = self;
-        Running::start(alloc, plan, Start { board, roster }, out)
+        (plan, board, roster)
     }
 }
 

@@ -1,12 +1,13 @@
 //! The blackboard shell: what an input's texts mean, which inputs are refused, and their run.
 //!
 //! - In: the texts of a schema, of first units and of sources or a bundle; natives, a limit, a floor, and an output.
-//! - Out: `run_texts` runs them, `check_texts` reports what their sources cost, `compile_texts` is the bundle of their
-//!   texts; a `Shell` holds a blackboard and sources for hosts that run more than once, and a `HostedShell` for hosts
-//!   that answer for natives.
-//! - Callers rely on: the first fault in the order of the texts refuses the input, and then nothing is written.
+//! - Out: `run_texts` runs them, `units_texts` writes the units that their run leaves as a document of first units,
+//!   `check_texts` reports what their sources cost, `compile_texts` is the bundle of their texts; a `Shell` holds a
+//!   blackboard and sources for hosts that run more than once, and a `HostedShell` for hosts that answer for natives.
+//! - Callers rely on: the first fault in the order of the texts refuses the input, and then nothing is written. A
+//!   blackboard that loads what `units_texts` writes stands as the run's own in the end, under numbers without gaps.
 //! - Hosts: docs/hosts/EMBEDDING.md, and bb_shell_host, which is one.
-//! - Cases: `refusals`, `check`, `examples_in_text`, `language`, `model-texts`, `model-checks`; tests in
+//! - Cases: `refusals`, `check`, `examples_in_text`, `language`, `units_left`, `model-texts`, `model-checks`; tests in
 //!   bb_shell_tests.
 #![tactic(auto)]
 
@@ -19,8 +20,10 @@ mod fitting;
 mod given;
 mod hosted;
 mod shell;
+mod sink;
 mod sources;
 mod texts;
+mod units;
 mod written;
 
 pub use bb_basis::{Items, Memory, Text};
@@ -28,11 +31,11 @@ pub use bb_bundle::BundleFault;
 pub use bb_compile_scope::{CompileFault, TextFlaw};
 pub use bb_lang::{LangFault, Place};
 pub use bb_refusal::InputFault;
-pub use bb_run_held::{
+pub use bb_run::{
     Activation, Agenda, Ask, Board, ClassPlace, ClauseList, ClausePlace, Closed, Closing, DimValue,
     DocumentPlace, End, Finish, Halt, ListItem, ListKey, NativeSource, Node, OperandKind, Out,
-    Pattern, Pause, Pipe, Plan, Query, Relation, Roster, RuleFault, Running, Source, UnitsFault,
-    UnitsFlaw, View, close_each, put_all, runs_are_orderly,
+    Pattern, Pipe, Plan, Query, Relation, Roster, RuleFault, Source, UnitsFault, UnitsFlaw, View,
+    close_each, put_all, runs_are_orderly,
 };
 pub use bb_schema::{SchemaFault, SchemaFlaw, UnitId, Value};
 pub use bb_verify::{Flaw, Part, VerifyFault};
@@ -41,4 +44,5 @@ pub use compile::compile_texts;
 pub use hosted::HostedShell;
 pub use shell::Shell;
 pub use texts::{Texts, run_texts};
+pub use units::{Left, units_texts};
 pub use written::Done;

@@ -3,16 +3,13 @@
 ghost use Rattle.std.specs.Prelude.{◌≡◌, ◌≤◌, true, false, length, map, All, None, Some, IfOk, IfSome, IsSomeAnd};
 ghost use Rattle.std.specs.Io.KnownBytes.{Appends};
 ghost use Rattle.bb_basis.specs.Results.{Gives};
-ghost use Rattle.bb_run_held.specs.Emitting.{Writes};
-ghost use Rattle.bb_run_held.specs.Finish.{WritesFront, end_of, is_write};
-ghost use Rattle.bb_run_held.specs.Law.{IsMade};
-ghost use Rattle.bb_run_held.specs.Page.{stopped_by_write};
-ghost use Rattle.bb_run_held.specs.Roster.{all_open};
-ghost use Rattle.bb_run_held.specs.Run.{run};
-ghost use Rattle.bb_run_held.specs.Seen.{seen};
-ghost use Rattle.bb_run_held.specs.TraceText.{trace_text};
-ghost use Rattle.bb_run_held.specs.Making.{Begins, stands};
-ghost use Rattle.bb_run_held.specs.Moves.{started};
+ghost use Rattle.bb_run.specs.Emitting.{Writes};
+ghost use Rattle.bb_run.specs.Finish.{WritesFront, end_of, is_write};
+ghost use Rattle.bb_run.specs.Law.{IsMade};
+ghost use Rattle.bb_run.specs.Page.{stopped_by_write};
+ghost use Rattle.bb_run.specs.Roster.{all_open};
+ghost use Rattle.bb_run.specs.Run.{run};
+ghost use Rattle.bb_run.specs.TraceText.{trace_text};
 ghost use Rattle.bb_shell.specs.Fitting.{HasAct, names_in, native_names};
 ghost use Rattle.bb_shell.specs.Meaning.{meaning};
 ghost use Rattle.bb_shell.specs.Shell.{shell_of};
@@ -20,15 +17,15 @@ ghost use Rattle.bb_shell.specs.Shell.{shell_of};
 use crate::fitting::{Unfit, fit_all};
 use crate::texts::{Texts, read_input};
 use bb_refusal::InputFault;
-use bb_run_held::{
-    Board, Closing, Finish, Halt, NativeSource, Out, Plan, Roster, RuleFault, Running, Source,
-    Start, run, run_to_end,
+use bb_run::{
+    Board, Closing, Finish, Halt, NativeSource, Out, Plan, Roster, RuleFault, Source, Start, run,
+    run_to_end,
 };
 use std::alloc::Global;
 
 /// A blackboard, the sources that run on it in their order, the natives that were handed in, and the least rating that
 /// can be chosen (GBBopen Reference Manual, Agenda Shell). It can't be dropped, as its natives have to be closed: `run`,
-/// `run_to_end` and `start` spend it.
+/// `run_to_end` and `into_parts` spend it.
 pub struct Shell<N: NativeSource> {
     plan: Plan,
     board: Board,
@@ -150,22 +147,21 @@ impl<N: NativeSource> Shell<N> {
         &self.plan
     }
 
-    /// Begins a run that the host holds: tells what the creation of the first units noted, processes its events, and
-    /// writes that. `Memory`: memory ran out. `Write`: the output failed. Then each native is closed, in order, and the
-    /// blackboard is dropped.
-    pub fn start<O: Out>(self, alloc: Global, out: &mut O) -> Result<Running<N>, Halt>
-        requires open { O.has_failed out.old ≡ false }
-        ensures begun { Begins self.plan (started self.plan self.board (map N.meaning self.roster.natives.items))
-            (λ r. stands (seen N.meaning r.state) r.made r.pause) (O.taken out.old) (O.taken out.new) result }
-        ensures kept { IfOk result (λ r. (r.plan ≡ self.plan) × (r.cut ≡ None)) }
-        ensures failed { O.has_failed out.new ≡ stopped_by_write result }
+    /// The plan, the blackboard and the natives, of which `Running::of_shell` (bb_run_held) begins a run that the host
+    /// holds.
+    pub fn into_parts(self) -> (Plan, Board, Roster<N>)
+        ensures plan { result.0 ≡ self.plan }
+        ensures board { result.1 ≡ self.board }
+        ensures natives { map N.meaning result.2.natives.items ≡ map N.meaning self.roster.natives.items }
+        ensures of_schema { result.1.schema ≡ result.0.schema }
+        ensures made { ∥ All (IsMade result.0.schema) result.0.sources ∥₁ }
     {
         let Shell {
             plan,
             board,
             roster,
         } = self;
-        Running::start(alloc, plan, Start { board, roster }, out)
+        (plan, board, roster)
     }
 }
 

@@ -11,7 +11,7 @@ use crate::fitting::{SourceSet, Unfit};
 use bb_basis::Text;
 use bb_bundle::{SourceCode, SourceDraft};
 use bb_refusal::InputFault;
-use bb_run_held::{Closing, RuleFault, SOURCE_LIMIT, Source};
+use bb_run::{Closing, RuleFault, SOURCE_LIMIT, Source};
 use bb_schema::Schema;
 use bb_verify::Checked;
 use std::alloc::{AllocError, Global};

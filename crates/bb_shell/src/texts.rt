@@ -4,20 +4,20 @@ ghost use Rattle.std.specs.Prelude.{◌≡◌, ◌⊎◌, true, false, map, All,
 ghost use Rattle.std.specs.Io.KnownBytes.{Appends};
 ghost use Rattle.bb_basis.specs.Results.{Gives, map_err};
 ghost use Rattle.bb_schema.specs.Reading.{schema_of};
-ghost use Rattle.bb_run_held.specs.Board.{is_fresh, new_board};
-ghost use Rattle.bb_run_held.specs.Load.{loaded};
-ghost use Rattle.bb_run_held.specs.Law.{IsMade};
-ghost use Rattle.bb_run_held.specs.Roster.{all_open};
-ghost use Rattle.bb_run_held.specs.Finish.{WritesFront, end_of, is_write};
+ghost use Rattle.bb_run.specs.Board.{is_fresh, new_board};
+ghost use Rattle.bb_run.specs.Load.{loaded};
+ghost use Rattle.bb_run.specs.Law.{IsMade};
+ghost use Rattle.bb_run.specs.Roster.{all_open};
+ghost use Rattle.bb_run.specs.Finish.{WritesFront, end_of, is_write};
 ghost use Rattle.bb_shell.specs.Fitting.{names_in, native_names};
 ghost use Rattle.bb_shell.specs.Meaning.{Meaning, meaning};
-ghost use Rattle.bb_run_held.specs.Run.{run};
-ghost use Rattle.bb_run_held.specs.TraceText.{trace_text};
+ghost use Rattle.bb_run.specs.Run.{run};
+ghost use Rattle.bb_run.specs.TraceText.{trace_text};
 
 use crate::given::given;
 use crate::shell::Shell;
 use bb_refusal::InputFault;
-use bb_run_held::{Board, Closing, Finish, NativeSource, Out, Plan, SharedSchema, UnitsFault};
+use bb_run::{Board, Closing, Finish, NativeSource, Out, Plan, SharedSchema, UnitsFault};
 use bb_schema::{Schema, SchemaFault};
 use std::alloc::Global;
 

@@ -4,7 +4,7 @@
 ghost use Rattle.std.specs.Prelude.{◌≡◌, false};
 ghost use Rattle.bb_shell.specs.Written.{Wrote, is_cut};
 
-use bb_run_held::{Out, put_all};
+use bb_run::{Out, put_all};
 
 /// How far a text was written.
 #[derive(Clone, Copy, Debug, PartialEq, Eq)]

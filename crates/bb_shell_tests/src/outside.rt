@@ -4,9 +4,8 @@ ghost use Rattle.std.specs.Prelude.{◌≡◌, IfOk, None, false};
 
 use crate::input::{NOTE_SCHEMA, ONE_NOTE};
 use crate::natives::{Recorder, no_natives};
-use bb_shell::{
-    Ask, Finish, HostedShell, InputFault, Out, Pause, Pipe, RuleFault, Running, Shell, Text, Texts,
-};
+use bb_run_held::{Pause, Running};
+use bb_shell::{Ask, Finish, HostedShell, InputFault, Out, Pipe, RuleFault, Shell, Text, Texts};
 use std::alloc::Global;
 use std::test::Fail;
 
@@ -81,7 +80,7 @@ fn a_native_outside(rt: HostRuntime) -> Result<(), Fail> {
     let alloc = rt.alloc();
     let shell = HostedShell::of_texts(alloc, &CALLER, no_natives(alloc), outside(alloc)?, 0)?;
     let mut out = Pipe::new(Vec::new(alloc));
-    let Ok(run) = shell.start(alloc, &mut out) else {
+    let Ok(run) = Running::of_hosted(alloc, shell, &mut out) else {
         return Err(Fail::from("the run begins"));
     };
     let mut run = run;

@@ -2,8 +2,8 @@ use Rattle.std.proofs.Common.{◌≡◌, ◌∷◌, [], Ok, Err, map, ap, refl, 
 use Rattle.std.specs.Vec.Iter.{into_iter_items}
 use Rattle.std.proofs.lemmas.List.{nil_from_length}
 use Rattle.std.proofs.lemmas.Result.{err_from_is_err_and}
-use Rattle.bb_shell.specs.Making.{Makes, stands}
-use Rattle.bb_shell.specs.Moves.{moved, played}
+use Rattle.bb_run_held.specs.Making.{Makes, stands}
+use Rattle.bb_run_held.specs.Moves.{moved, played}
 use Rattle.bb_shell.specs.Seen.{seen}
 use Rattle.bb_moves.specs.Meant.{meant}
 use Rattle.bb_moves.proofs.PlayLemmas.{IsPlayed, none_played, one_played, cut_in_one, all_played}

@@ -1,7 +1,7 @@
 use Rattle.std.proofs.Common.{◌≡◌, None, false, map}
 use Rattle.std.specs.Vec.Iter.{into_iter_items}
-use Rattle.bb_shell.specs.Making.{stands}
-use Rattle.bb_shell.specs.Moves.{played}
+use Rattle.bb_run_held.specs.Making.{stands}
+use Rattle.bb_run_held.specs.Moves.{played}
 use Rattle.bb_shell.specs.Seen.{seen}
 use Rattle.bb_moves.specs.Meant.{meant}
 use Rattle.bb_moves.proofs.PlayLemmas.{IsPlayed}

@@ -2,7 +2,7 @@ use Rattle.std.proofs.Common.{◌∙◌, ap, sym}
 use Rattle.std.specs.Prelude.{is_some}
 use Rattle.std.specs.Str.{bytes_eq}
 use Rattle.bb_basis.proofs.ListLemmas.{position-map}
-use Rattle.bb_run_held.specs.Closing.{Closing}
+use Rattle.bb_run.specs.Closing.{Closing}
 use Rattle.bb_shell.proofs.fitting.has_native.Goals as goal
 
 pub returns : goal.returns

@@ -2,10 +2,10 @@ use Rattle.std.proofs.Common.{◌≡◌, ℤ, rules, w64, List, map, Some, Ok, s
 use Rattle.std.proofs.lemmas.Int.{to_z-of_z}
 use Rattle.std.specs.Prelude.{IfSome}
 use Rattle.std.specs.Io.KnownBytes.{Appends}
-use Rattle.bb_run_held.specs.Finish.{WritesFront, end_of}
-use Rattle.bb_run_held.specs.Native.{Native}
-use Rattle.bb_run_held.specs.Run.{run}
-use Rattle.bb_run_held.specs.TraceText.{trace_text}
+use Rattle.bb_run.specs.Finish.{WritesFront, end_of}
+use Rattle.bb_run.specs.Native.{Native}
+use Rattle.bb_run.specs.Run.{run}
+use Rattle.bb_run.specs.TraceText.{trace_text}
 use Rattle.bb_shell.specs.Fitting.{native_names}
 use Rattle.bb_shell.specs.Meaning.{Meaning, meaning}
 use Rattle.bb_shell.proofs.texts.run_texts.Goals as goal

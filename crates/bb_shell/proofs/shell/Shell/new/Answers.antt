@@ -2,8 +2,8 @@ use Rattle.std.proofs.Common.{ℕ, ℤ, rules, w64, List, map, Ok, Err, subst}
 use Rattle.std.proofs.lemmas.Int.{to_z-of_z}
 use Rattle.std.specs.Prelude.{All}
 use Rattle.bb_basis.specs.Results.{Gives}
-use Rattle.bb_run_held.specs.Plan.{Plan}
-use Rattle.bb_run_held.specs.RuleFault.TheVariants.{Memory}
+use Rattle.bb_run.specs.Plan.{Plan}
+use Rattle.bb_run.specs.RuleFault.TheVariants.{Memory}
 use Rattle.bb_shell.specs.Fitting.{HasAct}
 use Rattle.bb_shell.specs.Shell.{shell_of}
 use Rattle.bb_shell.proofs.UnstuckLemmas.{names_told}

@@ -2,7 +2,7 @@ use Rattle.std.proofs.Common.{◌≡◌, ◌⊎◌, ℕ, ℤ, rules, w64, List, 
 use Rattle.std.proofs.lemmas.Int.{to_z-of_z}
 use Rattle.bb_refusal.specs.declared.input_fault.InputFault.{InputFault}
 use Rattle.bb_refusal.specs.declared.input_fault.InputFault.TheVariants.{Memory}
-use Rattle.bb_run_held.specs.Native.{Native}
+use Rattle.bb_run.specs.Native.{Native}
 use Rattle.bb_shell.specs.Fitting.{names_in, native_names}
 use Rattle.bb_shell.specs.Meaning.{Meaning, meaning}
 use Rattle.bb_shell.proofs.UnstuckLemmas.{meaning_whole, names_told}

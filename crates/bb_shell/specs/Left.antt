@@ -3,14 +3,14 @@ use Rattle.std.specs.Prelude.{◌≡◌, ℕ, ℤ, List, Result, Some, IsSomeAnd
 use Rattle.bb_board_document.specs.Document.{units_text}
 use Rattle.bb_board_document.specs.Loading.{LoadsAs}
 use Rattle.bb_board_document.specs.Renumbered.{renumbered}
-use Rattle.bb_shell.specs.Finish.{end_of}
-use Rattle.bb_shell.specs.Finishes.{Finish}
+use Rattle.bb_run.specs.Finish.{end_of}
+use Rattle.bb_run.specs.declared.finish.Finish.{Finish}
 use Rattle.bb_shell.specs.Fitting.{native_names}
-use Rattle.bb_shell.specs.InputFault.{InputFault}
+use Rattle.bb_refusal.specs.declared.input_fault.InputFault.{InputFault}
 use Rattle.bb_shell.specs.Meaning.{Meaning, meaning}
-use Rattle.bb_shell.specs.Native.{Native}
-use Rattle.bb_shell.specs.Run.{run}
-use Rattle.bb_shell.specs.Sight.{Sight, sight_of}
+use Rattle.bb_run.specs.Native.{Native}
+use Rattle.bb_run.specs.Run.{run}
+use Rattle.bb_run.specs.Sight.{Sight, sight_of}
 use Rattle.bb_shell.specs.declared.texts.Texts.{Texts}
 
 -- what texts mean, with these natives

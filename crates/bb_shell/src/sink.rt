@@ -1,6 +1,6 @@
 //! An output that keeps nothing. A run of which the blackboard alone is wanted writes to it.
 
-use bb_shell::Out;
+use crate::Out;
 
 /// An output that takes whatever it is given, keeps none of it, and never fails.
 #[derive(Drop)]

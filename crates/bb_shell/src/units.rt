@@ -2,14 +2,16 @@
 //! `units_texts`.
 
 ghost use Rattle.std.specs.Prelude.{◌≡◌, ◌⊎◌, true, map, IfErr, IfOk, IsOkAnd, IsSomeAnd, Err, Some, string_bytes};
-ghost use Rattle.bb_shell.specs.Finish.{end_of};
-ghost use Rattle.bb_shell.specs.Roster.{all_open};
-ghost use Rattle.bb_shell.specs.Run.{run};
-ghost use Rattle.bb_shell_units.specs.Left.{EndsBy, LoadsAsLeft, left_text, meaning_of};
+ghost use Rattle.bb_run.specs.Finish.{end_of};
+ghost use Rattle.bb_run.specs.Roster.{all_open};
+ghost use Rattle.bb_run.specs.Run.{run};
+ghost use Rattle.bb_shell.specs.Left.{EndsBy, LoadsAsLeft, left_text, meaning_of};
 
+use crate::shell::Shell;
 use crate::sink::Sink;
+use crate::texts::Texts;
+use crate::{Board, Finish, InputFault, Memory, NativeSource, View};
 use bb_board_document::units_document;
-use bb_shell::{Board, Finish, InputFault, Memory, NativeSource, Shell, Texts, View};
 use std::alloc::{AllocError, Global};
 
 /// What a run leaves.

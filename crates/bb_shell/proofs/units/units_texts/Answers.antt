@@ -5,11 +5,11 @@ use Rattle.bb_board_document.specs.Document.{units_text}
 use Rattle.bb_board_document.specs.Loading.{LoadsAs}
 use Rattle.bb_board_document.specs.Renumbered.{renumbered}
 use Rattle.bb_shell.specs.Meaning.{Meaning}
-use Rattle.bb_shell.specs.Native.{Native}
-use Rattle.bb_shell.specs.Sight.{Sight, sight_of}
-use Rattle.bb_shell_units.specs.Left.{EndsBy, LoadsAsLeft, left_text, meaning_of}
-use Rattle.bb_shell_units.proofs.MeaningLemmas.{at_meaning}
-use Rattle.bb_shell_units.proofs.units.units_texts.Goals as goal
+use Rattle.bb_run.specs.Native.{Native}
+use Rattle.bb_run.specs.Sight.{Sight, sight_of}
+use Rattle.bb_shell.specs.Left.{EndsBy, LoadsAsLeft, left_text, meaning_of}
+use Rattle.bb_shell.proofs.UnitsMeaningLemmas.{at_meaning}
+use Rattle.bb_shell.proofs.units.units_texts.Goals as goal
 
 pub returns-clause-finish : goal.returns-clause-finish
 returns-clause-finish g c =

@@ -1,2 +1,0 @@
--- what a run leaves
-pub mod Left
