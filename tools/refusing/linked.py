@@ -21,8 +21,7 @@ PASSED, RETURNED = 0, 101
 
 # Tests that say what holds whatever request is refused.
 TESTS = {
-    "bb_board_tests": ["refused::no_change_after_a_refused_one"],
-    "bb_native": ["tests::each_is_closed_once_in_order"],
+    "bb_board_tests": ["refused::no_change_after_a_refused_one", "natives::each_is_closed_once_in_order"],
     "bb_rules_tests": ["agenda::no_change_after_a_refused_one"],
     "bb_shell_tests": ["refused::a_run_closes_all_whatever_memory_there_is"],
 }

@@ -10,8 +10,6 @@ mod document;
 mod given;
 mod link;
 mod listing;
-#[cfg(test)]
-mod tests;
 mod value;
 
 pub use document::units_document;

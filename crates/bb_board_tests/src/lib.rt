@@ -1,5 +1,5 @@
-//! Tests of patterns, of queries and of the blackboard: calls with memory, and answers that no case shows. They stand
-//! here so that the gate proves those crates once.
+//! Tests of patterns, of queries, of the blackboard and its document, and of rosters of natives: calls with memory, and
+//! answers that no case shows. They stand here so that the gate proves those crates once.
 #![tactic(auto)]
 
 #[cfg(test)]
@@ -7,7 +7,11 @@ mod board;
 #[cfg(test)]
 mod board_spaces;
 #[cfg(test)]
+mod documents;
+#[cfg(test)]
 mod find;
+#[cfg(test)]
+mod natives;
 #[cfg(test)]
 mod pattern;
 #[cfg(test)]

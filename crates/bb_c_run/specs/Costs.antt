@@ -3,7 +3,7 @@ use Rattle.std.specs.Prelude.{ℕ, ◌-◌, ◌^◌, Bool, max, min, List, map, 
 use Rattle.std.specs.List.{fold, list_any}
 use Rattle.bb_rules.specs.Cost.{creates, most_steps}
 use Rattle.bb_rules.specs.Parts.{Source}
-use Rattle.bb_shell.specs.Running.{Running}
+use Rattle.bb_run_held.specs.declared.running.Running.{Running}
 use Rattle.bb_verify.specs.declared.checked.TheConstants.{FOUND_LIMIT}
 use Rattle.bb_c_run.specs.declared.no_native.NoNative.{NoNative}
 

@@ -12,6 +12,6 @@ pub mod Costs
 pub use Rattle.bb_shell.specs.Meaning
 -- of bb_run_held: what a host has a run do, and what that means
 pub use Rattle.bb_shell.specs.Ask
-pub use Rattle.bb_shell.specs.Moves
+pub use Rattle.bb_run_held.specs.Moves
 -- of bb_schema: values of slots
 pub use Rattle.bb_shell.specs.Value

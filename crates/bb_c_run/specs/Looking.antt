@@ -6,10 +6,10 @@ use Rattle.bb_board_document.specs.Document.{units_text}
 use Rattle.bb_schema.specs.Schema.{class_named, descends, name_of_class, name_of_label, slot_named}
 use Rattle.bb_units.specs.Units.{class_of, live_units, value_of}
 use Rattle.bb_links.specs.Links.{ends}
-use Rattle.bb_shell.specs.Pause.{Pause}
-use Rattle.bb_shell.specs.Pause.TheVariants.{Due}
+use Rattle.bb_run_held.specs.declared.pause.Pause.{Pause}
+use Rattle.bb_run_held.specs.declared.pause.Pause.TheVariants.{Due}
 use Rattle.bb_shell.specs.Plan.{Plan}
-use Rattle.bb_shell.specs.Running.{Running}
+use Rattle.bb_run_held.specs.declared.running.Running.{Running}
 use Rattle.bb_shell.specs.Sight.{Sight, sight_of}
 use Rattle.bb_shell.specs.Value.{Value}
 use Rattle.bb_shell.specs.Value.TheVariants as values

@@ -4,8 +4,8 @@ use Rattle.bb_shell.specs.Emitting.{WroteUntil}
 use Rattle.bb_shell.specs.Emission.{Stretch}
 use Rattle.bb_shell.specs.Plan.{Plan}
 use Rattle.bb_shell.specs.TraceText.{trace_text}
-use Rattle.bb_shell.specs.Moves.{Move, finished, is_due, moved, pause_by}
-use Rattle.bb_shell.specs.Running.{Running}
+use Rattle.bb_run_held.specs.Moves.{Move, finished, is_due, moved, pause_by}
+use Rattle.bb_run_held.specs.declared.running.Running.{Running}
 use Rattle.bb_shell.specs.Note.{Note}
 use Rattle.bb_shell.specs.Halt.{Halt}
 use Rattle.bb_c_run.specs.Sitting.{standing, stands_by}

@@ -4,7 +4,7 @@ use Rattle.bb_main_input.specs.Input.{input_of}
 use Rattle.bb_main_input.specs.Sections.{Texts}
 use Rattle.bb_main_input.specs.declared.section_fault.SectionFault.{SectionFault}
 use Rattle.bb_shell.specs.InputFault.{InputFault}
-use Rattle.bb_shell.specs.Moves.{started}
+use Rattle.bb_run_held.specs.Moves.{started}
 use Rattle.bb_shell.specs.TraceText.{trace_text}
 use Rattle.bb_shell.specs.Meaning.{Meaning, meaning}
 use Rattle.bb_c_run.specs.Sitting.{standing, unread}

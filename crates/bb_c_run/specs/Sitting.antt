@@ -4,11 +4,11 @@ use Rattle.bb_schema.specs.Schema.{Schema, label_named, label_set_named}
 use Rattle.bb_shell.specs.Native.{Native}
 use Rattle.bb_shell.specs.Seen.{seen}
 use Rattle.bb_shell.specs.Sight.{sight_of}
-use Rattle.bb_shell.specs.Making.{stands}
-use Rattle.bb_shell.specs.Moves.{Standing}
-use Rattle.bb_shell.specs.Pause.{Pause}
-use Rattle.bb_shell.specs.Pause.TheVariants.{Going, Resting, Due, Over}
-use Rattle.bb_shell.specs.Running.{Running}
+use Rattle.bb_run_held.specs.Making.{stands}
+use Rattle.bb_run_held.specs.Moves.{Standing}
+use Rattle.bb_run_held.specs.declared.pause.Pause.{Pause}
+use Rattle.bb_run_held.specs.declared.pause.Pause.TheVariants.{Going, Resting, Due, Over}
+use Rattle.bb_run_held.specs.declared.running.Running.{Running}
 use Rattle.bb_shell.specs.Value.{Value}
 use Rattle.bb_shell.specs.Value.TheVariants as values
 use Rattle.bb_c_run.specs.declared.no_native.NoNative.{NoNative}

@@ -12,9 +12,8 @@ use crate::no_native::{NoNative, no_natives};
 use crate::stands::{Stands, stands_by};
 use crate::trace::Trace;
 use bb_main_input::Sections;
-use bb_shell::{
-    Ask, Finish, HostedShell, InputFault, Memory, NativeSource, Out, Running, Text, Texts,
-};
+use bb_run_held::Running;
+use bb_shell::{Ask, Finish, HostedShell, InputFault, Memory, NativeSource, Out, Text, Texts};
 use std::alloc::{AllocError, Global};
 use std::mem;
 
@@ -83,7 +82,7 @@ fn begun(alloc: Global, shell: HostedShell<NoNative>) -> Result<Held, OpenFault>
     ensures err { IfErr result (λ e. e ≡ OpenFault.Memory) }
 {
     let mut trace = Trace::new(alloc);
-    match shell.start(alloc, &mut trace) {
+    match Running::of_hosted(alloc, shell, &mut trace) {
         Ok(running) => Ok(Held {
             alloc,
             running: Some(running),

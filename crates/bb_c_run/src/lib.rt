@@ -13,11 +13,10 @@ mod held;
 mod looking;
 mod no_native;
 mod stands;
-#[cfg(test)]
-mod tests;
 mod trace;
 
-pub use bb_shell::{Ask, Memory, Pause, Text, Value};
+pub use bb_run_held::Pause;
+pub use bb_shell::{Ask, Memory, Text, Value};
 pub use held::{Held, OpenFault};
 pub use no_native::NoNative;
 pub use stands::Stands;

@@ -6,8 +6,9 @@ ghost use Rattle.bb_c_run.specs.Looking.{class_in, due_by, filled, filled_if, in
 ghost use Rattle.bb_c_run.specs.Looking.{number_of, partners_in, slot_in, text_of, truth_of, units_of, value_in};
 
 use bb_board_document::units_document;
+use bb_run_held::Pause;
 use bb_schema::{ClassId, SlotId};
-use bb_shell::{Memory, Pause, Plan, UnitId, Value, View};
+use bb_shell::{Memory, Plan, UnitId, Value, View};
 use std::alloc::Global;
 
 /// Copies as much of some items as there is room for, and returns their number.

@@ -3,7 +3,7 @@
 ghost use Rattle.std.specs.Prelude.{◌≡◌};
 ghost use Rattle.bb_c_run.specs.Sitting.{stands_by};
 
-use bb_shell::Pause;
+use bb_run_held::Pause;
 
 /// How a run that is held stands after a call.
 #[derive(Clone, Copy, Debug, PartialEq, Eq)]

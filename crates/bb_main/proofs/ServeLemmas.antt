@@ -31,7 +31,7 @@ use Rattle.bb_shell.specs.Code.{Code}
 use Rattle.bb_shell.specs.Source.{Source}
 use Rattle.bb_shell.specs.SourceDraft.{SourceDraft}
 use Rattle.bb_shell.specs.TraceText.{segment_text, trace_text}
-use Rattle.bb_shell_units.specs.Left.{EndsBy, left_text}
+use Rattle.bb_shell.specs.Left.{EndsBy, left_text}
 use Rattle.bb_main_input.specs.declared.read.TheConstants.{INPUT_LIMIT}
 use Rattle.bb_main.specs.declared.serving.TheConstants.{MEMORY, REFUSED, WRITE}
 use Rattle.bb_main_input.specs.declared.section_fault.SectionFault.{SectionFault}

@@ -28,7 +28,7 @@ use Rattle.bb_shell.specs.Code.{Code}
 use Rattle.bb_shell.specs.Source.{Source}
 use Rattle.bb_shell.specs.SourceDraft.{SourceDraft}
 use Rattle.bb_shell.specs.TraceText.{segment_text}
-use Rattle.bb_shell_units.specs.Left.{left_text}
+use Rattle.bb_shell.specs.Left.{left_text}
 use Rattle.bb_main_input.specs.declared.section_fault.SectionFault.{SectionFault}
 use Rattle.bb_main_input.specs.declared.section_fault.SectionFault.TheVariants as faults
 use Rattle.bb_main.specs.declared.serving.TheConstants.{MEMORY, REFUSED, WRITE}

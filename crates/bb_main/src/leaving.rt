@@ -13,8 +13,7 @@ use crate::served::Served;
 use crate::serving::{MEMORY, status};
 use bb_main_input::Sections;
 use bb_main_options::Options;
-use bb_shell::{InputFault, NativeSource, Out, Texts};
-use bb_shell_units::units_texts;
+use bb_shell::{InputFault, NativeSource, Out, Texts, units_texts};
 use std::alloc::Global;
 
 /// Runs an input of these sections, and writes the units that are left.

@@ -7,24 +7,16 @@
 //!   refused; and whatever happens, each native is closed.
 //! - Family: bb_main_options has the command line, bb_main_input the reading and the cutting of an input; `bb` is the
 //!   program, bb_c the library for C.
-//! - Cases: `program`, `units_left`, `outputs`, `sentences`, `advice`, `limits`; tests here and in bb_shell_tests.
+//! - Cases: `program`, `units_left`, `outputs`, `sentences`, `advice`, `limits`; tests in bb_main_tests and bb_shell_tests.
 #![tactic(auto)]
 
 mod advising;
 mod leaving;
-#[cfg(test)]
-mod long_run;
 mod program_native;
-#[cfg(test)]
-mod refusal_tests;
 mod refusing;
 mod served;
 mod serving;
-#[cfg(test)]
-mod tests;
 mod words;
-#[cfg(test)]
-mod writer_tests;
 
 pub use bb_main_input::{INPUT_LIMIT, In, Intake};
 pub use bb_main_options::{Mode, Options, OptionsFault, options};

@@ -3,7 +3,7 @@
 ghost use Rattle.std.specs.Prelude.{◌≡◌, IsNone};
 
 /// The status of the program, why the input is refused, and the advice on an input that was checked.
-#[derive(Debug, Drop)]
+#[derive(Drop)]
 pub struct Served {
     /// The status, as `serve` returns it.
     pub status: u8,

@@ -5,8 +5,6 @@ mod choice;
 mod command;
 mod fault;
 mod reading;
-#[cfg(test)]
-mod tests;
 mod tip;
 
 pub use choice::{CYCLE_LIMIT, FLOOR, Mode, Options};

@@ -3,7 +3,7 @@
 //! - In: what a host implements `NativeSource` for, handed in as a `Roster`.
 //! - Out: a `View` of the blackboard that a native sees, what it may `Ask`, and what becomes of an ask.
 //! - Callers rely on: a roster closes each of its natives exactly once, and an ask that is refused changes nothing.
-//! - Cases: `natives`; tests here and in bb_shell_tests.
+//! - Cases: `natives`; tests in bb_board_tests and bb_shell_tests.
 #![tactic(auto)]
 
 mod applying;
@@ -13,8 +13,6 @@ mod denial;
 mod native_source;
 mod refusal;
 mod roster;
-#[cfg(test)]
-mod tests;
 mod view;
 
 pub use applying::apply;

@@ -1,7 +1,7 @@
 //! Tests of documents: their text, and that a blackboard that loads one writes the same.
 
-use crate::units_document;
 use bb_board::{Board, UnitsFault};
+use bb_board_document::units_document;
 use bb_native::View;
 use bb_schema::{Schema, UnitId};
 use std::alloc::Global;

@@ -1,8 +1,7 @@
 //! Tests of the program with writers that fail, also with writers that fail once and would go on.
 
-use crate::serving::serve;
-use crate::tests::{FIRST_RUN, none};
-use crate::words::answer_words;
+use crate::readers::{FIRST_RUN, none};
+use bb_main::{answer_words, serve};
 use bb_main_input::Intake;
 use bb_main_options::{Mode, OptionsFault};
 use bb_shell::Pipe;

@@ -3,9 +3,9 @@
 ghost use Rattle.std.specs.Prelude.{◌≡◌, true, map, IfOk};
 ghost use Rattle.bb_native.specs.Roster.{all_open};
 
-use crate::{Ask, Closed, Denial, NativeSource, Refusal, Roster, View, apply};
 use bb_basis::{Memory, Text};
 use bb_board::Board;
+use bb_native::{Ask, Closed, Denial, NativeSource, Refusal, Roster, View, apply};
 use bb_schema::{Schema, UnitId};
 use std::alloc::Global;
 use std::cell::Cell;

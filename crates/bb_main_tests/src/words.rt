@@ -1,6 +1,6 @@
 //! Tests of words: what they choose, or the number of the fault; and a line of each text.
 
-use crate::{OptionsFault, VERSION, options};
+use bb_main_options::{OptionsFault, VERSION, options};
 use std::alloc::Global;
 use std::test::Fail;
 

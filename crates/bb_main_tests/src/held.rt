@@ -1,6 +1,6 @@
 //! What no case can say: moves of a run that is held, and reading its trace in pieces.
 
-use crate::{Held, OpenFault, Stands};
+use bb_c_run::{Held, OpenFault, Stands};
 use bb_shell::{Ask, Text, Value};
 use std::test::Fail;
 

@@ -5,8 +5,7 @@ ghost use Rattle.std.specs.Prelude.{◌≡◌, true, map};
 ghost use Rattle.bb_shell.specs.Roster.{all_open};
 
 use crate::long_run::{long_run, long_trace};
-use crate::program_native::ProgramNative;
-use crate::serving::{program, serve};
+use bb_main::{ProgramNative, program, serve};
 use bb_main_input::{In, Intake, read_input};
 use bb_main_options::{Mode, Options};
 use bb_shell::{NativeSource, Pipe};

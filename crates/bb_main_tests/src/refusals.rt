@@ -1,6 +1,6 @@
 //! Tests of what the program says of refused inputs, also where standard error takes less or nothing.
 
-use crate::serving::program;
+use bb_main::program;
 use bb_main_input::{Intake, SectionFault};
 use bb_main_options::{Mode, Options};
 use bb_shell::Pipe;
