@@ -1,9 +1,8 @@
 //! Cases of histories: what comes of one is compared. The suite calls it.
 
-use crate::inputs::{differs, has_natives, natives};
-use bb_cases_format::{Difference, Entry, Fault, Scope, expanded_text, number};
-use bb_cases_histories::{History, Text};
-use std::alloc::Global;
+use bb_cases_format::{Difference, Entry, Fault, Header, Scope, expanded_text, number};
+use bb_cases_histories::{History, Text, Told, natives};
+use std::alloc::{AllocError, Global};
 
 // The names that the host answers for, parted by commas.
 fn names(alloc: Global, listed: Option<&str>) -> Result<Vec<Text>, Fault> {
@@ -14,6 +13,34 @@ fn names(alloc: Global, listed: Option<&str>) -> Result<Vec<Text>, Fault> {
         }
     }
     Ok(names)
+}
+
+// Whether a header hands in the native `reaper`; else there are none.
+fn has_reaper(header: &Header<'_>) -> Result<bool, Fault> {
+    match header.option("natives") {
+        None => Ok(false),
+        Some("reaper") => Ok(true),
+        Some(_) => Err(Fault::Options),
+    }
+}
+
+// The first difference of an output, or else that of the status.
+fn differs(
+    alloc: Global,
+    given: u8,
+    taken: &[u8],
+    status: u8,
+    output: &[u8],
+) -> Result<Option<Difference>, AllocError> {
+    let difference = Difference::of(alloc, output, taken)?;
+    if difference.is_some() || given == status {
+        return Ok(difference);
+    }
+    Ok(Some(Difference {
+        line: 0,
+        wanted: format!(in alloc; "{status}")?,
+        given: format!(in alloc; "{given}")?,
+    }))
 }
 
 /// Compares a case of a history.
@@ -27,13 +54,18 @@ pub(crate) fn compare_history(
     let gives = entry.second("gives")?;
     gives.header.check(&[])?;
     let status = number(gives.header.name)?;
-    let floor = header.number("floor", 0)?;
-    let has_natives = has_natives(header)?;
     let wanted = expanded_text(scope, gives.text(alloc)?.as_str())?;
     let text = expanded_text(scope, entry.first.text(alloc)?.as_str())?;
-    let history = History::of_text(alloc, text.as_str())?;
-    let outside = names(alloc, header.option("outside"))?;
-    let told = history.run(alloc, natives(alloc, has_natives)?, outside, floor)?;
+    let told = told(alloc, header, text.as_str())?;
     let trace = told.trace.as_slice();
     Ok(differs(alloc, told.status, trace, status, wanted.as_bytes())?)
+}
+
+// What comes of a history, with the floor and the natives that its header names.
+fn told(alloc: Global, header: &Header<'_>, text: &str) -> Result<Told, Fault> {
+    let floor = header.number("floor", 0)?;
+    let has_reaper = has_reaper(header)?;
+    let history = History::of_text(alloc, text)?;
+    let outside = names(alloc, header.option("outside"))?;
+    history.run(alloc, natives(alloc, has_reaper)?, outside, floor)
 }

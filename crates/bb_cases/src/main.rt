@@ -1,5 +1,5 @@
 //! The program that runs cases: it reads files of cases, makes their calls, and compares what comes of them with what
-//! should.
+//! should. What the built programs can run it leaves to tools/cases.
 //!
 //! - In: the `.case` files of `data/`, as docs/contributors/CASES.md describes them.
 //! - Out: a line for each case that does not hold, and the numbers of those that hold and do not.
@@ -8,7 +8,6 @@
 #![tactic(auto)]
 
 mod histories;
-mod inputs;
 mod suite;
 mod tables;
 

@@ -1,7 +1,6 @@
 //! All cases: the entries of a file are run one after the other, and reported. `main` runs file after file.
 
 use crate::histories::compare_history;
-use crate::inputs::compare_input;
 use crate::tables::Table;
 use bb_cases_format::{
     Difference, Entries, Entry, Fault, Meaning, Names, Report, Scene, Scope, Spot, expanded,
@@ -67,12 +66,12 @@ impl Suite {
                 Ok(()) => return Ok(()),
                 Err(fault) => Err(fault),
             },
-            "inputs" | "bytes" | "assembly" | "verify" | "histories" | "runs" => {
-                match self.run_table(spot, entry) {
-                    Ok(()) => return Ok(()),
-                    Err(fault) => Err(fault),
-                }
-            }
+            // Built programs run these.
+            "input" | "inputs" | "bytes" | "assembly" | "verify" => return Ok(()),
+            "histories" | "runs" => match self.run_table(spot, entry) {
+                Ok(()) => return Ok(()),
+                Err(fault) => Err(fault),
+            },
             _ => self.compare(entry),
         };
         self.report.add(spot, outcome)
@@ -82,7 +81,6 @@ impl Suite {
     fn compare(&self, entry: &Entry<'_>) -> Result<Option<Difference>, Fault> {
         let scope = Scope::new(self.alloc, &self.names);
         match entry.first.header.kind {
-            "input" => compare_input(self.alloc, scope, entry),
             "moves" => compare_history(self.alloc, scope, entry),
             "code" => compare_code(self.alloc, &self.names, entry),
             "schema" => compare_schema(self.alloc, scope, entry),

@@ -20,8 +20,8 @@ pub(crate) fn hex_of(alloc: Global, text: &str) -> Result<String, Fault> {
     Ok(hex::encode(alloc, code.encode(alloc)?)?)
 }
 
-/// The code of some bytes, if these are its spelling, and if its text has the same bytes.
-pub fn respelled(alloc: Global, code: Code, bytes: &[u8]) -> Result<Code, Fault> {
+// The code of some bytes, if these are its spelling, and if its text has the same bytes.
+fn respelled(alloc: Global, code: Code, bytes: &[u8]) -> Result<Code, Fault> {
     if code.encode(alloc)?.as_slice() != bytes {
         return Err(Fault::Spelling);
     }
@@ -30,13 +30,4 @@ pub fn respelled(alloc: Global, code: Code, bytes: &[u8]) -> Result<Code, Fault>
         return Err(Fault::Spelling);
     }
     Ok(code)
-}
-
-/// The bytes that hex spells, between which there may be spaces.
-pub fn bytes_of(alloc: Global, digits: &str) -> Result<Vec<u8>, Fault> {
-    let mut joined = String::new(alloc);
-    for word in digits.split_whitespace() {
-        joined.push_str(word)?;
-    }
-    hex::decode(alloc, joined.as_str()).ok().ok_or(Fault::Hex)
 }

@@ -18,8 +18,6 @@ const BETWEEN: [char; 2] = [' ', '\n'];
 pub struct Scope<'a> {
     alloc: Global,
     names: &'a Names,
-    // The row of a table.
-    row: Option<&'a [u8]>,
     // The number of the turn, from 0, inside a `$(times)`.
     n: Option<u64>,
     // The number of the turn of the `$(times)` around that one.
@@ -27,25 +25,13 @@ pub struct Scope<'a> {
 }
 
 impl<'a> Scope<'a> {
-    /// The scope outside of tables.
+    /// The scope outside of `$(times)`.
     pub fn new(alloc: Global, names: &'a Names) -> Scope<'a> {
         Scope {
             alloc,
             names,
-            row: None,
             n: None,
             m: None,
-        }
-    }
-
-    /// The scope at a row of a table.
-    pub fn at_row(self, row: &'a [u8]) -> Scope<'a> {
-        Scope {
-            alloc: self.alloc,
-            names: self.names,
-            row: Some(row),
-            n: self.n,
-            m: self.m,
         }
     }
 
@@ -157,11 +143,9 @@ fn put_bytes(words: &str, out: &mut Vec<u8>) -> Result<(), Fault> {
     Ok(())
 }
 
-// Appends the row, a number or what a name stands for.
+// Appends a number or what a name stands for.
 fn put_value(scope: Scope<'_>, insert: &str, out: &mut Vec<u8>) -> Result<(), Fault> {
-    if insert == "row" {
-        out.extend_from_slice(scope.row.ok_or(Fault::Insert)?)?;
-    } else if insert == "n" || insert == "m" || insert.contains(['+', '*']) {
+    if insert == "n" || insert == "m" || insert.contains(['+', '*']) {
         let sum = scope.sum(insert)?;
         out.extend_from_slice(format!(in scope.alloc; "{sum}")?.as_bytes())?;
     } else {

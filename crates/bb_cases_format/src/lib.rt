@@ -14,8 +14,8 @@ mod pieces;
 mod report;
 mod rows;
 
-pub use bb_code_asm::{AsmFault, Code, CodeFault, Kind, assemble, write_kind};
-pub use codes::{bytes_of, code_of, respelled};
+pub use bb_code_asm::{Code, CodeFault, Kind, write_kind};
+pub use codes::code_of;
 pub use difference::Difference;
 pub use fault::Fault;
 pub use files::{is_shared, named_files};

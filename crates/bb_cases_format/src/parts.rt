@@ -57,11 +57,8 @@ impl<'a> Entry<'a> {
         }
     }
 
-    /// The part that has the rows of a table: for inputs it comes after their form.
+    /// The part that has the rows of a table.
     pub fn rows(&self) -> Result<&Part<'a>, Fault> {
-        if self.first.header.kind == "inputs" {
-            return self.second("rows");
-        }
         if self.second.is_some() {
             return Err(Fault::Second);
         }

@@ -6,8 +6,8 @@ ghost use Rattle.bb_moves.specs.Roster.{all_open};
 use bb_cases_format::Fault;
 use bb_main_input::Sections;
 use bb_moves::{
-    Finish, HostedShell, Move, MovesFault, NativeSource, Out, Pipe, Running, Schema, SchemaFault,
-    Shell, Text, Texts, moves_of, replay, replay_hosted,
+    Finish, HostedShell, InputFault, Move, MovesFault, NativeSource, Out, Pipe, Running, Schema,
+    SchemaFault, Shell, Text, Texts, moves_of, replay, replay_hosted,
 };
 use std::alloc::Global;
 use std::fmt::Write;
@@ -15,11 +15,23 @@ use std::fmt::Write;
 // The line that the moves stand below, behind the input.
 const MOVES: &str = "%moves\n";
 
+// The status of a refused input.
+const REFUSED: u8 = 2;
+
 /// An input, and the moves that are made of its run.
-#[derive(Drop)]
 pub struct History<'a> {
     sections: Sections<'a>,
     moves: Vec<Move>,
+}
+
+// By hand, so that a proof meets one call where it is dropped, and not each of its parts.
+impl<'a> Drop for History<'a> {
+    fn drop(self) {
+        let History {
+            sections: _,
+            moves: _,
+        } = self;
+    }
 }
 
 /// With what status a run ends, and its trace.
@@ -53,7 +65,8 @@ impl<'a> History<'a> {
         }
     }
 
-    /// Begins the run with natives, names that the host answers for, and a floor, makes the moves, and finishes it.
+    /// Begins the run with natives, names that the host answers for, and a floor, makes the moves, and finishes it. Of an
+    /// input that is refused the line of the refusal comes.
     pub fn run<N: NativeSource>(
         self,
         alloc: Global,
@@ -71,17 +84,30 @@ impl<'a> History<'a> {
             bundle: sections.bundle,
         };
         if outside.is_empty() {
-            let Ok(shell) = Shell::of_texts(alloc, &texts, natives, floor) else {
-                return Err(Fault::Input);
-            };
-            run_alone(alloc, shell, moves)
+            match Shell::of_texts(alloc, &texts, natives, floor) {
+                Ok(shell) => run_alone(alloc, shell, moves),
+                Err(fault) => refused(alloc, &fault),
+            }
         } else {
-            let Ok(shell) = HostedShell::of_texts(alloc, &texts, natives, outside, floor) else {
-                return Err(Fault::Input);
-            };
-            run_hosted(alloc, shell, moves)
+            match HostedShell::of_texts(alloc, &texts, natives, outside, floor) {
+                Ok(shell) => run_hosted(alloc, shell, moves),
+                Err(fault) => refused(alloc, &fault),
+            }
         }
     }
+}
+
+// The line by which an input is refused.
+fn refused(alloc: Global, fault: &InputFault) -> Result<Told, Fault> {
+    let line = fault.line(alloc)?;
+    if line.is_empty() {
+        return Err(Fault::Memory);
+    }
+    let mut trace = Vec::new(alloc);
+    trace.extend_from_slice(line.as_bytes())?;
+    trace.push(b'\n')?;
+    let status = REFUSED;
+    Ok(Told { status, trace })
 }
 
 // What comes of moves of a run whose natives are all there.

@@ -11,14 +11,11 @@ mod board;
 mod executions;
 mod schema_calls;
 mod schemas;
-mod spelled;
 mod verified;
 
 pub use bb_cases_machines::{Asked, Entry};
 pub use bb_schema::Schema;
-pub use bb_verify::{Part, verify};
 pub use board::schema_of;
 pub use executions::{add_on_scene, entry_of};
 pub use schemas::compare_schema;
-pub use spelled::{add_assembly, add_decoding};
-pub use verified::{add_verdict, compare_code, part_of};
+pub use verified::compare_code;

@@ -7,7 +7,7 @@ use std::alloc::{AllocError, Global};
 use std::fmt::Write;
 
 /// What a call returns.
-#[derive(Drop)]
+#[derive(Clone, Copy)]
 pub(crate) enum Answer<'a> {
     Number(Option<u16>),
     Name(Option<&'a str>),

@@ -3,17 +3,19 @@
 use crate::bent::Bending;
 use crate::board::schema_of;
 use crate::executions::{add_on_scene, entry_of};
+use bb_basis::Whole;
 use bb_cases_format::{
     Difference, Entry, Fault, Header, Kind, Names, Scene, Scope, code_of, expanded_text, number,
     write_kind,
 };
 use bb_cases_machines::Asked;
+use bb_schema::Schema;
 use bb_verify::{Checked, FOUND_LIMIT, Flaw, Frame, Part, VerifyFault, verify};
 use std::alloc::{AllocError, Global};
 use std::fmt::Write;
 
-/// The part that a word is, as `do:1` or `obviate:1:2`.
-pub fn part_of(word: Option<&str>) -> Result<Part, Fault> {
+// The part that a word is, as `do:1` or `obviate:1:2`.
+fn part_of(word: Option<&str>) -> Result<Part, Fault> {
     let (name, classes) = word
         .and_then(|word| word.split_once(':'))
         .ok_or(Fault::Part)?;
@@ -31,11 +33,8 @@ pub fn part_of(word: Option<&str>) -> Result<Part, Fault> {
     }
 }
 
-/// Appends a line with the answer of the verifier.
-pub fn add_verdict(
-    text: &mut String,
-    answer: &Result<Checked, VerifyFault>,
-) -> Result<(), AllocError> {
+// Appends a line with the answer of the verifier.
+fn add_verdict(text: &mut String, answer: &Result<Checked, VerifyFault>) -> Result<(), AllocError> {
     match answer {
         Ok(_) => text.push_str("accepted\n"),
         Err(
@@ -100,6 +99,38 @@ fn add_facts(text: &mut String, checked: &Checked, wanted: &str) -> Result<(), F
     Ok(())
 }
 
+// Appends the verdict on the text of a code, and what of its facts is wanted.
+fn add_answer(
+    alloc: Global,
+    lines: &mut String,
+    schema: &Schema,
+    part: Part,
+    text: &str,
+    wanted: &str,
+) -> Result<(), Fault> {
+    let answer = Whole::of(verify(alloc, schema, part, code_of(alloc, text)?));
+    add_verdict(lines, &answer.value)?;
+    match &answer.value {
+        Ok(checked) => add_facts(lines, checked, wanted),
+        Err(_) => Ok(()),
+    }
+}
+
+// Appends how the execution of a code ends, and what lies next to it, if the header asks for that.
+fn add_execution(
+    lines: &mut String,
+    header: &Header<'_>,
+    bending: Bending<'_>,
+    text: &str,
+) -> Result<(), Fault> {
+    let code = code_of(bending.alloc, text)?;
+    add_on_scene(bending.alloc, lines, bending.scene, &code, bending.asked)?;
+    if is_bent(header)? {
+        bending.add(lines, &code)?;
+    }
+    Ok(())
+}
+
 // What comes of the text of a code, where these lines are wanted.
 fn given(
     alloc: Global,
@@ -111,29 +142,21 @@ fn given(
     let part = part_of(header.option("part"))?;
     let schema = schema_of(alloc, scene.schema.as_str())?;
     let mut lines = String::new(alloc);
-    let answer = verify(alloc, &schema, part, code_of(alloc, text)?);
-    add_verdict(&mut lines, &answer)?;
-    if let Ok(checked) = &answer {
-        add_facts(&mut lines, checked, wanted)?;
-    }
+    add_answer(alloc, &mut lines, &schema, part, text, wanted)?;
     if let Some(word) = header.option("entry") {
         let asked = Asked {
             entry: entry_of(word)?,
             limit: header.number("limit", 1_000)?,
             part: Some(part),
         };
-        let code = code_of(alloc, text)?;
-        add_on_scene(alloc, &mut lines, scene, &code, asked)?;
-        if is_bent(header)? {
-            let bending = Bending {
-                alloc,
-                schema: &schema,
-                scene,
-                part,
-                asked,
-            };
-            bending.add(&mut lines, &code)?;
-        }
+        let bending = Bending {
+            alloc,
+            schema: &schema,
+            scene,
+            part,
+            asked,
+        };
+        add_execution(&mut lines, header, bending, text)?;
     }
     Ok(lines)
 }
@@ -145,6 +168,25 @@ fn is_bent(header: &Header<'_>) -> Result<bool, Fault> {
         Some("bytes") => Ok(true),
         Some(_) => Err(Fault::Options),
     }
+}
+
+// What comes of the text of a code on the blackboard that a header names, or on an empty one.
+fn lines_of(
+    alloc: Global,
+    names: &Names,
+    header: &Header<'_>,
+    text: &str,
+    wanted: &str,
+) -> Result<String, Fault> {
+    if let Some(name) = header.option("board") {
+        return given(alloc, names.board(name)?, header, text, wanted);
+    }
+    let scene = Whole::of(Scene {
+        schema: names.copied(header.option("schema"))?,
+        units: None,
+        deleted: None,
+    });
+    given(alloc, &scene.value, header, text, wanted)
 }
 
 /// Compares a case of a code.
@@ -159,22 +201,6 @@ pub fn compare_code(
     let text = expanded_text(scope, entry.first.text(alloc)?.as_str())?;
     let gives = entry.second("gives")?;
     let wanted = expanded_text(scope, gives.text(alloc)?.as_str())?;
-    let lines = match header.option("board") {
-        Some(name) => given(
-            alloc,
-            names.board(name)?,
-            header,
-            text.as_str(),
-            wanted.as_str(),
-        )?,
-        None => {
-            let scene = Scene {
-                schema: names.copied(header.option("schema"))?,
-                units: None,
-                deleted: None,
-            };
-            given(alloc, &scene, header, text.as_str(), wanted.as_str())?
-        }
-    };
+    let lines = lines_of(alloc, names, header, text.as_str(), wanted.as_str())?;
     Ok(Difference::of(alloc, wanted.as_bytes(), lines.as_bytes())?)
 }
