@@ -1,6 +1,6 @@
 #!/bin/bash
-# Runs the blackboard shell, with standard input and arguments passed on: the built program, or else the kit's interpreter
-# (tools/launch.sh).
+# Runs the blackboard shell, with standard input and arguments passed on: the built program, or else that of a
+# release, or else the kit's interpreter (tools/launch.sh).
 set -eu
 
 root=$(dirname -- "$(readlink -f -- "${BASH_SOURCE[0]}")")
@@ -10,6 +10,7 @@ write_failed=6
 source "$root/tools/launch.sh"
 
 run_built "$@"
+run_released "$@"
 
 # Words that choose nothing, as those that ask for help, are answered without the input, which may be a terminal.
 for word in "$@"; do

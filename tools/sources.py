@@ -1,6 +1,13 @@
-"""The crates of this workspace as text: `.ci/wrong_bodies.py` makes digests of them, `tools/times` counts them."""
+"""The crates of this workspace as text: `.ci/wrong_bodies.py` makes digests of them, `tools/times` counts them.
 
+Run as a program it prints the digest of the checkout's sources, by which `tools/launch.sh` knows a release of them.
+"""
+
+import hashlib
+import os
 import re
+from glob import glob
+from pathlib import Path
 
 # A literal is one piece, so that no brace and no `//` in it is taken for code.
 LITERAL = r"""
@@ -22,6 +29,19 @@ def crates_of(text):
             name, *words = head.split()
             crates[name] = uses.split(), words
     return crates
+
+
+def digest_of(checkout):
+    """The digest of all that the programs of a checkout are made of: `crates.txt`, and the files of `src/`, `specs/` and `proofs/`."""
+    top = str(checkout)
+    folders = [f"{it}/{part}" for it in glob(f"{top}/crates/*") for part in ("src", "specs", "proofs")]
+    files = [f"{at}/{name}" for folder in folders for at, _, names in os.walk(folder) for name in names]
+    whole = hashlib.sha256()
+    for path in sorted([f"{top}/crates.txt", *files]):
+        with open(path, "rb") as file:
+            data = file.read()
+        whole.update(f"{path.removeprefix(top)}\0{len(data)}\0".encode() + data)
+    return whole.hexdigest()
 
 
 def bare(text):
@@ -102,3 +122,7 @@ def without_bodies(code):
         kept += pieces[at:end]
         at = end if body is None else end_of_braces(pieces, body)
     return "".join(kept)
+
+
+if __name__ == "__main__":
+    print(digest_of(Path(__file__).resolve().parent.parent))
